@@ -1,0 +1,200 @@
+-- The number that a line of good shape is refused with, after the statements so far.
+use Prim.Native.Nat.{ℕ, _+_}
+use mathlib.Core.List.{List, [], _∷_, map, flatMap, zip, Option·toList}
+use mathlib.Core.Option.{Option, none, some}
+use mathlib.Core.Bool.{Bool, true, false, not, cond, _&&_, _||_}
+use lib.ListN.{length}
+use lib.Dec.{leb, ltb, eqb}
+use Rattle.rules.specs.Bytes.{same, any, all}
+use Rattle.rules.specs.Tokens.{Name}
+use Rattle.rules.specs.Statements.{Sig, digitsOf, bytesOf, Wire, Statement, Shape, Opt, Kind, anAttribute, aModule, aParameter, aWire, aMemory, aCell, aCellParameter, aCellConnection, aConnection, aProcess, anEnd, Stmt, contents, is, ownName, translate}
+use Rattle.rules.specs.Shapes.{Scope, top, inModule, inCell, Context}
+use Rattle.rules.specs.Numbers.{int32, goodLiteral, goodNumbers, goodWire, goodMemory, wireOf, memoryOf}
+use Rattle.rules.specs.Signals.{Wires, parts, width, bits, declaredWire, goodSlice, kept}
+
+-- The statements so far, the last one first
+abbrev pub Past : Type 0
+Past = List Statement
+
+module _ {A : Type 0} where
+  -- those before the first that passes a test; those that pass it
+  unfoldable pub until : (A → Bool) → List A → List A
+  until f [] = []
+  until f (x ∷ xs) = let r = x ∷ until f xs in cond (f x) [] r
+
+  unfoldable pub only : (A → Bool) → List A → List A
+  only f [] = []
+  only f (x ∷ xs) = let r = only f xs in cond (f x) (x ∷ r) r
+
+  unfoldable pub sum : (A → ℕ) → List A → ℕ
+  sum f [] = 0
+  sum f (x ∷ xs) = f x + sum f xs
+
+-- WHAT A LINE SEES OF THE PAST: where it stands, the wires of its module, the names of each name space, and the sums of each size.
+-- A module line opens a module and a cell line a cell; `end` closes what was opened last
+unfoldable pub outer : Scope → Scope
+outer top = top
+outer inModule = top
+outer inCell = inModule
+
+unfoldable pub scope : Past → Scope
+scope [] = top
+scope (s ∷ ss) = let r = scope ss in cond (is aModule s) inModule (cond (is aCell s) inCell (cond (is anEnd s) (outer r) r))
+
+unfoldable pub context : Past → Context
+context [] = record { scope = top; first = true; attributed = false }
+context (s ∷ ss) = record { scope = scope (s ∷ ss); first = false; attributed = is anAttribute s }
+
+-- what stands since the line that opened the module or the cell, and the attributes of the next object
+unfoldable pub ofModule : Past → Past
+ofModule ss = until (is aModule) ss
+
+unfoldable pub ofCell : Past → Past
+ofCell ss = until (is aCell) ss
+
+unfoldable pub ofObject : Past → Past
+ofObject ss = until (λ s. not (is anAttribute s)) ss
+
+-- A wire must be declared earlier in the same module
+unfoldable pub wires : Past → Wires
+wires ss = flatMap (λ s. zip (contents s .names) (contents s .wires)) (ofModule ss)
+
+unfoldable pub among : {C S W M : Type 0} → List Kind → Stmt C S W M → Bool
+among ks s = any (λ k. is k s) ks
+
+-- A name space: the statements of some kinds in a part of the past
+pub record Space : Type 0 where
+  pub kinds : List Kind
+  pub part : Past → Past
+
+unfoldable pub space : List Kind → (Past → Past) → Space
+space ks f = record { kinds = ks; part = f }
+
+unfoldable pub namesIn : Space → Past → List Name
+namesIn z ss = map (λ s. ownName (contents s .names)) (only (among (z .kinds)) (z .part ss))
+
+-- Module names differ. Wires, memories and cells of a module share one name space. Attribute names on one object, parameter names in
+-- one cell or module, port names in one cell differ
+unfoldable pub nameSpaces : List Space
+nameSpaces =
+    space (aModule ∷ []) (λ ss. ss)
+    ∷ space (aWire ∷ aMemory ∷ aCell ∷ []) ofModule
+    ∷ space (anAttribute ∷ []) ofObject
+    ∷ space (aParameter ∷ []) ofModule
+    ∷ space (aCellParameter ∷ []) ofCell
+    ∷ space (aCellConnection ∷ []) ofCell
+    ∷ []
+
+-- Each count is over the whole design: statements of a kind; signal bits, after slicing; value bits and decoded string bytes in
+-- attributes and parameters (integers count in neither); name room: every name as often as it stands in the file
+unfoldable pub count : List Kind → Statement → ℕ
+count ks s = cond (among ks s) 1 0
+
+unfoldable pub signalSize : Statement → ℕ
+signalSize s = sum length (contents s .signals)
+
+unfoldable pub valueSize : Statement → ℕ
+valueSize s = sum (λ c. length (digitsOf c)) (contents s .constants)
+
+unfoldable pub stringSize : Statement → ℕ
+stringSize s = sum (λ c. length (bytesOf c)) (contents s .constants)
+
+unfoldable pub nameSize : Statement → ℕ
+nameSize s = sum length (contents s .names)
+
+unfoldable pub sizes : List (ℕ × (Statement → ℕ))
+sizes =
+    (32, count (aModule ∷ []))
+    ∷ (512, count (aWire ∷ []))
+    ∷ (32, count (aMemory ∷ []))
+    ∷ (256, count (aCell ∷ []))
+    ∷ (1024, count (aParameter ∷ aCellParameter ∷ []))
+    ∷ (1024, count (anAttribute ∷ []))
+    ∷ (1024, count (aCellConnection ∷ []))
+    ∷ (512, count (aConnection ∷ []))
+    ∷ (8192, signalSize)
+    ∷ (8192, valueSize)
+    ∷ (8192, stringSize)
+    ∷ (16384, nameSize)
+    ∷ []
+
+-- THE TESTS OF A LINE.
+-- 7: number or option rule broken, integer outside 32 bits, value over 2,048 wide or with too many digits;
+-- no two port numbers alike in a module
+unfoldable pub portNumbers : Wire → List ℕ
+portNumbers w = map (λ p. p .1) (Option·toList (w .port))
+
+unfoldable pub newPort : Wires → List Opt → Bool
+newPort ws os = all (λ n. not (any (λ v. any (eqb n) (portNumbers (v .1))) ws)) (portNumbers (wireOf os))
+
+unfoldable pub allParts : Shape → List Sig
+allParts sh = flatMap parts (contents sh .signals)
+
+unfoldable pub breaksNumber : Wires → Shape → Bool
+breaksNumber ws sh =
+    not (all int32 (contents sh .integers)
+    && all goodLiteral (contents sh .constants)
+    && all goodNumbers (allParts sh)
+    && all (λ os. goodWire os && newPort ws os) (contents sh .wires)
+    && all goodMemory (contents sh .memories))
+
+-- 8: wire not there
+unfoldable pub lacksWire : Wires → Shape → Bool
+lacksWire ws sh = not (all (declaredWire ws) (allParts sh))
+
+-- 9: name taken
+unfoldable pub takesName : Past → Shape → Bool
+takesName ss sh = any (λ z. among (z .kinds) sh && any (same (ownName (contents sh .names))) (namesIn z ss)) nameSpaces
+
+-- 10: slice rule broken; both sides of a module's `connect` have equal width
+unfoldable pub equalWidths : Wires → List Sig → Bool
+equalWidths ws [] = true
+equalWidths ws (s ∷ []) = true
+equalWidths ws (s ∷ t ∷ ss) = eqb (width ws s) (width ws t)
+
+unfoldable pub breaksWidth : Wires → Shape → Bool
+breaksWidth ws sh = not (all (goodSlice ws) (allParts sh) && equalWidths ws (contents sh .signals))
+
+-- 11: a size exceeded; 2,048 bits in any signal or part of one before slicing
+unfoldable pub exceedsSize : Past → Bool
+exceedsSize ss = any (λ z. ltb (z .0) (sum (z .1) ss)) sizes
+
+unfoldable pub partTooWide : Wires → Shape → Bool
+partTooWide ws sh = not (all (λ s. leb (width ws s) 2048) (allParts sh))
+
+-- the first test that holds gives the number
+unfoldable pub lowest : List (ℕ × Bool) → Option ℕ
+lowest [] = none
+lowest (t ∷ ts) = let r = lowest ts in cond (t .1) (some (t .0)) r
+
+pub data Verdict (A : Type 0) : Type 0 where
+  accepted : A → Verdict A
+  refused : ℕ → Verdict A
+
+unfoldable pub verdict : {A : Type 0} → A → Option ℕ → Verdict A
+verdict a none = accepted a
+verdict a (some n) = refused n
+
+-- what a line means
+unfoldable pub meaning : Wires → Shape → Statement
+meaning ws sh = translate kept (bits ws) wireOf memoryOf sh
+
+-- on one line the lowest number that applies
+unfoldable pub judgeIn : Wires → Past → Shape → Verdict Statement
+judgeIn ws ss sh =
+    verdict (meaning ws sh)
+    (lowest
+    ((6, is aProcess sh)
+    ∷ (7, breaksNumber ws sh)
+    ∷ (8, lacksWire ws sh)
+    ∷ (9, takesName ss sh)
+    ∷ (10, breaksWidth ws sh)
+    ∷ (11, partTooWide ws sh || exceedsSize (meaning ws sh ∷ ss))
+    ∷ []))
+
+unfoldable pub judge : Past → Shape → Verdict Statement
+judge ss sh = judgeIn (wires ss) ss sh
+
+unfoldable pub judgementOpen : Unit {0}
+unfolding zip flatMap until only sum outer scope context ofModule ofCell ofObject wires among space namesIn nameSpaces count signalSize valueSize stringSize nameSize sizes portNumbers newPort allParts breaksNumber lacksWire takesName equalWidths breaksWidth exceedsSize partTooWide lowest verdict meaning judgeIn judge
+judgementOpen = tt

@@ -1,0 +1,75 @@
+-- Reading a file.
+use Prim.Native.Nat.{ℕ}
+use mathlib.Core.List.{List, [], _∷_, reverse}
+use mathlib.Core.Option.{Option, none, some}
+use mathlib.Core.Bool.{Bool, true, false, not, cond, _&&_}
+use lib.ListN.{length}
+use lib.Dec.{ltb}
+use Rattle.rules.specs.Lines.{Line, lines, place}
+use Rattle.rules.specs.Tokens.{Token, Lexed, bad, good, tokens}
+use Rattle.rules.specs.Statements.{Statement, Shape}
+use Rattle.rules.specs.Shapes.{Scope, top, inModule, inCell, shape}
+use Rattle.rules.specs.Judgement.{Past, context, Verdict, judge}
+
+-- what a line gives: nothing, since it has no token; a statement; or a refusal with its number and place
+pub data Outcome : Type 0 where
+  skipped : Outcome
+  states : Statement → Outcome
+  refused : (number place : ℕ) → Outcome
+
+-- 5: line has no permitted shape here; bundle too deep
+unfoldable pub shaped : Past → Option Shape → Verdict Statement
+shaped ss none = Verdict.refused 5
+shaped ss (some sh) = judge ss sh
+
+-- A line without its line end is 5
+unfoldable pub stated : Past → Bool → List Token → Verdict Statement
+stated ss ended ts = cond ended (shaped ss (shape (context ss) ts)) (Verdict.refused 5)
+
+unfoldable pub judged : ℕ → Verdict Statement → Outcome
+judged p (Verdict.accepted s) = states s
+judged p (Verdict.refused n) = refused n p
+
+-- 4: bad token; on any line. A line without tokens is skipped
+unfoldable pub lexed : Past → Line → Lexed → Outcome
+lexed ss l (bad left) = refused 4 (place l)
+lexed ss l (good []) = skipped
+lexed ss l (good (t ∷ ts)) = judged (place l) (stated ss (l .ended) (t ∷ ts))
+
+unfoldable pub outcome : Past → Line → Outcome
+outcome ss l = lexed ss l (tokens (l .text))
+
+pub data Answer : Type 0 where
+  accepted : List Statement → Answer
+  refused : (number place : ℕ) → Answer
+
+-- 5: file ends inside a module or after attributes; place: file length
+unfoldable pub isTop : Scope → Bool
+isTop top = true
+isTop inModule = false
+isTop inCell = false
+
+unfoldable pub finish : ℕ → Past → Answer
+finish size ss = cond (isTop (context ss .scope) && not (context ss .attributed)) (accepted (reverse ss)) (refused 5 size)
+
+-- The first refused line decides; a line without tokens is only skipped
+unfoldable pub next : (Past → Answer) → Past → Outcome → Answer
+next more ss skipped = more ss
+next more ss (states s) = more (s ∷ ss)
+next more ss (Outcome.refused n p) = refused n p
+
+unfoldable pub readLines : ℕ → List Line → Past → Answer
+readLines size [] ss = finish size ss
+readLines size (l ∷ ls) ss = next (readLines size ls) ss (outcome ss l)
+
+-- a text of any length
+unfoldable pub readAny : List ℕ → Answer
+readAny file = readLines (length file) (lines file) []
+
+-- 2: file over 32,768 bytes; place: 0
+unfoldable pub read : List ℕ → Answer
+read file = cond (ltb 32768 (length file)) (refused 2 0) (readAny file)
+
+unfoldable pub readingOpen : Unit {0}
+unfolding shaped stated judged lexed outcome isTop finish next readLines readAny read
+readingOpen = tt
