@@ -1,0 +1,88 @@
+//! Seeded files: well-formed, aimed at refusals, at the limits, mutated and random.
+
+mod faults;
+mod limits;
+mod mutations;
+mod pieces;
+pub mod random;
+mod signals;
+mod soup;
+mod well_formed;
+
+use random::Random;
+
+#[derive(Debug, Clone, Copy, PartialEq, Eq)]
+pub enum SizeClass {
+    /// Under 300 bytes.
+    Small,
+    /// Mostly under 4,000 bytes.
+    Medium,
+    /// Up to a little over the file's limit.
+    Large,
+}
+
+impl SizeClass {
+    /// One of the classes; large files are rare.
+    pub fn of(seed: u64) -> SizeClass {
+        match seed % 16 {
+            0 => SizeClass::Large,
+            1..=7 => SizeClass::Medium,
+            _ => SizeClass::Small,
+        }
+    }
+
+    fn budget(self, random: &mut Random) -> usize {
+        match self {
+            SizeClass::Small => random.between(10, 200),
+            SizeClass::Medium => random.between(100, 2_500),
+            SizeClass::Large => random.between(2_000, 33_000),
+        }
+    }
+}
+
+/// The file of this seed; the same seed and class give the same bytes.
+pub fn file(seed: u64, size: SizeClass) -> Vec<u8> {
+    let mut random = Random::new(seed);
+    loop {
+        let file = any_file(&mut random, size);
+        if size != SizeClass::Small || file.len() < 300 {
+            return file;
+        }
+    }
+}
+
+/// A file meant to be well-formed; a large one may still pass a size.
+pub fn well_formed_file(seed: u64, size: SizeClass) -> Vec<u8> {
+    let mut random = Random::new(seed);
+    loop {
+        let budget = size.budget(&mut random);
+        let file = well_formed::file(&mut random, size, budget);
+        if size != SizeClass::Small || file.len() < 300 {
+            return file;
+        }
+    }
+}
+
+/// A file with one size at its limit, one under or one over.
+pub fn limit_file(seed: u64) -> Vec<u8> {
+    limits::file(&mut Random::new(seed))
+}
+
+fn any_file(random: &mut Random, size: SizeClass) -> Vec<u8> {
+    let budget = size.budget(random);
+    match random.below(20) {
+        0..=5 => well_formed::file(random, size, budget),
+        6..=10 if size == SizeClass::Large => limits::file(random),
+        6..=12 => faults::file(random, size),
+        13..=17 => {
+            let file = match random.below(4) {
+                0 if size == SizeClass::Large => limits::file(random),
+                1 => faults::file(random, size),
+                _ => well_formed::file(random, size, budget),
+            };
+            mutations::mutate(random, file)
+        }
+        18 => soup::bytes(random, budget),
+        _ => soup::tokens(random, size, budget),
+    }
+}

@@ -1,0 +1,28 @@
+//! Plain reference for Skytassel: reads, writes and renames a part of RTLIL.
+//!
+//! A line is judged by stages, in ascending refusal number:
+//! 4 `tokens`, 5 `shapes`, 6 to 11 `judgement`.
+
+pub mod bytes;
+pub mod counts;
+pub mod design;
+pub mod generate;
+pub mod judgement;
+pub mod lines;
+pub mod program;
+pub mod reading;
+pub mod session;
+pub mod shapes;
+pub mod signals;
+pub mod sizes;
+pub mod statements;
+pub mod surroundings;
+pub mod text;
+pub mod tokens;
+
+pub use design::Design;
+pub use program::program;
+pub use reading::{read, read_any_length, Netlist, Refusal};
+pub use session::Session;
+pub use statements::Statement;
+pub use text::{measure, write};

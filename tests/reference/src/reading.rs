@@ -1,0 +1,71 @@
+//! Reads a file line by line; the first refused line decides.
+
+use crate::design::Design;
+use crate::judgement::judge;
+use crate::lines::{lines, Line};
+use crate::shapes::shape;
+use crate::sizes;
+use crate::statements::Statement;
+use crate::surroundings::Surroundings;
+use crate::tokens::tokens;
+
+#[derive(Debug, Clone, Copy, PartialEq, Eq)]
+pub struct Refusal {
+    pub number: u32,
+    pub place: usize,
+}
+
+/// The accepted statements in file order.
+#[derive(Debug, Clone, PartialEq, Eq)]
+pub struct Netlist {
+    pub statements: Vec<Statement>,
+}
+
+impl Netlist {
+    pub fn design(&self) -> Design {
+        Design::of(&self.statements)
+    }
+}
+
+pub fn read(file: &[u8]) -> Result<Netlist, Refusal> {
+    if file.len() > sizes::FILE_BYTES {
+        return Err(Refusal {
+            number: 2,
+            place: 0,
+        });
+    }
+    read_any_length(file)
+}
+
+/// Reads without the bound on the file's length.
+pub fn read_any_length(file: &[u8]) -> Result<Netlist, Refusal> {
+    let mut surroundings = Surroundings::default();
+    let mut statements = Vec::new();
+    for line in lines(file) {
+        let statement = read_line(line, &mut surroundings).map_err(|number| Refusal {
+            number,
+            place: line.place,
+        })?;
+        statements.push(statement);
+    }
+    if !surroundings.may_end() {
+        return Err(Refusal {
+            number: 5,
+            place: file.len(),
+        });
+    }
+    Ok(Netlist { statements })
+}
+
+/// The line's statement, taken into the surroundings, or the line's number.
+fn read_line(line: Line, surroundings: &mut Surroundings) -> Result<Statement, u32> {
+    let tokens = tokens(line.bytes).ok_or(4u32)?;
+    if !line.ended {
+        return Err(5);
+    }
+    let shape = shape(&tokens, surroundings.position()).ok_or(5u32)?;
+    let (statement, counts) = judge(&shape, surroundings)?;
+    surroundings.counts = surroundings.counts.plus(counts);
+    surroundings.take(&statement);
+    Ok(statement)
+}

@@ -1,0 +1,26 @@
+//! The stated sizes.
+
+pub const FILE_BYTES: usize = 32_768;
+pub const TEXT_BYTES: usize = 32_768;
+pub const NAME_LENGTH: usize = 255;
+pub const BUNDLE_DEPTH: usize = 16;
+pub const RENAMES: usize = 64;
+
+/// Widest wire, memory word and value.
+pub const WIDTH: u64 = 2_048;
+/// Widest signal or part of one, before slicing.
+pub const PART_BITS: u64 = 2_048;
+pub const PORT_NUMBER: i64 = 1_023;
+
+pub const MODULES: usize = 32;
+pub const WIRES: usize = 512;
+pub const MEMORIES: usize = 32;
+pub const CELLS: usize = 256;
+pub const PARAMETERS: usize = 1_024;
+pub const ATTRIBUTES: usize = 1_024;
+pub const CELL_CONNECTIONS: usize = 1_024;
+pub const MODULE_CONNECTIONS: usize = 512;
+pub const SIGNAL_BITS: usize = 8_192;
+pub const VALUE_BITS: usize = 8_192;
+pub const STRING_BYTES: usize = 8_192;
+pub const NAME_BYTES: usize = 16_384;
