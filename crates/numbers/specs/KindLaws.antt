@@ -1,0 +1,88 @@
+-- A bit is the one that its code stands for.
+use Prim.Native.Nat.{ℕ, zero, suc, _+_, _-_, _*_, _/_, _%_, _<_, _≤_}
+use mathlib.Core.Path.{_≡_, refl, ap}
+use mathlib.Core.Bool.{Bool, true, false, cond}
+use native.Mathlib.Omega.{arith}
+use lib.Dec.{ltb}
+use borrow.Author.Tests.{lt-ltb, le-ltb, ltb-true, ltb-false}
+use Rattle.rules.specs.Tokens.{Digit, S0, S1, Sx, Sz, Sm, Sa}
+use Rattle.rules.specs.Statements.{Bit, digit, bit}
+use Rattle.rules.specs.Layout.{digitCode, bitCode}
+use Rattle.numbers.specs.Kinds.{digitOf, bitOf, bitAt, Valid}
+use Rattle.numbers.specs.declared.kinds.SignalBit.{SignalBit}
+
+pub digit-back : (d : Digit) → digitOf (digitCode d) ≡ d
+unfolding digitOf digitCode
+digit-back S0 = refl
+digit-back S1 = refl
+digit-back Sx = refl
+digit-back Sz = refl
+digit-back Sm = refl
+digit-back Sa = refl
+
+pub digit-code : (d : Digit) → digitCode d < 6
+unfolding digitCode
+digit-code S0 = omega arith
+digit-code S1 = omega arith
+digit-code Sx = omega arith
+digit-code Sz = omega arith
+digit-code Sm = omega arith
+digit-code Sa = omega arith
+
+pub code-digit : (c : ℕ) → c < 6 → digitCode (digitOf c) ≡ c
+unfolding digitOf digitCode
+code-digit zero h = refl
+code-digit (suc zero) h = refl
+code-digit (suc (suc zero)) h = refl
+code-digit (suc (suc (suc zero))) h = refl
+code-digit (suc (suc (suc (suc zero)))) h = refl
+code-digit (suc (suc (suc (suc (suc zero))))) h = refl
+code-digit (suc (suc (suc (suc (suc (suc c)))))) h = absurd (omega arith)
+
+-- a digit, or one of the first 2,048 bits of a wire whose number is below n
+unfoldable pub Within : ℕ → Bit → Type 0
+Within n (digit d) = Unit {0}
+Within n (bit w i) = (w < n) × (i < 2048)
+
+high : (n i : ℕ) → i < 2048 → (6 + 2048 * n + i - 6) / 2048 ≡ n
+high n i h = omega arith
+
+low : (n i : ℕ) → i < 2048 → (6 + 2048 * n + i - 6) % 2048 ≡ i
+low n i h = omega arith
+
+pub bit-back : (n : ℕ) (b : Bit) → Within n b → bitOf (bitAt (bitCode b)) ≡ b
+unfolding bitOf bitAt bitCode Within
+bit-back n (digit d) h = rw (lt-ltb (digitCode d) 6 (digit-code d)) (ap digit (digit-back d))
+bit-back n (bit w i) h = rw (le-ltb (6 + 2048 * w + i) 6 (omega arith), high w i (h .1), low w i (h .1))
+
+-- (with 512 wires a code is below 1048582)
+pub code-below : (n : ℕ) (b : Bit) → Within n b → bitCode b < 6 + 2048 * n
+unfolding bitCode Within
+code-below n (digit d) h = omega (arith, digit-code d)
+code-below n (bit w i) h = omega arith
+
+-- what holds of digits and of bits of wires holds of the bit of each code
+by-code :
+    (P : SignalBit → Type 0) (c : ℕ) →
+    (c < 6 → P (SignalBit.Digit c)) →
+    (6 ≤ c → P (SignalBit.Wire (record { 0 = (c - 6) / 2048 }) ((c - 6) % 2048))) →
+    P (bitAt c)
+unfolding bitAt
+by-code P c low high = pick (ltb c 6) refl
+  where
+    pick : (t : Bool) → ltb c 6 ≡ t → P (cond t (SignalBit.Digit c) (SignalBit.Wire (record { 0 = (c - 6) / 2048 }) ((c - 6) % 2048)))
+    pick true e = low (ltb-true c 6 e)
+    pick false e = high (ltb-false c 6 e)
+
+pub code-back : (c : ℕ) → bitCode (bitOf (bitAt c)) ≡ c
+unfolding bitOf bitCode
+code-back c = by-code (λ b. bitCode (bitOf b) ≡ c) c (λ l. code-digit c l) (λ l. omega arith)
+
+pub valid-at : (c : ℕ) → c < 1048582 → Valid (bitAt c)
+unfolding Valid
+valid-at c h = by-code Valid c (λ l. l) (λ l. (omega arith, omega arith))
+
+pub valid-within : (b : SignalBit) → Valid b → Within 512 (bitOf b)
+unfolding Valid Within bitOf
+valid-within (SignalBit.Digit c) v = tt
+valid-within (SignalBit.Wire w i) v = v

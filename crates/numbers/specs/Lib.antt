@@ -1,0 +1,4 @@
+pub mod Kinds
+pub mod KindLaws
+pub mod Signed
+pub mod SignedLaws
