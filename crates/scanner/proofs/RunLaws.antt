@@ -1,0 +1,55 @@
+-- The laws of where a run ends, for every test.
+-- Assumes nothing.
+use mathlib.Core.Path.{_≡_, sym, _∙_}
+use mathlib.Core.Bool.{Bool, true, false}
+use mathlib.Core.List.{List, [], _∷_}
+use Prim.Native.Nat.{ℕ, zero, suc, _+_, _-_, _<_, _≤_}
+use native.Mathlib.Numerals.{add-one}
+use native.Mathlib.Omega.{arith}
+use lib.ListN.{length, getD, take, drop, length-drop, drop-of-length-le}
+use lib.Seq.{take-nil, drop-cons, drop-drop, slice}
+use Rattle.rules.specs.Bytes.{run, rest}
+use Rattle.scanner.specs.Runs.{endOf}
+use Rattle.scanner.specs.Laws.{run-le, take-run, drop-run}
+
+-- a part, as code cuts it and as `slice` does
+pub slice-part : (i e : ℕ) (s : List ℕ) → slice i e s ≡ take (e - i) (drop i s)
+slice-part zero e s = let q : e - 0 ≡ e = omega arith in rw q
+slice-part (suc i) zero s = let q : 0 - suc i ≡ 0 = omega arith in rw q
+slice-part (suc i) (suc e) [] = rw take-nil
+slice-part (suc i) (suc e) (x ∷ xs) = let q : suc e - suc i ≡ e - i = omega arith in rw q (slice-part i e xs)
+
+module _ (f : ℕ → Bool) (s : List ℕ) (i : ℕ) where
+  pub endOf-end : length s ≤ i → endOf f s i ≡ i
+  unfolding endOf run
+  endOf-end h = rw (drop-of-length-le s h) (omega arith)
+
+  pub endOf-more : i < length s → f (getD s i 0) ≡ true → endOf f s i ≡ endOf f s (i + 1)
+  unfolding endOf run
+  endOf-more h t = rw (drop-cons s i 0, add-one, t) (omega arith)
+
+  pub endOf-stop : i < length s → f (getD s i 0) ≡ false → endOf f s i ≡ i
+  unfolding endOf run
+  endOf-stop h t = rw (drop-cons s i 0, t) (omega arith)
+
+  pub endOf-low : i ≤ endOf f s i
+  unfolding endOf
+  endOf-low = omega arith
+
+  pub endOf-high : i ≤ length s → endOf f s i ≤ length s
+  unfolding endOf
+  endOf-high h = omega (arith, run-le f (drop i s), length-drop i s)
+
+  count : endOf f s i - i ≡ length (run f (drop i s))
+  unfolding endOf
+  count = omega arith
+
+  pub endOf-run : take (endOf f s i - i) (drop i s) ≡ run f (drop i s)
+  endOf-run = rw count (take-run f (drop i s))
+
+  pub endOf-slice : slice i (endOf f s i) s ≡ run f (drop i s)
+  endOf-slice = slice-part i (endOf f s i) s ∙ endOf-run
+
+  pub endOf-rest : drop (endOf f s i) s ≡ rest f (drop i s)
+  unfolding endOf
+  endOf-rest = sym (drop-drop (length (run f (drop i s))) i s) ∙ drop-run f (drop i s)

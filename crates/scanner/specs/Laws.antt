@@ -1,0 +1,109 @@
+-- Laws of the rules' definitions: runs, tests of all bytes, equal bytes.
+-- Assumes nothing.
+use mathlib.Core.Path.{_≡_, refl, sym, ap, ap₂, _∙_}
+use mathlib.Core.Bool.{Bool, true, false, cond, _&&_, and-false}
+use mathlib.Core.List.{List, [], _∷_, _++_}
+use Prim.Native.Nat.{ℕ, suc, _+_, _<_, _≤_}
+use native.Mathlib.Numerals.{add-one}
+use native.Mathlib.Omega.{arith}
+use lib.Dec.{eqb, eqb·zero-suc, eqb·suc-suc}
+use lib.ListN.{length, getD, take, drop, length-append, drop-of-length-le}
+use lib.Seq.{drop-cons, take-append-seam, drop-append-seam}
+use borrow.Author.Tests.{eq-eqb, ne-eqb, eqb-true}
+use Rattle.rules.specs.Bytes.{same, all, run, rest}
+
+-- what holds of both branches, each under its test, holds of the choice
+pub by-cond : {A : Type 0} (P : A → Type 0) (b : Bool) {x y : A} → (b ≡ true → P x) → (b ≡ false → P y) → P (cond b x y)
+by-cond P true f g = f refl
+by-cond P false f g = g refl
+
+-- a proof by the two answers of a test
+pub by-test : {P : Type 0} (b : Bool) → (b ≡ true → P) → (b ≡ false → P) → P
+by-test true f g = f refl
+by-test false f g = g refl
+
+pub and-true-left : (a b : Bool) → a && b ≡ true → a ≡ true
+and-true-left true b e = refl
+and-true-left false b e = e
+
+pub and-true-right : (a b : Bool) → a && b ≡ true → b ≡ true
+and-true-right true b e = e
+and-true-right false b e = let z : _≡_ {A = ℕ} 0 1 = cc in absurd (omega arith)
+
+module _ (f : ℕ → Bool) where
+  module _ (b : ℕ) (bs : List ℕ) where
+    pub run-more : f b ≡ true → run f (b ∷ bs) ≡ b ∷ run f bs
+    unfolding run
+    run-more t = rw t
+
+    pub run-stop : f b ≡ false → run f (b ∷ bs) ≡ []
+    unfolding run
+    run-stop t = rw t
+
+    pub rest-more : f b ≡ true → rest f (b ∷ bs) ≡ rest f bs
+    unfolding rest
+    rest-more t = rw t
+
+    pub rest-stop : f b ≡ false → rest f (b ∷ bs) ≡ b ∷ bs
+    unfolding rest
+    rest-stop t = rw t
+
+  pub run-rest : (l : List ℕ) → run f l ++ rest f l ≡ l
+  unfolding run rest
+  run-rest [] = refl
+  run-rest (b ∷ bs) = by-test (f b) (λ e. rw (e, run-rest bs)) (λ e. rw e)
+
+  pub run-le : (l : List ℕ) → length (run f l) ≤ length l
+  run-le l = omega (arith, simp length-append at (ap length (run-rest l)))
+
+  pub take-run : (l : List ℕ) → take (length (run f l)) l ≡ run f l
+  take-run l = ap (take (length (run f l))) (sym (run-rest l)) ∙ take-append-seam (run f l) (rest f l)
+
+  pub drop-run : (l : List ℕ) → drop (length (run f l)) l ≡ rest f l
+  drop-run l = ap (drop (length (run f l))) (sym (run-rest l)) ∙ drop-append-seam (run f l) (rest f l)
+
+  -- every byte of a run passes the test
+  pub run-all : (l : List ℕ) → all f (run f l) ≡ true
+  unfolding run all
+  run-all [] = refl
+  run-all (b ∷ bs) = by-cond (λ (r : List ℕ). all f r ≡ true) (f b) (λ e. rw (e, run-all bs)) (λ e. refl)
+
+  -- all bytes pass the test just where the run is the whole
+  pub all-run : (l : List ℕ) → all f l ≡ eqb (length (run f l)) (length l)
+  unfolding run all
+  all-run [] = refl
+  all-run (b ∷ bs) = by-test (f b) (λ e. rw (e, eqb·suc-suc) (all-run bs)) (λ e. rw (e, eqb·zero-suc))
+
+pub same-refl : (a : List ℕ) → same a a ≡ true
+unfolding same
+same-refl [] = refl
+same-refl (x ∷ xs) = rw (eq-eqb x x refl) (same-refl xs)
+
+pub same-eq : (a b : List ℕ) → same a b ≡ true → a ≡ b
+unfolding same
+same-eq [] [] e = refl
+same-eq [] (y ∷ ys) e = cc
+same-eq (x ∷ xs) [] e = cc
+same-eq (x ∷ xs) (y ∷ ys) e = ap₂ _∷_ (eqb-true x y (and-true-left _ _ e)) (same-eq xs ys (and-true-right (eqb x y) _ e))
+
+-- bytes of different lengths are not the same
+pub same-length : (a b : List ℕ) → (length a ≡ length b → ⊥) → same a b ≡ false
+unfolding same
+same-length [] [] h = absurd (h refl)
+same-length [] (y ∷ ys) h = refl
+same-length (x ∷ xs) [] h = refl
+same-length (x ∷ xs) (y ∷ ys) h = rw (same-length xs ys (λ e. h (ap suc e))) (and-false (eqb x y))
+
+-- one byte more, one that differs, and the end, of two lists of bytes at the same position
+module _ (a b : List ℕ) (i : ℕ) where
+  pub same-more : i < length a → i < length b → getD a i 0 ≡ getD b i 0 → same (drop i a) (drop i b) ≡ same (drop (i + 1) a) (drop (i + 1) b)
+  unfolding same
+  same-more h k e = rw (drop-cons a i 0, drop-cons b i 0, add-one, eq-eqb (getD a i 0) (getD b i 0) e)
+
+  pub same-stop : i < length a → i < length b → (getD a i 0 ≡ getD b i 0 → ⊥) → same (drop i a) (drop i b) ≡ false
+  unfolding same
+  same-stop h k e = rw (drop-cons a i 0, drop-cons b i 0, ne-eqb (getD a i 0) (getD b i 0) e)
+
+  pub same-end : length a ≤ i → length b ≤ i → same (drop i a) (drop i b) ≡ true
+  unfolding same
+  same-end h k = rw (drop-of-length-le a h, drop-of-length-le b k)

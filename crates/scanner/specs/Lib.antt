@@ -1,0 +1,6 @@
+pub mod Class
+pub mod Runs
+pub mod Lines
+pub mod Words
+pub mod Numbers
+pub mod Laws

@@ -1,0 +1,37 @@
+// Names.
+use crate::class::class_of;
+use crate::runs::run_end;
+ghost use mathlib.Core.Path.{_≡_};
+ghost use Rattle.rules.specs.Bytes.{legal, same};
+
+// `\` or `$`, then bytes above 32; 2 to 255 bytes in all.
+pub fn legal(n: &[u8]) -> bool
+    ensures { λ r. ⌜ r ≡ legal (now (n .entry)) ⌝ }
+{
+    if n.len() < 2 {
+        return false;
+    }
+    if 255 < n.len() {
+        return false;
+    }
+    if class_of(n[0]) != 7 {
+        return false;
+    }
+    run_end(n, 1, 4, 14) == n.len()
+}
+
+pub fn same_bytes(a: &[u8], b: &[u8]) -> bool
+    ensures { λ r. ⌜ r ≡ same (now (a .entry)) (now (b .entry)) ⌝ }
+{
+    if a.len() != b.len() {
+        return false;
+    }
+    let mut i = 0;
+    while i < a.len() {
+        if a[i] != b[i] {
+            return false;
+        }
+        i += 1;
+    }
+    true
+}
