@@ -1,0 +1,104 @@
+-- What holds of every string: of the bytes that it stands for, and of where it ends.
+-- Assumes nothing.
+use mathlib.Core.Path.{_≡_, refl}
+use mathlib.Core.Bool.{true}
+use mathlib.Core.List.{List, [], _∷_, _++_}
+use Prim.Native.Nat.{ℕ, suc, _+_, _<_, _≤_}
+use native.Mathlib.Omega.{arith}
+use lib.ListN.{length, drop, length-append, length-drop}
+use Rattle.rules.specs.Bytes.{all, within}
+use Rattle.rules.specs.Tokens.{Inside, plain, Turn, goes, ends, breaks, turn, Quoted, closed, broken, quotedOnto, quotedBy, quoted}
+use Rattle.strings.specs.declared.Close.{Close}
+use Rattle.strings.specs.declared.Close.the-variants.{At, Broken}
+use Rattle.strings.specs.Decoded.{bytesOf, isClosed, decodedBy, decoded, closes, closing, CloseIs}
+use Rattle.strings.proofs.Turns.{and-left, and-right, held, AllBytes, Fine, turn-fine}
+
+append-bytes : (xs ys : List ℕ) → AllBytes xs → AllBytes ys → AllBytes (xs ++ ys)
+unfolding all
+append-bytes [] ys f g = g
+append-bytes (x ∷ xs) ys f g =
+    let r = all (within 1 255) xs in
+    rw (and-left (within 1 255 x) r f) (append-bytes xs ys (and-right (within 1 255 x) r f) g)
+
+-- the bytes given and those left behind the closing quote are fewer than n, and no byte given is 0
+abbrev FineQuoted : ℕ → Quoted → Type 0
+FineQuoted n (closed ds r) = (length ds + length r < n) × AllBytes ds
+FineQuoted n broken = Unit {0}
+
+onto-quoted : (m n : ℕ) (bs : List ℕ) (q : Quoted) → length bs + m ≤ n → AllBytes bs → FineQuoted m q → FineQuoted n (quotedOnto bs q)
+unfolding quotedOnto
+onto-quoted m n bs (closed ds r) h a f = (simp length-append (omega (arith, f .0)), append-bytes bs ds a (f .1))
+onto-quoted m n bs broken h a f = tt
+
+module _ (j : Inside) (l : List ℕ) (more : Inside → Quoted) (rest : (k : Inside) → FineQuoted (length l + held k) (more k)) where
+  turn-quoted : (t : Turn) → Fine j t → FineQuoted (suc (length l) + held j) (quotedBy more l t)
+  unfolding quotedBy
+  turn-quoted (goes bs k) f = onto-quoted (length l + held k) (suc (length l) + held j) bs (more k) (omega (arith, f .0)) (f .1) (rest k)
+  turn-quoted (ends bs) f = (omega (arith, f .0), f .1)
+  turn-quoted breaks f = tt
+
+quoted-fine : (j : Inside) (l : List ℕ) → FineQuoted (length l + held j) (quoted j l)
+unfolding quoted
+quoted-fine j [] = tt
+quoted-fine j (b ∷ l) = turn-quoted j l (λ k. quoted k l) (λ k. quoted-fine k l) (turn j b) (turn-fine j b)
+
+fine-bytes : (n : ℕ) (q : Quoted) → FineQuoted n q → (length (bytesOf q) ≤ n) × AllBytes (bytesOf q)
+unfolding bytesOf all
+fine-bytes n (closed ds r) f = (omega (arith, f .0), f .1)
+fine-bytes n broken f = (omega arith, refl)
+
+module _ (l : List ℕ) where
+  -- a string stands for no more bytes than are written
+  pub decoded-length : length (decoded l) ≤ length l
+  unfolding decoded decodedBy held
+  decoded-length = omega (arith, fine-bytes (length l + held plain) (quoted plain l) (quoted-fine plain l) .0)
+
+  -- the bytes that a string stands for are from 1 to 255
+  pub decoded-bytes : AllBytes (decoded l)
+  unfolding decoded decodedBy
+  decoded-bytes = fine-bytes (length l + held plain) (quoted plain l) (quoted-fine plain l) .1
+
+  pub broken-decoded : quoted plain l ≡ broken → decoded l ≡ []
+  unfolding decoded decodedBy bytesOf
+  broken-decoded e = rw e
+
+  pub never-broken : closes l ≡ true → quoted plain l ≡ broken → ⊥
+  unfolding closes isClosed
+  never-broken h e = let f : isClosed broken ≡ true = rw e at h in let z : _≡_ {A = ℕ} 0 1 = cc in omega arith
+
+  module _ (ds r : List ℕ) (e : quoted plain l ≡ closed ds r) where
+    pub closed-decoded : decoded l ≡ ds
+    unfolding decoded decodedBy bytesOf
+    closed-decoded = rw e
+
+    pub closed-closes : closes l ≡ true
+    unfolding closes isClosed
+    closed-closes = rw e
+
+    -- the closing quote is read too
+    pub closed-length : length ds + length r < length l
+    unfolding held
+    closed-length = let f : FineQuoted (length l + held plain) (closed ds r) = rw e at (quoted-fine plain l) in omega (arith, f .0)
+
+-- what the answer of `string_end` says
+module _ (s : List ℕ) (at : ℕ) (r : Close) (c : CloseIs s at r) where
+  pub close-broken : r ≡ Broken → quoted plain (drop at s) ≡ broken
+  unfolding closing
+  close-broken e = rw e at (c .is)
+
+  module _ (end : ℕ) (e : r ≡ At end) where
+    pub close-closed : quoted plain (drop at s) ≡ closed (decoded (drop at s)) (drop end s)
+    unfolding closing
+    close-closed = rw e at (c .is)
+
+    pub close-closes : closes (drop at s) ≡ true
+    close-closes = closed-closes (drop at s) (decoded (drop at s)) (drop end s) close-closed
+
+    pub close-between : (at < end) × (end ≤ length s)
+    close-between = rw e at (c .between)
+
+    -- the bytes between the quotes are no fewer than those that they stand for
+    pub close-length : at + length (decoded (drop at s)) < end
+    close-length =
+        let f = closed-length (drop at s) (decoded (drop at s)) (drop end s) close-closed in
+        omega (arith, simp length-drop at f, close-between .0, close-between .1)

@@ -1,0 +1,4 @@
+pub mod Turns
+pub mod Laws
+mod Reached
+mod Stores

@@ -1,0 +1,125 @@
+use mathlib.Core.List.{List, []}
+use mathlib.Core.Path.{_≡_, refl, sym, ap}
+use Prim.Native.Nat.{ℕ, _+_, _-_}
+use native.Mathlib.Omega.{arith}
+use lib.ListN.{length, length-append}
+use borrow.Author.Needs.{needs}
+use Rattle.tables.specs.Store.{store, store-none}
+use Rattle.strings.specs.Machine.{insideOf, turnOf}
+use Rattle.strings.proofs.Laws.{closed-decoded, never-broken}
+use Rattle.strings.proofs.Reached.{Reached, reached-none, reached-goes, reached-ends, reached-breaks, reached-end, reached-room}
+use Rattle.strings.proofs.Stores.{stored}
+use Rattle.strings.proofs.put_string.Statement.{statement}
+use Rattle.strings.proofs.put_string.Tie as tie
+
+-- The loop has reached `i`, and the bytes given so far are stored from `to` on, up to `end`.
+abbrev Inv-loop : tie.InvT-loop
+Inv-loop s at out₀ to i₀ inside₀ end₀ out i inside end =
+    (ds : List ℕ) × Reached s at i (insideOf inside) ds × (end ≡ to + length ds) × (out ≡ store out₀ to ds) × (length out ≡ length out₀)
+
+abbrev μ-loop : tie.MeasureT-loop
+μ-loop s at out₀ to i₀ inside₀ end₀ out i inside end = length s - i
+
+loop-holds : tie.Need-loop-holds Inv-loop μ-loop
+unfolding insideOf
+loop-holds c = ([], reached-none _ _, omega arith, sym (store-none _ _), refl)
+
+shared-slice-read-turn-on : tie.Need-shared-slice-read-turn-on Inv-loop μ-loop
+shared-slice-read-turn-on c = c .before .loop-test .taken
+
+turn-on-requires : tie.Need-turn-on-requires Inv-loop μ-loop
+turn-on-requires c κs = tt
+
+enum-known-g : tie.Need-enum-known-g Inv-loop μ-loop
+enum-known-g c = search needs
+
+put-given-requires : tie.Need-put-given-requires Inv-loop μ-loop
+unfolding turnOf
+put-given-requires c κs =
+    let l = c .before .before .before .before .before .before .before .loop in
+    let r = reached-goes _ _ _ _ _ (l .inv .1) _ _ (c .before .before .before .before .before .before .loop-test .taken) (rw (c .before .before .g .given .1) at (c .before .before .before .before .turn-on .ensures)) in
+    let h = reached-room _ _ _ _ _ r (c .before .before .before .before .before .before .before .before .before .before .pre .0) in
+    omega (arith, simp length-append at h, l .inv .2, l .inv .4, c .before .before .before .before .before .before .before .before .before .before .pre .1)
+
+add-i : tie.Need-add-i Inv-loop μ-loop
+add-i c = omega arith
+
+loop-less : tie.Need-loop-less Inv-loop μ-loop
+loop-less c = omega arith
+
+loop-again : tie.Need-loop-again Inv-loop μ-loop
+unfolding turnOf
+loop-again c =
+    let l = c .before .before .before .before .before .before .before .before .before .before .loop in
+    let r = reached-goes _ _ _ _ _ (l .inv .1) _ _ (c .before .before .before .before .before .before .before .before .before .loop-test .taken) (rw (c .before .before .before .before .before .g .given .1) at (c .before .before .before .before .before .before .before .turn-on .ensures)) in
+    let p = c .before .before .put-given .ensures in
+    (_, r, simp length-append (omega (arith, l .inv .2, p .0)), stored _ _ _ _ _ _ _ (l .inv .3) (l .inv .2) (p .1), search needs)
+
+enum-known-g-2 : tie.Need-enum-known-g-2 Inv-loop μ-loop
+enum-known-g-2 c = search needs
+
+put-given-requires-2 : tie.Need-put-given-requires-2 Inv-loop μ-loop
+unfolding turnOf
+put-given-requires-2 c κs =
+    let l = c .before .before .before .before .before .before .before .loop in
+    let q = reached-ends _ _ _ _ _ (l .inv .1) _ (c .before .before .before .before .before .before .loop-test .taken) (rw (c .before .before .g2 .given .1) at (c .before .before .before .before .turn-on .ensures)) in
+    let e = closed-decoded _ _ _ q in
+    omega (arith, simp length-append at (ap length e), l .inv .2, l .inv .4, c .before .before .before .before .before .before .before .before .before .before .pre .1)
+
+same-length : tie.Need-same-length Inv-loop μ-loop
+same-length c = search needs
+
+returns : tie.Need-returns Inv-loop μ-loop
+unfolding turnOf
+returns c =
+    let l = c .before .before .before .before .before .before .before .before .before .before .loop in
+    let q = reached-ends _ _ _ _ _ (l .inv .1) _ (c .before .before .before .before .before .before .before .before .before .loop-test .taken) (rw (c .before .before .before .before .before .g2 .given .1) at (c .before .before .before .before .before .before .before .turn-on .ensures)) in
+    let e = closed-decoded _ _ _ q in
+    let p = c .before .before .put-given2 .ensures in
+    rw e (simp length-append (omega (arith, l .inv .2, p .0)), stored _ _ _ _ _ _ _ (l .inv .3) (l .inv .2) (p .1))
+
+enum-told : tie.Need-enum-told Inv-loop μ-loop
+enum-told c = search needs
+
+same-length-2 : tie.Need-same-length-2 Inv-loop μ-loop
+same-length-2 c = search needs
+
+returns-2 : tie.Need-returns-2 Inv-loop μ-loop
+unfolding turnOf
+returns-2 c =
+    let l = c .before .before .before .before .before .loop in
+    let q = reached-breaks _ _ _ _ _ (l .inv .1) (c .before .before .before .before .loop-test .taken) (rw (c .enum-told .given .1) at (c .before .before .turn-on .ensures)) in
+    absurd (never-broken _ (c .before .before .before .before .before .before .before .before .pre .0) q)
+
+same-length-3 : tie.Need-same-length-3 Inv-loop μ-loop
+same-length-3 c = search needs
+
+returns-3 : tie.Need-returns-3 Inv-loop μ-loop
+returns-3 c =
+    let l = c .before .loop in
+    let q = reached-end _ _ _ _ _ (l .inv .1) (c .loop-test .left) in
+    absurd (never-broken _ (c .before .before .before .before .pre .0) q)
+
+pub put-string-spec : {M : Type 1} → statement M
+put-string-spec =
+    tie.close
+    (tie.spec
+    Inv-loop
+    μ-loop
+    loop-holds
+    shared-slice-read-turn-on
+    turn-on-requires
+    enum-known-g
+    put-given-requires
+    add-i
+    loop-less
+    loop-again
+    enum-known-g-2
+    put-given-requires-2
+    same-length
+    returns
+    enum-told
+    same-length-2
+    returns-2
+    same-length-3
+    returns-3)

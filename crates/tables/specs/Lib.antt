@@ -1,0 +1,4 @@
+pub mod Store
+pub mod Padded
+pub mod Row
+pub mod Flat

@@ -1,0 +1,5 @@
+pub mod Rows
+pub mod RowLaws
+pub mod StoreLaws
+pub mod Found
+pub mod FoundLaws

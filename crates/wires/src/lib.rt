@@ -1,0 +1,99 @@
+// The wires of a module in the table of wires: a row of eight words for each, in consecutive rows, with its name's span in the table of names.
+// All of it is total: a word past the table's end counts as 0, and a span past the names' end is cut.
+use numbers::kinds::WireNumber;
+use numbers::signed::Index;
+use numbers::signed::author_index;
+use scanner::names::same_bytes;
+use scanner::parts::part;
+use tables::word;
+ghost use mathlib.Core.Path.{_≡_};
+ghost use Prim.Native.Nat.{_<_};
+ghost use Rattle.rules.specs.Session.{indexIn};
+ghost use Rattle.numbers.specs.Signed.{verdictOf};
+ghost use Rattle.wires.specs.Rows.{column, nameOf, wireOf, hasPort, TakenIs};
+ghost use Rattle.wires.specs.Found.{FoundIs};
+
+// A wire's number in its module and its width.
+pub enum Found {
+    At(WireNumber, u32),
+    Nothing,
+}
+
+// A row's number is the sum of two words at most, so that it may pass 32 bits.
+fn column(wires: &[u32], row: usize, c: usize) -> u32
+    requires { ⌜ (row < 8589934592) × (c < 8) ⌝ }
+    ensures { λ r. ⌜ r ≡ column (now (wires .entry)) row c ⌝ }
+{
+    word(wires, 8 * row + c)
+}
+
+fn row_name<'a>(names: &'a [u8], wires: &[u32], row: usize) -> &'a [u8]
+    requires { ⌜ row < 8589934592 ⌝ }
+    ensures { λ r. ⌜ now r ≡ nameOf (now (names .entry)) (now (wires .entry)) row ⌝ }
+{
+    let start = column(wires, row, 1) as usize;
+    let size = column(wires, row, 2) as usize;
+    part(names, start, start + size)
+}
+
+pub fn wire_name<'a>(names: &'a [u8], wires: &[u32], k: u32) -> &'a [u8]
+    ensures { λ r. ⌜ now r ≡ nameOf (now (names .entry)) (now (wires .entry)) k ⌝ }
+{
+    row_name(names, wires, k as usize)
+}
+
+// The last of the wires in count rows from first on that has this name.
+pub fn find_wire(names: &[u8], wires: &[u32], first: u32, count: u32, name: &[u8]) -> Found
+    ensures { λ r. ⌜ FoundIs (now (names .entry)) (now (wires .entry)) first count (now (name .entry)) r ⌝ }
+{
+    let mut k = count;
+    while 0 < k {
+        let last = k - 1;
+        let row = first as usize + last as usize;
+        if same_bytes(row_name(names, wires, row), name) {
+            return Found::At(WireNumber(last), column(wires, row, 3));
+        }
+        k = last;
+    }
+    Found::Nothing
+}
+
+fn has_port(wires: &[u32], row: usize, port: u32) -> bool
+    requires { ⌜ row < 8589934592 ⌝ }
+    ensures { λ r. ⌜ r ≡ hasPort port (wireOf (now (wires .entry)) row) ⌝ }
+{
+    let direction = column(wires, row, 5) / 4;
+    if direction == 0 {
+        return false;
+    }
+    if 3 < direction {
+        return false;
+    }
+    port == column(wires, row, 6)
+}
+
+// Whether one of the wires in count rows from first on is a port of this number.
+pub fn port_taken(wires: &[u32], first: u32, count: u32, port: u32) -> bool
+    ensures { λ r. ⌜ TakenIs (now (wires .entry)) first count port r ⌝ }
+{
+    let mut k = count;
+    while 0 < k {
+        let last = k - 1;
+        if has_port(wires, first as usize + last as usize, port) {
+            return true;
+        }
+        k = last;
+    }
+    false
+}
+
+// The index that the author of row k's wire gave its bit.
+pub fn wire_index(wires: &[u32], k: u32, bit: u32) -> Index
+    ensures { λ r. ⌜ indexIn (wireOf (now (wires .entry)) k) bit ≡ verdictOf r ⌝ }
+{
+    let row = k as usize;
+    let width = column(wires, row, 3);
+    let offset = column(wires, row, 4);
+    let upto = column(wires, row, 5) % 2 == 1;
+    author_index(offset, width, upto, bit)
+}
