@@ -3,7 +3,7 @@
 use Prim.Native.Nat.{ℕ, zero, suc, _+_, _-_, _/_, _≤_, _<_}
 use mathlib.Core.Path.{_≡_, sym, ap, _∙_}
 use mathlib.Core.List.{List, [], map, Option·toList}
-use mathlib.Core.Bool.{true, false, or-false}
+use mathlib.Core.Bool.{Bool, true, false, or-false}
 use mathlib.Core.Option.{some}
 use native.Mathlib.Omega.{arith}
 use lib.Dec.{eqb}
@@ -19,13 +19,18 @@ use Rattle.wires.specs.RowLaws.{length-wires}
 
 -- the last of k wires is row first + j, with j wires before it
 module _ (names t : List ℕ) (first k j : ℕ) (e : k ≡ suc j) where
-  pub find-last : (n : List ℕ) → same (nameOf names t (first + j)) n ≡ true → find n (wiresFrom names t first k) ≡ some (j, wireOf t (first + j))
-  unfolding find wiresFrom
-  find-last n h = rw (e, h, length-wires names t first j)
+  -- b: whether the row's name a is the name n
+  module _ (n a : List ℕ) (b : Bool) (ea : a ≡ nameOf names t (first + j)) (eb : b ≡ same a n) where
+    row-same : same (nameOf names t (first + j)) n ≡ b
+    row-same = rw (← ea) (sym eb)
 
-  pub find-before : (n : List ℕ) → same (nameOf names t (first + j)) n ≡ false → find n (wiresFrom names t first k) ≡ find n (wiresFrom names t first j)
-  unfolding find wiresFrom
-  find-before n h = rw (e, h)
+    pub find-last : b ≡ true → find n (wiresFrom names t first k) ≡ some (j, wireOf t (first + j))
+    unfolding find wiresFrom
+    find-last h = rw (e, row-same, h, length-wires names t first j)
+
+    pub find-before : b ≡ false → find n (wiresFrom names t first k) ≡ find n (wiresFrom names t first j)
+    unfolding find wiresFrom
+    find-before h = rw (e, row-same, h)
 
   pub taken-last : (p : ℕ) → hasPort p (wireOf t (first + j)) ≡ true → any (λ v. any (eqb p) (portNumbers (v .1))) (wiresFrom names t first k) ≡ true
   unfolding any wiresFrom hasPort

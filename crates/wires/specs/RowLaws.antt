@@ -7,18 +7,18 @@ use mathlib.Core.Option.{Option, none, some, Option·elim}
 use mathlib.Core.Bool.{Bool, true, false, cond}
 use native.Mathlib.Omega.{arith}
 use lib.Dec.{eqb, ltb}
-use borrow.Author.Tests.{ltb-true, ltb-false}
-use Rattle.scanner.specs.Laws.{by-test}
-use Rattle.rules.specs.Signals.{Wires}
 use lib.ListN.{length, getD, getElem?, take, drop}
 use lib.Seq.{slice, take-nil, getD-take, getD-drop}
-use Rattle.tables.specs.Padded.{padded-getD}
-use Rattle.tables.specs.Row.{words-rowAt}
-use Rattle.tables.specs.Flat.{flat, Eights, length-flat, words-flat}
+use borrow.Author.Tests.{ltb-true, ltb-false}
+use Rattle.rules.specs.Signals.{Wires}
 use Rattle.rules.specs.Tokens.{Name}
 use Rattle.rules.specs.Statements.{Wire, Direction, input, output, inout}
 use Rattle.rules.specs.Numbers.{int32}
 use Rattle.rules.specs.Layout.{Used, padded, row, directionCode, flags, wireRow}
+use Rattle.tables.specs.Padded.{padded-getD}
+use Rattle.tables.specs.Row.{words-rowAt}
+use Rattle.tables.specs.Flat.{flat, Eights, length-flat, words-flat}
+use Rattle.scanner.specs.Laws.{by-test}
 use Rattle.numbers.specs.SignedLaws.{signed-word}
 use Rattle.wires.specs.Rows.{wordAt, column, nameOf, portOf, wireOf, wiresFrom}
 

@@ -1,16 +1,12 @@
 -- `find_wire` meets its contract. The invariant: the search in the first k wires answers as the search in all of them.
 -- Assumes nothing.
-use Prim.Native.Nat.{ℕ, suc, _+_, _-_, _≤_}
-use mathlib.Core.Bool.{true, false}
-use mathlib.Core.List.{List}
+use Prim.Native.Nat.{ℕ, suc, _-_, _≤_}
 use mathlib.Core.Option.{some}
 use mathlib.Core.Path.{_≡_, refl, sym, ap, _∙_}
 use native.Mathlib.Omega.{arith}
-use denote.Ref.{now}
 use borrow.Author.Needs.{needs}
-use Rattle.rules.specs.Bytes.{same}
 use Rattle.rules.specs.Signals.{find}
-use Rattle.wires.specs.Rows.{nameOf, wireOf, wiresFrom}
+use Rattle.wires.specs.Rows.{wireOf, wiresFrom}
 use Rattle.wires.specs.Found.{widthFound, foundOf}
 use Rattle.wires.proofs.Laws.{find-last, find-before}
 use Rattle.wires.proofs.find_wire.Statement.{statement}
@@ -47,9 +43,8 @@ returns : tie.Need-returns Inv-loop μ-loop
 unfolding widthFound foundOf wireOf
 returns c =
     let e : c .before .before .before .before .before .loop .k ≡ suc (c .before .before .before .before .before .loop .k - 1) = omega arith in
-    let h : same (nameOf (now (c .before .before .before .before .before .before .before .before .before .args .names)) (now (c .before .before .before .before .before .before .before .before .before .args .wires)) (c .before .before .before .before .before .before .before .before .before .args .first + (c .before .before .before .before .before .loop .k - 1))) (now (c .before .before .before .before .before .before .before .before .before .args .name)) ≡ true =
-    ap (λ (a : List ℕ). same a (now (c .before .before .before .before .before .before .before .before .before .args .name))) (sym (c .before .before .before .row-name .ensures)) ∙ sym (c .before .before .same-bytes .ensures) ∙ c .before .if1 .taken in
-    ap widthFound (c .before .before .before .before .before .loop .inv .1 ∙ find-last _ _ _ _ _ e _ h) ∙ ap (λ (w : ℕ). some (c .before .before .before .before .before .loop .k - 1, w)) (sym (c .column .ensures))
+    ap widthFound (c .before .before .before .before .before .loop .inv .1 ∙ find-last _ _ _ _ _ e _ _ _ (c .before .before .before .row-name .ensures) (c .before .before .same-bytes .ensures) (c .before .if1 .taken))
+    ∙ ap (λ (w : ℕ). some (c .before .before .before .before .before .loop .k - 1, w)) (sym (c .column .ensures))
 
 loop-less : tie.Need-loop-less Inv-loop μ-loop
 loop-less c = omega arith
@@ -57,9 +52,7 @@ loop-less c = omega arith
 loop-again : tie.Need-loop-again Inv-loop μ-loop
 loop-again c =
     let e : c .before .before .before .before .loop .k ≡ suc (c .before .before .before .before .loop .k - 1) = omega arith in
-    let h : same (nameOf (now (c .before .before .before .before .before .before .before .before .args .names)) (now (c .before .before .before .before .before .before .before .before .args .wires)) (c .before .before .before .before .before .before .before .before .args .first + (c .before .before .before .before .loop .k - 1))) (now (c .before .before .before .before .before .before .before .before .args .name)) ≡ false =
-    ap (λ (a : List ℕ). same a (now (c .before .before .before .before .before .before .before .before .args .name))) (sym (c .before .before .row-name .ensures)) ∙ sym (c .before .same-bytes .ensures) ∙ c .if1 .left in
-    (omega arith, c .before .before .before .before .loop .inv .1 ∙ find-before _ _ _ _ _ e _ h)
+    (omega arith, c .before .before .before .before .loop .inv .1 ∙ find-before _ _ _ _ _ e _ _ _ (c .before .before .row-name .ensures) (c .before .same-bytes .ensures) (c .if1 .left))
 
 returns-2 : tie.Need-returns-2 Inv-loop μ-loop
 unfolding widthFound foundOf find wiresFrom
