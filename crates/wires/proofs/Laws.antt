@@ -7,13 +7,10 @@ use mathlib.Core.Bool.{Bool, true, false, or-false}
 use mathlib.Core.Option.{some}
 use native.Mathlib.Omega.{arith}
 use lib.Dec.{eqb}
-use lib.ListN.{length, take, drop}
-use lib.Seq.{slice, take-all, take-length}
 use borrow.Author.Tests.{ne-eqb}
 use Rattle.rules.specs.Bytes.{same, any}
 use Rattle.rules.specs.Judgement.{portNumbers}
 use Rattle.rules.specs.Signals.{find}
-use Rattle.scanner.proofs.RunLaws.{slice-part}
 use Rattle.wires.specs.Rows.{column, nameOf, portOf, wireOf, wiresFrom, hasPort}
 use Rattle.wires.specs.RowLaws.{length-wires}
 
