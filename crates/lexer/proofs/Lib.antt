@@ -1,0 +1,4 @@
+pub mod ByClass
+pub mod Steps
+pub mod Prefix
+pub mod Reached

@@ -1,0 +1,211 @@
+// The lexer: what stands where a token could start, and the tokens of a line, put into a table. Positions are the file's.
+use scanner::class::class_of;
+use scanner::names::legal;
+use scanner::runs::run_end;
+use scanner::words::keyword;
+use strings::Close;
+use strings::string_end;
+use tokens::Constant;
+use tokens::Integer;
+use tokens::Token;
+use tokens::put_token;
+ghost use mathlib.Core.Path.{_≡_};
+ghost use Prim.Native.Nat.{_+_, _-_, _*_, _≤_, _<_};
+ghost use lib.ListN.{length, drop};
+ghost use lib.Seq.{slice};
+ghost use Rattle.rules.specs.Tokens.{parted, separate, decimal, valueStep};
+ghost use Rattle.tokens.specs.Rows.{tokenIn};
+ghost use Rattle.lexer.specs.Lexemes.{Held, Starts, Steps, StepIs};
+ghost use Rattle.lexer.specs.Lines.{LexedIs};
+
+// What stands where a token could start: a token and the place behind it; nothing more; or a bad token, by its place.
+pub enum Lexeme {
+    Token { token: Token, next: usize },
+    Done,
+    Wrong(usize),
+}
+
+// The number of a line's tokens, or the place of its leftmost bad token.
+pub enum Lexed {
+    Tokens(usize),
+    Bad(usize),
+}
+
+// A blank, a mark, `#` or the end stands there.
+fn parted(s: &[u8], at: usize) -> bool
+    ensures { λ r. ⌜ r ≡ parted (drop at (now (s .entry))) ⌝ }
+{
+    if s.len() <= at {
+        return true;
+    }
+    let k = class_of(s[at]);
+    if k < 3 {
+        return false;
+    }
+    k <= 5
+}
+
+// The token t from p to e, if what follows parts it from the next.
+fn separate(s: &[u8], p: usize, t: Token, e: usize) -> Lexeme
+    requires { ⌜ (p < e) × (e ≤ length (now s)) × Held (now s) t ⌝ }
+    ensures { λ r. ⌜ Steps (now (s .entry)) p (separate (drop p (now (s .entry))) (tokenIn (now (s .entry)) t) (drop e (now (s .entry)))) r ⌝ }
+{
+    if parted(s, e) {
+        return Lexeme::Token { token: t, next: e };
+    }
+    Lexeme::Wrong(p)
+}
+
+// A name: `\` or `$` at p, and the bytes up to the next of 32 or less.
+fn name_step(s: &[u8], p: usize) -> Lexeme
+    requires { ⌜ Starts (now s) p 7 7 ⌝ }
+    ensures { λ r. ⌜ StepIs (now (s .entry)) p r ⌝ }
+{
+    let e = run_end(s, p, 4, 14);
+    if legal(&s[p..e]) {
+        return Lexeme::Token {
+            token: Token::Name { start: p, end: e },
+            next: e,
+        };
+    }
+    Lexeme::Wrong(p)
+}
+
+// A word: lowercase letters from p on that are a keyword.
+fn word_step(s: &[u8], p: usize) -> Lexeme
+    requires { ⌜ Starts (now s) p 13 14 ⌝ }
+    ensures { λ r. ⌜ StepIs (now (s .entry)) p r ⌝ }
+{
+    let e = run_end(s, p, 13, 14);
+    let k = keyword(&s[p..e]);
+    if k < 32 {
+        return separate(s, p, Token::Word(k), e);
+    }
+    Lexeme::Wrong(p)
+}
+
+// A value whose width's digits are p to q, where its quote mark stands.
+fn value_step(s: &[u8], p: usize, q: usize) -> Lexeme
+    requires { ⌜ (p ≤ q) × (q < length (now s)) ⌝ }
+    ensures { λ r. ⌜ Steps (now (s .entry)) p (valueStep (drop p (now (s .entry))) (decimal (slice p q (now (s .entry)))) (drop (q + 1) (now (s .entry)))) r ⌝ }
+{
+    let e = run_end(s, q + 1, 11, 13);
+    let c = Constant::Value {
+        start: p,
+        quote: q,
+        end: e,
+    };
+    separate(s, p, Token::Constant(c), e)
+}
+
+// A number that starts with a digit at p: an integer, or a value if a quote mark follows its digits.
+fn number_step(s: &[u8], p: usize) -> Lexeme
+    requires { ⌜ Starts (now s) p 9 11 ⌝ }
+    ensures { λ r. ⌜ StepIs (now (s .entry)) p r ⌝ }
+{
+    let e = run_end(s, p, 9, 11);
+    let z = Integer {
+        negative: false,
+        start: p,
+        end: e,
+    };
+    let t = Token::Constant(Constant::Integer(z));
+    if s.len() <= e {
+        return separate(s, p, t, e);
+    }
+    if s[e] == b'\'' {
+        return value_step(s, p, e);
+    }
+    separate(s, p, t, e)
+}
+
+// A number below zero: `-` at p, and its digits.
+fn minus_step(s: &[u8], p: usize) -> Lexeme
+    requires { ⌜ Starts (now s) p 12 12 ⌝ }
+    ensures { λ r. ⌜ StepIs (now (s .entry)) p r ⌝ }
+{
+    let d = p + 1;
+    let e = run_end(s, d, 9, 11);
+    if e <= d {
+        return Lexeme::Wrong(p);
+    }
+    let z = Integer {
+        negative: true,
+        start: d,
+        end: e,
+    };
+    separate(s, p, Token::Constant(Constant::Integer(z)), e)
+}
+
+// A string: its opening quote at p. The token has the place behind it.
+fn string_step(s: &[u8], p: usize) -> Lexeme
+    requires { ⌜ Starts (now s) p 8 8 ⌝ }
+    ensures { λ r. ⌜ StepIs (now (s .entry)) p r ⌝ }
+{
+    let d = p + 1;
+    match string_end(s, d) {
+        Close::At(e) => separate(s, p, Token::Constant(Constant::Text(d)), e),
+        Close::Broken => Lexeme::Wrong(p),
+    }
+}
+
+// What stands at `at`, blanks left out.
+pub fn step(s: &[u8], at: usize) -> Lexeme
+    ensures { λ r. ⌜ StepIs (now (s .entry)) at r ⌝ }
+{
+    let p = run_end(s, at, 3, 3);
+    if s.len() <= p {
+        return Lexeme::Done;
+    }
+    let b = s[p];
+    let k = class_of(b);
+    if k == 4 {
+        return Lexeme::Token {
+            token: Token::Mark(b as usize),
+            next: p + 1,
+        };
+    }
+    if k == 5 {
+        return Lexeme::Done;
+    }
+    if k < 7 {
+        return Lexeme::Wrong(p);
+    }
+    if k == 7 {
+        return name_step(s, p);
+    }
+    if k == 8 {
+        return string_step(s, p);
+    }
+    if k < 12 {
+        return number_step(s, p);
+    }
+    if k == 12 {
+        return minus_step(s, p);
+    }
+    word_step(s, p)
+}
+
+// The line from start to end of the file f, each token in a row of the table.
+pub fn lex_line(f: &[u8], start: usize, end: usize, table: &mut [u32]) -> Lexed
+    requires { ⌜ (start ≤ end) × (end ≤ length (now f)) × (length (now f) ≤ 32768) × (4 * (end - start) ≤ length (now table)) ⌝ }
+    ensures { λ r. ⌜ LexedIs (now (f .entry)) start end (now (table .entry)) (now (table .exit)) r ⌝ }
+{
+    let mut i = start;
+    let mut n: usize = 0;
+    loop {
+        match step(&f[0..end], i) {
+            Lexeme::Token { token, next } => {
+                put_token(table, n, token);
+                n += 1;
+                i = next;
+            }
+            Lexeme::Done => {
+                return Lexed::Tokens(n);
+            }
+            Lexeme::Wrong(p) => {
+                return Lexed::Bad(p);
+            }
+        }
+    }
+}

@@ -1,0 +1,188 @@
+// The tokens of a line, in a table of words that the caller lends: a row of four words for each, with its places in the file.
+use tables::put_words;
+ghost use mathlib.Core.Path.{_≡_};
+ghost use mathlib.Core.List.{[], _∷_};
+ghost use Prim.Native.Nat.{_+_, _*_, _≤_, _<_};
+ghost use lib.ListN.{length};
+ghost use Rattle.tables.specs.Store.{store};
+ghost use Rattle.tokens.specs.Rows.{tokenAt, rowWords, constantWords, Small, SmallConstant};
+ghost use Rattle.tokens.specs.Parts.{IdIs, IntegerIs, LiteralIs};
+
+// An integer's sign and the span of its digits.
+pub struct Integer {
+    pub negative: bool,
+    pub start: usize,
+    pub end: usize,
+}
+
+// A constant: an integer; a value, by the span of its width, its quote mark and the end of its digits; a string, by the place behind its
+// opening quote.
+pub enum Constant {
+    Integer(Integer),
+    Value {
+        start: usize,
+        quote: usize,
+        end: usize,
+    },
+    Text(usize),
+}
+
+// The token of a row: a name by its span, a word by its keyword's number, a constant, a mark by its byte; or no row is left.
+pub enum Token {
+    Name { start: usize, end: usize },
+    Word(usize),
+    Constant(Constant),
+    Mark(usize),
+    End,
+}
+
+// A name, by its span.
+pub enum Id {
+    Span { start: usize, end: usize },
+    Nothing,
+}
+
+// An integer, where one stands.
+pub enum Slot {
+    Given(Integer),
+    Absent,
+}
+
+// A constant, where one stands.
+pub enum Literal {
+    Read(Constant),
+    Nothing,
+}
+
+// The token of row i.
+pub fn token_at(tokens: &[u32], i: usize) -> Token
+    ensures { λ r. ⌜ r ≡ tokenAt (now (tokens .entry)) i ⌝ }
+{
+    if tokens.len() / 4 <= i {
+        return Token::End;
+    }
+    let k = tokens[4 * i] as usize;
+    let a = tokens[4 * i + 1] as usize;
+    let b = tokens[4 * i + 2] as usize;
+    let c = tokens[4 * i + 3] as usize;
+    if k == 0 {
+        return Token::Name { start: a, end: b };
+    }
+    if k == 1 {
+        return Token::Word(a);
+    }
+    if k == 2 {
+        let z = Integer {
+            negative: c == 1,
+            start: a,
+            end: b,
+        };
+        return Token::Constant(Constant::Integer(z));
+    }
+    if k == 3 {
+        return Token::Constant(Constant::Value {
+            start: a,
+            quote: b,
+            end: c,
+        });
+    }
+    if k == 4 {
+        return Token::Constant(Constant::Text(a));
+    }
+    Token::Mark(a)
+}
+
+// One row's words.
+fn put_row(table: &mut [u32], at: usize, kind: u32, a: usize, b: usize, c: usize)
+    requires { ⌜ (at + 4 ≤ length (now table)) × (a < 4294967296) × (b < 4294967296) × (c < 4294967296) ⌝ }
+    ensures { λ _. ⌜ now (table .exit) ≡ store (now (table .entry)) at (kind ∷ a ∷ b ∷ c ∷ []) ⌝ }
+{
+    let columns = [kind, a as u32, b as u32, c as u32];
+    put_words(table, at, &columns);
+}
+
+fn put_constant(table: &mut [u32], at: usize, c: Constant)
+    requires { ⌜ (at + 4 ≤ length (now table)) × SmallConstant c ⌝ }
+    ensures { λ _. ⌜ now (table .exit) ≡ store (now (table .entry)) at (constantWords c) ⌝ }
+{
+    match c {
+        Constant::Integer(z) => {
+            let sign: usize = if z.negative { 1 } else { 0 };
+            put_row(table, at, 2, z.start, z.end, sign);
+        }
+        Constant::Value { start, quote, end } => {
+            put_row(table, at, 3, start, quote, end);
+        }
+        Constant::Text(start) => {
+            put_row(table, at, 4, start, 0, 0);
+        }
+    }
+}
+
+// Token t into row i.
+pub fn put_token(table: &mut [u32], i: usize, t: Token)
+    requires { ⌜ (4 * i + 4 ≤ length (now table)) × Small t ⌝ }
+    ensures { λ _. ⌜ now (table .exit) ≡ store (now (table .entry)) (4 * i) (rowWords t) ⌝ }
+{
+    match t {
+        Token::Name { start, end } => {
+            put_row(table, 4 * i, 0, start, end, 0);
+        }
+        Token::Word(c) => {
+            put_row(table, 4 * i, 1, c, 0, 0);
+        }
+        Token::Constant(c) => {
+            put_constant(table, 4 * i, c);
+        }
+        Token::Mark(b) => {
+            put_row(table, 4 * i, 5, b, 0, 0);
+        }
+        Token::End => {
+            put_row(table, 4 * i, 5, 0, 0, 0);
+        }
+    }
+}
+
+pub fn id_at(tokens: &[u32], i: usize) -> Id
+    ensures { λ r. ⌜ IdIs (now (tokens .entry)) i r ⌝ }
+{
+    match token_at(tokens, i) {
+        Token::Name { start, end } => Id::Span { start, end },
+        Token::Word(_) => Id::Nothing,
+        Token::Constant(_) => Id::Nothing,
+        Token::Mark(_) => Id::Nothing,
+        Token::End => Id::Nothing,
+    }
+}
+
+pub fn literal_at(tokens: &[u32], i: usize) -> Literal
+    ensures { λ r. ⌜ LiteralIs (now (tokens .entry)) i r ⌝ }
+{
+    match token_at(tokens, i) {
+        Token::Name { start: _, end: _ } => Literal::Nothing,
+        Token::Word(_) => Literal::Nothing,
+        Token::Constant(c) => Literal::Read(c),
+        Token::Mark(_) => Literal::Nothing,
+        Token::End => Literal::Nothing,
+    }
+}
+
+pub fn integer_at(tokens: &[u32], i: usize) -> Slot
+    ensures { λ r. ⌜ IntegerIs (now (tokens .entry)) i r ⌝ }
+{
+    match token_at(tokens, i) {
+        Token::Name { start: _, end: _ } => Slot::Absent,
+        Token::Word(_) => Slot::Absent,
+        Token::Constant(c) => match c {
+            Constant::Integer(z) => Slot::Given(z),
+            Constant::Value {
+                start: _,
+                quote: _,
+                end: _,
+            } => Slot::Absent,
+            Constant::Text(_) => Slot::Absent,
+        },
+        Token::Mark(_) => Slot::Absent,
+        Token::End => Slot::Absent,
+    }
+}
