@@ -1,0 +1,21 @@
+-- `is_kind` meets its contract.
+-- Assumes nothing.
+use borrow.Author.Tests.{eq-eqb, ne-eqb}
+use Rattle.netlist.specs.Kinds.{isKind}
+use Rattle.netlist.proofs.rows.is_kind.Statement.{statement}
+use Rattle.netlist.proofs.rows.is_kind.Tie as tie
+
+returns : tie.Need-returns
+unfolding isKind
+returns c = rw (eq-eqb _ _ (c .if1 .taken))
+
+returns-2 : tie.Need-returns-2
+unfolding isKind
+returns-2 c = rw (ne-eqb _ _ (c .before .before .if1 .left), eq-eqb _ _ (c .if2 .taken))
+
+returns-3 : tie.Need-returns-3
+unfolding isKind
+returns-3 c = rw (ne-eqb _ _ (c .before .before .before .if1 .left), ne-eqb _ _ (c .before .if2 .left))
+
+pub is-kind-spec : {M : Type 1} → statement M
+is-kind-spec = tie.close (tie.spec returns returns-2 returns-3)

@@ -1,0 +1,31 @@
+-- Three codes for one kind or for three; kinds that all have names.
+-- Assumes nothing.
+use Prim.Native.Nat.{ℕ}
+use mathlib.Core.Path.{_≡_, refl, sym, ap}
+use mathlib.Core.List.{List, [], _∷_}
+use mathlib.Core.Bool.{Bool, true, false, _||_, or-false}
+use lib.Dec.{eqb}
+use borrow.Author.Tests.{eqb-true}
+use Rattle.rules.specs.Bytes.{any, all}
+use Rattle.rules.specs.Statements.{Kind, code}
+use Rattle.scanner.specs.Laws.{by-test, and-true-left, and-true-right}
+use Rattle.netlist.specs.Kinds.{isKind, ofKinds, Tests, hasName, oneKind, threeKinds}
+
+or-same : (a : Bool) → a || (a || a) ≡ a || false
+or-same true = refl
+or-same false = refl
+
+pub one-kind : (k : Kind) → Tests (isKind (oneKind k)) (k ∷ [])
+unfolding isKind ofKinds any
+one-kind k n = or-same (eqb (code k) n)
+
+pub three-kinds : (k l m : Kind) → Tests (isKind (threeKinds k l m)) (k ∷ l ∷ m ∷ [])
+unfolding isKind ofKinds any
+three-kinds k l m n = ap (λ (b : Bool). eqb (code k) n || (eqb (code l) n || b)) (sym (or-false (eqb (code m) n)))
+
+-- a code of kinds that have names
+pub kinds-named : (ks : List Kind) (k : ℕ) → all (λ l. hasName (code l)) ks ≡ true → ofKinds ks k ≡ true → hasName k ≡ true
+unfolding ofKinds any all
+kinds-named [] k h e = cc
+kinds-named (l ∷ ks) k h e =
+    by-test (eqb (code l) k) (λ q. rw (← eqb-true (code l) k q) (and-true-left _ _ h)) (λ q. kinds-named ks k (and-true-right (hasName (code l)) _ h) (rw q at e))

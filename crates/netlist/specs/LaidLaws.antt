@@ -1,0 +1,128 @@
+-- What lies in the tables: in padded tables, after one statement more, behind a rename, and after a store behind it.
+-- Assumes nothing.
+use Prim.Native.Nat.{ℕ, _+_, _-_, _*_, _≤_}
+use mathlib.Core.Path.{_≡_, refl, sym, ap, _∙_}
+use mathlib.Core.List.{List, [], _∷_, _++_, reverse, reverse-cons, append-assoc}
+use native.Mathlib.Omega.{arith}
+use lib.ListN.{length, getD, take, drop, replicate, length-append, List·getD-append}
+use lib.Seq.{take-append-add, getD-append-add, drop-append-seam, take-append-seam}
+use Rattle.rules.specs.Statements.{Statement}
+use Rattle.rules.specs.Judgement.{Past}
+use Rattle.rules.specs.Session.{Rename}
+use Rattle.rules.specs.Layout.{Rooms, empty, padded, used, nameBytes, statementRow, put, putAll, renameRow, putRename, putRenames, rooms, memory, layout}
+use Rattle.tables.specs.Store.{store, store-eq}
+use Rattle.tables.specs.Flat.{flat, Eights, eights-none, eights-more, eights-append, flat-snoc, length-flat}
+use Rattle.wires.specs.Rows.{wordAt, column}
+use Rattle.wires.specs.RowLaws.{RowIs}
+use Rattle.netlist.specs.RowLaws.{length-statement-row}
+use Rattle.netlist.specs.Laid.{roomsOf, Laid}
+
+-- one statement more, in the order of the file and from the last one on
+pub put-last : (R : Rooms) (ss : List Statement) (s : Statement) → putAll R (ss ++ s ∷ []) ≡ put (putAll R ss) s
+unfolding putAll
+put-last R [] s = refl
+put-last R (r ∷ ss) s = put-last (put R r) ss s
+
+pub rooms-past : (ss : Past) → putAll empty (reverse ss) ≡ roomsOf ss
+unfolding putAll roomsOf
+rooms-past [] = refl
+rooms-past (s ∷ ss) = ap (putAll empty) (reverse-cons s ss) ∙ put-last empty (reverse ss) s ∙ ap (λ (R : Rooms). put R s) (rooms-past ss)
+
+-- a row for each statement, of eight columns
+pub length-rows : (ss : Past) → length (roomsOf ss .rows) ≡ length ss
+unfolding roomsOf put
+length-rows [] = refl
+length-rows (s ∷ ss) = length-append (roomsOf ss .rows) _ ∙ (let e : length (roomsOf ss .rows) ≡ length ss = length-rows ss in omega arith)
+
+pub eights-rows : (ss : Past) → Eights (roomsOf ss .rows)
+unfolding roomsOf put
+eights-rows [] = eights-none
+eights-rows (s ∷ ss) =
+    eights-append (roomsOf ss .rows) _ (eights-rows ss) (eights-more (length-statement-row (used (roomsOf ss)) s) eights-none)
+
+-- rooms lie in their padded tables
+pub laid-padded : (m n : ℕ) (R : Rooms) → Laid R (padded m (R .names)) (padded n (flat (R .rows)))
+unfolding padded
+laid-padded m n R = record { more-names = replicate (m - length (R .names)) 0; more-rows = replicate (n - length (flat (R .rows))) 0; names-are = refl; rows-are = refl }
+
+pub laid-past : {names rows : List ℕ} (ss : Past) → Laid (putAll empty (reverse ss)) names rows → Laid (roomsOf ss) names rows
+laid-past ss l = rw rooms-past at l
+
+-- what is appended to the rooms stands behind them
+module _ {names rows : List ℕ} (R : Rooms) where
+  laid-front : (S : Rooms) (ns rs : List ℕ) → S .names ≡ R .names ++ ns → flat (S .rows) ≡ flat (R .rows) ++ rs → Laid S names rows → Laid R names rows
+  laid-front S ns rs en er l =
+      record {
+        more-names = ns ++ l .more-names;
+        more-rows = rs ++ l .more-rows;
+        names-are = l .names-are ∙ ap (λ (x : List ℕ). x ++ l .more-names) en ∙ append-assoc (R .names) ns (l .more-names);
+        rows-are = l .rows-are ∙ ap (λ (x : List ℕ). x ++ l .more-rows) er ∙ append-assoc (flat (R .rows)) rs (l .more-rows);
+      }
+
+  pub laid-put : (s : Statement) → Laid (put R s) names rows → Laid R names rows
+  unfolding put
+  laid-put s l = laid-front (put R s) (nameBytes s) (statementRow (used R) s) refl (flat-snoc (R .rows) (statementRow (used R) s)) l
+
+  pub laid-rename : (r : Rename) → Laid (putRename R r) names rows → Laid R names rows
+  unfolding putRename
+  laid-rename r l = laid-front (putRename R r) (r .newName) (renameRow (length (R .names)) r) refl (flat-snoc (R .rows) (renameRow (length (R .names)) r)) l
+
+  -- the last statement's names and row
+  pub laid-names : (s : Statement) → Laid (put R s) names rows → take (length (nameBytes s)) (drop (length (R .names)) names) ≡ nameBytes s
+  unfolding put
+  laid-names s l =
+      ap (λ (x : List ℕ). take (length (nameBytes s)) (drop (length (R .names)) x)) (l .names-are ∙ append-assoc (R .names) (nameBytes s) (l .more-names))
+      ∙ ap (take (length (nameBytes s))) (drop-append-seam (R .names) (nameBytes s ++ l .more-names))
+      ∙ take-append-seam (nameBytes s) (l .more-names)
+
+  pub laid-row : (s : Statement) → Eights (R .rows) → Laid (put R s) names rows → RowIs rows (length (R .rows)) (statementRow (used R) s)
+  unfolding put column wordAt
+  laid-row s h l c b =
+      let r : List ℕ = statementRow (used R) s in
+      let e : length (flat (R .rows)) ≡ 8 * length (R .rows) = length-flat (R .rows) h in
+      ap (λ (x : List ℕ). getD x (8 * length (R .rows) + c) 0)
+      (l .rows-are ∙ ap (λ (x : List ℕ). x ++ l .more-rows) (flat-snoc (R .rows) r) ∙ append-assoc (flat (R .rows)) r (l .more-rows))
+      ∙ ap (λ (n : ℕ). getD (flat (R .rows) ++ (r ++ l .more-rows)) (n + c) 0) (sym e)
+      ∙ getD-append-add (flat (R .rows)) (r ++ l .more-rows) c 0
+      ∙ List·getD-append r (l .more-rows) 0 c (omega (arith, length-statement-row (used R) s))
+
+pub laid-renames : {names rows : List ℕ} (R : Rooms) (rs : List Rename) → Laid (putRenames R rs) names rows → Laid R names rows
+unfolding putRenames
+laid-renames R [] l = l
+laid-renames R (r ∷ rs) l = laid-rename R r (laid-renames (putRename R r) rs l)
+
+-- a store behind what the rooms hold
+front-store :
+    (l xs ys : List ℕ) (at : ℕ) (vs : List ℕ) → l ≡ xs ++ ys → length xs ≤ at → at + length vs ≤ length l →
+    store l at vs ≡ xs ++ (take (at - length xs) ys ++ (vs ++ drop (at + length vs) l))
+front-store l xs ys at vs e h room =
+    let q : List ℕ = vs ++ drop (at + length vs) l in
+    let k : length xs + (at - length xs) ≡ at = omega arith in
+    store-eq l at vs room
+    ∙ append-assoc (take at l) vs (drop (at + length vs) l)
+    ∙ ap (λ (x : List ℕ). x ++ q) (ap (take at) e ∙ ap (λ (n : ℕ). take n (xs ++ ys)) (sym k) ∙ take-append-add xs ys (at - length xs))
+    ∙ append-assoc xs (take (at - length xs) ys) q
+
+module _ {names rows : List ℕ} (R : Rooms) (at : ℕ) (vs : List ℕ) (l : Laid R names rows) where
+  pub laid-store-names : length (R .names) ≤ at → at + length vs ≤ length names → Laid R (store names at vs) rows
+  laid-store-names h room =
+      record {
+        more-names = take (at - length (R .names)) (l .more-names) ++ (vs ++ drop (at + length vs) names);
+        more-rows = l .more-rows;
+        names-are = front-store names (R .names) (l .more-names) at vs (l .names-are) h room;
+        rows-are = l .rows-are;
+      }
+
+  pub laid-store-rows : length (flat (R .rows)) ≤ at → at + length vs ≤ length rows → Laid R names (store rows at vs)
+  laid-store-rows h room =
+      record {
+        more-names = l .more-names;
+        more-rows = take (at - length (flat (R .rows))) (l .more-rows) ++ (vs ++ drop (at + length vs) rows);
+        names-are = l .names-are;
+        rows-are = front-store rows (flat (R .rows)) (l .more-rows) at vs (l .rows-are) h room;
+      }
+
+-- the statements so far lie in the design memory, with renames or without
+pub laid-layout : (ss : Past) (rs : List Rename) → let m = layout (reverse ss) rs in Laid (roomsOf ss) (m .names) (m .rows)
+unfolding layout rooms memory
+laid-layout ss rs = laid-past ss (laid-renames (putAll empty (reverse ss)) rs (laid-padded 16384 (8 * 4769) (putRenames (putAll empty (reverse ss)) rs)))

@@ -1,0 +1,9 @@
+pub mod Rows
+pub mod Kinds
+pub mod KindLaws
+pub mod RowLaws
+pub mod Laid
+pub mod LaidLaws
+pub mod NameLaws
+pub mod Spaces
+pub mod SpaceLaws

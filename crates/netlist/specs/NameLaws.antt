@@ -1,0 +1,77 @@
+-- The names between two rows are those of the statements there.
+-- Assumes nothing.
+use Prim.Native.Nat.{ℕ, zero, suc, _+_, _-_, _≤_}
+use mathlib.Core.Path.{_≡_, refl, sym, ap, _∙_}
+use mathlib.Core.List.{List, [], _∷_, map, reverse, reverse-append, reverse-reverse}
+use mathlib.Core.Bool.{Bool, true, cond}
+use native.Mathlib.Omega.{arith}
+use lib.ListN.{length, take, drop, length-drop, length-reverse, take-append-drop}
+use lib.Seq.{take-at}
+use Rattle.rules.specs.Bytes.{all}
+use Rattle.rules.specs.Tokens.{Name}
+use Rattle.rules.specs.Statements.{Kind, Statement, code, contents, is, ownName}
+use Rattle.rules.specs.Judgement.{Past, only, among}
+use Rattle.rules.specs.Layout.{used, statementRow, layout}
+use Rattle.wires.specs.RowLaws.{RowIs}
+use Rattle.scanner.specs.Laws.{by-test}
+use Rattle.netlist.specs.Rows.{kindAt, nameAt, namesBetween}
+use Rattle.netlist.specs.Kinds.{ofKinds, Tests, hasName}
+use Rattle.netlist.specs.KindLaws.{kinds-named}
+use Rattle.netlist.specs.RowLaws.{row-kind, row-own}
+use Rattle.netlist.specs.Laid.{roomsOf, Laid}
+use Rattle.netlist.specs.LaidLaws.{length-rows, eights-rows, laid-layout, laid-put, laid-names, laid-row}
+
+laid-before : {names rows : List ℕ} (s : Statement) (ss : Past) → Laid (roomsOf (s ∷ ss)) names rows → Laid (roomsOf ss) names rows
+unfolding roomsOf
+laid-before s ss l = laid-put (roomsOf ss) s l
+
+-- the own names of the statements of some kinds, as the rules say it
+abbrev pub ownNames : List Kind → Past → List Name
+ownNames ks ss = map (λ s. ownName (contents s .names)) (only (among ks) ss)
+
+module _ (ks : List Kind) (all-named : all (λ k. hasName (code k)) ks ≡ true) (test : ℕ → Bool) (tests : Tests test ks) {names rows : List ℕ} where
+  -- the last row is the last statement's: chosen as the statement is, with its name
+  module _ (s : Statement) (ss : Past) (l : Laid (roomsOf (s ∷ ss)) names rows) (k : ℕ) (e : k ≡ length ss) where
+    last-row : RowIs rows k (statementRow (used (roomsOf ss)) s)
+    unfolding roomsOf
+    last-row = let q : k ≡ length (roomsOf ss .rows) = e ∙ sym (length-rows ss) in rw q (laid-row (roomsOf ss) s (eights-rows ss) l)
+
+    last-chosen : test (kindAt rows k) ≡ among ks s
+    unfolding ofKinds among is
+    last-chosen = ap test (row-kind rows k (used (roomsOf ss)) s last-row) ∙ tests (code (contents s .kind))
+
+    last-name : among ks s ≡ true → nameAt names rows k ≡ ownName (contents s .names)
+    unfolding ofKinds among is roomsOf used
+    last-name h =
+        row-own names rows k (used (roomsOf ss)) s last-row (kinds-named ks (code (contents s .kind)) all-named h) (laid-names (roomsOf ss) s l)
+
+    last-more : (qs : Past) (ns : List Name) → ns ≡ ownNames ks qs → cond (test (kindAt rows k)) (nameAt names rows k ∷ ns) ns ≡ ownNames ks (s ∷ qs)
+    unfolding only
+    last-more qs ns en = by-test (among ks s) (λ h. rw (last-chosen, h, last-name h, en)) (λ h. rw (last-chosen, h) en)
+
+  pub names-laid :
+      (ss : Past) → Laid (roomsOf ss) names rows → (from count : ℕ) → from + count ≡ length ss →
+      namesBetween names rows test from count ≡ ownNames ks (take count ss)
+  unfolding namesBetween only
+  names-laid ss l from zero e = refl
+  names-laid [] l from (suc k) e = absurd (omega arith)
+  names-laid (s ∷ ss) l from (suc k) e =
+      let h : from + k ≡ length ss = omega arith in
+      last-more s ss l (from + k) h (take k ss) _ (names-laid ss (laid-before s ss l) from k h)
+
+-- the same for statements in the order of the file, from a row on
+reverse-drop : {A : Type 0} (xs : List A) (from count : ℕ) → from + count ≡ length xs → take count (reverse xs) ≡ reverse (drop from xs)
+reverse-drop xs from count e =
+    let n : length (reverse (drop from xs)) ≡ count = length-reverse (drop from xs) ∙ length-drop from xs ∙ (omega arith) in
+    ap (λ (x : List _). take count (reverse x)) (sym (take-append-drop from xs))
+    ∙ ap (take count) (reverse-append (take from xs) (drop from xs))
+    ∙ take-at (reverse (drop from xs)) (reverse (take from xs)) count n
+
+pub names-in-order :
+    (ks : List Kind) → all (λ k. hasName (code k)) ks ≡ true → (test : ℕ → Bool) → Tests test ks → (ss : List Statement) (from : ℕ) → from ≤ length ss →
+    let m = layout ss [] in namesBetween (m .names) (m .rows) test from (length ss - from) ≡ ownNames ks (reverse (drop from ss))
+names-in-order ks h test t ss from b =
+    let e : from + (length ss - from) ≡ length ss = omega arith in
+    let l = laid-layout (reverse ss) [] in
+    names-laid ks h test t (reverse ss) (rw reverse-reverse at l) from (length ss - from) (rw length-reverse e)
+    ∙ ap (ownNames ks) (reverse-drop ss from (length ss - from) e)

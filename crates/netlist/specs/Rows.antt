@@ -1,0 +1,30 @@
+-- The statements' kinds and own names that the rows of a table of words hold, eight columns a row, over a table of names. A word past the table's end
+-- counts as 0, and a name's span past the names' end is cut.
+use Prim.Native.Nat.{ℕ, zero, suc, _+_}
+use mathlib.Core.List.{List, [], _∷_}
+use mathlib.Core.Bool.{Bool, cond}
+use lib.Dec.{eqb}
+use lib.Seq.{slice}
+use Rattle.rules.specs.Tokens.{Name}
+use Rattle.wires.specs.Rows.{column}
+
+unfoldable pub kindAt : List ℕ → ℕ → ℕ
+kindAt rows k = column rows k 0
+
+-- the column where a name's start stands: of a cell, whose code is 7, behind its type's
+unfoldable pub nameColumn : ℕ → ℕ
+nameColumn kind = cond (eqb kind 7) 3 1
+
+-- a name's span is its start and its length
+unfoldable pub nameFrom : List ℕ → List ℕ → (row first : ℕ) → Name
+nameFrom names rows k c = slice (column rows k c) (column rows k c + column rows k (c + 1)) names
+
+unfoldable pub nameAt : List ℕ → List ℕ → ℕ → Name
+nameAt names rows k = nameFrom names rows k (nameColumn (kindAt rows k))
+
+-- the own names of count rows from a row on whose kind passes a test, the last one first
+unfoldable pub namesBetween : (names rows : List ℕ) → (test : ℕ → Bool) → (from count : ℕ) → List Name
+namesBetween names rows test from zero = []
+namesBetween names rows test from (suc k) =
+    let r = namesBetween names rows test from k in
+    cond (test (kindAt rows (from + k))) (nameAt names rows (from + k) ∷ r) r

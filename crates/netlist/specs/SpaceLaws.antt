@@ -1,0 +1,123 @@
+-- Each of the rules' name spaces is a range of rows, so the rule for taken names is the search over rows.
+-- Assumes nothing.
+use Prim.Native.Nat.{ℕ, _+_, _-_}
+use mathlib.Core.Path.{_≡_, refl, sym, ap, ap₂, _∙_}
+use mathlib.Core.List.{List, [], _∷_}
+use mathlib.Core.Bool.{Bool, true, false, _&&_, _||_, and-true, or-false}
+use native.Mathlib.Omega.{arith}
+use lib.ListN.{length, take, length-take}
+use lib.Seq.{take-length}
+use Rattle.rules.specs.Bytes.{same, any, all}
+use Rattle.rules.specs.Statements.{Kind, anAutoidx, anAttribute, aModule, aParameter, aWire, aMemory, aCell, aCellParameter, aCellConnection, aConnection, aProcess, anEnd, Shape, code, contents, is, ownName}
+use Rattle.rules.specs.Judgement.{Past, until, only, ofModule, ofCell, ofObject, among, Space, space, namesIn, nameSpaces, takesName}
+use Rattle.scanner.specs.Laws.{by-test}
+use Rattle.netlist.specs.Rows.{namesBetween}
+use Rattle.netlist.specs.Kinds.{isKind, ofKinds, hasName, oneKind, threeKinds}
+use Rattle.netlist.specs.KindLaws.{one-kind, three-kinds}
+use Rattle.netlist.specs.declared.rows.Kinds.{Kinds}
+use Rattle.netlist.specs.Laid.{roomsOf, Laid}
+use Rattle.netlist.specs.NameLaws.{ownNames, names-laid}
+use Rattle.netlist.specs.Spaces.{Ranged, spacesOf, kindsOf}
+
+-- what stands since the last statement that passes a test is the last of them
+pub until-last : {A : Type 0} (f : A → Bool) (xs : List A) → until f xs ≡ take (length (until f xs)) xs
+unfolding until
+until-last f [] = refl
+until-last f (x ∷ xs) = by-test (f x) (λ e. rw e) (λ e. rw e (ap (λ (r : List _). x ∷ r) (until-last f xs)))
+
+-- a name is looked for in the spaces of its kind
+any-only : {A : Type 0} (f g : A → Bool) (xs : List A) → any (λ x. f x && g x) xs ≡ any g (only f xs)
+unfolding any only
+any-only f g [] = refl
+any-only f g (x ∷ xs) = by-test (f x) (λ e. rw (e, any-only f g xs)) (λ e. rw (e, any-only f g xs))
+
+pub takes-in-spaces :
+    (ss : Past) (sh : Shape) →
+    takesName ss sh ≡ any (λ z. any (same (ownName (contents sh .names))) (namesIn z ss)) (spacesOf (contents sh .kind))
+unfolding takesName spacesOf ofKinds among is
+takes-in-spaces ss sh = any-only (λ z. among (z .kinds) sh) (λ z. any (same (ownName (contents sh .names))) (namesIn z ss)) nameSpaces
+
+-- so it is taken in one space just where it is taken between two rows; outside of them it is never
+module _ {names rows : List ℕ} {test : ℕ → Bool} {from count : ℕ} (z : Space) (ss : Past) (l : Laid (roomsOf ss) names rows) (r : Ranged z ss test from count) where
+  pub space-names : namesIn z ss ≡ namesBetween names rows test from count
+  unfolding namesIn
+  space-names = ap (ownNames (z .kinds)) (r .part-is) ∙ sym (names-laid (z .kinds) (r .named) test (r .tests) ss l from count (r .ends))
+
+  pub takes-between : (sh : Shape) → spacesOf (contents sh .kind) ≡ z ∷ [] → takesName ss sh ≡ any (same (ownName (contents sh .names))) (namesBetween names rows test from count)
+  unfolding any
+  takes-between sh e = takes-in-spaces ss sh ∙ rw (e, or-false, space-names)
+
+pub takes-nowhere : (ss : Past) (sh : Shape) → spacesOf (contents sh .kind) ≡ [] → takesName ss sh ≡ false
+unfolding any
+takes-nowhere ss sh e = takes-in-spaces ss sh ∙ rw e
+
+-- a space of one kind, and one of three
+module _ (f : Past → Past) (ss : Past) (from count : ℕ) (part-is : f ss ≡ take count ss) (ends : from + count ≡ length ss) where
+  pub ranged-one : (k : Kind) → hasName (code k) ≡ true → Ranged (space (k ∷ []) f) ss (isKind (oneKind k)) from count
+  unfolding space all
+  ranged-one k h = record { named = rw h; tests = one-kind k; part-is = part-is; ends = ends }
+
+  pub ranged-three : (k l m : Kind) → hasName (code k) && (hasName (code l) && hasName (code m)) ≡ true → Ranged (space (k ∷ l ∷ m ∷ []) f) ss (isKind (threeKinds k l m)) from count
+  unfolding space all
+  ranged-three k l m h = record { named = rw and-true h; tests = three-kinds k l m; part-is = part-is; ends = ends }
+
+-- ---- the six spaces
+
+data Every {A : Type 0} (P : A → Type 0) : List A → Type 0 where
+  every-none : Every P []
+  every-more : {x : A} {xs : List A} → P x → Every P xs → Every P (x ∷ xs)
+
+any-every : {A : Type 0} (f g : A → Bool) (xs : List A) → Every (λ x. f x ≡ g x) xs → any f xs ≡ any g xs
+unfolding any
+any-every f g [] every-none = refl
+any-every f g (x ∷ xs) (every-more e h) = ap₂ _||_ e (any-every f g xs h)
+
+every-map : {A : Type 0} {P Q : A → Type 0} (xs : List A) → ((x : A) → P x → Q x) → Every P xs → Every Q xs
+every-map [] f every-none = every-none
+every-map (x ∷ xs) f (every-more p h) = every-more (f x p) (every-map xs f h)
+
+-- a space's part of the past, by where it starts and how much it is
+abbrev InRows : Kind → Past → Space → Type 0
+InRows k ss z = Ranged z ss (isKind (kindsOf k)) (length ss - length (z .part ss)) (length (z .part ss))
+
+last-ends : (qs ss : Past) → qs ≡ take (length qs) ss → length ss - length qs + length qs ≡ length ss
+last-ends qs ss e = omega (arith, ap length e, length-take (length qs) ss)
+
+one-space : (k : Kind) (K : Kinds) (ss : Past) (z : Space) → kindsOf k ≡ K → Ranged z ss (isKind K) (length ss - length (z .part ss)) (length (z .part ss)) → Every (InRows k ss) (z ∷ [])
+one-space k K ss z e r = let q : InRows k ss z = rw e r in every-more q every-none
+
+one-in-rows : (f : Past → Past) (ss : Past) → f ss ≡ take (length (f ss)) ss → (k : Kind) → kindsOf k ≡ oneKind k → hasName (code k) ≡ true → Every (InRows k ss) (space (k ∷ []) f ∷ [])
+unfolding space
+one-in-rows f ss e k q h = one-space k (oneKind k) ss (space (k ∷ []) f) q (ranged-one f ss _ _ e (last-ends (f ss) ss e) k h)
+
+three-in-rows : (k : Kind) (ss : Past) → kindsOf k ≡ threeKinds aWire aMemory aCell → Every (InRows k ss) (space (aWire ∷ aMemory ∷ aCell ∷ []) ofModule ∷ [])
+unfolding space ofModule hasName ofKinds any code
+three-in-rows k ss q =
+    let e : ofModule ss ≡ take (length (ofModule ss)) ss = until-last _ ss in
+    one-space k (threeKinds aWire aMemory aCell) ss (space (aWire ∷ aMemory ∷ aCell ∷ []) ofModule) q
+    (ranged-three ofModule ss _ _ e (last-ends (ofModule ss) ss e) aWire aMemory aCell refl)
+
+spaces-in-rows : (k : Kind) (ss : Past) → Every (InRows k ss) (spacesOf k)
+unfolding spacesOf nameSpaces space only ofKinds any code kindsOf hasName ofModule ofCell ofObject
+spaces-in-rows anAutoidx ss = every-none
+spaces-in-rows anAttribute ss = one-in-rows ofObject ss (until-last _ ss) anAttribute refl refl
+spaces-in-rows aModule ss = one-in-rows (λ qs. qs) ss (sym (take-length ss)) aModule refl refl
+spaces-in-rows aParameter ss = one-in-rows ofModule ss (until-last _ ss) aParameter refl refl
+spaces-in-rows aWire ss = three-in-rows aWire ss refl
+spaces-in-rows aMemory ss = three-in-rows aMemory ss refl
+spaces-in-rows aCell ss = three-in-rows aCell ss refl
+spaces-in-rows aCellParameter ss = one-in-rows ofCell ss (until-last _ ss) aCellParameter refl refl
+spaces-in-rows aCellConnection ss = one-in-rows ofCell ss (until-last _ ss) aCellConnection refl refl
+spaces-in-rows aConnection ss = every-none
+spaces-in-rows aProcess ss = every-none
+spaces-in-rows anEnd ss = every-none
+
+-- a name is taken just where a search finds it in the rows of its kind's space
+pub takes-in-rows :
+    {names rows : List ℕ} (ss : Past) (sh : Shape) → Laid (roomsOf ss) names rows →
+    takesName ss sh
+    ≡ any (λ z. any (same (ownName (contents sh .names))) (namesBetween names rows (isKind (kindsOf (contents sh .kind))) (length ss - length (z .part ss)) (length (z .part ss)))) (spacesOf (contents sh .kind))
+takes-in-rows ss sh l =
+    takes-in-spaces ss sh
+    ∙ any-every _ _ (spacesOf (contents sh .kind))
+    (every-map (spacesOf (contents sh .kind)) (λ z r. ap (any (same (ownName (contents sh .names)))) (space-names z ss l r)) (spaces-in-rows (contents sh .kind) ss))

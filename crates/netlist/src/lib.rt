@@ -1,0 +1,2 @@
+// The statements of a design in the table of rows.
+pub mod rows;

@@ -1,0 +1,112 @@
+// A row of eight words for each statement: its kind, then where its parts start and their lengths.
+// All of it is total: a word past the table's end counts as 0, and a span past the names' end is cut.
+use scanner::names::same_bytes;
+use scanner::parts::part;
+use tables::word;
+ghost use mathlib.Core.Path.{_≡_};
+ghost use mathlib.Core.Bool.{_&&_};
+ghost use Prim.Native.Nat.{_<_};
+ghost use Rattle.rules.specs.Bytes.{same, any};
+ghost use Rattle.wires.specs.Rows.{column};
+ghost use Rattle.netlist.specs.Rows.{nameColumn, kindAt, nameAt, namesBetween};
+ghost use Rattle.netlist.specs.Kinds.{isKind};
+
+// One to three kinds of statement by their codes: of fewer than three, one is repeated.
+pub struct Kinds {
+    pub a: u32,
+    pub b: u32,
+    pub c: u32,
+}
+
+// A row's number is the sum of two words at most, so that it may pass 32 bits.
+fn column(rows: &[u32], row: usize, c: usize) -> u32
+    requires { ⌜ (row < 8589934592) × (c < 8) ⌝ }
+    ensures { λ r. ⌜ r ≡ column (now (rows .entry)) row c ⌝ }
+{
+    word(rows, 8 * row + c)
+}
+
+fn kind_at(rows: &[u32], row: usize) -> u32
+    requires { ⌜ row < 8589934592 ⌝ }
+    ensures { λ r. ⌜ r ≡ kindAt (now (rows .entry)) row ⌝ }
+{
+    column(rows, row, 0)
+}
+
+// A cell's type stands before its name.
+fn name_column(kind: u32) -> usize
+    ensures { λ r. ⌜ r ≡ nameColumn kind ⌝ }
+{
+    if kind == 7 {
+        return 3;
+    }
+    1
+}
+
+fn name_at<'a>(names: &'a [u8], rows: &[u32], row: usize) -> &'a [u8]
+    requires { ⌜ row < 8589934592 ⌝ }
+    ensures { λ r. ⌜ now r ≡ nameAt (now (names .entry)) (now (rows .entry)) row ⌝ }
+{
+    let c = name_column(kind_at(rows, row));
+    let start = column(rows, row, c) as usize;
+    let size = column(rows, row, c + 1) as usize;
+    part(names, start, start + size)
+}
+
+pub fn row_kind(rows: &[u32], k: u32) -> u32
+    ensures { λ r. ⌜ r ≡ kindAt (now (rows .entry)) k ⌝ }
+{
+    kind_at(rows, k as usize)
+}
+
+// The statement's own name.
+pub fn row_name<'a>(names: &'a [u8], rows: &[u32], k: u32) -> &'a [u8]
+    ensures { λ r. ⌜ now r ≡ nameAt (now (names .entry)) (now (rows .entry)) k ⌝ }
+{
+    name_at(names, rows, k as usize)
+}
+
+fn is_kind(kinds: Kinds, kind: u32) -> bool
+    ensures { λ r. ⌜ r ≡ isKind kinds kind ⌝ }
+{
+    if kinds.a == kind {
+        return true;
+    }
+    if kinds.b == kind {
+        return true;
+    }
+    kinds.c == kind
+}
+
+// The kind first, which is one word; then the name.
+fn has_name(names: &[u8], rows: &[u32], row: usize, kinds: Kinds, name: &[u8]) -> bool
+    requires { ⌜ row < 8589934592 ⌝ }
+    ensures { λ r. ⌜ r ≡ isKind kinds (kindAt (now (rows .entry)) row) && same (now (name .entry)) (nameAt (now (names .entry)) (now (rows .entry)) row) ⌝ }
+{
+    if is_kind(kinds, kind_at(rows, row)) {
+        return same_bytes(name, name_at(names, rows, row));
+    }
+    false
+}
+
+// Whether a statement of these kinds, in count rows from `from` on, has this name.
+pub fn name_taken(
+    names: &[u8],
+    rows: &[u32],
+    from: u32,
+    count: u32,
+    kinds: Kinds,
+    name: &[u8],
+) -> bool
+    ensures { λ r. ⌜ r ≡ any (same (now (name .entry))) (namesBetween (now (names .entry)) (now (rows .entry)) (isKind kinds) from count) ⌝ }
+{
+    let mut k = count;
+    while 0 < k {
+        let last = k - 1;
+        if has_name(names, rows, from as usize + last as usize, kinds, name) {
+            return true;
+        }
+        k = last;
+    }
+    false
+}
