@@ -1,0 +1,202 @@
+-- The width of a constant and the codes of its bits.
+-- Assumes nothing.
+use mathlib.Core.Path.{_≡_, refl, sym, ap, ap₂, _∙_}
+use mathlib.Core.Bool.{Bool, true, false}
+use mathlib.Core.List.{List, [], _∷_, _++_, map, map-append, flatMap, reverse, reverse-cons, reverse-append, reverse-reverse}
+use Prim.Native.Nat.{ℕ, _+_, _-_, _*_, _/_, _%_, _^_, _≤_, _<_}
+use native.Mathlib.Numerals.{add-one}
+use native.Mathlib.Omega.{arith}
+use borrow.Author.Tests.{leb-true, le-leb, lt-leb}
+use lib.ListN.{length, getD, take, drop, replicate, length-append, length-drop, length-map, length-replicate, length-reverse, getD-replicate, List·getD-append}
+use lib.Dec.{leb}
+use lib.Seq.{slice, length-take-le, take-all, take-suc, getD-append-add}
+use lib.IntN.{ℤ}
+use Rattle.tables.specs.Store.{store, store-store}
+use Rattle.rules.specs.Tokens.{Digit, S0, Literal, value, integer, string, digit, decimal}
+use Rattle.rules.specs.Numbers.{int32, goodLiteral}
+use Rattle.rules.specs.Signals.{fill, valueBits, twosComplement, binary, literalBits, literalWidth}
+use Rattle.rules.specs.Layout.{digitCode}
+use Rattle.scanner.specs.Numbers.{capped}
+use Rattle.scanner.specs.Laws.{and-true-left, and-true-right}
+use Rattle.scanner.proofs.NumberLaws.{capped-small}
+use Rattle.numbers.specs.Signed.{integerOf}
+use Rattle.numbers.specs.SignedLaws.{capped-int32, capped-same, binary-length, binary-at}
+use Rattle.strings.specs.Decoded.{decoded}
+use Rattle.strings.proofs.Laws.{decoded-length}
+use Rattle.tokens.specs.Rows.{integerIn, literalIn}
+use Rattle.tokens.specs.declared.Integer.{Integer}
+use Rattle.tokens.specs.declared.Constant.{Constant}
+use Rattle.tokens.specs.declared.Constant.the-variants as constant
+use Rattle.literals.specs.Codes.{codes, wordCodes, filledCodes}
+use Rattle.literals.proofs.Lists.{map-reverse, map-at, map-replicate, getD-reverse, flatMap-snoc, length-flatMap}
+
+-- ---- widths
+
+-- a constant that keeps the number rules has as many bits as its width says
+pub literal-long : (l : Literal) → goodLiteral l ≡ true → length (literalBits l) ≡ literalWidth l
+unfolding goodLiteral literalBits literalWidth valueBits fill
+literal-long (value w ds) h =
+    let k : length ds ≤ w = leb-true (length ds) w (and-true-right (leb w 2048) (leb (length ds) w) h) in
+    rw (length-reverse, length-append, length-replicate) (omega arith)
+literal-long (integer i) h = binary-length 32 (twosComplement i)
+literal-long (string s) h = length-flatMap (binary 8) 8 (binary-length 8) (reverse s) ∙ ap (λ (n : ℕ). 8 * n) (length-reverse s)
+
+pub codes-long : (l : Literal) → goodLiteral l ≡ true → length (codes l) ≡ literalWidth l
+codes-long l h = length-reverse (map digitCode (literalBits l)) ∙ length-map (literalBits l) digitCode ∙ literal-long l h
+
+-- the width of a constant in a file that is not too long is below the cap
+pub width-small : (f : List ℕ) (c : Constant) → length f ≤ 268435456 → goodLiteral (literalIn f c) ≡ true → capped (literalWidth (literalIn f c)) ≡ literalWidth (literalIn f c)
+unfolding literalIn goodLiteral literalWidth
+width-small f (constant.Integer z) k h = capped-small 32 (omega arith)
+width-small f (constant.Value a b e) k h =
+    let w : ℕ = decimal (slice a b f) in
+    let l : leb w 2048 ≡ true = and-true-left (leb w 2048) (leb (length (map digit (slice (b + 1) e f))) w) h in
+    capped-small w (omega (arith, leb-true w 2048 l))
+width-small f (constant.Text a) k h = capped-small (8 * length (decoded (drop a f))) (omega (arith, decoded-length (drop a f), length-drop a f))
+
+-- ---- integers
+
+module _ (s : Bool) (n : ℕ) where
+  pub capped-fits : int32 (integerOf s (capped n)) ≡ int32 (integerOf s n)
+  unfolding capped
+  capped-fits = capped-int32 s n
+
+  pub capped-word : int32 (integerOf s n) ≡ true → twosComplement (integerOf s (capped n)) ≡ twosComplement (integerOf s n)
+  unfolding capped
+  capped-word h = rw (capped-same s n h)
+
+-- the integer whose digits ds were read, with the cap, as size
+module _ (f : List ℕ) (z : Integer) (ds : List ℕ) (size : ℕ) (part : ds ≡ slice (z .start) (z .end) f) (read : size ≡ capped (decimal ds)) where
+  pub read-fits : int32 (integerOf (z .negative) size) ≡ int32 (integerIn f z)
+  unfolding integerIn
+  read-fits = rw (read, part) (capped-fits (z .negative) (decimal (slice (z .start) (z .end) f)))
+
+  pub read-word : int32 (integerIn f z) ≡ true → twosComplement (integerOf (z .negative) size) ≡ twosComplement (integerIn f z)
+  unfolding integerIn
+  read-word h = rw (read, part) (capped-word (z .negative) (decimal (slice (z .start) (z .end) f)) h)
+
+module _ (k w : ℕ) where
+  pub word-long : length (wordCodes k w) ≡ k
+  unfolding wordCodes
+  word-long = length-reverse (map digitCode (binary k w)) ∙ length-map (binary k w) digitCode ∙ binary-length k w
+
+  -- the code at place j, from the highest
+  pub word-at : (j : ℕ) → j < k → w / 2 ^ (k - 1 - j) % 2 ≡ getD (wordCodes k w) j 0
+  unfolding wordCodes
+  word-at j h =
+      let n : length (map digitCode (binary k w)) ≡ k = length-map (binary k w) digitCode ∙ binary-length k w in
+      sym (getD-reverse (map digitCode (binary k w)) j (k - 1 - j) (omega arith) ∙ binary-at k w (k - 1 - j) (omega arith))
+
+pub integer-codes : (w : ℕ) (i : ℤ) → w ≡ twosComplement i → wordCodes 32 w ≡ codes (integer i)
+unfolding literalBits wordCodes
+integer-codes w i e = rw e
+
+-- ---- values
+
+module _ (zeros : ℕ) (bs : List ℕ) where
+  pub filled-long : length (filledCodes zeros bs) ≡ zeros + length bs
+  unfolding filledCodes
+  filled-long = rw (length-append, length-replicate, length-map)
+
+  pub filled-zero : (j : ℕ) → j < zeros → 0 ≡ getD (filledCodes zeros bs) j 0
+  unfolding filledCodes
+  filled-zero j h =
+      let z : List ℕ = replicate zeros 0 in
+      let l : j < length z = rw length-replicate h in
+      sym (List·getD-append z (map (λ b. digitCode (digit b)) bs) 0 j l ∙ getD-replicate zeros j 0 0 h)
+
+  pub filled-digit : (j : ℕ) → zeros ≤ j → j < zeros + length bs → digitCode (digit (getD bs (j - zeros) 0)) ≡ getD (filledCodes zeros bs) j 0
+  unfolding filledCodes
+  filled-digit j h l =
+      let z : List ℕ = replicate zeros 0 in
+      let e : j ≡ length z + (j - zeros) = rw length-replicate (omega arith) in
+      let ds : List ℕ = map (λ b. digitCode (digit b)) bs in
+      sym (ap (λ (n : ℕ). getD (z ++ ds) n 0) e ∙ getD-append-add z ds (j - zeros) 0 ∙ map-at (λ b. digitCode (digit b)) bs (j - zeros) (omega arith))
+
+-- the value whose width's digits ds were read, with the cap, as width
+module _ (f : List ℕ) (a b e : ℕ) (ds : List ℕ) (width : ℕ) (part : ds ≡ slice a b f) (read : width ≡ capped (decimal ds)) where
+  is : width ≡ capped (decimal (slice a b f))
+  is = rw part at read
+
+  pub read-wide : 2048 < width → false ≡ goodLiteral (literalIn f (constant.Value a b e))
+  unfolding literalIn goodLiteral capped
+  read-wide h = rw (lt-leb (decimal (slice a b f)) 2048 (omega (arith, is)))
+
+  exact : width ≤ 2048 → width ≡ decimal (slice a b f)
+  unfolding capped
+  exact h = omega (arith, is)
+
+  module _ (bs : List ℕ) (digits : bs ≡ slice (b + 1) e f) where
+    pub read-good : width ≤ 2048 → leb (length bs) width ≡ goodLiteral (literalIn f (constant.Value a b e))
+    unfolding literalIn goodLiteral
+    read-good h = rw (← exact h, ← digits, length-map, le-leb width 2048 h)
+
+    module _ (h : goodLiteral (literalIn f (constant.Value a b e)) ≡ true) where
+      fits : decimal (slice a b f) ≤ 2048
+      unfolding literalIn goodLiteral
+      fits = leb-true (decimal (slice a b f)) 2048 (and-true-left _ (leb (length (map digit (slice (b + 1) e f))) (decimal (slice a b f))) h)
+
+      read-width : width ≡ decimal (slice a b f)
+      unfolding capped
+      read-width = omega (arith, is, fits)
+
+      pub read-room : (at n : ℕ) → at + literalWidth (literalIn f (constant.Value a b e)) ≤ n → at + width ≤ n
+      unfolding literalIn literalWidth
+      read-room at n k = omega (arith, read-width)
+
+      pub read-few : length bs ≤ width
+      read-few = leb-true (length bs) width (read-good (omega (arith, read-width, fits)) ∙ h)
+
+      pub read-literal : value width (map digit bs) ≡ literalIn f (constant.Value a b e)
+      unfolding literalIn
+      read-literal = rw (← read-width, ← digits)
+
+map-twice : (bs : List ℕ) → map digitCode (map digit bs) ≡ map (λ b. digitCode (digit b)) bs
+map-twice [] = refl
+map-twice (b ∷ bs) = ap (λ (l : List ℕ). digitCode (digit b) ∷ l) (map-twice bs)
+
+-- zeros up to the width, and the digits as they stand
+pub value-codes : (w : ℕ) (bs : List ℕ) → codes (value w (map digit bs)) ≡ filledCodes (w - length bs) bs
+unfolding literalBits valueBits fill filledCodes digitCode
+value-codes w bs =
+    let ds : List Digit = map digit bs in
+    let z : List Digit = replicate (w - length ds) S0 in
+    let e : w - length ds ≡ w - length bs = rw length-map in
+    ap reverse (map-reverse digitCode (z ++ ds))
+    ∙ reverse-reverse (map digitCode (z ++ ds))
+    ∙ map-append digitCode z ds
+    ∙ ap₂ (λ (x y : List ℕ). x ++ y) (map-replicate digitCode (w - length ds) S0 ∙ ap (λ (n : ℕ). replicate n 0) e) (map-twice bs)
+
+-- ---- strings
+
+-- 8 bits a byte, the first byte highest
+pub string-codes : (s : List ℕ) → codes (string s) ≡ flatMap (wordCodes 8) s
+unfolding literalBits flatMap wordCodes
+string-codes [] = refl
+string-codes (b ∷ s) =
+    let bits : List ℕ = map digitCode (flatMap (binary 8) (reverse s)) in
+    ap (λ (l : List ℕ). reverse (map digitCode (flatMap (binary 8) l))) (reverse-cons b s)
+    ∙ ap (λ (l : List Digit). reverse (map digitCode l)) (flatMap-snoc (binary 8) (reverse s) b)
+    ∙ ap reverse (map-append digitCode (flatMap (binary 8) (reverse s)) (binary 8 b))
+    ∙ reverse-append bits (map digitCode (binary 8 b))
+    ∙ ap (λ (l : List ℕ). wordCodes 8 b ++ l) (string-codes s)
+
+-- a turn of a loop that stores the next byte's bits
+module _ (s : List ℕ) (j : ℕ) where
+  bytes-long : j ≤ length s → 8 * j ≡ length (flatMap (wordCodes 8) (take j s))
+  bytes-long h = sym (length-flatMap (wordCodes 8) 8 (word-long 8) (take j s) ∙ ap (λ (n : ℕ). 8 * n) (length-take-le j s h))
+
+  bytes-snoc : j < length s → flatMap (wordCodes 8) (take j s) ++ wordCodes 8 (getD s j 0) ≡ flatMap (wordCodes 8) (take (j + 1) s)
+  bytes-snoc h = rw (add-one, take-suc s j 0 h) (sym (flatMap-snoc (wordCodes 8) (take j s) (getD s j 0)))
+
+  pub bytes-more :
+      (d l l′ : List ℕ) (at : ℕ) → j < length s →
+      l ≡ store d at (flatMap (wordCodes 8) (take j s)) →
+      l′ ≡ store l (at + 8 * j) (wordCodes 8 (getD s j 0)) →
+      l′ ≡ store d at (flatMap (wordCodes 8) (take (j + 1) s))
+  bytes-more d l l′ at h e g =
+      rw (g, e, bytes-long (omega arith))
+      (store-store d at (flatMap (wordCodes 8) (take j s)) (wordCodes 8 (getD s j 0)) ∙ ap (store d at) (bytes-snoc h))
+
+  pub bytes-all : length s ≤ j → flatMap (wordCodes 8) (take j s) ≡ codes (string s)
+  bytes-all h = ap (flatMap (wordCodes 8)) (take-all j s h) ∙ sym (string-codes s)

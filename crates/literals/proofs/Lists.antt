@@ -1,0 +1,71 @@
+-- Lists read from their end, and a table that a loop fills with a list.
+-- Assumes nothing.
+use mathlib.Core.Path.{_≡_, refl, sym, ap, _∙_}
+use mathlib.Core.List.{List, [], _∷_, _++_, map, map-append, flatMap, reverse, reverse-cons, append-assoc, append-nil}
+use Prim.Native.Nat.{ℕ, zero, suc, _+_, _*_, _≤_, _<_}
+use native.Mathlib.Numerals.{add-one}
+use native.Mathlib.Omega.{arith}
+use lib.ListN.{length, getD, set, take, drop, replicate, length-append, length-take, length-reverse, drop-of-length-le, List·getD-append}
+use lib.Seq.{slice, length-take-le, take-all, take-suc, take-at, getD-at}
+use Rattle.tables.specs.Store.{store, store-more, store-eq}
+
+pub map-reverse : {A B : Type 0} (g : A → B) (xs : List A) → map g (reverse xs) ≡ reverse (map g xs)
+map-reverse g [] = refl
+map-reverse g (x ∷ xs) =
+    ap (map g) (reverse-cons x xs)
+    ∙ map-append g (reverse xs) (x ∷ [])
+    ∙ ap (λ (l : List _). l ++ g x ∷ []) (map-reverse g xs)
+    ∙ sym (reverse-cons (g x) (map g xs))
+
+pub map-at : (g : ℕ → ℕ) (l : List ℕ) (i : ℕ) → i < length l → getD (map g l) i 0 ≡ g (getD l i 0)
+map-at g [] i h = absurd (omega arith)
+map-at g (x ∷ xs) zero h = refl
+map-at g (x ∷ xs) (suc i) h = map-at g xs i (omega arith)
+
+pub map-replicate : {A B : Type 0} (g : A → B) (n : ℕ) (a : A) → map g (replicate n a) ≡ replicate n (g a)
+map-replicate g zero a = refl
+map-replicate g (suc n) a = ap (λ (l : List _). g a ∷ l) (map-replicate g n a)
+
+pub getD-reverse : (l : List ℕ) (i j : ℕ) → i + j + 1 ≡ length l → getD (reverse l) i 0 ≡ getD l j 0
+getD-reverse [] i j e = absurd (omega arith)
+getD-reverse (x ∷ xs) i zero e =
+    let h : length (reverse xs) ≡ i = length-reverse xs ∙ omega arith in
+    ap (λ (l : List ℕ). getD l i 0) (reverse-cons x xs) ∙ getD-at (reverse xs) x [] 0 i h
+getD-reverse (x ∷ xs) i (suc j) e =
+    let h : i < length (reverse xs) = rw length-reverse (omega arith) in
+    ap (λ (l : List ℕ). getD l i 0) (reverse-cons x xs) ∙ List·getD-append (reverse xs) (x ∷ []) 0 i h ∙ getD-reverse xs i j (omega arith)
+
+module _ {A B : Type 0} (f : A → List B) where
+  pub flatMap-append : (xs ys : List A) → flatMap f (xs ++ ys) ≡ flatMap f xs ++ flatMap f ys
+  unfolding flatMap
+  flatMap-append [] ys = refl
+  flatMap-append (x ∷ xs) ys = ap (λ (l : List B). f x ++ l) (flatMap-append xs ys) ∙ sym (append-assoc (f x) (flatMap f xs) (flatMap f ys))
+
+  pub flatMap-snoc : (xs : List A) (x : A) → flatMap f (xs ++ x ∷ []) ≡ flatMap f xs ++ f x
+  unfolding flatMap
+  flatMap-snoc xs x = flatMap-append xs (x ∷ []) ∙ ap (λ (l : List B). flatMap f xs ++ l) (append-nil (f x))
+
+  pub length-flatMap : (k : ℕ) → ((x : A) → length (f x) ≡ k) → (xs : List A) → length (flatMap f xs) ≡ k * length xs
+  unfolding flatMap
+  length-flatMap k h [] = omega arith
+  length-flatMap k h (x ∷ xs) = length-append (f x) (flatMap f xs) ∙ omega (arith, h x, length-flatMap k h xs)
+
+-- a turn of a loop that stores the next value of a list
+pub filled : (d l xs : List ℕ) (at j v : ℕ) → l ≡ store d at (take j xs) → j < length xs → v ≡ getD xs j 0 → set l (at + j) v ≡ store d at (take (j + 1) xs)
+filled d l xs at j v e h ev =
+    store-more d l at (at + j) v (take j xs) (take (j + 1) xs) e
+    (ap (λ (n : ℕ). at + n) (sym (length-take-le j xs (omega arith))))
+    (rw (add-one, ev) (take-suc xs j 0 h))
+
+pub filled-end : (d l xs : List ℕ) (at j : ℕ) → l ≡ store d at (take j xs) → length xs ≤ j → l ≡ store d at xs
+filled-end d l xs at j e h = e ∙ ap (store d at) (take-all j xs h)
+
+-- behind a list's end there is nothing
+pub slice-past : (s : List ℕ) (i e : ℕ) → length s ≤ i → slice (i + 1) e s ≡ []
+slice-past s i e h = drop-of-length-le (take e s) {i = i + 1} (rw length-take (omega arith))
+
+-- the beginning of a table where values were stored
+pub stored-front : (l t r vs : List ℕ) (n : ℕ) → length vs ≤ length l → t ≡ store l 0 vs → n ≡ 0 + length vs → r ≡ slice 0 n t → r ≡ vs
+stored-front l t r vs n h e en er =
+    let q : List ℕ = drop (0 + length vs) l in
+    er ∙ ap (take n) (e ∙ store-eq l 0 vs (omega arith)) ∙ take-at vs q n (omega arith)

@@ -1,0 +1,39 @@
+-- What the answers about a constant say, and the codes of its bits, highest first.
+use mathlib.Core.Path.{_≡_}
+use mathlib.Core.Bool.{true, false}
+use mathlib.Core.List.{List, _++_, map, reverse}
+use Prim.Native.Nat.{ℕ}
+use lib.ListN.{drop, replicate}
+use lib.IntN.{ℤ}
+use Rattle.rules.specs.Tokens.{Literal, digit}
+use Rattle.rules.specs.Numbers.{int32}
+use Rattle.rules.specs.Signals.{twosComplement, binary, literalBits}
+use Rattle.rules.specs.Layout.{digitCode}
+use Rattle.strings.specs.Decoded.{closes}
+use Rattle.tokens.specs.declared.Constant.{Constant}
+use Rattle.tokens.specs.declared.Constant.the-variants as constant
+use Rattle.literals.specs.declared.Number.{Number}
+use Rattle.literals.specs.declared.Number.the-variants.{Fits, Outside}
+
+-- the answer is the integer's word, or the integer has none
+abbrev pub NumberIs : ℤ → Number → Type 0
+NumberIs i (Fits w) = (int32 i ≡ true) × (twosComplement i ≡ w)
+NumberIs i Outside = int32 i ≡ false
+
+-- a string has its closing quote
+abbrev pub Whole : List ℕ → Constant → Type 0
+Whole f (constant.Integer z) = Unit {0}
+Whole f (constant.Value a b c) = Unit {0}
+Whole f (constant.Text a) = closes (drop a f) ≡ true
+
+-- the codes of a constant's bits, highest first
+abbrev pub codes : Literal → List ℕ
+codes l = reverse (map digitCode (literalBits l))
+
+-- of the lowest k bits of a word
+unfoldable pub wordCodes : ℕ → ℕ → List ℕ
+wordCodes k w = reverse (map digitCode (binary k w))
+
+-- of the digits that bytes write, behind zeros
+unfoldable pub filledCodes : ℕ → List ℕ → List ℕ
+filledCodes zeros bs = replicate zeros 0 ++ map (λ b. digitCode (digit b)) bs

@@ -1,0 +1,217 @@
+// The constants of a line: whether they keep the number rules, how wide they are, and the codes of their bits, highest first.
+use numbers::signed::bit_of;
+use numbers::signed::fits;
+use numbers::signed::word_of;
+use scanner::numbers::decimal;
+use scanner::parts::part;
+use strings::put_string;
+use strings::string_size;
+use tokens::Constant;
+use tokens::Integer;
+ghost use mathlib.Core.Path.{_≡_};
+ghost use mathlib.Core.Bool.{true};
+ghost use mathlib.Core.List.{map, reverse};
+ghost use Prim.Native.Nat.{_+_, _*_, _≤_, _<_};
+ghost use lib.ListN.{length, drop, getD};
+ghost use lib.Seq.{slice};
+ghost use Rattle.rules.specs.Tokens.{digit, value, integer, string};
+ghost use Rattle.rules.specs.Numbers.{int32, goodLiteral};
+ghost use Rattle.rules.specs.Signals.{literalBits, literalWidth};
+ghost use Rattle.rules.specs.Layout.{digitCode};
+ghost use Rattle.tables.specs.Store.{store};
+ghost use Rattle.scanner.specs.Numbers.{capped};
+ghost use Rattle.strings.specs.Decoded.{decoded, closes};
+ghost use Rattle.tokens.specs.Rows.{integerIn, literalIn};
+ghost use Rattle.literals.specs.Codes.{NumberIs, Whole, codes, wordCodes, filledCodes};
+
+// An integer's word of 32 bits in two's complement; or it lies outside of them.
+pub enum Number {
+    Fits(u32),
+    Outside,
+}
+
+// The code of the digit that a byte writes.
+pub fn digit_code(b: u8) -> u32
+    ensures { λ r. ⌜ r ≡ digitCode (digit b) ⌝ }
+{
+    if b == b'0' {
+        return 0;
+    }
+    if b == b'1' {
+        return 1;
+    }
+    if b == b'x' {
+        return 2;
+    }
+    if b == b'z' {
+        return 3;
+    }
+    if b == b'm' {
+        return 4;
+    }
+    5
+}
+
+// The word of an integer.
+pub fn integer_of(f: &[u8], z: Integer) -> Number
+    ensures { λ r. ⌜ NumberIs (integerIn (now (f .entry)) z) r ⌝ }
+{
+    let size = decimal(part(f, z.start, z.end));
+    if fits(z.negative, size) {
+        return Number::Fits(word_of(z.negative, size));
+    }
+    Number::Outside
+}
+
+// The digits of a value, from behind its quote mark on.
+fn value_digits<'a>(f: &'a [u8], quote: usize, end: usize) -> &'a [u8]
+    ensures { λ r. ⌜ now r ≡ slice (quote + 1) end (now (f .entry)) ⌝ }
+{
+    if f.len() <= quote {
+        return &f[0..0];
+    }
+    part(f, quote + 1, end)
+}
+
+// A value is at most 2,048 bits wide, and has no more digits than bits.
+fn good_value(f: &[u8], start: usize, quote: usize, end: usize) -> bool
+    ensures { λ r. ⌜ r ≡ goodLiteral (literalIn (now (f .entry)) (Constant.Value start quote end)) ⌝ }
+{
+    let width = decimal(part(f, start, quote));
+    if 2048 < width {
+        return false;
+    }
+    value_digits(f, quote, end).len() <= width as usize
+}
+
+// Whether a constant keeps the number rules.
+pub fn good_literal(f: &[u8], c: Constant) -> bool
+    ensures { λ r. ⌜ r ≡ goodLiteral (literalIn (now (f .entry)) c) ⌝ }
+{
+    match c {
+        Constant::Integer(z) => fits(z.negative, decimal(part(f, z.start, z.end))),
+        Constant::Value { start, quote, end } => good_value(f, start, quote, end),
+        Constant::Text(_) => true,
+    }
+}
+
+// The bits of a string, 8 a byte; the same cap as a decimal's.
+fn text_width(f: &[u8], start: usize) -> usize
+    ensures { λ r. ⌜ r ≡ capped (8 * length (decoded (drop start (now (f .entry))))) ⌝ }
+{
+    let size = string_size(f, start);
+    if 268435456 < size {
+        return 2147483649;
+    }
+    8 * size
+}
+
+// The bits of a constant; 2147483649 where there are more, so that the widths of a line add up.
+pub fn literal_width(f: &[u8], c: Constant) -> usize
+    ensures { λ r. ⌜ (r ≡ capped (literalWidth (literalIn (now (f .entry)) c))) × (r ≤ 2147483649) ⌝ }
+{
+    match c {
+        Constant::Integer(_) => 32,
+        Constant::Value {
+            start,
+            quote,
+            end: _,
+        } => decimal(part(f, start, quote)) as usize,
+        Constant::Text(start) => text_width(f, start),
+    }
+}
+
+// The lowest k bits of a word, highest first.
+fn put_bits(w: u32, k: usize, out: &mut [u32], at: usize)
+    requires { ⌜ (k ≤ 32) × (at + k ≤ length (now out)) ⌝ }
+    ensures { λ _. ⌜ now (out .exit) ≡ store (now (out .entry)) at (wordCodes k w) ⌝ }
+{
+    let mut j = 0;
+    while j < k {
+        out[at + j] = bit_of(w, (k - 1 - j) as u32) as u32;
+        j += 1;
+    }
+}
+
+// The 32 bits of an integer.
+fn put_integer(f: &[u8], z: Integer, out: &mut [u32], at: usize)
+    requires { ⌜ int32 (integerIn (now f) z) ≡ true ⌝ }
+    requires { ⌜ at + 32 ≤ length (now out) ⌝ }
+    ensures { λ _. ⌜ now (out .exit) ≡ store (now (out .entry)) at (codes (integer (integerIn (now (f .entry)) z))) ⌝ }
+{
+    let size = decimal(part(f, z.start, z.end));
+    put_bits(word_of(z.negative, size), 32, out, at);
+}
+
+// The code at place j of a value that so many zeros fill.
+fn filled_code(zeros: usize, ds: &[u8], j: usize) -> u32
+    requires { ⌜ j < zeros + length (now ds) ⌝ }
+    ensures { λ r. ⌜ r ≡ getD (filledCodes zeros (now (ds .entry))) j 0 ⌝ }
+{
+    if j < zeros {
+        return 0;
+    }
+    digit_code(ds[j - zeros])
+}
+
+// The digits of a value, highest first, behind zeros up to its width.
+fn put_digits(width: usize, ds: &[u8], out: &mut [u32], at: usize)
+    requires { ⌜ (length (now ds) ≤ width) × (at + width ≤ length (now out)) ⌝ }
+    ensures { λ _. ⌜ now (out .exit) ≡ store (now (out .entry)) at (codes (value width (map digit (now (ds .entry))))) ⌝ }
+{
+    let zeros = width - ds.len();
+    let mut j = 0;
+    while j < width {
+        out[at + j] = filled_code(zeros, ds, j);
+        j += 1;
+    }
+}
+
+// The bits of a value.
+fn put_value(f: &[u8], start: usize, quote: usize, end: usize, out: &mut [u32], at: usize)
+    requires { ⌜ goodLiteral (literalIn (now f) (Constant.Value start quote end)) ≡ true ⌝ }
+    requires { ⌜ at + literalWidth (literalIn (now f) (Constant.Value start quote end)) ≤ length (now out) ⌝ }
+    ensures { λ _. ⌜ now (out .exit) ≡ store (now (out .entry)) at (codes (literalIn (now (f .entry)) (Constant.Value start quote end))) ⌝ }
+{
+    let width = decimal(part(f, start, quote)) as usize;
+    put_digits(width, value_digits(f, quote, end), out, at);
+}
+
+// The bits of bytes, 8 a byte, highest first.
+fn put_bytes_bits(bytes: &[u8], out: &mut [u32], at: usize)
+    requires { ⌜ at + 8 * length (now bytes) ≤ length (now out) ⌝ }
+    ensures { λ _. ⌜ now (out .exit) ≡ store (now (out .entry)) at (codes (string (now (bytes .entry)))) ⌝ }
+{
+    let mut j = 0;
+    while j < bytes.len() {
+        put_bits(bytes[j] as u32, 8, out, at + 8 * j);
+        j += 1;
+    }
+}
+
+// The bits of a string of at most 256 bytes.
+fn put_text(f: &[u8], start: usize, out: &mut [u32], at: usize)
+    requires { ⌜ closes (drop start (now f)) ≡ true ⌝ }
+    requires { ⌜ length (decoded (drop start (now f))) ≤ 256 ⌝ }
+    requires { ⌜ at + 8 * length (decoded (drop start (now f))) ≤ length (now out) ⌝ }
+    ensures { λ _. ⌜ now (out .exit) ≡ store (now (out .entry)) at (codes (string (decoded (drop start (now (f .entry)))))) ⌝ }
+{
+    let mut bytes: [u8; 256] = [0; 256];
+    let n = put_string(f, start, &mut bytes, 0);
+    put_bytes_bits(part(&bytes, 0, n), out, at);
+}
+
+// The codes of a constant's bits, highest first, from `at` on. A string of 2,048 bits is 256 bytes.
+pub fn put_literal(f: &[u8], c: Constant, out: &mut [u32], at: usize)
+    requires { ⌜ goodLiteral (literalIn (now f) c) ≡ true ⌝ }
+    requires { ⌜ literalWidth (literalIn (now f) c) ≤ 2048 ⌝ }
+    requires { ⌜ at + literalWidth (literalIn (now f) c) ≤ length (now out) ⌝ }
+    requires { ⌜ Whole (now f) c ⌝ }
+    ensures { λ _. ⌜ now (out .exit) ≡ store (now (out .entry)) at (reverse (map digitCode (literalBits (literalIn (now (f .entry)) c)))) ⌝ }
+{
+    match c {
+        Constant::Integer(z) => put_integer(f, z, out, at),
+        Constant::Value { start, quote, end } => put_value(f, start, quote, end, out, at),
+        Constant::Text(start) => put_text(f, start, out, at),
+    }
+}
