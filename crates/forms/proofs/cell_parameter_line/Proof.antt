@@ -1,0 +1,56 @@
+-- The sort by its word, if one stands there.
+use native.Mathlib.Omega.{arith}
+use mathlib.Core.Path.{refl}
+use borrow.Author.Tests.{eq-eqb, ne-eqb}
+use Rattle.rules.specs.Shapes as shapes
+use Rattle.forms.specs.Forms.{sortOf}
+use Rattle.forms.proofs.Laws.{word-below, sort-word, wordsOpen}
+use borrow.Author.Needs.{needs}
+use Rattle.forms.proofs.cell_parameter_line.Statement.{statement}
+use Rattle.forms.proofs.cell_parameter_line.Tie as tie
+
+word-at-requires : tie.Need-word-at-requires
+word-at-requires c κs = search needs
+
+add-sorted-line : tie.Need-add-sorted-line
+unfolding wordsOpen
+add-sorted-line c = omega (arith, word-below "signed" _ _ _ (c .before .word-at .ensures) refl (c .if1 .taken))
+
+sorted-line-requires : tie.Need-sorted-line-requires
+sorted-line-requires c κs = search needs
+
+returns : tie.Need-returns
+unfolding shapes.of₃ shapes.after sortOf
+returns c f = rw (sort-word f _ _ _ (c .before .before .word-at .ensures), eq-eqb _ _ (c .before .if1 .taken)) (c .sorted-line .ensures f)
+
+add-sorted-line-2 : tie.Need-add-sorted-line-2
+unfolding wordsOpen
+add-sorted-line-2 c = omega (arith, word-below "real" _ _ _ (c .before .before .word-at .ensures) refl (c .if2 .taken))
+
+sorted-line-requires-2 : tie.Need-sorted-line-requires-2
+sorted-line-requires-2 c κs = search needs
+
+returns-2 : tie.Need-returns-2
+unfolding shapes.of₃ shapes.after sortOf
+returns-2 c f = rw (sort-word f _ _ _ (c .before .before .before .word-at .ensures), ne-eqb _ _ (c .before .before .if1 .left), eq-eqb _ _ (c .before .if2 .taken)) (c .sorted-line2 .ensures f)
+
+sorted-line-requires-3 : tie.Need-sorted-line-requires-3
+sorted-line-requires-3 c κs = search needs
+
+returns-3 : tie.Need-returns-3
+unfolding shapes.of₃ shapes.after sortOf
+returns-3 c f = rw (sort-word f _ _ _ (c .before .before .before .word-at .ensures), ne-eqb _ _ (c .before .before .if1 .left), ne-eqb _ _ (c .before .if2 .left)) (c .sorted-line3 .ensures f)
+
+pub cell-parameter-line-spec : {M : Type 1} → statement M
+cell-parameter-line-spec =
+    tie.close
+    (tie.spec
+    word-at-requires
+    add-sorted-line
+    sorted-line-requires
+    returns
+    add-sorted-line-2
+    sorted-line-requires-2
+    returns-2
+    sorted-line-requires-3
+    returns-3)

@@ -1,0 +1,15 @@
+-- Rows are left, or none is.
+use Rattle.forms.specs.Forms.{formOf}
+use Rattle.forms.proofs.Laws.{rows-left, no-rows}
+use Rattle.forms.proofs.finished.Statement.{statement}
+use Rattle.forms.proofs.finished.Tie as tie
+
+returns : tie.Need-returns
+unfolding formOf
+returns c f = rows-left _ f _ _ (c .if1 .taken)
+
+returns-2 : tie.Need-returns-2
+returns-2 c f = no-rows _ f _ _ (c .if1 .left)
+
+pub finished-spec : {M : Type 1} → statement M
+finished-spec = tie.close (tie.spec returns returns-2)

@@ -1,0 +1,55 @@
+-- The form that the keyword announces.
+use borrow.Author.Tests.{ne-eqb}
+use Rattle.rules.specs.Shapes as shapes
+use Rattle.forms.specs.Forms.{formOf, kindOf}
+use Rattle.forms.proofs.Laws.{wordsOpen}
+use borrow.Author.Needs.{needs}
+use Rattle.forms.proofs.object_line.Statement.{statement}
+use Rattle.forms.proofs.object_line.Tie as tie
+
+attribute-line-requires : tie.Need-attribute-line-requires
+attribute-line-requires c κs = search needs
+
+returns : tie.Need-returns
+unfolding wordsOpen kindOf
+returns c f = rw (c .before .if1 .taken) (c .attribute-line .ensures f)
+
+returns-2 : tie.Need-returns-2
+unfolding wordsOpen kindOf
+returns-2 c f = rw (c .if2 .taken)
+
+returns-3 : tie.Need-returns-3
+unfolding wordsOpen kindOf
+returns-3 c f = rw (c .if3 .taken)
+
+cell-line-requires : tie.Need-cell-line-requires
+cell-line-requires c κs = search needs
+
+returns-4 : tie.Need-returns-4
+unfolding wordsOpen kindOf
+returns-4 c f = rw (c .before .if4 .taken) (c .cell-line .ensures f)
+
+process-line-requires : tie.Need-process-line-requires
+process-line-requires c κs = search needs
+
+returns-5 : tie.Need-returns-5
+unfolding wordsOpen kindOf
+returns-5 c f = rw (c .before .if5 .taken) (c .process-line .ensures f)
+
+returns-6 : tie.Need-returns-6
+unfolding wordsOpen kindOf formOf shapes.whole
+returns-6 c f = rw (ne-eqb _ _ (c .before .before .before .before .if1 .left), ne-eqb _ _ (c .before .before .before .if2 .left), ne-eqb _ _ (c .before .before .if3 .left), ne-eqb _ _ (c .before .if4 .left), ne-eqb _ _ (c .if5 .left))
+
+pub object-line-spec : {M : Type 1} → statement M
+object-line-spec =
+    tie.close
+    (tie.spec
+    attribute-line-requires
+    returns
+    returns-2
+    returns-3
+    cell-line-requires
+    returns-4
+    process-line-requires
+    returns-5
+    returns-6)

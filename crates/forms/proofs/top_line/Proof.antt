@@ -1,0 +1,54 @@
+-- The form that the first word announces.
+use borrow.Author.Tests.{ne-eqb}
+use Rattle.rules.specs.Shapes as shapes
+use Rattle.forms.specs.Forms.{formOf}
+use Rattle.forms.proofs.Laws.{shape-word, top-word, no-form, wordsOpen}
+use borrow.Author.Needs.{needs}
+use Rattle.forms.proofs.top_line.Statement.{statement}
+use Rattle.forms.proofs.top_line.Tie as tie
+
+word-at-requires : tie.Need-word-at-requires
+word-at-requires c κs = search needs
+
+autoidx-line-requires : tie.Need-autoidx-line-requires
+autoidx-line-requires c κs = search needs
+
+returns : tie.Need-returns
+unfolding wordsOpen
+returns c f attributed = rw (shape-word _ f _ _ (c .before .before .before .word-at .ensures), c .before .before .if1 .taken, c .before .if2 .taken) (c .autoidx-line .ensures f)
+
+returns-2 : tie.Need-returns-2
+unfolding wordsOpen shapes.whole formOf
+returns-2 c f attributed = rw (shape-word _ f _ _ (c .before .before .word-at .ensures), c .before .if1 .taken, c .if2 .left)
+
+attribute-line-requires : tie.Need-attribute-line-requires
+attribute-line-requires c κs = search needs
+
+returns-3 : tie.Need-returns-3
+unfolding wordsOpen
+returns-3 c f attributed = rw (shape-word _ f _ _ (c .before .before .before .word-at .ensures), top-word _ _ _ _ (c .before .before .if1 .left), c .before .if3 .taken) (c .attribute-line .ensures f)
+
+module-line-requires : tie.Need-module-line-requires
+module-line-requires c κs = search needs
+
+returns-4 : tie.Need-returns-4
+unfolding wordsOpen
+returns-4 c f attributed = rw (shape-word _ f _ _ (c .before .before .before .before .word-at .ensures), top-word _ _ _ _ (c .before .before .before .if1 .left), c .before .if4 .taken) (c .module-line .ensures f)
+
+returns-5 : tie.Need-returns-5
+unfolding wordsOpen formOf
+returns-5 c f attributed = rw (shape-word _ f _ _ (c .before .before .before .word-at .ensures), top-word _ _ _ _ (c .before .before .if1 .left), ne-eqb _ _ (c .before .if3 .left), ne-eqb _ _ (c .if4 .left)) no-form
+
+pub top-line-spec : {M : Type 1} → statement M
+top-line-spec =
+    tie.close
+    (tie.spec
+    word-at-requires
+    autoidx-line-requires
+    returns
+    returns-2
+    attribute-line-requires
+    returns-3
+    module-line-requires
+    returns-4
+    returns-5)

@@ -1,0 +1,83 @@
+-- The shape that a form stands for, over a file's bytes.
+use Prim.Native.Nat.{ℕ}
+use mathlib.Core.Path.{_≡_}
+use mathlib.Core.List.{List}
+use mathlib.Core.Option.{Option, none, some}
+use mathlib.Core.Bool.{Bool, cond}
+use lib.Dec.{eqb}
+use lib.Seq.{slice}
+use Rattle.rules.specs.Tokens as rules
+use Rattle.rules.specs.Statements.{Sort, Shape, autoidx-stmt, attr-stmt, module-stmt, param-stmt, wire-stmt, memory-stmt, cell-stmt, cell-param-stmt, cell-conn-stmt, conn-stmt, proc-stmt, end-stmt}
+use Rattle.rules.specs.Shapes as shapes
+use Rattle.rules.specs.Shapes.{Parse, of₂, id, sigspec, options, wireOptionForms, memoryOptionForms, top, inModule, inCell, whole, wholeBy, shape}
+use Rattle.tokens.specs.Rows.{integerIn, literalIn, line}
+use Rattle.tokens.specs.declared.Literal.{Literal}
+use Rattle.tokens.specs.declared.Literal.the-variants as literal
+use Rattle.forms.specs.Words.{announced}
+use Rattle.forms.specs.declared.Span.{Span}
+use Rattle.forms.specs.declared.Form.{Form}
+use Rattle.forms.specs.declared.Form.the-variants.{Autoidx, Attribute, Module, Parameter, Cell, CellParameter, Process, End, NoShape}
+use Rattle.forms.specs.declared.Kind.{Kind}
+use Rattle.forms.specs.declared.Kind.the-variants as kind
+use Rattle.forms.specs.declared.CellKind.{CellKind}
+use Rattle.forms.specs.declared.CellKind.the-variants as cellKind
+
+-- a cell parameter's sort by its number
+unfoldable pub sortOf : ℕ → Sort
+sortOf k = cond (eqb k 0) Sort.plain (cond (eqb k 1) Sort.signed Sort.real)
+
+-- the name at a span
+unfoldable pub nameIn : List ℕ → Span → rules.Name
+nameIn f s = slice (s .start) (s .end) f
+
+-- a parameter's constant, if it has one
+unfoldable pub valueIn : List ℕ → Literal → Option rules.Literal
+valueIn f (literal.Read c) = some (literalIn f c)
+valueIn f literal.Nothing = none
+
+unfoldable pub formOf : List ℕ → Form → Option Shape
+formOf f (Autoidx z) = some (autoidx-stmt (integerIn f z))
+formOf f (Attribute n c) = some (attr-stmt (nameIn f n) (literalIn f c))
+formOf f (Module n) = some (module-stmt (nameIn f n))
+formOf f (Parameter n c) = some (param-stmt (nameIn f n) (valueIn f c))
+formOf f (Cell k n) = some (cell-stmt (nameIn f k) (nameIn f n))
+formOf f (CellParameter s n c) = some (cell-param-stmt (sortOf s) (nameIn f n) (literalIn f c))
+formOf f (Process n) = some (proc-stmt (nameIn f n))
+formOf f End = some end-stmt
+formOf f NoShape = none
+
+-- a line in a module whose rows are t: of fixed shape, or read on behind its first word
+unfoldable pub kindOf : List ℕ → List ℕ → Kind → Option Shape
+kindOf f t (kind.Form r) = formOf f r
+kindOf f t kind.Wire = whole (of₂ wire-stmt (options wireOptionForms) id (line f t 1))
+kindOf f t kind.Memory = whole (of₂ memory-stmt (options memoryOptionForms) id (line f t 1))
+kindOf f t kind.Connect = whole (of₂ conn-stmt sigspec sigspec (line f t 1))
+
+-- the same in a cell
+unfoldable pub cellKindOf : List ℕ → List ℕ → CellKind → Option Shape
+cellKindOf f t (cellKind.Form r) = formOf f r
+cellKindOf f t cellKind.Connect = whole (of₂ cell-conn-stmt id sigspec (line f t 1))
+
+-- a shape, where no tokens are left
+unfoldable pub ended : Option Shape → List rules.Token → Option Shape
+ended none ts = none
+ended (some s) ts = wholeBy s ts
+
+-- over every file: the form where its line ends at row i; the line from row i on; the line by where it stands
+abbrev pub FinishedIs : List ℕ → ℕ → Form → Form → Type 0
+FinishedIs t i form r = (f : List ℕ) → ended (formOf f form) (line f t i) ≡ formOf f r
+
+abbrev pub LineIs : Parse Shape → List ℕ → ℕ → Form → Type 0
+LineIs p t i r = (f : List ℕ) → whole (p (line f t i)) ≡ formOf f r
+
+abbrev pub AnnouncedIs : List shapes.Form → List ℕ → ℕ → Kind → Type 0
+AnnouncedIs ps t c r = (f : List ℕ) → whole (announced ps c (line f t 1)) ≡ kindOf f t r
+
+abbrev pub TopIs : List ℕ → Bool → Form → Type 0
+TopIs t first r = (f : List ℕ) (attributed : Bool) → shape (record { scope = top; first = first; attributed = attributed }) (line f t 0) ≡ formOf f r
+
+abbrev pub ModuleIs : List ℕ → Bool → Kind → Type 0
+ModuleIs t attributed r = (f : List ℕ) (first : Bool) → shape (record { scope = inModule; first = first; attributed = attributed }) (line f t 0) ≡ kindOf f t r
+
+abbrev pub CellIs : List ℕ → CellKind → Type 0
+CellIs t r = (f : List ℕ) (first attributed : Bool) → shape (record { scope = inCell; first = first; attributed = attributed }) (line f t 0) ≡ cellKindOf f t r
