@@ -1,0 +1,269 @@
+// The options of a `wire` line and of a `memory` line: what was written, what it means, and whether the number and option rules allow it.
+pub mod limits;
+
+use tokens::Integer;
+use tokens::Slot;
+use tokens::Token;
+use tokens::integer_at;
+use tokens::token_at;
+ghost use mathlib.Core.Path.{_≡_};
+ghost use mathlib.Core.Bool.{true, false, cond, _||_};
+ghost use lib.Dec.{eqb};
+ghost use Rattle.rules.specs.Statements.{wire-stmt, memory-stmt};
+ghost use Rattle.rules.specs.Shapes.{wireOptionForms, memoryOptionForms};
+ghost use Rattle.tokens.specs.declared.Slot.the-variants.{Given};
+ghost use Rattle.options.specs.Forms.{forms, statement, accepted, isFlag};
+ghost use Rattle.options.specs.Holds.{isGiven, slotAt, given, noOptions, TookNumber, TookFlag};
+ghost use Rattle.options.specs.Lines.{TurnIs, LineIs};
+
+// The last number given of each option that takes one, the flags, and whether an option stands twice.
+pub struct Options {
+    pub width: Slot,
+    pub offset: Slot,
+    pub size: Slot,
+    pub input: Slot,
+    pub output: Slot,
+    pub inout: Slot,
+    pub upto: bool,
+    pub signed: bool,
+    pub twice: bool,
+}
+
+// The options of a line and the span of its name; or the line has no shape.
+pub enum Line {
+    Read {
+        options: Options,
+        start: usize,
+        end: usize,
+    },
+    NoShape,
+}
+
+// One more option, and the row behind it; or the name, which ends the line.
+enum Turn {
+    Next { at: usize, options: Options },
+    Done { start: usize, end: usize },
+    NoShape,
+}
+
+fn no_options() -> Options
+    ensures { λ r. ⌜ r ≡ noOptions ⌝ }
+{
+    Options {
+        width: Slot::Absent,
+        offset: Slot::Absent,
+        size: Slot::Absent,
+        input: Slot::Absent,
+        output: Slot::Absent,
+        inout: Slot::Absent,
+        upto: false,
+        signed: false,
+        twice: false,
+    }
+}
+
+fn or(a: bool, b: bool) -> bool
+    ensures { λ r. ⌜ r ≡ (a || b) ⌝ }
+{
+    if a { true } else { b }
+}
+
+fn is_given(s: Slot) -> bool
+    ensures { λ r. ⌜ r ≡ isGiven s ⌝ }
+{
+    match s {
+        Slot::Given(_) => true,
+        Slot::Absent => false,
+    }
+}
+
+// The number of the option with keyword number c.
+fn slot_at(o: Options, c: usize) -> Slot
+    ensures { λ r. ⌜ r ≡ slotAt o c ⌝ }
+{
+    if c == 7 {
+        return o.width;
+    }
+    if c == 8 {
+        return o.offset;
+    }
+    if c == 9 {
+        return o.input;
+    }
+    if c == 10 {
+        return o.output;
+    }
+    if c == 11 {
+        return o.inout;
+    }
+    if c == 15 {
+        return o.size;
+    }
+    Slot::Absent
+}
+
+// Whether the option with keyword number c is given.
+fn given(o: Options, c: usize) -> bool
+    ensures { λ r. ⌜ r ≡ given o c ⌝ }
+{
+    if c == 12 {
+        return o.upto;
+    }
+    if c == 13 {
+        return o.signed;
+    }
+    let s = slot_at(o, c);
+    is_given(s)
+}
+
+fn pick(c: usize, k: usize, z: Integer, s: Slot) -> Slot
+    ensures { λ r. ⌜ r ≡ cond (eqb c k) (Given z) s ⌝ }
+{
+    if c == k { Slot::Given(z) } else { s }
+}
+
+// With the number z for option c.
+fn with_number(o: Options, c: usize, z: Integer) -> Options
+    requires { ⌜ isFlag c ≡ false ⌝ }
+    ensures { λ r. ⌜ TookNumber o c z r ⌝ }
+{
+    let again = given(o, c);
+    let w = o.width;
+    let f = o.offset;
+    let s = o.size;
+    let a = o.input;
+    let b = o.output;
+    let d = o.inout;
+    let width = pick(c, 7, z, w);
+    let offset = pick(c, 8, z, f);
+    let size = pick(c, 15, z, s);
+    let input = pick(c, 9, z, a);
+    let output = pick(c, 10, z, b);
+    let inout = pick(c, 11, z, d);
+    Options {
+        width,
+        offset,
+        size,
+        input,
+        output,
+        inout,
+        upto: o.upto,
+        signed: o.signed,
+        twice: or(o.twice, again),
+    }
+}
+
+// With the flag c.
+fn with_flag(o: Options, c: usize) -> Options
+    requires { ⌜ isFlag c ≡ true ⌝ }
+    ensures { λ r. ⌜ TookFlag o c r ⌝ }
+{
+    let again = given(o, c);
+    let mut r = o;
+    r.twice = or(o.twice, again);
+    r.upto = or(o.upto, c == 12);
+    r.signed = or(o.signed, c == 13);
+    r
+}
+
+// Whether the keyword c is an option of a memory, or of a wire.
+fn offered(memory: bool, c: usize) -> bool
+    ensures { λ r. ⌜ r ≡ accepted memory c ⌝ }
+{
+    if memory {
+        if c == 7 {
+            return true;
+        }
+        if c == 15 {
+            return true;
+        }
+        return c == 8;
+    }
+    if c < 7 {
+        return false;
+    }
+    c < 14
+}
+
+fn flag(c: usize) -> bool
+    ensures { λ r. ⌜ r ≡ isFlag c ⌝ }
+{
+    if c == 12 { true } else { c == 13 }
+}
+
+// The option that starts at row i, or the name at the end.
+fn option(tokens: &[u32], memory: bool, i: usize, o: Options) -> Turn
+    ensures { λ r. ⌜ TurnIs memory (now (tokens .entry)) i o r ⌝ }
+{
+    match token_at(tokens, i) {
+        Token::Name { start, end } => {
+            if tokens.len() / 4 <= i + 1 {
+                Turn::Done { start, end }
+            } else {
+                Turn::NoShape
+            }
+        }
+        Token::Word(c) => {
+            if !offered(memory, c) {
+                return Turn::NoShape;
+            }
+            let j = i + 1;
+            if flag(c) {
+                return Turn::Next {
+                    at: j,
+                    options: with_flag(o, c),
+                };
+            }
+            let Slot::Given(z) = integer_at(tokens, j) else {
+                return Turn::NoShape;
+            };
+            Turn::Next {
+                at: j + 1,
+                options: with_number(o, c, z),
+            }
+        }
+        Token::Constant(_) => Turn::NoShape,
+        Token::Mark(_) => Turn::NoShape,
+        Token::End => Turn::NoShape,
+    }
+}
+
+// The options and the name from row at on.
+fn line_of(tokens: &[u32], memory: bool, at: usize) -> Line
+    ensures { λ r. ⌜ LineIs (forms memory) (statement memory) (now (tokens .entry)) at r ⌝ }
+{
+    let mut i = at;
+    let mut o = no_options();
+    loop {
+        match option(tokens, memory, i, o) {
+            Turn::Next { at: j, options } => {
+                i = j;
+                o = options;
+            }
+            Turn::Done { start, end } => {
+                return Line::Read {
+                    options: o,
+                    start,
+                    end,
+                };
+            }
+            Turn::NoShape => {
+                return Line::NoShape;
+            }
+        }
+    }
+}
+
+// A line behind its word `wire`, which stands before row i.
+pub fn wire_line(tokens: &[u32], i: usize) -> Line
+    ensures { λ r. ⌜ LineIs wireOptionForms wire-stmt (now (tokens .entry)) i r ⌝ }
+{
+    line_of(tokens, false, i)
+}
+
+// A line behind its word `memory`, which stands before row i.
+pub fn memory_line(tokens: &[u32], i: usize) -> Line
+    ensures { λ r. ⌜ LineIs memoryOptionForms memory-stmt (now (tokens .entry)) i r ⌝ }
+{
+    line_of(tokens, true, i)
+}
