@@ -1,0 +1,188 @@
+-- Laws of the place behind a past: it is carried on by one statement; its fields tell the parts of the past, the context of the
+-- next line and how many wires the module has.
+-- Assumes nothing.
+use Prim.Native.Nat.{ℕ, _+_, _-_, _≤_}
+use mathlib.Core.Path.{_≡_, refl, ap, _∙_}
+use mathlib.Core.Bool.{Bool, true, false, not, cond}
+use mathlib.Core.List.{List, [], _∷_, _++_, flatMap, zip, zipWith}
+use native.Mathlib.Omega.{arith}
+use lib.ListN.{length, take, length-append}
+use lib.Seq.{take-append-add}
+use Rattle.rules.specs.Bytes.{any}
+use Rattle.rules.specs.Statements.{Statement, autoidx-stmt, attr-stmt, module-stmt, param-stmt, wire-stmt, memory-stmt, cell-stmt, cell-param-stmt, cell-conn-stmt, conn-stmt, proc-stmt, end-stmt, anAttribute, aModule, aWire, aCell, anEnd, code, contents, is, statementsOpen}
+use Rattle.rules.specs.Shapes.{Scope, top, inModule, inCell}
+use Rattle.rules.specs.Judgement.{Past, until, sum, outer, scope, context, ofModule, ofCell, ofObject, wires, among, count}
+use Rattle.past.specs.Place.{scopeCode, scopeOf, wiresIn, placeOf, contextOf, Bounds, scopeAfter, placeAfter}
+use Rattle.past.proofs.KindLaws.{by-test, is-code, count-one, count-le}
+
+-- A measure of lists to which each element adds its own: over the last elements, and over those before them
+module _ {A : Type 0} (m : List A → ℕ) (g : A → ℕ) (none : m [] ≡ 0) (more : (x : A) (xs : List A) → m (x ∷ xs) ≡ m xs + g x) (f : A → Bool) where
+  before-step : (x : A) (xs : List A) → m (x ∷ xs) - m (until f (x ∷ xs)) ≡ cond (f x) (m xs + g x) (m xs - m (until f xs))
+  unfolding until
+  before-step x xs =
+      by-test (f x) (λ e. rw e (omega (arith, none, more x xs))) (λ e. rw e (omega (arith, more x xs, more x (until f xs))))
+
+  until-le : (xs : List A) → m (until f xs) ≤ m xs
+  unfolding until
+  until-le [] = omega arith
+  until-le (x ∷ xs) =
+      by-test (f x) (λ e. rw e (omega (arith, none))) (λ e. rw e (omega (arith, until-le xs, more x xs, more x (until f xs))))
+
+module _ {A : Type 0} where
+  length-more : (x : A) (xs : List A) → length (x ∷ xs) ≡ length xs + 1
+  length-more x xs = omega arith
+
+  sum-more : (g : A → ℕ) (x : A) (xs : List A) → sum g (x ∷ xs) ≡ sum g xs + g x
+  unfolding sum
+  sum-more g x xs = omega arith
+
+  until-take : (f : A → Bool) (xs : List A) → until f xs ≡ take (length (until f xs)) xs
+  unfolding until
+  until-take f [] = refl
+  until-take f (x ∷ xs) = by-test (f x) (λ e. rw e) (λ e. rw e (ap (λ (l : List A). x ∷ l) (until-take f xs)))
+
+  -- the last elements, by how many stand before them
+  last-take : (f : A → Bool) (xs : List A) → until f xs ≡ take (length xs - (length xs - length (until f xs))) xs
+  last-take f xs =
+      let e : length (until f xs) ≡ length xs - (length xs - length (until f xs)) =
+      omega (arith, until-le length (λ x. 1) refl length-more f xs) in
+      until-take f xs ∙ ap (λ (n : ℕ). take n xs) e
+
+  sum-le : (g : A → ℕ) → ((x : A) → g x ≤ 1) → (xs : List A) → sum g xs ≤ length xs
+  unfolding sum
+  sum-le g h [] = omega arith
+  sum-le g h (x ∷ xs) = omega (arith, h x, sum-le g h xs)
+
+  length-flatMap : {B : Type 0} (f : A → List B) (g : A → ℕ) → ((x : A) → length (f x) ≡ g x) → (xs : List A) → length (flatMap f xs) ≡ sum g xs
+  unfolding sum flatMap
+  length-flatMap f g h [] = refl
+  length-flatMap f g h (x ∷ xs) = rw (length-append, h x, length-flatMap f g h xs)
+
+  flatMap-take : {B : Type 0} (h : A → List B) (f : A → Bool) (xs : List A) → flatMap h (until f xs) ≡ take (length (flatMap h (until f xs))) (flatMap h xs)
+  unfolding until flatMap
+  flatMap-take h f [] = refl
+  flatMap-take h f (x ∷ xs) =
+      by-test (f x)
+      (λ e. rw e)
+      (λ e. rw (e, length-append, take-append-add) (ap (λ l. h x ++ l) (flatMap-take h f xs)))
+
+-- each part of the past is its last statements: those behind the row where it begins
+module _ (ss : Past) where
+  pub of-module : ofModule ss ≡ take (placeOf ss .rows - placeOf ss .«module_from») ss
+  unfolding placeOf ofModule
+  of-module = last-take (is aModule) ss
+
+  pub of-cell : ofCell ss ≡ take (placeOf ss .rows - placeOf ss .«cell_from») ss
+  unfolding placeOf ofCell
+  of-cell = last-take (is aCell) ss
+
+  pub of-object : ofObject ss ≡ take (placeOf ss .rows - placeOf ss .«object_from») ss
+  unfolding placeOf ofObject
+  of-object = last-take (λ s. not (is anAttribute s)) ss
+
+-- no field is above the statements so far
+pub bounds : (ss : Past) → Bounds (placeOf ss)
+unfolding placeOf wiresIn
+bounds ss =
+    record {
+      module-from = omega arith;
+      cell-from = omega arith;
+      object-from = omega arith;
+      wires-from = omega arith;
+      wires = sum-le _ (count-le _) ss;
+      modules = sum-le _ (count-le _) ss;
+    }
+
+-- the context of the next line
+scope-back : (z : Scope) → z ≡ scopeOf (scopeCode z)
+unfolding scopeOf scopeCode
+scope-back top = refl
+scope-back inModule = refl
+scope-back inCell = refl
+
+pub context-is : (ss : Past) → context ss ≡ contextOf (placeOf ss)
+unfolding placeOf contextOf context scope scopeOf scopeCode
+context-is [] = refl
+context-is (s ∷ ss) =
+    λ i. record { scope = scope-back (scope (s ∷ ss)) i; first = false; attributed = is anAttribute s }
+
+-- how many wires the module has
+wire-count : (s : Statement) → length (zip (contents s .names) (contents s .wires)) ≡ count (aWire ∷ []) s
+unfolding zip zipWith count among any statementsOpen
+wire-count (autoidx-stmt i) = refl
+wire-count (attr-stmt n c) = refl
+wire-count (module-stmt n) = refl
+wire-count (param-stmt n c) = refl
+wire-count (wire-stmt w n) = refl
+wire-count (memory-stmt m n) = refl
+wire-count (cell-stmt t n) = refl
+wire-count (cell-param-stmt o n c) = refl
+wire-count (cell-conn-stmt n x) = refl
+wire-count (conn-stmt x y) = refl
+wire-count (proc-stmt n) = refl
+wire-count end-stmt = refl
+
+-- sums over the last statements, and over those before them
+module _ (g : Statement → ℕ) (f : Statement → Bool) where
+  sum-before : (s : Statement) (ss : Past) → sum g (s ∷ ss) - sum g (until f (s ∷ ss)) ≡ cond (f s) (sum g ss + g s) (sum g ss - sum g (until f ss))
+  unfolding sum
+  sum-before = before-step (sum g) g refl (sum-more g) f
+
+  sum-until : (ss : Past) → sum g (until f ss) ≤ sum g ss
+  unfolding sum
+  sum-until = until-le (sum g) g refl (sum-more g) f
+
+pub length-wires : (ss : Past) → length (wires ss) ≡ placeOf ss .wires - placeOf ss .«wires_from»
+unfolding placeOf wiresIn wires ofModule
+length-wires ss =
+    omega (
+      arith,
+      length-flatMap (λ s. zip (contents s .names) (contents s .wires)) (count (aWire ∷ [])) wire-count (until (is aModule) ss),
+      sum-until (count (aWire ∷ [])) (is aModule) ss,
+    )
+
+-- they are the last ones of all wires so far
+pub wires-last : (ss : Past)
+    → wires ss ≡ take (placeOf ss .wires - placeOf ss .«wires_from») (flatMap (λ s. zip (contents s .names) (contents s .wires)) ss)
+unfolding wires ofModule
+wires-last ss = rw (← length-wires ss) (flatMap-take (λ s. zip (contents s .names) (contents s .wires)) (is aModule) ss)
+
+-- the place is carried on by one statement
+outer-code : (z : Scope) → scopeCode (outer z) ≡ scopeCode z - 1
+unfolding outer scopeCode
+outer-code top = refl
+outer-code inModule = refl
+outer-code inCell = refl
+
+code-cond : (b : Bool) (x y : Scope) → scopeCode (cond b x y) ≡ cond b (scopeCode x) (scopeCode y)
+code-cond true x y = refl
+code-cond false x y = refl
+
+cond-not : (b : Bool) (m n : ℕ) → cond (not b) m n ≡ cond b n m
+cond-not true m n = refl
+cond-not false m n = refl
+
+module _ (ss : Past) (s : Statement) where
+  scope-step : scopeCode (scope (s ∷ ss)) ≡ scopeAfter (scopeCode (scope ss)) (code (contents s .kind))
+  unfolding scope scopeCode scopeAfter code
+  scope-step = rw (is-code s aModule, is-code s aCell, is-code s anEnd, code-cond, code-cond, code-cond, outer-code)
+
+  rows-before : (f : Statement → Bool) → length (s ∷ ss) - length (until f (s ∷ ss)) ≡ cond (f s) (length ss + 1) (length ss - length (until f ss))
+  rows-before f = before-step length (λ x. 1) refl length-more f s ss
+
+  pub place-step : placeOf (s ∷ ss) ≡ placeAfter (placeOf ss) (code (contents s .kind))
+  unfolding placeOf placeAfter ofModule ofCell ofObject wiresIn context code
+  place-step =
+      λ i.
+      record {
+        scope = scope-step i;
+        first = false;
+        attributed = is-code s anAttribute i;
+        rows = length-more s ss i;
+        «module_from» = (rw (is-code s aModule) at (rows-before (is aModule))) i;
+        «cell_from» = (rw (is-code s aCell) at (rows-before (is aCell))) i;
+        «object_from» = (rw (cond-not, is-code s anAttribute) at (rows-before (λ t. not (is anAttribute t)))) i;
+        wires = (rw (count-one s aWire) at (sum-more (count (aWire ∷ [])) s ss)) i;
+        «wires_from» = (rw (is-code s aModule, count-one s aWire) at (sum-before (count (aWire ∷ [])) (is aModule) s ss)) i;
+        modules = (rw (count-one s aModule) at (sum-more (count (aModule ∷ [])) s ss)) i;
+      }

@@ -1,0 +1,116 @@
+-- Laws of the sizes: the sums are carried on by one statement, they exceed a limit as the rules say, and what is within the limits is small.
+-- Assumes nothing.
+use Prim.Native.Nat.{ℕ, _≤_}
+use mathlib.Core.Path.{_≡_, refl}
+use mathlib.Core.Bool.{true, false, true≢false}
+use mathlib.Core.List.{List, [], _∷_}
+use native.Mathlib.Nat.{le-trans}
+use native.Mathlib.Omega.{arith}
+use lib.Dec.{ltb}
+use borrow.Author.Tests.{ltb-false, le-ltb}
+use Rattle.rules.specs.Bytes.{any}
+use Rattle.rules.specs.Statements.{Statement}
+use Rattle.rules.specs.Judgement.{Past, sum, signalSize, valueSize, stringSize, nameSize, sizes, exceedsSize}
+use Rattle.past.specs.Place.{placeOf, wiresIn}
+use Rattle.past.specs.Sizes.{sizesBy, sizesOf, sumsOf, plusOf, limits, exceeds, Within, AtMost}
+use Rattle.past.specs.declared.sizes.Sizes.{Sizes}
+use Rattle.past.proofs.KindLaws.{by-test, count-le}
+
+-- the sums with one statement more
+pub sums-step : (ss : Past) (s : Statement) → sumsOf (s ∷ ss) ≡ plusOf (sumsOf ss) (sizesOf s)
+unfolding sum sizesBy sizesOf sumsOf plusOf
+sums-step ss s = refl
+
+-- a size is exceeded where the rules say so
+pub exceeds-sums : (ss : Past) → exceeds (sumsOf ss) ≡ exceedsSize ss
+unfolding any sizesBy sumsOf limits exceeds sizes exceedsSize
+exceeds-sums ss = refl
+
+-- wires and modules are counted alike in the place
+pub same-wires : (ss : Past) → placeOf ss .wires ≡ sumsOf ss .wires
+unfolding sizesBy sumsOf placeOf wiresIn
+same-wires ss = refl
+
+pub same-modules : (ss : Past) → placeOf ss .modules ≡ sumsOf ss .modules
+unfolding sizesBy sumsOf placeOf
+same-modules ss = refl
+
+-- no size exceeds its limit exactly where each is within it
+Below : List (ℕ × ℕ) → Type 0
+Below [] = Unit {0}
+Below (z ∷ zs) = (z .1 ≤ z .0) × Below zs
+
+none-exceeds : (l : List (ℕ × ℕ)) → any (λ z. ltb (z .0) (z .1)) l ≡ false → Below l
+unfolding any Below
+none-exceeds [] e = tt
+none-exceeds (z ∷ zs) e =
+    by-test (ltb (z .0) (z .1))
+    (λ t. absurd (true≢false (rw t at e)))
+    (λ t. (ltb-false (z .0) (z .1) t, none-exceeds zs (rw t at e)))
+
+below-none : (l : List (ℕ × ℕ)) → Below l → any (λ z. ltb (z .0) (z .1)) l ≡ false
+unfolding any Below
+below-none [] b = refl
+below-none (z ∷ zs) b = rw (le-ltb (z .0) (z .1) (b .0)) (below-none zs (b .1))
+
+module _ (u : Sizes) where
+  pub within-limits : exceeds u ≡ false → Within u
+  unfolding Below limits exceeds
+  within-limits e =
+      let b : Below (limits u) = none-exceeds (limits u) e in
+      record {
+        modules = omega arith;
+        wires = omega arith;
+        memories = omega arith;
+        cells = omega arith;
+        parameters = omega arith;
+        attributes = omega arith;
+        ports = omega arith;
+        connections = omega arith;
+        signal-bits = omega arith;
+        value-bits = omega arith;
+        string-bytes = omega arith;
+        name-bytes = omega arith;
+      }
+
+  pub limits-within : Within u → exceeds u ≡ false
+  unfolding Below limits exceeds
+  limits-within w =
+      below-none (limits u)
+      (w .modules, (w .wires, (w .memories, (w .cells, (w .parameters, (w .attributes, (w .ports, (w .connections, (w .signal-bits, (w .value-bits, (w .string-bytes, (w .name-bytes, tt))))))))))))
+
+  -- so that sums of two do not wrap
+  pub within-small : (n : ℕ) → 16384 ≤ n → Within u → AtMost n u
+  within-small n h w =
+      record {
+        modules = omega arith;
+        wires = omega arith;
+        memories = omega arith;
+        cells = omega arith;
+        parameters = omega arith;
+        attributes = omega arith;
+        ports = omega arith;
+        connections = omega arith;
+        signal-bits = omega arith;
+        value-bits = omega arith;
+        string-bytes = omega arith;
+        name-bytes = omega arith;
+      }
+
+pub sizes-small : (s : Statement) (n : ℕ) → 1 ≤ n → signalSize s ≤ n → valueSize s ≤ n → stringSize s ≤ n → nameSize s ≤ n → AtMost n (sizesOf s)
+unfolding sizesBy sizesOf
+sizes-small s n h g v t m =
+    record {
+      modules = le-trans (count-le _ s) h;
+      wires = le-trans (count-le _ s) h;
+      memories = le-trans (count-le _ s) h;
+      cells = le-trans (count-le _ s) h;
+      parameters = le-trans (count-le _ s) h;
+      attributes = le-trans (count-le _ s) h;
+      ports = le-trans (count-le _ s) h;
+      connections = le-trans (count-le _ s) h;
+      signal-bits = g;
+      value-bits = v;
+      string-bytes = t;
+      name-bytes = m;
+    }
