@@ -1,28 +1,31 @@
 -- A line's parse, one token at a time.
 -- Assumes nothing.
 use mathlib.Core.Path.{_≡_, refl, _∙_}
-use mathlib.Core.Bool.{Bool, true, false}
+use mathlib.Core.Bool.{Bool, true, false, cond}
 use mathlib.Core.List.{List, [], _∷_}
-use mathlib.Core.Option.{none, some}
+use mathlib.Core.Option.{Option, none, some}
 use Prim.Native.Nat.{ℕ, zero, suc, _+_, _-_, _/_, _<_, _≤_}
 use native.Mathlib.Omega.{arith}
 use lib.IntN.{ℤ}
+use lib.Dec.{eqb}
 use lib.ListN.{length}
 use lib.Seq.{slice}
+use Rattle.rules.specs.Bytes.{any}
 use Rattle.rules.specs.Tokens.{Name, Literal, Token, name, word, literal, mark}
 use Rattle.rules.specs.Statements.{Opt}
 use Rattle.rules.specs.Shapes.{whole, wholeBy, of₁, of₂, id, int, one, isId, give, after, repeat, offers, choice, options, several}
 use Rattle.scanner.specs.Words.{keywordAt}
-use Rattle.tokens.specs.Rows.{Present, front, rowOf, tokenAt, line}
+use Rattle.tokens.specs.Rows.{integerIn, Present, front, rowOf, tokenAt, line}
+use Rattle.tokens.specs.declared.Integer.{Integer}
 use Rattle.tokens.specs.declared.Token.{Token as Row}
 use Rattle.tokens.specs.declared.Token.the-variants as row
 use Rattle.tokens.proofs.Laws.{line-end, line-more, line-read, line-long, below, present, front-token}
-use Rattle.options.specs.Forms.{forms, statement, accepted, isFlag}
-use Rattle.options.specs.Holds.{Holds, noOptions}
+use Rattle.options.specs.Forms.{forms, statement, accepted, isFlag, numberCodes}
+use Rattle.options.specs.Holds.{fits, Holds, noOptions, Took}
 use Rattle.options.specs.Lines.{rest, Next}
 use Rattle.options.specs.declared.Options.{Options}
-use Rattle.options.proofs.Held.{holds-none}
-use Rattle.options.proofs.Words.{offers-word, offers-name, offers-literal, offers-mark, choice-word, parsed}
+use Rattle.options.proofs.Held.{holds-none, holds-more}
+use Rattle.options.proofs.Words.{accepted-option, offers-word, offers-name, offers-literal, offers-mark, choice-word, parsed}
 
 module _ (m : Bool) (k : ℕ) (os : List Opt) (ts : List Token) where
   -- an option, with its number, and without
@@ -102,6 +105,31 @@ module _ (m : Bool) (t : List ℕ) (i : ℕ) where
         rest-name m j os (line f t (i + 1)) (slice a b f)
         ∙ rw (line-more f t (i + 1) l, front-token f (rowOf t (i + 1)) (line f t (i + 1 + 1)) (present t (i + 1))))
 
+  -- an option in row i
+  module _ (c : ℕ) (e : row.Word c ≡ tokenAt t i) (h : accepted m c ≡ true) where
+    pub flag-next : isFlag c ≡ true → Next m t i c (λ f. none) (i + 1)
+    unfolding front
+    flag-next g =
+        record {
+          inside = below t i (row.Word c) e tt;
+          option = accepted-option m c h;
+          more = λ f k os. rw (line-read f t i (row.Word c) e) (rest-flag m k os (line f t (i + 1)) c h g);
+        }
+
+    pub number-next :
+        (z : Integer) →
+        isFlag c ≡ false →
+        ((f : List ℕ) → int (line f t (i + 1)) ≡ some (integerIn f z, line f t (i + 1 + 1))) →
+        Next m t i c (λ f. some (integerIn f z)) (i + 2)
+    unfolding front
+    number-next z g s =
+        let two : i + 1 + 1 ≡ i + 2 = omega arith in
+        record {
+          inside = below t i (row.Word c) e tt;
+          option = accepted-option m c h;
+          more = λ f k os. rw (line-read f t i (row.Word c) e, ← two) (rest-number m k os (line f t (i + 1)) c h g (integerIn f z) (line f t (i + 1 + 1)) (s f));
+        }
+
 -- ---- the loop: turns enough for the rest, the options so far, and that the rest decides
 
 pub record Reached (f : List ℕ) (m : Bool) (t : List ℕ) (at i : ℕ) (o : Options) : Type 0 where
@@ -117,11 +145,12 @@ module _ (f : List ℕ) (m : Bool) (t : List ℕ) (at : ℕ) where
   start o e =
       record { turns = length (line f t at); so-far = []; enough = omega (arith, line-long f t at); holds = rw e (holds-none f); same = refl }
 
-  module _ (i j : ℕ) (o o′ : Options) (below : i < length t / 4) (less : i < j) (N : Next f m t i o j o′) where
-    next-by : (k : ℕ) (os : List Opt) → length t / 4 - i ≤ k → Holds f o os → whole (of₂ (statement m) (options (forms m)) id (line f t at)) ≡ rest m k os (line f t i) → Reached f m t at j o′
-    next-by zero os h H e = absurd (omega arith)
+  -- one option more, held by o′
+  module _ (i j c : ℕ) (v : List ℕ → Option ℤ) (o o′ : Options) (N : Next m t i c v j) (less : i < j) where
+    next-by : (k : ℕ) (os : List Opt) → length t / 4 - i ≤ k → Holds f o′ ((keywordAt c, v f) ∷ os) → whole (of₂ (statement m) (options (forms m)) id (line f t at)) ≡ rest m k os (line f t i) → Reached f m t at j o′
+    next-by zero os h H e = absurd (omega (arith, N .inside))
     next-by (suc k) os h H e =
-        record { turns = k; so-far = N .opt ∷ os; enough = omega arith; holds = N .holds os H; same = e ∙ N .more k os }
+        record { turns = k; so-far = (keywordAt c, v f) ∷ os; enough = omega (arith, N .inside); holds = H; same = e ∙ N .more f k os }
 
-    pub next : Reached f m t at i o → Reached f m t at j o′
-    next R = next-by (R .turns) (R .so-far) (R .enough) (R .holds) (R .same)
+    pub next : Reached f m t at i o → cond (any (eqb c) numberCodes) (fits (v f)) true ≡ fits (v f) → Took f o c (v f) o′ → Reached f m t at j o′
+    next R n T = next-by (R .turns) (R .so-far) (R .enough) (holds-more f o o′ (R .so-far) c (v f) (R .holds) (N .option) n T) (R .same)

@@ -39,9 +39,10 @@ pub enum Line {
     NoShape,
 }
 
-// One more option, and the row behind it; or the name, which ends the line.
+// An option by its keyword's number, with its integer if it takes one; or the name, which ends the line.
 enum Turn {
-    Next { at: usize, options: Options },
+    Flag(usize),
+    Number(usize, Integer),
     Done { start: usize, end: usize },
     NoShape,
 }
@@ -192,8 +193,8 @@ fn flag(c: usize) -> bool
 }
 
 // The option that starts at row i, or the name at the end.
-fn option(tokens: &[u32], memory: bool, i: usize, o: Options) -> Turn
-    ensures { λ r. ⌜ TurnIs memory (now (tokens .entry)) i o r ⌝ }
+fn option(tokens: &[u32], memory: bool, i: usize) -> Turn
+    ensures { λ r. ⌜ TurnIs memory (now (tokens .entry)) i r ⌝ }
 {
     match token_at(tokens, i) {
         Token::Name { start, end } => {
@@ -207,20 +208,13 @@ fn option(tokens: &[u32], memory: bool, i: usize, o: Options) -> Turn
             if !offered(memory, c) {
                 return Turn::NoShape;
             }
-            let j = i + 1;
             if flag(c) {
-                return Turn::Next {
-                    at: j,
-                    options: with_flag(o, c),
-                };
+                return Turn::Flag(c);
             }
-            let Slot::Given(z) = integer_at(tokens, j) else {
+            let Slot::Given(z) = integer_at(tokens, i + 1) else {
                 return Turn::NoShape;
             };
-            Turn::Next {
-                at: j + 1,
-                options: with_number(o, c, z),
-            }
+            Turn::Number(c, z)
         }
         Token::Constant(_) => Turn::NoShape,
         Token::Mark(_) => Turn::NoShape,
@@ -235,10 +229,14 @@ fn line_of(tokens: &[u32], memory: bool, at: usize) -> Line
     let mut i = at;
     let mut o = no_options();
     loop {
-        match option(tokens, memory, i, o) {
-            Turn::Next { at: j, options } => {
-                i = j;
-                o = options;
+        match option(tokens, memory, i) {
+            Turn::Flag(c) => {
+                o = with_flag(o, c);
+                i += 1;
+            }
+            Turn::Number(c, z) => {
+                o = with_number(o, c, z);
+                i += 2;
             }
             Turn::Done { start, end } => {
                 return Line::Read {

@@ -2,7 +2,6 @@
 -- Assumes nothing.
 use borrow.Author.Tests.{eq-eqb, ne-eqb}
 use Rattle.options.specs.Holds.{given}
-use borrow.Author.Needs.{needs}
 use Rattle.options.proofs.given.Statement.{statement}
 use Rattle.options.proofs.given.Tie as tie
 
@@ -15,10 +14,10 @@ unfolding given
 returns-2 c = rw (ne-eqb _ _ (c .before .if1 .left), eq-eqb _ _ (c .if2 .taken))
 
 slot-at-requires : tie.Need-slot-at-requires
-slot-at-requires c κs = search needs
+slot-at-requires c κs = tt
 
 is-given-requires : tie.Need-is-given-requires
-is-given-requires c κs = search needs
+is-given-requires c κs = tt
 
 returns-3 : tie.Need-returns-3
 unfolding given

@@ -1,12 +1,11 @@
 -- The line of a wire.
 -- Assumes nothing.
 use Rattle.options.specs.Forms.{forms, statement as stated}
-use borrow.Author.Needs.{needs}
 use Rattle.options.proofs.wire_line.Statement.{statement}
 use Rattle.options.proofs.wire_line.Tie as tie
 
 line-of-requires : tie.Need-line-of-requires
-line-of-requires c κs = search needs
+line-of-requires c κs = tt
 
 returns : tie.Need-returns
 unfolding forms stated

@@ -3,21 +3,20 @@
 use mathlib.Core.Path.{refl, _∙_}
 use Rattle.options.specs.Holds.{slotAt}
 use Rattle.options.proofs.Held.{took-flag}
-use borrow.Author.Needs.{needs}
 use Rattle.options.proofs.with_flag.Statement.{statement}
 use Rattle.options.proofs.with_flag.Tie as tie
 
 given-requires : tie.Need-given-requires
-given-requires c κs = search needs
+given-requires c κs = tt
 
 or-requires : tie.Need-or-requires
-or-requires c κs = search needs
+or-requires c κs = tt
 
 or-requires-2 : tie.Need-or-requires-2
-or-requires-2 c κs = search needs
+or-requires-2 c κs = tt
 
 or-requires-3 : tie.Need-or-requires-3
-or-requires-3 c κs = search needs
+or-requires-3 c κs = tt
 
 returns : tie.Need-returns
 unfolding slotAt

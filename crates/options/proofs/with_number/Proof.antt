@@ -2,33 +2,32 @@
 -- Assumes nothing.
 use mathlib.Core.Path.{refl, _∙_}
 use Rattle.options.proofs.Held.{took-number}
-use borrow.Author.Needs.{needs}
 use Rattle.options.proofs.with_number.Statement.{statement}
 use Rattle.options.proofs.with_number.Tie as tie
 
 given-requires : tie.Need-given-requires
-given-requires c κs = search needs
+given-requires c κs = tt
 
 pick-requires : tie.Need-pick-requires
-pick-requires c κs = search needs
+pick-requires c κs = tt
 
 pick-requires-2 : tie.Need-pick-requires-2
-pick-requires-2 c κs = search needs
+pick-requires-2 c κs = tt
 
 pick-requires-3 : tie.Need-pick-requires-3
-pick-requires-3 c κs = search needs
+pick-requires-3 c κs = tt
 
 pick-requires-4 : tie.Need-pick-requires-4
-pick-requires-4 c κs = search needs
+pick-requires-4 c κs = tt
 
 pick-requires-5 : tie.Need-pick-requires-5
-pick-requires-5 c κs = search needs
+pick-requires-5 c κs = tt
 
 pick-requires-6 : tie.Need-pick-requires-6
-pick-requires-6 c κs = search needs
+pick-requires-6 c κs = tt
 
 or-requires : tie.Need-or-requires
-or-requires c κs = search needs
+or-requires c κs = tt
 
 returns : tie.Need-returns
 returns c f = took-number f _ _ _ _ (c .before .before .before .before .before .before .before .before .pre) (c .before .before .before .before .before .before .pick .ensures) (c .before .before .before .before .before .pick2 .ensures) (c .before .before .before .before .pick3 .ensures) (c .before .before .before .pick4 .ensures) (c .before .before .pick5 .ensures) (c .before .pick6 .ensures) refl refl (c .or .ensures ∙ rw (c .before .before .before .before .before .before .before .given .ensures))

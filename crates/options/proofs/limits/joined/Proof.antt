@@ -36,7 +36,7 @@ unfolding withPort
 returns-3 c d ps e p = let p = rw (c .before .before .behind .given .1) at p in rw (c .before .before .before .before .before .s .given .1) (port-before _ ps (λ z. c .if1 .taken (sym (p .1) ∙ z)))
 
 integer-of-requires : tie.Need-integer-of-requires
-integer-of-requires c κs = search needs
+integer-of-requires c κs = tt
 
 enum-known-n : tie.Need-enum-known-n
 enum-known-n c = search needs
@@ -49,7 +49,7 @@ unfolding withPort
 returns-4 c d ps e p = let p = rw (c .before .before .before .before .before .behind .given .1) at p in let q = rw (c .enum-told3 .given .1) at (c .before .before .integer-of .ensures) in rw (c .before .before .before .before .before .before .before .before .s .given .1, no-port ps (p .1 ∙ c .before .before .before .if1 .left)) (port-alone _ ∙ range-outside 1 1023 _ (omega arith) q)
 
 between-requires : tie.Need-between-requires
-between-requires c κs = search needs
+between-requires c κs = tt
 
 returns-5 : tie.Need-returns-5
 unfolding withPort portOf Option·elim

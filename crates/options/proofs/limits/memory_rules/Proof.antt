@@ -3,36 +3,35 @@
 use borrow.Author.Tests.{not-true, not-false}
 use mathlib.Core.Path.{sym, _∙_}
 use Rattle.options.proofs.Meaning.{memory-options, memory-width, memory-size, memory-good}
-use borrow.Author.Needs.{needs}
 use Rattle.options.proofs.limits.memory_rules.Statement.{statement}
 use Rattle.options.proofs.limits.memory_rules.Tie as tie
 
 options-good-requires : tie.Need-options-good-requires
-options-good-requires c κs = search needs
+options-good-requires c κs = tt
 
 returns : tie.Need-returns
 returns c os H = memory-options _ _ os H (sym (c .before .options-good .ensures) ∙ not-true _ (c .if1 .taken))
 
 word-or-requires : tie.Need-word-or-requires
-word-or-requires c κs = search needs
+word-or-requires c κs = tt
 
 between-requires : tie.Need-between-requires
-between-requires c κs = search needs
+between-requires c κs = tt
 
 returns-2 : tie.Need-returns-2
 returns-2 c os H = memory-width _ _ os H (sym (c .before .before .before .before .options-good .ensures) ∙ not-false _ (c .before .before .before .if1 .left)) _ (c .before .before .word-or .ensures) (sym (c .before .between .ensures) ∙ not-true _ (c .if2 .taken))
 
 word-or-requires-2 : tie.Need-word-or-requires-2
-word-or-requires-2 c κs = search needs
+word-or-requires-2 c κs = tt
 
 between-requires-2 : tie.Need-between-requires-2
-between-requires-2 c κs = search needs
+between-requires-2 c κs = tt
 
 returns-3 : tie.Need-returns-3
 returns-3 c os H = memory-size _ _ os H (sym (c .before .before .before .before .before .before .before .options-good .ensures) ∙ not-false _ (c .before .before .before .before .before .before .if1 .left)) _ (c .before .before .before .before .before .word-or .ensures) _ (c .before .before .word-or2 .ensures) (sym (c .before .before .before .before .between .ensures) ∙ not-false _ (c .before .before .before .if2 .left)) ∙ sym (c .before .between2 .ensures) ∙ not-true _ (c .if3 .taken)
 
 word-or-requires-3 : tie.Need-word-or-requires-3
-word-or-requires-3 c κs = search needs
+word-or-requires-3 c κs = tt
 
 returns-4 : tie.Need-returns-4
 returns-4 c os H = memory-good _ _ os H (sym (c .before .before .before .before .before .before .before .before .options-good .ensures) ∙ not-false _ (c .before .before .before .before .before .before .before .if1 .left)) _ (c .before .before .before .before .before .before .word-or .ensures) _ (c .before .before .before .word-or2 .ensures) (sym (c .before .before .before .before .before .between .ensures) ∙ not-false _ (c .before .before .before .before .if2 .left)) _ (c .word-or3 .ensures) (sym (c .before .before .between2 .ensures) ∙ not-false _ (c .before .if3 .left))

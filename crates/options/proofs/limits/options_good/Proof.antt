@@ -3,7 +3,6 @@
 use mathlib.Core.Path.{sym, _∙_}
 use borrow.Author.Tests.{not-true, not-false}
 use Rattle.options.specs.Numbers.{optionsGood}
-use borrow.Author.Needs.{needs}
 use Rattle.options.proofs.limits.options_good.Statement.{statement}
 use Rattle.options.proofs.limits.options_good.Tie as tie
 
@@ -12,14 +11,14 @@ unfolding optionsGood
 returns c = rw (c .if1 .taken)
 
 all-fit-requires : tie.Need-all-fit-requires
-all-fit-requires c κs = search needs
+all-fit-requires c κs = tt
 
 returns-2 : tie.Need-returns-2
 unfolding optionsGood
 returns-2 c = rw (c .before .before .if1 .left, sym (c .before .all-fit .ensures) ∙ not-true _ (c .if2 .taken))
 
 all-fit-requires-2 : tie.Need-all-fit-requires-2
-all-fit-requires-2 c κs = search needs
+all-fit-requires-2 c κs = tt
 
 returns-3 : tie.Need-returns-3
 unfolding optionsGood

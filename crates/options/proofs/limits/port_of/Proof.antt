@@ -8,18 +8,17 @@ use Rattle.rules.specs.Bytes.{all}
 use Rattle.rules.specs.Numbers.{portOf}
 use Rattle.rules.specs.Layout.{directionCode}
 use Rattle.options.specs.Limits.{portsIn, portsGood}
-use borrow.Author.Needs.{needs}
 use Rattle.options.proofs.limits.port_of.Statement.{statement}
 use Rattle.options.proofs.limits.port_of.Tie as tie
 
 joined-requires : tie.Need-joined-requires
-joined-requires c κs = search needs
+joined-requires c κs = tt
 
 joined-requires-2 : tie.Need-joined-requires-2
-joined-requires-2 c κs = search needs
+joined-requires-2 c κs = tt
 
 joined-requires-3 : tie.Need-joined-requires-3
-joined-requires-3 c κs = search needs
+joined-requires-3 c κs = tt
 
 returns : tie.Need-returns
 unfolding portsIn portsGood portOf all directionCode Option·elim

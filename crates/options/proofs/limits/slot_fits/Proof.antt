@@ -10,7 +10,7 @@ enum-known-s : tie.Need-enum-known-s
 enum-known-s c = search needs
 
 integer-of-requires : tie.Need-integer-of-requires
-integer-of-requires c κs = search needs
+integer-of-requires c κs = tt
 
 enum-told : tie.Need-enum-told
 enum-told c = search needs

@@ -10,22 +10,22 @@ use Rattle.options.proofs.limits.wire_rules.Statement.{statement}
 use Rattle.options.proofs.limits.wire_rules.Tie as tie
 
 options-good-requires : tie.Need-options-good-requires
-options-good-requires c κs = search needs
+options-good-requires c κs = tt
 
 returns : tie.Need-returns
 returns c os H = wire-options _ _ os H (sym (c .before .options-good .ensures) ∙ not-true _ (c .if1 .taken))
 
 word-or-requires : tie.Need-word-or-requires
-word-or-requires c κs = search needs
+word-or-requires c κs = tt
 
 between-requires : tie.Need-between-requires
-between-requires c κs = search needs
+between-requires c κs = tt
 
 returns-2 : tie.Need-returns-2
 returns-2 c os H = wire-width _ _ os H (sym (c .before .before .before .before .options-good .ensures) ∙ not-false _ (c .before .before .before .if1 .left)) _ (c .before .before .word-or .ensures) (sym (c .before .between .ensures) ∙ not-true _ (c .if2 .taken))
 
 port-of-requires : tie.Need-port-of-requires
-port-of-requires c κs = search needs
+port-of-requires c κs = tt
 
 enum-known-code : tie.Need-enum-known-code
 enum-known-code c = search needs
@@ -37,16 +37,16 @@ returns-3 : tie.Need-returns-3
 returns-3 c os H = wire-ports _ _ os H (sym (c .before .before .before .before .before .before .before .options-good .ensures) ∙ not-false _ (c .before .before .before .before .before .before .if1 .left)) _ (c .before .before .before .before .before .word-or .ensures) (sym (c .before .before .before .before .between .ensures) ∙ not-false _ (c .before .before .before .if2 .left)) (rw (c .enum-told .given .1) at (c .before .before .port-of .ensures))
 
 word-or-requires-2 : tie.Need-word-or-requires-2
-word-or-requires-2 c κs = search needs
+word-or-requires-2 c κs = tt
 
 offset-fits-requires : tie.Need-offset-fits-requires
-offset-fits-requires c κs = search needs
+offset-fits-requires c κs = tt
 
 returns-4 : tie.Need-returns-4
 returns-4 c os H = let p = rw (c .before .before .before .before .code .given .1) at (c .before .before .before .before .before .before .port-of .ensures) in wire-offset _ _ os H (sym (c .before .before .before .before .before .before .before .before .before .before .before .options-good .ensures) ∙ not-false _ (c .before .before .before .before .before .before .before .before .before .before .if1 .left)) _ (c .before .before .before .before .before .before .before .before .before .word-or .ensures) _ (c .before .before .word-or2 .ensures) (sym (c .before .before .before .before .before .before .before .before .between .ensures) ∙ not-false _ (c .before .before .before .before .before .before .before .if2 .left)) (p .0) ∙ sym (c .before .offset-fits .ensures) ∙ not-true _ (c .if3 .taken)
 
 flag-bits-requires : tie.Need-flag-bits-requires
-flag-bits-requires c κs = search needs
+flag-bits-requires c κs = tt
 
 add-t13 : tie.Need-add-t13
 add-t13 c = let p = rw (c .before .before .before .before .before .code .given .1) at (c .before .before .before .before .before .before .before .port-of .ensures) in omega (arith, bits-most _ _ (c .flag-bits .ensures), code-most _ (p .1))

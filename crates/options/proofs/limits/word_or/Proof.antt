@@ -12,7 +12,7 @@ enum-known-s : tie.Need-enum-known-s
 enum-known-s c = search needs
 
 integer-of-requires : tie.Need-integer-of-requires
-integer-of-requires c κs = search needs
+integer-of-requires c κs = tt
 
 enum-known-w : tie.Need-enum-known-w
 enum-known-w c = search needs
