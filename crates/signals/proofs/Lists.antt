@@ -1,0 +1,141 @@
+-- Parts of tables: behind one another, after a store, and the codes of bits.
+-- Assumes nothing.
+use mathlib.Core.Path.{_≡_, refl, sym, ap, ap₂, _∙_}
+use mathlib.Core.List.{List, [], _∷_, _++_, map, reverse, append-assoc, reverse-append, map-append}
+use Prim.Native.Nat.{ℕ, zero, suc, _+_, _-_, _<_, _≤_}
+use native.Mathlib.Nat.{add-zero}
+use native.Mathlib.Numerals.{add-one}
+use native.Mathlib.Omega.{arith}
+use lib.ListN.{length, take, drop, getD, set, length-append, length-drop, length-reverse, length-map, take-append-drop}
+use lib.Seq.{slice, length-take-le, length-slice, take-take, take-at, drop-at, drop-drop, take-add, take-suc, take-all, getD-take, getD-drop}
+use Rattle.rules.specs.Statements.{bit, Signal}
+use Rattle.rules.specs.Signals.{wireBits}
+use Rattle.rules.specs.Layout.{bitCode}
+use Rattle.tables.specs.Store.{store, store-eq, store-behind, store-more}
+use Rattle.wires.specs.RowLaws.{slice-span}
+use Rattle.signals.specs.Held.{codes}
+
+-- ---- parts
+
+-- a part of what is kept
+pub slice-kept : (l l′ : List ℕ) (n a b : ℕ) → take n l′ ≡ take n l → b ≤ n → slice a b l′ ≡ slice a b l
+slice-kept l l′ n a b e h = ap (drop a) (sym (take-take b n l′ h) ∙ ap (take b) e ∙ take-take b n l h)
+
+pub take-kept : (l l′ : List ℕ) (n m : ℕ) → take n l′ ≡ take n l → m ≤ n → take m l′ ≡ take m l
+take-kept l l′ n m e h = sym (take-take m n l′ h) ∙ ap (take m) e ∙ take-take m n l h
+
+-- two parts behind one another
+pub slice-join : (l : List ℕ) (a m n : ℕ) → slice a (a + m) l ++ slice (a + m) (a + m + n) l ≡ slice a (a + (m + n)) l
+slice-join l a m n =
+    ap₂ _++_ (slice-span a m l) (slice-span (a + m) n l ∙ ap (take n) (sym (drop-drop m a l)))
+    ∙ sym (take-add m n (drop a l))
+    ∙ sym (slice-span a (m + n) l)
+
+-- a part of a part
+pub slice-within : (l : List ℕ) (o w x n : ℕ) → x + n ≤ w → slice (o + x) (o + x + n) l ≡ take n (drop x (slice o (o + w) l))
+slice-within l o w x n h =
+    slice-span (o + x) n l
+    ∙ ap (take n) (sym (drop-drop x o l))
+    ∙ sym (slice-span x n (drop o l))
+    ∙ ap (drop x) (sym (take-take (x + n) w (drop o l) h))
+    ∙ slice-span x n (take w (drop o l))
+    ∙ ap (λ (y : List ℕ). take n (drop x y)) (sym (slice-span o w l))
+
+module _ (l : List ℕ) (at : ℕ) (vs : List ℕ) (room : at + length vs ≤ length l) where
+  front-long : length (take at l ++ vs) ≡ at + length vs
+  front-long = length-append (take at l) vs ∙ ap (λ (n : ℕ). n + length vs) (length-take-le at l (omega arith))
+
+  -- the part that was stored, and what stands below it
+  pub store-slice : slice at (at + length vs) (store l at vs) ≡ vs
+  store-slice =
+      ap (slice at (at + length vs)) (store-eq l at vs room)
+      ∙ ap (drop at) (take-at (take at l ++ vs) (drop (at + length vs) l) (at + length vs) front-long)
+      ∙ drop-at (take at l) vs at (length-take-le at l (omega arith))
+
+  pub store-take : take at (store l at vs) ≡ take at l
+  store-take =
+      ap (take at) (store-eq l at vs room ∙ append-assoc (take at l) vs (drop (at + length vs) l))
+      ∙ take-at (take at l) (vs ++ drop (at + length vs) l) at (length-take-le at l (omega arith))
+
+-- one value of s more
+copied : (d s l : List ℕ) (at j : ℕ) → l ≡ store d at (take j s) → j < length s → set l (at + j) (getD s j 0) ≡ store d at (take (j + 1) s)
+copied d s l at j e h =
+    store-more d l at (at + j) (getD s j 0) (take j s) (take (j + 1) s) e
+    (ap (λ (k : ℕ). at + k) (sym (length-take-le j s (omega arith))))
+    (rw add-one (take-suc s j 0 h))
+
+-- all values stored
+pub stored : (d l : List ℕ) (at j : ℕ) (s : List ℕ) (n : ℕ) → l ≡ store d at (take j s) → length s ≡ n → n ≤ j → l ≡ store d at s
+stored d l at j s n e h k = e ∙ ap (store d at) (take-all j s (omega arith))
+
+-- ---- codes
+
+pub length-codes : (xs : Signal) → length (codes xs) ≡ length xs
+unfolding codes
+length-codes xs = length-reverse (map bitCode xs) ∙ length-map xs bitCode
+
+pub codes-append : (xs ys : Signal) → codes (xs ++ ys) ≡ codes ys ++ codes xs
+unfolding codes
+codes-append xs ys = ap reverse (map-append bitCode xs ys) ∙ reverse-append (map bitCode xs) (map bitCode ys)
+
+-- n bits from bit l on stand above those below and below those above
+pub codes-part : (xs : Signal) (l n : ℕ) → l + n ≤ length xs → take n (drop (length xs - (l + n)) (codes xs)) ≡ codes (take n (drop l xs))
+codes-part xs l n h =
+    let A : Signal = take l xs in
+    let B : Signal = take n (drop l xs) in
+    let C : Signal = drop n (drop l xs) in
+    let e : xs ≡ A ++ (B ++ C) = sym (ap (λ (y : Signal). A ++ y) (take-append-drop n (drop l xs)) ∙ take-append-drop l xs) in
+    let c : codes xs ≡ codes C ++ (codes B ++ codes A) = ap codes e ∙ codes-append A (B ++ C) ∙ ap (λ (y : List ℕ). y ++ codes A) (codes-append B C) ∙ append-assoc (codes C) (codes B) (codes A) in
+    let lc : length (codes C) ≡ length xs - (l + n) = length-codes C ∙ length-drop n (drop l xs) ∙ ap (λ (k : ℕ). k - n) (length-drop l xs) ∙ omega arith in
+    let lb : length (codes B) ≡ n = length-codes B ∙ length-take-le n (drop l xs) (omega (arith, length-drop l xs)) in
+    ap (λ (y : List ℕ). take n (drop (length xs - (l + n)) y)) c
+    ∙ ap (take n) (drop-at (codes C) (codes B ++ codes A) (length xs - (l + n)) lc)
+    ∙ take-at (codes B) (codes A) n lb
+
+-- ---- a wire's bits from the top
+
+abbrev wireCodes : ℕ → ℕ → List ℕ
+wireCodes n zero = []
+wireCodes n (suc w) = bitCode (bit n w) ∷ wireCodes n w
+
+wire-snoc : (n i k : ℕ) → wireBits n i (suc k) ≡ wireBits n i k ++ bit n (i + k) ∷ []
+unfolding wireBits
+wire-snoc n i zero = ap (λ (j : ℕ). bit n j ∷ []) (sym (add-zero i))
+wire-snoc n i (suc k) = ap (λ (y : Signal). bit n i ∷ y) (wire-snoc n (i + 1) k ∙ ap (λ (j : ℕ). wireBits n (i + 1) k ++ bit n j ∷ []) (omega arith))
+
+wire-codes : (n w : ℕ) → codes (wireBits n 0 w) ≡ wireCodes n w
+unfolding codes wireBits
+wire-codes n zero = refl
+wire-codes n (suc w) =
+    ap codes (wire-snoc n 0 w)
+    ∙ codes-append (wireBits n 0 w) (bit n (0 + w) ∷ [])
+    ∙ ap₂ (λ (j : ℕ) (y : List ℕ). bitCode (bit n j) ∷ y) (omega arith) (wire-codes n w)
+
+wire-code-at : (n w k : ℕ) → k < w → getD (wireCodes n w) k 0 ≡ bitCode (bit n (w - 1 - k))
+wire-code-at n zero k h = absurd (omega arith)
+wire-code-at n (suc w) zero h = ap (λ (j : ℕ). bitCode (bit n j)) (omega arith)
+wire-code-at n (suc w) (suc k) h = wire-code-at n w k (omega arith) ∙ ap (λ (j : ℕ). bitCode (bit n j)) (omega arith)
+
+pub length-wire : (n i w : ℕ) → length (wireBits n i w) ≡ w
+unfolding wireBits
+length-wire n i zero = refl
+length-wire n i (suc w) = ap suc (length-wire n (i + 1) w)
+
+pub length-wire-codes : (n w : ℕ) → length (codes (wireBits n 0 w)) ≡ w
+length-wire-codes n w = length-codes (wireBits n 0 w) ∙ length-wire n 0 w
+
+-- one bit of a wire more
+pub wire-put : (d l : List ℕ) (o n w k v : ℕ) → l ≡ store d o (take k (codes (wireBits n 0 w))) → k < w → v ≡ bitCode (bit n (w - 1 - k)) → set l (o + k) v ≡ store d o (take (k + 1) (codes (wireBits n 0 w)))
+wire-put d l o n w k v e h ev =
+    let c : getD (codes (wireBits n 0 w)) k 0 ≡ v = ap (λ (y : List ℕ). getD y k 0) (wire-codes n w) ∙ wire-code-at n w k h ∙ sym ev in
+    ap (set l (o + k)) (sym c) ∙ copied d (codes (wireBits n 0 w)) l o k e (omega (arith, length-wire-codes n w))
+
+-- one word more moved down
+pub move-put : (d l : List ℕ) (from count o k : ℕ) → l ≡ store d o (take k (slice from (from + count) d)) → k < count → o ≤ from → from + count ≤ length d → set l (o + k) (getD l (from + k) 0) ≡ store d o (take (k + 1) (slice from (from + count) d))
+move-put d l from count o k e h q room =
+    let s : List ℕ = slice from (from + count) d in
+    let ls : length s ≡ count = length-slice from (from + count) d room ∙ omega arith in
+    let lk : length (take k s) ≡ k = length-take-le k s (omega arith) in
+    let a : getD l (from + k) 0 ≡ getD d (from + k) 0 = ap (λ (y : List ℕ). getD y (from + k) 0) e ∙ store-behind d o (take k s) (from + k) (omega arith) (omega arith) in
+    let b : getD s k 0 ≡ getD d (from + k) 0 = getD-drop from (take (from + count) d) k 0 ∙ getD-take (from + count) d (from + k) 0 (omega arith) in
+    ap (set l (o + k)) (a ∙ sym b) ∙ copied d s l o k e (omega arith)

@@ -1,0 +1,91 @@
+-- `atom` meets its contract: by the token of the row.
+-- Assumes nothing.
+use mathlib.Core.Path.{refl, sym, subst, _∙_}
+use denote.Ref.{now}
+use Rattle.rules.specs.Shapes.{one, isAtom, atom}
+use Rattle.tokens.specs.Rows.{front}
+use Rattle.signals.specs.Reads.{WholeToken}
+use Rattle.signals.proofs.AnswerLaws.{atom-nothing, atom-name, atom-constant}
+use borrow.Author.Needs.{needs}
+use Rattle.signals.proofs.atom.Statement.{statement}
+use Rattle.signals.proofs.atom.Tie as tie
+
+token-at-requires : tie.Need-token-at-requires
+token-at-requires c κs = search needs
+
+enum-known-start : tie.Need-enum-known-start
+enum-known-start c = search needs
+
+part-requires : tie.Need-part-requires
+part-requires c κs = search needs
+
+wire-bits-requires : tie.Need-wire-bits-requires
+wire-bits-requires c κs = search needs
+
+add-t19 : tie.Need-add-t19
+add-t19 c = search needs
+
+enum-known-c : tie.Need-enum-known-c
+enum-known-c c = search needs
+
+literal-bits-requires : tie.Need-literal-bits-requires
+literal-bits-requires c κs = (c .before .before .before .before .before .before .before .before .before .before .pre .0 .file, c .before .before .before .before .before .before .before .before .before .before .pre .1 .0, subst (WholeToken (now (c .before .before .before .before .before .before .before .before .before .before .args .f))) (sym (c .before .before .before .before .token-at .ensures) ∙ c .before .before .c .given .1) (c .before .before .before .before .before .before .before .before .before .before .pre .0 .closed .whole (c .before .before .before .before .before .before .before .before .before .before .args .i)))
+
+add-t22 : tie.Need-add-t22
+add-t22 c = search needs
+
+enum-told : tie.Need-enum-told
+enum-told c = search needs
+
+enum-told-2 : tie.Need-enum-told-2
+enum-told-2 c = search needs
+
+enum-told-3 : tie.Need-enum-told-3
+enum-told-3 c = search needs
+
+same-length : tie.Need-same-length
+same-length c = search needs
+
+returns : tie.Need-returns
+returns c = atom-name _ _ _ _ _ _ _ _ _ _ _ (sym (c .before .before .before .before .before .before .start .given .1) ∙ c .before .before .before .before .before .before .before .before .token-at .ensures) (c .before .before .before .before .part .ensures) (c .before .before .wire-bits .ensures)
+
+same-length-2 : tie.Need-same-length-2
+same-length-2 c = search needs
+
+returns-2 : tie.Need-returns-2
+returns-2 c = atom-constant _ _ _ _ _ _ _ _ _ (sym (c .before .before .before .before .before .c .given .1) ∙ c .before .before .before .before .before .before .before .token-at .ensures) (c .before .before .literal-bits .ensures _)
+
+returns-3 : tie.Need-returns-3
+unfolding atom one isAtom front
+returns-3 c = atom-nothing _ _ _ _ _ _ _ (sym (c .enum-told .given .1) ∙ c .before .before .token-at .ensures) refl
+
+returns-4 : tie.Need-returns-4
+unfolding atom one isAtom front
+returns-4 c = atom-nothing _ _ _ _ _ _ _ (sym (c .enum-told2 .given .1) ∙ c .before .before .token-at .ensures) refl
+
+returns-5 : tie.Need-returns-5
+unfolding atom one isAtom front
+returns-5 c = atom-nothing _ _ _ _ _ _ _ (sym (c .enum-told3 .given .1) ∙ c .before .before .token-at .ensures) refl
+
+pub atom-spec : {M : Type 1} → statement M
+atom-spec =
+    tie.close
+    (tie.spec
+    token-at-requires
+    enum-known-start
+    part-requires
+    wire-bits-requires
+    add-t19
+    enum-known-c
+    literal-bits-requires
+    add-t22
+    enum-told
+    enum-told-2
+    enum-told-3
+    same-length
+    returns
+    same-length-2
+    returns-2
+    returns-3
+    returns-4
+    returns-5)

@@ -1,0 +1,61 @@
+-- `wire_bits` meets its contract: by what the search for the name answers.
+-- Assumes nothing.
+use mathlib.Core.Path.{ap, _∙_}
+use Prim.Native.Nat.{_<_}
+use native.Mathlib.Omega.{arith}
+use denote.Ref.{now}
+use Rattle.wires.specs.Found.{foundOf}
+use Rattle.wires.specs.RowLaws.{length-wires}
+use Rattle.signals.proofs.FaultLaws.{mild-not}
+use Rattle.signals.proofs.HeldLaws.{put-not, put-over, wire-width, wire-fault, wire-number, wire-put-fits, wire-nothing}
+use borrow.Author.Needs.{needs}
+use Rattle.signals.proofs.wire_bits.Statement.{statement}
+use Rattle.signals.proofs.wire_bits.Tie as tie
+
+find-wire-requires : tie.Need-find-wire-requires
+find-wire-requires c κs = search needs
+
+enum-known-number : tie.Need-enum-known-number
+enum-known-number c = search needs
+
+cast-width : tie.Need-cast-width
+cast-width c = search needs
+
+returns : tie.Need-returns
+returns c =
+    let F = c .before .before .before .before .find-wire .ensures ∙ ap foundOf (c .before .before .number .given .1) in
+    let few : c .before .before .number .given .0 .1 .0 < 4294967296 = omega arith in
+    put-over _ _ _ _ _ few (wire-fault _ _ _ _ F) (wire-width _ _ _ _ F) (c .if1 .taken)
+
+put-wire-requires : tie.Need-put-wire-requires
+put-wire-requires c κs =
+    let F = c .before .before .before .before .before .find-wire .ensures ∙ ap foundOf (c .before .before .before .number .given .1) in
+    (omega (arith, c .before .if1 .left), omega (arith, wire-number _ _ _ _ F, length-wires (now (c .before .before .before .before .before .before .before .before .before .before .args .names)) (now (c .before .before .before .before .before .before .before .before .before .before .args .wires)) (c .before .before .before .before .before .before .before .before .before .before .args .scope .first) (c .before .before .before .before .before .before .before .before .before .before .args .scope .count), c .before .before .before .before .before .before .before .before .before .before .pre), c .before .if1 .left)
+
+enum-told : tie.Need-enum-told
+enum-told c = search needs
+
+same-length : tie.Need-same-length
+same-length c = search needs
+
+returns-2 : tie.Need-returns-2
+returns-2 c =
+    let F = c .before .before .before .before .before .before .before .before .find-wire .ensures ∙ ap foundOf (c .before .before .before .before .before .before .number .given .1) in
+    wire-put-fits _ _ _ _ F _ _ _ (c .before .before .before .before .if1 .left) (c .before .before .before .before .before .before .before .before .before .before .before .before .before .pre .0) (c .before .before .put-wire .ensures)
+
+returns-3 : tie.Need-returns-3
+returns-3 c = put-not _ _ _ _ _ (omega arith) 8 (wire-nothing _ _ (c .before .before .find-wire .ensures ∙ ap foundOf (c .enum-told .given .1))) (mild-not 8 (omega arith) (omega arith))
+
+pub wire-bits-spec : {M : Type 1} → statement M
+wire-bits-spec =
+    tie.close
+    (tie.spec
+    find-wire-requires
+    enum-known-number
+    cast-width
+    returns
+    put-wire-requires
+    enum-told
+    same-length
+    returns-2
+    returns-3)

@@ -1,0 +1,53 @@
+-- What is promised of a signal whose bits stand in a table of words.
+use Prim.Native.Nat.{ℕ, _+_, _≤_, _<_}
+use mathlib.Core.Path.{_≡_}
+use mathlib.Core.List.{List, map, reverse, Option·toList}
+use mathlib.Core.Option.{Option}
+use mathlib.Core.Bool.{true}
+use lib.ListN.{length, take}
+use lib.Seq.{slice}
+use lib.IntN.{ℤ}
+use Rattle.rules.specs.Bytes.{all}
+use Rattle.rules.specs.Numbers.{int32}
+use Rattle.rules.specs.Statements.{Sig, Signal}
+use Rattle.rules.specs.Signals.{Wires, width, bits, lower}
+use Rattle.numbers.specs.Signed.{signedOf}
+use Rattle.rules.specs.Layout.{bitCode}
+use Rattle.signals.specs.Faults.{fault, mild}
+use Rattle.signals.specs.declared.Bits.{Bits}
+
+-- the codes of bits, highest first
+unfoldable pub codes : Signal → List ℕ
+codes xs = reverse (map bitCode xs)
+
+-- its number; its width, where it has one; and if its number is 0, its bits' codes from o on, highest first
+pub record Held (ws : Wires) (s : Sig) (o : ℕ) (out : List ℕ) (b : Bits) : Type 0 where
+  pub refused : fault ws s ≡ b .fault
+  pub wide : mild (b .fault) ≡ true → width ws s ≡ b .width
+  pub small : b .fault ≡ 0 → b .width ≤ 2048
+  pub coded : b .fault ≡ 0 → slice o (o + b .width) out ≡ codes (bits ws s)
+
+-- what stands below o stays, and so does the table's length
+pub record Kept (o : ℕ) (out out′ : List ℕ) : Type 0 where
+  pub long : length out′ ≡ length out
+  pub below : take o out′ ≡ take o out
+
+-- of a wire or a constant: its width is that of a word
+pub record Put (ws : Wires) (s : Sig) (o : ℕ) (out out′ : List ℕ) (b : Bits) : Type 0 where
+  pub held : Held ws s o out′ b
+  pub kept : Kept o out out′
+  pub few : b .width < 4294967296
+
+-- of a constant, whatever the wires are
+abbrev pub PutAny : Sig → ℕ → List ℕ → List ℕ → Bits → Type 0
+PutAny s o out out′ b = (ws : Wires) → Put ws s o out out′ b
+
+-- a signal of these bits, whatever it is, sliced by the bounds of two words
+pub record CutIs (b : Bits) (high low o : ℕ) (out out′ : List ℕ) (r : Bits) : Type 0 where
+  pub held :
+      (ws : Wires) (s : Sig) (z : Option ℤ) →
+      lower (signedOf high) z ≡ signedOf low → all int32 (Option·toList z) ≡ true →
+      Held ws s o out b → Held ws (Sig.slice s (signedOf high) z) o out′ r
+  pub kept : Kept o out out′
+  pub few : r .width ≤ b .width
+  pub small : r .fault ≡ 0 → r .width ≤ 2048

@@ -1,0 +1,372 @@
+// Signals: the signal reader and the bundle reader call each other, the unread part of the line and the depth falling. Bits are put
+// into a scratch table from the top, the members of a bundle as they come; a slice moves its part down to where its operand began.
+use literals::Number;
+use numbers::kinds::SignalBit;
+use numbers::kinds::WireNumber;
+use tokens::Constant;
+use tokens::Integer;
+use tokens::Slot;
+use tokens::Token;
+use wires::Found;
+ghost use mathlib.Core.Path.{_≡_};
+ghost use Prim.Native.Nat.{_+_, _*_, _/_, _≤_, _<_};
+ghost use lib.ListN.{length};
+ghost use lib.Seq.{slice};
+ghost use Rattle.rules.specs.Statements as rules;
+ghost use Rattle.rules.specs.Signals.{wireBits};
+ghost use Rattle.tables.specs.Store.{store};
+ghost use Rattle.tokens.specs.Rows.{integerIn, literalIn};
+ghost use Rattle.literals.specs.Codes.{Whole};
+ghost use Rattle.wires.specs.Rows.{wiresFrom};
+ghost use Rattle.signals.specs.Faults.{merge, tooWide};
+ghost use Rattle.signals.specs.Held.{codes, Put, PutAny, CutIs};
+ghost use Rattle.signals.specs.Reads.{markAt, slotIn, BoundsIs, SliceIs, SlicesIs, AtomIs, SignalIs, BundleIs, Readable};
+
+// The wires of a module: their first row, and how many there are.
+pub struct Scope {
+    pub first: u32,
+    pub count: u32,
+}
+
+// A signal's width, and the lowest number that it is refused with, or 0.
+pub struct Bits {
+    pub width: usize,
+    pub fault: u32,
+}
+
+// A signal with the row behind it.
+pub enum Answer {
+    Read { next: usize, bits: Bits },
+    NoShape,
+}
+
+// The bounds of a slice with the row behind them; a low bound that is not given is the high one.
+enum Bounds {
+    Read {
+        high: Integer,
+        low: Slot,
+        next: usize,
+    },
+    NoShape,
+}
+
+// The lower of two refusal numbers, of which 0 is none.
+fn merge(a: u32, b: u32) -> u32
+    ensures { λ r. ⌜ r ≡ merge a b ⌝ }
+{
+    if a == 0 {
+        return b;
+    }
+    if b == 0 {
+        return a;
+    }
+    if a < b { a } else { b }
+}
+
+// A part is at most 2,048 bits wide.
+fn too_wide(width: usize) -> u32
+    ensures { λ r. ⌜ r ≡ tooWide width ⌝ }
+{
+    if 2048 < width { 11 } else { 0 }
+}
+
+// The bits of a wire, from the top.
+fn put_wire(scratch: &mut [u32], o: usize, number: u32, width: usize)
+    requires { ⌜ (o + width ≤ length (now scratch)) × (number < 512) × (width ≤ 2048) ⌝ }
+    ensures { λ _. ⌜ now (scratch .exit) ≡ store (now (scratch .entry)) o (codes (wireBits number 0 width)) ⌝ }
+{
+    let mut k = 0;
+    while k < width {
+        let i = (width - 1 - k) as u32;
+        scratch[o + k] = numbers::kinds::encode(SignalBit::Wire(WireNumber(number), i));
+        k += 1;
+    }
+}
+
+fn wire_bits(
+    names: &[u8],
+    wires: &[u32],
+    scope: Scope,
+    name: &[u8],
+    scratch: &mut [u32],
+    o: usize,
+) -> Bits
+    requires { ⌜ (o + 2048 ≤ length (now scratch)) × (scope .count ≤ 512) ⌝ }
+    ensures { λ r. ⌜ Put (wiresFrom (now (names .entry)) (now (wires .entry)) (scope .first) (scope .count)) (rules.wire (now (name .entry))) o (now (scratch .entry)) (now (scratch .exit)) r ⌝ }
+{
+    match wires::find_wire(names, wires, scope.first, scope.count, name) {
+        Found::At(number, w) => {
+            let width = w as usize;
+            if 2048 < width {
+                return Bits { width, fault: 11 };
+            }
+            let n = number.0;
+            put_wire(scratch, o, n, width);
+            Bits { width, fault: 0 }
+        }
+        Found::Nothing => Bits { width: 0, fault: 8 },
+    }
+}
+
+// Moves count words down to o.
+fn move_down(scratch: &mut [u32], from: usize, count: usize, o: usize)
+    requires { ⌜ (o ≤ from) × (from + count ≤ length (now scratch)) ⌝ }
+    ensures { λ _. ⌜ now (scratch .exit) ≡ store (now (scratch .entry)) o (slice from (from + count) (now (scratch .entry))) ⌝ }
+{
+    let mut k = 0;
+    while k < count {
+        scratch[o + k] = scratch[from + k];
+        k += 1;
+    }
+}
+
+// Whether row i holds this mark.
+fn is_mark(tokens: &[u32], i: usize, b: usize) -> bool
+    ensures { λ r. ⌜ r ≡ markAt (now (tokens .entry)) i b ⌝ }
+{
+    match tokens::token_at(tokens, i) {
+        Token::Mark(m) => m == b,
+        Token::Name { start: _, end: _ } => false,
+        Token::Word(_) => false,
+        Token::Constant(_) => false,
+        Token::End => false,
+    }
+}
+
+// Behind `[`: the high bound, the low one if it is given, and `]`.
+fn bounds_at(tokens: &[u32], i: usize) -> Bounds
+    requires { ⌜ (length (now tokens) ≤ 131072) × (i ≤ length (now tokens) / 4) ⌝ }
+    ensures { λ r. ⌜ BoundsIs (now (tokens .entry)) i r ⌝ }
+{
+    let Slot::Given(high) = tokens::integer_at(tokens, i) else {
+        return Bounds::NoShape;
+    };
+    if is_mark(tokens, i + 1, 93) {
+        return Bounds::Read {
+            high,
+            low: Slot::Absent,
+            next: i + 2,
+        };
+    }
+    if !is_mark(tokens, i + 1, 58) {
+        return Bounds::NoShape;
+    }
+    let Slot::Given(low) = tokens::integer_at(tokens, i + 2) else {
+        return Bounds::NoShape;
+    };
+    if !is_mark(tokens, i + 3, 93) {
+        return Bounds::NoShape;
+    }
+    Bounds::Read {
+        high,
+        low: Slot::Given(low),
+        next: i + 4,
+    }
+}
+
+// The signal of these bits, whose bounds keep the number rules, sliced: a bound from 2 ^ 31 on is negative.
+fn cut(bits: Bits, high: u32, low: u32, scratch: &mut [u32], o: usize) -> Bits
+    requires { ⌜ (o + 2048 ≤ length (now scratch)) × (bits .fault ≡ 0 → bits .width ≤ 2048) ⌝ }
+    ensures { λ r. ⌜ CutIs bits high low o (now (scratch .entry)) (now (scratch .exit)) r ⌝ }
+{
+    let width = bits.width;
+    let fault = bits.fault;
+    let h = high as usize;
+    let l = low as usize;
+    if 2147483648 <= h {
+        return Bits {
+            width,
+            fault: merge(10, fault),
+        };
+    }
+    if width <= h {
+        return Bits {
+            width,
+            fault: merge(10, fault),
+        };
+    }
+    if h < l {
+        return Bits {
+            width,
+            fault: merge(10, fault),
+        };
+    }
+    let count = h + 1 - l;
+    let together = merge(too_wide(count), fault);
+    if together == 0 {
+        move_down(scratch, o + (width - 1 - h), count, o);
+    }
+    Bits {
+        width: count,
+        fault: together,
+    }
+}
+
+fn literal_bits(f: &[u8], c: Constant, scratch: &mut [u32], o: usize) -> Bits
+    requires { ⌜ (length (now f) ≤ 32768) × (o + 2048 ≤ length (now scratch)) × Whole (now f) c ⌝ }
+    ensures { λ r. ⌜ PutAny (rules.constant (literalIn (now (f .entry)) c)) o (now (scratch .entry)) (now (scratch .exit)) r ⌝ }
+{
+    if !literals::good_literal(f, c) {
+        return Bits { width: 0, fault: 7 };
+    }
+    let width = literals::literal_width(f, c);
+    if 2048 < width {
+        return Bits { width, fault: 11 };
+    }
+    literals::put_literal(f, c, scratch, o);
+    Bits { width, fault: 0 }
+}
+
+// A constant or a wire.
+fn atom(
+    f: &[u8],
+    tokens: &[u32],
+    i: usize,
+    names: &[u8],
+    wires: &[u32],
+    scope: Scope,
+    scratch: &mut [u32],
+    o: usize,
+) -> Answer
+    requires { ⌜ Readable (now f) (now tokens) i ⌝ }
+    requires { ⌜ (o + 2048 ≤ length (now scratch)) × (scope .count ≤ 512) ⌝ }
+    ensures { λ r. ⌜ AtomIs (now (f .entry)) (now (tokens .entry)) (wiresFrom (now (names .entry)) (now (wires .entry)) (scope .first) (scope .count)) i o (now (scratch .entry)) (now (scratch .exit)) r ⌝ }
+{
+    match tokens::token_at(tokens, i) {
+        Token::Name { start, end } => {
+            let bits = wire_bits(
+                names,
+                wires,
+                scope,
+                scanner::parts::part(f, start, end),
+                scratch,
+                o,
+            );
+            Answer::Read { next: i + 1, bits }
+        }
+        Token::Constant(c) => {
+            let bits = literal_bits(f, c, scratch, o);
+            Answer::Read { next: i + 1, bits }
+        }
+        Token::Word(_) => Answer::NoShape,
+        Token::Mark(_) => Answer::NoShape,
+        Token::End => Answer::NoShape,
+    }
+}
+
+// One slice of a signal, by its bounds in the file.
+fn slice(f: &[u8], bits: Bits, high: Integer, low: Slot, scratch: &mut [u32], o: usize) -> Bits
+    requires { ⌜ (o + 2048 ≤ length (now scratch)) × (bits .fault ≡ 0 → bits .width ≤ 2048) ⌝ }
+    ensures { λ r. ⌜ SliceIs bits (integerIn (now (f .entry)) high) (slotIn (now (f .entry)) low) o (now (scratch .entry)) (now (scratch .exit)) r ⌝ }
+{
+    let width = bits.width;
+    let fault = bits.fault;
+    let Number::Fits(h) = literals::integer_of(f, high) else {
+        return Bits {
+            width,
+            fault: merge(7, fault),
+        };
+    };
+    match low {
+        Slot::Absent => cut(bits, h, h, scratch, o),
+        Slot::Given(z) => {
+            let Number::Fits(l) = literals::integer_of(f, z) else {
+                return Bits {
+                    width,
+                    fault: merge(7, fault),
+                };
+            };
+            cut(bits, h, l, scratch, o)
+        }
+    }
+}
+
+// Slices may follow any signal, also a slice.
+fn slices(f: &[u8], tokens: &[u32], i: usize, bits: Bits, scratch: &mut [u32], o: usize) -> Answer
+    requires { ⌜ (length (now tokens) ≤ 131072) × (i ≤ length (now tokens) / 4) ⌝ }
+    requires { ⌜ (o + 2048 ≤ length (now scratch)) × (bits .fault ≡ 0 → bits .width ≤ 2048) ⌝ }
+    ensures { λ r. ⌜ SlicesIs (now (f .entry)) (now (tokens .entry)) i o (now (scratch .entry)) bits (now (scratch .exit)) r ⌝ }
+{
+    let mut at = i;
+    let mut b = bits;
+    while is_mark(tokens, at, 91) {
+        let Bounds::Read { high, low, next } = bounds_at(tokens, at + 1) else {
+            return Answer::NoShape;
+        };
+        b = slice(f, b, high, low, scratch, o);
+        at = next;
+    }
+    Answer::Read { next: at, bits: b }
+}
+
+// A signal whose bundles are at most depth deep, from row i on; its bits go to the scratch table from o on.
+pub fn signal(
+    f: &[u8],
+    tokens: &[u32],
+    i: usize,
+    depth: usize,
+    names: &[u8],
+    wires: &[u32],
+    scope: Scope,
+    scratch: &mut [u32],
+    o: usize,
+) -> Answer
+    requires { ⌜ Readable (now f) (now tokens) i ⌝ }
+    requires { ⌜ (o + 2048 * (depth + 1) ≤ length (now scratch)) × (scope .count ≤ 512) ⌝ }
+    ensures { λ r. ⌜ SignalIs (now (f .entry)) (now (tokens .entry)) (wiresFrom (now (names .entry)) (now (wires .entry)) (scope .first) (scope .count)) i depth o (now (scratch .entry)) (now (scratch .exit)) r ⌝ }
+{
+    if is_mark(tokens, i, 123) {
+        if depth == 0 {
+            return Answer::NoShape;
+        }
+        let b = bundle(f, tokens, i + 1, depth - 1, names, wires, scope, scratch, o);
+        let Answer::Read { next, bits } = b else {
+            return Answer::NoShape;
+        };
+        return slices(f, tokens, next, bits, scratch, o);
+    }
+    let a = atom(f, tokens, i, names, wires, scope, scratch, o);
+    let Answer::Read { next, bits } = a else {
+        return Answer::NoShape;
+    };
+    slices(f, tokens, next, bits, scratch, o)
+}
+
+// The members of a bundle, behind its first mark, with its closing mark. Once the bundle is too wide its bits no longer matter, and the
+// members behind go where its 2,048 bits would end.
+fn bundle(
+    f: &[u8],
+    tokens: &[u32],
+    i: usize,
+    depth: usize,
+    names: &[u8],
+    wires: &[u32],
+    scope: Scope,
+    scratch: &mut [u32],
+    o: usize,
+) -> Answer
+    requires { ⌜ Readable (now f) (now tokens) i ⌝ }
+    requires { ⌜ (o + 2048 * (depth + 2) ≤ length (now scratch)) × (scope .count ≤ 512) ⌝ }
+    ensures { λ r. ⌜ BundleIs (now (f .entry)) (now (tokens .entry)) (wiresFrom (now (names .entry)) (now (wires .entry)) (scope .first) (scope .count)) i depth o (now (scratch .entry)) (now (scratch .exit)) r ⌝ }
+{
+    let mut at = i;
+    let mut width: usize = 0;
+    let mut fault: u32 = 0;
+    while !is_mark(tokens, at, 125) {
+        let put = if width < 2048 { o + width } else { o + 2048 };
+        let m = signal(f, tokens, at, depth, names, wires, scope, scratch, put);
+        let Answer::Read { next, bits } = m else {
+            return Answer::NoShape;
+        };
+        width += bits.width;
+        fault = merge(bits.fault, fault);
+        at = next;
+    }
+    Answer::Read {
+        next: at + 1,
+        bits: Bits {
+            width,
+            fault: merge(too_wide(width), fault),
+        },
+    }
+}
