@@ -1,6 +1,7 @@
 -- `atom` meets its contract: by the token of the row.
 -- Assumes nothing.
 use mathlib.Core.Path.{refl, sym, subst, _∙_}
+use mathlib.Core.List.{[]}
 use denote.Ref.{now}
 use Rattle.rules.specs.Shapes.{one, isAtom, atom}
 use Rattle.tokens.specs.Rows.{front}
@@ -11,16 +12,16 @@ use Rattle.signals.proofs.atom.Statement.{statement}
 use Rattle.signals.proofs.atom.Tie as tie
 
 token-at-requires : tie.Need-token-at-requires
-token-at-requires c κs = search needs
+token-at-requires c κs = tt
 
 enum-known-start : tie.Need-enum-known-start
 enum-known-start c = search needs
 
 part-requires : tie.Need-part-requires
-part-requires c κs = search needs
+part-requires c κs = tt
 
 wire-bits-requires : tie.Need-wire-bits-requires
-wire-bits-requires c κs = search needs
+wire-bits-requires c κs = c .before .before .before .before .before .before .before .before .before .before .before .pre .1
 
 add-t19 : tie.Need-add-t19
 add-t19 c = search needs
@@ -44,13 +45,13 @@ enum-told-3 : tie.Need-enum-told-3
 enum-told-3 c = search needs
 
 same-length : tie.Need-same-length
-same-length c = search needs
+same-length c = c .before .before .wire-bits .ensures .kept .long
 
 returns : tie.Need-returns
 returns c = atom-name _ _ _ _ _ _ _ _ _ _ _ (sym (c .before .before .before .before .before .before .start .given .1) ∙ c .before .before .before .before .before .before .before .before .token-at .ensures) (c .before .before .before .before .part .ensures) (c .before .before .wire-bits .ensures)
 
 same-length-2 : tie.Need-same-length-2
-same-length-2 c = search needs
+same-length-2 c = c .before .before .literal-bits .ensures [] .kept .long
 
 returns-2 : tie.Need-returns-2
 returns-2 c = atom-constant _ _ _ _ _ _ _ _ _ (sym (c .before .before .before .before .before .c .given .1) ∙ c .before .before .before .before .before .before .before .token-at .ensures) (c .before .before .literal-bits .ensures _)

@@ -15,7 +15,7 @@ use Rattle.signals.proofs.bounds_at.Statement.{statement}
 use Rattle.signals.proofs.bounds_at.Tie as tie
 
 integer-at-requires : tie.Need-integer-at-requires
-integer-at-requires c κs = search needs
+integer-at-requires c κs = tt
 
 enum-known-high : tie.Need-enum-known-high
 enum-known-high c = search needs
@@ -31,7 +31,7 @@ add-is-mark : tie.Need-add-is-mark
 add-is-mark c = search needs
 
 is-mark-requires : tie.Need-is-mark-requires
-is-mark-requires c κs = search needs
+is-mark-requires c κs = tt
 
 add-t9 : tie.Need-add-t9
 add-t9 c = search needs
@@ -47,7 +47,7 @@ add-is-mark-2 : tie.Need-add-is-mark-2
 add-is-mark-2 c = search needs
 
 is-mark-requires-2 : tie.Need-is-mark-requires-2
-is-mark-requires-2 c κs = search needs
+is-mark-requires-2 c κs = tt
 
 returns-3 : tie.Need-returns-3
 unfolding integerGives
@@ -57,7 +57,7 @@ add-integer-at : tie.Need-add-integer-at
 add-integer-at c = search needs
 
 integer-at-requires-2 : tie.Need-integer-at-requires-2
-integer-at-requires-2 c κs = search needs
+integer-at-requires-2 c κs = tt
 
 enum-known-low : tie.Need-enum-known-low
 enum-known-low c = search needs
@@ -73,7 +73,7 @@ add-is-mark-3 : tie.Need-add-is-mark-3
 add-is-mark-3 c = search needs
 
 is-mark-requires-3 : tie.Need-is-mark-requires-3
-is-mark-requires-3 c κs = search needs
+is-mark-requires-3 c κs = tt
 
 returns-5 : tie.Need-returns-5
 unfolding integerGives

@@ -9,19 +9,19 @@ use Rattle.signals.proofs.cut.Statement.{statement}
 use Rattle.signals.proofs.cut.Tie as tie
 
 merge-requires : tie.Need-merge-requires
-merge-requires c κs = search needs
+merge-requires c κs = tt
 
 returns : tie.Need-returns
 returns c = cut-outside _ _ _ _ _ _ (c .merge .ensures) (inside-negative _ _ _ (c .before .if1 .taken))
 
 merge-requires-2 : tie.Need-merge-requires-2
-merge-requires-2 c κs = search needs
+merge-requires-2 c κs = tt
 
 returns-2 : tie.Need-returns-2
 returns-2 c = cut-outside _ _ _ _ _ _ (c .merge2 .ensures) (inside-past _ _ _ (c .before .before .if1 .left) (c .before .if2 .taken))
 
 merge-requires-3 : tie.Need-merge-requires-3
-merge-requires-3 c κs = search needs
+merge-requires-3 c κs = tt
 
 returns-3 : tie.Need-returns-3
 returns-3 c = cut-outside _ _ _ _ _ _ (c .merge3 .ensures) (inside-crossed _ _ _ (c .before .before .before .if1 .left) (c .before .if3 .taken))
@@ -33,10 +33,10 @@ sub-count : tie.Need-sub-count
 sub-count c = search needs
 
 too-wide-requires : tie.Need-too-wide-requires
-too-wide-requires c κs = search needs
+too-wide-requires c κs = tt
 
 merge-requires-4 : tie.Need-merge-requires-4
-merge-requires-4 c κs = search needs
+merge-requires-4 c κs = tt
 
 sub-move-down : tie.Need-sub-move-down
 sub-move-down c = search needs

@@ -13,13 +13,13 @@ use Rattle.signals.proofs.literal_bits.Statement.{statement}
 use Rattle.signals.proofs.literal_bits.Tie as tie
 
 good-literal-requires : tie.Need-good-literal-requires
-good-literal-requires c κs = search needs
+good-literal-requires c κs = tt
 
 returns : tie.Need-returns
 returns c ws = put-not ws _ _ _ _ (omega arith) 7 (constant-bad ws _ (sym (c .before .good-literal .ensures) ∙ not-true _ (c .if1 .taken))) (mild-not 7 (omega arith) (omega arith))
 
 literal-width-requires : tie.Need-literal-width-requires
-literal-width-requires c κs = search needs
+literal-width-requires c κs = tt
 
 returns-2 : tie.Need-returns-2
 returns-2 c ws =

@@ -7,7 +7,7 @@ use Rattle.signals.proofs.slice.Statement.{statement}
 use Rattle.signals.proofs.slice.Tie as tie
 
 integer-of-requires : tie.Need-integer-of-requires
-integer-of-requires c κs = search needs
+integer-of-requires c κs = tt
 
 enum-known-h : tie.Need-enum-known-h
 enum-known-h c = search needs
@@ -16,7 +16,7 @@ enum-told : tie.Need-enum-told
 enum-told c = search needs
 
 merge-requires : tie.Need-merge-requires
-merge-requires c κs = search needs
+merge-requires c κs = tt
 
 returns : tie.Need-returns
 returns c = slice-high _ _ _ _ _ _ (c .merge .ensures) (rw (c .before .enum-told .given .1) at (c .before .before .before .integer-of .ensures))
@@ -25,13 +25,13 @@ enum-told-2 : tie.Need-enum-told-2
 enum-told-2 c = search needs
 
 cut-requires : tie.Need-cut-requires
-cut-requires c κs = search needs
+cut-requires c κs = c .before .before .before .before .before .before .before .before .before .pre
 
 enum-known-low : tie.Need-enum-known-low
 enum-known-low c = search needs
 
 integer-of-requires-2 : tie.Need-integer-of-requires-2
-integer-of-requires-2 c κs = search needs
+integer-of-requires-2 c κs = tt
 
 enum-known-l : tie.Need-enum-known-l
 enum-known-l c = search needs
@@ -40,17 +40,17 @@ enum-told-3 : tie.Need-enum-told-3
 enum-told-3 c = search needs
 
 merge-requires-2 : tie.Need-merge-requires-2
-merge-requires-2 c κs = search needs
+merge-requires-2 c κs = tt
 
 returns-2 : tie.Need-returns-2
 unfolding slotIn
 returns-2 c = rw (c .before .before .before .before .before .low .given .1) (slice-low _ _ _ _ _ _ (c .merge2 .ensures) (rw (c .before .enum-told3 .given .1) at (c .before .before .before .integer-of2 .ensures)))
 
 cut-requires-2 : tie.Need-cut-requires-2
-cut-requires-2 c κs = search needs
+cut-requires-2 c κs = c .before .before .before .before .before .before .before .before .before .before .before .before .before .before .pre
 
 same-length : tie.Need-same-length
-same-length c = search needs
+same-length c = c .before .before .cut .ensures .kept .long
 
 returns-3 : tie.Need-returns-3
 unfolding slotIn
@@ -59,7 +59,7 @@ returns-3 c =
     rw (c .before .before .before .before .enum-told2 .given .1) (slice-one _ _ _ _ _ _ _ (H .0) (H .1) (c .before .before .cut .ensures))
 
 same-length-2 : tie.Need-same-length-2
-same-length-2 c = search needs
+same-length-2 c = c .before .before .cut2 .ensures .kept .long
 
 returns-4 : tie.Need-returns-4
 unfolding slotIn

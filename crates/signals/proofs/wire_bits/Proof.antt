@@ -13,7 +13,7 @@ use Rattle.signals.proofs.wire_bits.Statement.{statement}
 use Rattle.signals.proofs.wire_bits.Tie as tie
 
 find-wire-requires : tie.Need-find-wire-requires
-find-wire-requires c κs = search needs
+find-wire-requires c κs = tt
 
 enum-known-number : tie.Need-enum-known-number
 enum-known-number c = search needs
