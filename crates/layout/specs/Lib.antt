@@ -1,0 +1,4 @@
+pub mod Put
+pub mod PartLaws
+pub mod SignalLaws
+pub mod RoomLaws

@@ -1,0 +1,147 @@
+-- What a statement puts into each table, behind what is used of it, and the parts of statements as code holds them.
+use Prim.Native.Nat.{ℕ, _+_, _*_, _<_, _≤_}
+use mathlib.Core.Path.{_≡_}
+use mathlib.Core.List.{List, [], _∷_, map, reverse}
+use mathlib.Core.Option.{Option, none, some, Option·elim}
+use mathlib.Core.Bool.{true}
+use lib.ListN.{length}
+use lib.Seq.{slice}
+use lib.IntN.{ℤ}
+use Rattle.rules.specs.Tokens.{Name}
+use Rattle.rules.specs.Statements as rules
+use Rattle.rules.specs.Statements.{Statement, aModule, Signal, Wire, Memory, digitsOf, bytesOf, autoidx-stmt, wire-stmt, memory-stmt}
+use Rattle.rules.specs.Judgement.{count}
+use Rattle.rules.specs.Numbers.{goodLiteral}
+use Rattle.rules.specs.Signals.{twosComplement, kept}
+use Rattle.rules.specs.Layout as layout
+use Rattle.rules.specs.Layout.{flags, nameBytes, stringBytes, bitCodes, wireRows, statementRow}
+use Rattle.tables.specs.Store.{store}
+use Rattle.tables.specs.Flat.{flat}
+use Rattle.numbers.specs.Kinds.{bitOf, bitAt}
+use Rattle.tokens.specs.Rows.{literalIn}
+use Rattle.tokens.specs.declared.Constant.{Constant}
+use Rattle.tokens.specs.declared.Literal.{Literal}
+use Rattle.tokens.specs.declared.Literal.the-variants as literal
+use Rattle.literals.specs.Codes.{Whole}
+use Rattle.layout.specs.declared.Used.{Used}
+
+-- how much is used, in the rules' words
+abbrev pub usedOf : Used → layout.Used
+usedOf u =
+    record {
+      names = u .names;
+      strings = u .strings;
+      bits = u .bits;
+      wires = u .wires;
+      rows = u .rows;
+      modules = u .modules;
+    }
+
+-- each table with one statement more
+module _ (u : layout.Used) (s : Statement) (t : List ℕ) where
+  abbrev pub namesPut : List ℕ
+  namesPut = store t (u .names) (nameBytes s)
+
+  abbrev pub stringsPut : List ℕ
+  stringsPut = store t (u .strings) (stringBytes s)
+
+  abbrev pub bitsPut : List ℕ
+  bitsPut = store t (u .bits) (bitCodes s)
+
+  abbrev pub wiresPut : List ℕ
+  wiresPut = store t (8 * u .wires) (flat (wireRows u s))
+
+  abbrev pub rowsPut : List ℕ
+  rowsPut = store t (8 * u .rows) (statementRow u s)
+
+-- the five tables, and how each changes where a statement is stored
+pub record Tables : Type 0 where
+  pub names : List ℕ
+  pub strings : List ℕ
+  pub bits : List ℕ
+  pub wires : List ℕ
+  pub rows : List ℕ
+
+unfoldable pub tablesOf : layout.Memory → Tables
+tablesOf m = record { names = m .names; strings = m .strings; bits = m .bits; wires = m .wires; rows = m .rows }
+
+pub record Puts (u : layout.Used) (s : Statement) (t t′ : Tables) : Type 0 where
+  pub names-put : t′ .names ≡ namesPut u s (t .names)
+  pub strings-put : t′ .strings ≡ stringsPut u s (t .strings)
+  pub bits-put : t′ .bits ≡ bitsPut u s (t .bits)
+  pub wires-put : t′ .wires ≡ wiresPut u s (t .wires)
+  pub rows-put : t′ .rows ≡ rowsPut u s (t .rows)
+
+-- how much is used with the statement, and that it fits the tables' lengths
+unfoldable pub usedAfter : layout.Used → Statement → layout.Used
+usedAfter u s =
+    record {
+      names = u .names + length (nameBytes s);
+      strings = u .strings + length (stringBytes s);
+      bits = u .bits + length (bitCodes s);
+      wires = u .wires + length (wireRows u s);
+      rows = u .rows + 1;
+      modules = u .modules + count (aModule ∷ []) s;
+    }
+
+pub record RoomFor (u : layout.Used) (s : Statement) : Type 0 where
+  pub names : u .names + length (nameBytes s) ≤ 16384
+  pub strings : u .strings + length (stringBytes s) ≤ 8192
+  pub bits : u .bits + length (bitCodes s) ≤ 16384
+  pub wires : u .wires + length (wireRows u s) ≤ 512
+  pub rows : u .rows + 1 ≤ 4769
+
+-- a table has room for n values from a place on, and its places are words
+abbrev pub Fits : ℕ → ℕ → List ℕ → Type 0
+Fits at n t = (at + n ≤ length t) × (length t < 4294967296)
+
+-- the constant of an attribute or a parameter, and of a parameter that may have none
+abbrev pub constantIn : List ℕ → Constant → rules.Constant
+constantIn f c = kept (literalIn f c)
+
+unfoldable pub optionalIn : List ℕ → Literal → Option rules.Constant
+optionalIn f (literal.Read c) = some (constantIn f c)
+optionalIn f literal.Nothing = none
+
+-- it keeps the number rules, a string has its end, and there is room for what it puts
+pub record ConstantFits (f : List ℕ) (c : Constant) (u : Used) (strings bits : List ℕ) : Type 0 where
+  pub good : goodLiteral (literalIn f c) ≡ true
+  pub whole : Whole f c
+  pub strings-fit : Fits (u .strings) (length (bytesOf (constantIn f c))) strings
+  pub bits-fit : Fits (u .bits) (length (digitsOf (constantIn f c))) bits
+
+abbrev pub OptionalFits : List ℕ → Literal → Used → List ℕ → List ℕ → Type 0
+OptionalFits f (literal.Read c) u strings bits = ConstantFits f c u strings bits
+OptionalFits f literal.Nothing u strings bits = Unit {0}
+
+-- the signal of w codes from place o on, highest first
+unfoldable pub signalIn : List ℕ → ℕ → ℕ → Signal
+signalIn scratch o w = map (λ c. bitOf (bitAt c)) (reverse (slice o (o + w) scratch))
+
+-- the numbers of a wire and of a memory
+pub record WireHas (width offset flags′ port : ℕ) (w : Wire) : Type 0 where
+  pub width-is : w .width ≡ width
+  pub offset-is : twosComplement (w .offset) ≡ offset
+  pub flags-are : flags w ≡ flags′
+  pub port-is : Option·elim (w .port) 0 (λ p. p .1) ≡ port
+
+pub record MemoryHas (width size offset : ℕ) (m : Memory) : Type 0 where
+  pub width-is : m .width ≡ width
+  pub size-is : m .size ≡ size
+  pub offset-is : twosComplement (m .offset) ≡ offset
+
+-- the tables with a statement more, whatever the thing that has these numbers
+abbrev pub AutoidxPut : Used → ℕ → (rows rows′ : List ℕ) → Type 0
+AutoidxPut u word rows rows′ = (i : ℤ) → twosComplement i ≡ word → rows′ ≡ rowsPut (usedOf u) (autoidx-stmt i) rows
+
+abbrev pub MemoryPut : Used → Name → ℕ → ℕ → ℕ → (names names′ rows rows′ : List ℕ) → Type 0
+MemoryPut u n width size offset names names′ rows rows′ =
+    (m : Memory) → MemoryHas width size offset m →
+    (names′ ≡ namesPut (usedOf u) (memory-stmt m n) names) × (rows′ ≡ rowsPut (usedOf u) (memory-stmt m n) rows)
+
+abbrev pub WirePut : Used → Name → ℕ → ℕ → ℕ → ℕ → (names names′ wires wires′ rows rows′ : List ℕ) → Type 0
+WirePut u n width offset flags′ port names names′ wires wires′ rows rows′ =
+    (w : Wire) → WireHas width offset flags′ port w →
+    (names′ ≡ namesPut (usedOf u) (wire-stmt w n) names)
+    × (wires′ ≡ wiresPut (usedOf u) (wire-stmt w n) wires)
+    × (rows′ ≡ rowsPut (usedOf u) (wire-stmt w n) rows)

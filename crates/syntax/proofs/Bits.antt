@@ -1,0 +1,120 @@
+-- The bits of a signal whose parts are at most 2,048 wide are those of their codes.
+-- Assumes nothing.
+use Prim.Native.Nat.{ℕ, zero, suc, _+_, _≤_}
+use mathlib.Core.Path.{_≡_, refl, sym, ap, ap₂, _∙_}
+use mathlib.Core.List.{List, [], _∷_, _++_, map, reverse-reverse}
+use mathlib.Core.Option.{Option, none, some, Option·getD, Option·elim}
+use mathlib.Core.Bool.{Bool, true, false, not, _&&_}
+use native.Mathlib.Omega.{arith}
+use lib.Dec.{leb}
+use lib.IntN.{natAbs}
+use lib.ListN.{take, drop}
+use lib.Seq.{slice, take-take}
+use borrow.Author.Tests.{leb-true}
+use Rattle.rules.specs.Bytes.{all}
+use Rattle.rules.specs.Tokens.{Digit}
+use Rattle.rules.specs.Statements.{Sig, Sigs, constant, wire, bundle, nothing, _below_, digit, bit, Signal, Wire}
+use Rattle.rules.specs.Statements as rules
+use Rattle.rules.specs.Signals.{Wires, find, lower, span, literalBits, wireBits, width, bits, bitsOf, parts, partsOf}
+use Rattle.rules.specs.Judgement.{lowest}
+use Rattle.rules.specs.Layout.{bitCode}
+use Rattle.scanner.specs.Laws.{by-test, and-true-left, and-true-right}
+use Rattle.numbers.specs.Kinds.{bitOf, bitAt}
+use Rattle.numbers.specs.KindLaws.{Within, bit-back}
+use Rattle.signals.specs.Faults.{faults, fault}
+use Rattle.signals.specs.Held.{codes, Held}
+use Rattle.signals.specs.declared.Bits.{Bits}
+use Rattle.syntax.specs.Statements.{signalIn}
+
+-- ---- bits that their codes give back
+
+abbrev Coded : Signal → Type 0
+Coded [] = Unit {0}
+Coded (b ∷ bs) = (bitOf (bitAt (bitCode b)) ≡ b) × Coded bs
+
+coded-back : (xs : Signal) → Coded xs → map (λ c. bitOf (bitAt c)) (map bitCode xs) ≡ xs
+coded-back [] h = refl
+coded-back (x ∷ xs) h = ap₂ _∷_ (h .0) (coded-back xs (h .1))
+
+coded-append : (xs ys : Signal) → Coded xs → Coded ys → Coded (xs ++ ys)
+coded-append [] ys h k = k
+coded-append (x ∷ xs) ys h k = (h .0, coded-append xs ys (h .1) k)
+
+coded-take : (n : ℕ) (xs : Signal) → Coded xs → Coded (take n xs)
+coded-take zero xs h = tt
+coded-take (suc n) [] h = tt
+coded-take (suc n) (x ∷ xs) h = (h .0, coded-take n xs (h .1))
+
+coded-drop : (n : ℕ) (xs : Signal) → Coded xs → Coded (drop n xs)
+coded-drop zero xs h = h
+coded-drop (suc n) [] h = tt
+coded-drop (suc n) (x ∷ xs) h = coded-drop n xs (h .1)
+
+coded-digits : (ds : List Digit) → Coded (map digit ds)
+unfolding Within
+coded-digits [] = tt
+coded-digits (d ∷ ds) = (bit-back 0 (digit d) tt, coded-digits ds)
+
+coded-wire : (n i k : ℕ) → i + k ≤ 2048 → Coded (wireBits n i k)
+unfolding wireBits Within
+coded-wire n i zero h = tt
+coded-wire n i (suc k) h = (bit-back (n + 1) (bit n i) (omega arith, omega arith), coded-wire n (i + 1) k (omega arith))
+
+coded-found : (x : Option (ℕ × Wire)) → Option·elim x 0 (λ w. w .1 .width) ≤ 2048 → Coded (Option·elim x [] (λ w. wireBits (w .0) 0 (w .1 .width)))
+unfolding Option·elim
+coded-found none h = tt
+coded-found (some w) h = coded-wire (w .0) 0 (w .1 .width) (omega arith)
+
+-- ---- the bits of a signal
+
+module _ {A : Type 0} (f : A → Bool) where
+  all-append : (xs ys : List A) → all f (xs ++ ys) ≡ all f xs && all f ys
+  unfolding all
+  all-append [] ys = refl
+  all-append (x ∷ xs) ys = by-test (f x) (λ e. rw (e, all-append xs ys)) (λ e. rw e)
+
+module _ (ws : Wires) where
+  narrow : Sig → Bool
+  narrow p = leb (width ws p) 2048
+
+  mutual
+    unfolding bits parts all narrow width
+
+    coded : (s : Sig) → all narrow (parts s) ≡ true → Coded (bits ws s)
+    coded (constant c) h = coded-digits (literalBits c)
+    coded (wire n) h = coded-found (find n ws) (leb-true _ _ (and-true-left _ _ h))
+    coded (rules.slice s i l) h =
+        coded-take (span i (lower i l)) (drop (natAbs (lower i l)) (bits ws s)) (coded-drop (natAbs (lower i l)) (bits ws s) (coded s (and-true-right (narrow (rules.slice s i l)) _ h)))
+    coded (bundle ss) h = coded-of ss (and-true-right (narrow (bundle ss)) _ h)
+
+    coded-of : (ss : Sigs) → all narrow (partsOf ss) ≡ true → Coded (bitsOf ws ss)
+    coded-of nothing h = tt
+    coded-of (s below ss) h =
+        let e : all narrow (parts s) && all narrow (partsOf ss) ≡ true = sym (all-append narrow (parts s) (partsOf ss)) ∙ h in
+        coded-append (bits ws s) (bitsOf ws ss) (coded s (and-true-left _ _ e)) (coded-of ss (and-true-right (all narrow (parts s)) _ e))
+
+  -- where no rule is broken all parts are narrow
+  last-holds : (a b c d : Bool) → Option·getD (lowest ((7, a) ∷ (8, b) ∷ (10, c) ∷ (11, not d) ∷ [])) 0 ≡ 0 → d ≡ true
+  unfolding lowest
+  last-holds true b c d h = absurd (omega arith)
+  last-holds false true c d h = absurd (omega arith)
+  last-holds false false true d h = absurd (omega arith)
+  last-holds false false false true h = refl
+  last-holds false false false false h = absurd (omega arith)
+
+  pub signal-back : (a : Sig) (o : ℕ) (s : List ℕ) (b : Bits) → Held ws a o s b → b .fault ≡ 0 → signalIn s o (b .width) ≡ bits ws a
+  unfolding signalIn codes fault faults narrow
+  signal-back a o s b H z =
+      rw (H .coded z, reverse-reverse) (coded-back (bits ws a) (coded a (last-holds _ _ _ _ (H .refused ∙ z))))
+
+-- a signal stays where the table is kept up to its end
+pub held-kept : (ws : Wires) (a : Sig) (o n : ℕ) (s s′ : List ℕ) (b : Bits) → o + 2048 ≤ n → take n s′ ≡ take n s → Held ws a o s b → Held ws a o s′ b
+held-kept ws a o n s s′ b h e H =
+    record {
+      refused = H .refused;
+      wide = H .wide;
+      small = H .small;
+      coded = λ z.
+          let l : o + b .width ≤ n = omega (arith, H .small z) in
+          ap (drop o) (sym (take-take (o + b .width) n s′ l) ∙ ap (take (o + b .width)) e ∙ take-take (o + b .width) n s l) ∙ H .coded z;
+    }

@@ -1,0 +1,59 @@
+-- A shape without signals is judged by its numbers.
+-- Assumes nothing.
+use Prim.Native.Nat.{ℕ}
+use mathlib.Core.Path.{_≡_, refl}
+use mathlib.Core.List.{List, []}
+use mathlib.Core.Option.{none, some}
+use mathlib.Core.Bool.{true, false}
+use native.Mathlib.Omega.{arith}
+use lib.IntN.{ℤ}
+use Rattle.rules.specs.Bytes.{all}
+use Rattle.rules.specs.Statements.{Shape, aProcess, is, contents, statementsOpen}
+use Rattle.rules.specs.Numbers.{int32}
+use Rattle.rules.specs.Signals.{Wires, twosComplement}
+use Rattle.rules.specs.Judgement.{breaksNumber, lowest, meaning, allParts, lacksWire, breaksWidth, equalWidths, partTooWide, judgementOpen}
+use Rattle.numbers.specs.Signed.{signedOf}
+use Rattle.numbers.specs.SignedLaws.{signed-word}
+use Rattle.forms.specs.Forms.{formOf, valueIn}
+use Rattle.syntax.specs.Statements.{numberOf, lateOf, early, late, statementIn, Judged}
+use Rattle.syntax.specs.declared.Statement.{Statement}
+use Rattle.syntax.specs.declared.Statement.the-variants.{BadNumber}
+
+-- what the judgement of a line without signals computes
+unfoldable pub plainOpen : Unit {0}
+unfolding formOf valueIn numberOf early lateOf statementIn statementsOpen judgementOpen all
+plainOpen = tt
+
+module _ (ws : Wires) (f s : List ℕ) {sh : Shape} where
+  -- a refusal
+  pub refused : (r : Statement) (n : ℕ) → numberOf r ≡ some n → early ws sh ≡ some n → Judged ws f s (some sh) r
+  refused r n h e =
+      record {
+        sh = sh;
+        is = refl;
+        early = cc;
+        late = λ g. let z : _≡_ {A = ℕ} 0 1 = cc in absurd (omega arith);
+        means = λ g l. let z : _≡_ {A = ℕ} 0 1 = cc in absurd (omega arith);
+      }
+
+  pub bad-number : is aProcess sh ≡ false → breaksNumber ws sh ≡ true → Judged ws f s (some sh) BadNumber
+  unfolding numberOf early lowest
+  bad-number p h = refused BadNumber 7 refl (rw (p, h))
+
+  -- without signals no wire is missing and no width is wrong
+  pub stated :
+      (r : Statement) → numberOf r ≡ none → lateOf r ≡ 0 → contents sh .signals ≡ [] → is aProcess sh ≡ false → breaksNumber ws sh ≡ false →
+      statementIn f s r ≡ some (meaning ws sh) → Judged ws f s (some sh) r
+  unfolding early late lowest lacksWire breaksWidth partTooWide equalWidths allParts judgementOpen all
+  stated r g l e p h m =
+      record {
+        sh = sh;
+        is = refl;
+        early = rw (g, p, h, e);
+        late = λ _. rw (e, l);
+        means = λ _ _. m;
+      }
+
+-- the integer of its word
+pub number-back : (i : ℤ) (w : ℕ) → int32 i ≡ true → twosComplement i ≡ w → signedOf w ≡ i
+number-back i w h e = rw e at (signed-word i h)

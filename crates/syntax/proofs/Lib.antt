@@ -1,0 +1,6 @@
+mod Laws
+pub mod Verdicts
+mod Objects
+mod Bits
+mod Connections
+mod Lines

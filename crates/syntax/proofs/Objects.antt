@@ -1,0 +1,127 @@
+-- A wire's and a memory's line, judged by their options.
+-- Assumes nothing.
+use Prim.Native.Nat.{ℕ, _+_, _*_, _≤_, _<_}
+use Prim.Native.String.{String}
+use mathlib.Core.Path.{_≡_, refl}
+use mathlib.Core.List.{List, [], _∷_, Option·toList}
+use mathlib.Core.Option.{Option, none, some, Option·getD, Option·elim}
+use mathlib.Core.Bool.{Bool, true, false, not, cond, _&&_}
+use native.Mathlib.Omega.{arith}
+use lib.Dec.{eqb}
+use lib.IntN.{ℤ, pos}
+use Rattle.rules.specs.Bytes.{bytes, same, any, all}
+use Rattle.rules.specs.Tokens.{Name}
+use Rattle.rules.specs.Statements.{Opt, Wire, Memory, Direction, input, output, inout, wire-stmt, memory-stmt}
+use Rattle.rules.specs.Numbers.{int32, numberOr, goodOptions, once, goodWire, goodMemory, wireOf, memoryOf}
+use Rattle.rules.specs.Signals.{Wires, twosComplement}
+use Rattle.rules.specs.Judgement.{portNumbers, newPort}
+use Rattle.rules.specs.Layout.{Used, padded, row, directionCode, flags, wireRow}
+use Rattle.scanner.specs.Laws.{by-cond, and-true-left, and-true-right}
+use Rattle.wires.specs.Rows.{column, wordAt}
+use Rattle.wires.specs.RowLaws.{row-wire}
+use Rattle.forms.specs.Forms.{nameIn}
+use Rattle.forms.specs.declared.Span.{Span}
+use Rattle.options.specs.Limits.{portNumber, WireGood, MemoryGood}
+use Rattle.syntax.specs.Statements.{wireFrom, memoryFrom, Judged}
+use Rattle.syntax.specs.declared.Statement.the-variants as statement
+use Rattle.syntax.proofs.Laws.{plainOpen, bad-number, stated, number-back}
+
+-- ---- the numbers of good options are within 32 bits
+
+given-fits : (v : Option ℤ) (d : ℤ) → int32 d ≡ true → all int32 (Option·toList v) ≡ true → int32 (Option·getD v d) ≡ true
+unfolding all Option·toList
+given-fits none d h g = h
+given-fits (some z) d h g = and-true-left (int32 z) true g
+
+number-fits : (d : ℤ) (w : String) (os : List Opt) → int32 d ≡ true → all (λ o. all int32 (Option·toList (o .1))) os ≡ true → int32 (numberOr d w os) ≡ true
+unfolding numberOr all
+number-fits d w [] h g = h
+number-fits d w (o ∷ os) h g =
+    by-cond (λ z. int32 z ≡ true) (same (o .0) (bytes w))
+    (λ _. given-fits (o .1) d h (and-true-left _ _ g))
+    (λ _. number-fits d w os h (and-true-right (all int32 (Option·toList (o .1))) _ g))
+
+offset-fits : (os : List Opt) → goodOptions os ≡ true → int32 (numberOr (pos 0) "offset" os) ≡ true
+unfolding goodOptions int32
+offset-fits os g = number-fits (pos 0) "offset" os refl (and-true-right (once os) _ g)
+
+-- ---- a wire from its columns
+
+wire-back : (x : Wire) → int32 (x .offset) ≡ true → wireFrom (x .width) (twosComplement (x .offset)) (flags x) (portNumber (x .port)) ≡ x
+unfolding wireFrom column wordAt wireRow row padded
+wire-back x h =
+    let u : Used = record { names = 0; strings = 0; bits = 0; wires = 0; rows = 0; modules = 0 } in
+    row-wire _ 0 u [] x (λ c l. let q : 8 * 0 + c ≡ c = omega arith in rw q) h
+
+-- the flags tell whether there is a port
+flag-small : (a b : Bool) → cond a 1 0 + cond b 2 0 ≤ 3
+flag-small true true = omega arith
+flag-small true false = omega arith
+flag-small false true = omega arith
+flag-small false false = omega arith
+
+direction-large : (d : Direction) → 4 ≤ directionCode d
+unfolding directionCode
+direction-large input = omega arith
+direction-large output = omega arith
+direction-large inout = omega arith
+
+no-port : (k : ℕ) (q : Option (Direction × ℕ)) → k + Option·elim q 0 (λ p. directionCode (p .0)) ≤ 3 → q ≡ none
+unfolding Option·elim
+no-port k none h = refl
+no-port k (some (d, n)) h = absurd (omega (arith, direction-large d))
+
+a-port : (k : ℕ) (q : Option (Direction × ℕ)) → k ≤ 3 → 3 < k + Option·elim q 0 (λ p. directionCode (p .0)) → (d : Direction) × (q ≡ some (d, portNumber q))
+unfolding Option·elim
+a-port k none l h = absurd (omega arith)
+a-port k (some (d, n)) l h = (d, refl)
+
+module _ (ws : Wires) (os : List Opt) {w t k p : ℕ} (G : WireGood os w t k p) where
+  -- so without one it can't be taken, and with one it is new where no wire has it
+  pub port-free : k ≤ 3 → newPort ws os ≡ true
+  unfolding newPort portNumbers flags all Option·toList
+  port-free h =
+      let x = wireOf os in
+      let g : flags x ≤ 3 = rw (G .flags) h in
+      rw (no-port (cond (x .upto) 1 0 + cond (x .signed) 2 0) (x .port) g)
+
+  pub port-new : 3 < k → newPort ws os ≡ not (any (λ v. any (eqb p) (portNumbers (v .1))) ws) && true
+  unfolding newPort portNumbers flags all Option·toList
+  port-new h =
+      let x = wireOf os in
+      let g : 3 < flags x = rw (G .flags) h in
+      let q = a-port (cond (x .upto) 1 0 + cond (x .signed) 2 0) (x .port) (flag-small (x .upto) (x .signed)) g in
+      rw (q .1, G .port)
+
+-- ---- judged
+
+module _ (ws : Wires) (f s : List ℕ) (os : List Opt) (n : Name) where
+  pub wire-bad : goodWire os ≡ false → Judged ws f s (some (wire-stmt os n)) statement.BadNumber
+  unfolding plainOpen
+  wire-bad h = bad-number ws f s refl (rw h)
+
+  pub port-bad : goodWire os ≡ true → newPort ws os ≡ false → Judged ws f s (some (wire-stmt os n)) statement.BadNumber
+  unfolding plainOpen
+  port-bad g h = bad-number ws f s refl (rw (g, h))
+
+  pub memory-bad : goodMemory os ≡ false → Judged ws f s (some (memory-stmt os n)) statement.BadNumber
+  unfolding plainOpen
+  memory-bad h = bad-number ws f s refl (rw h)
+
+wire-means : (os : List Opt) {w t k p : ℕ} → WireGood os w t k p → wireFrom w t k p ≡ wireOf os
+unfolding goodWire wireOf
+wire-means os G =
+    rw (← G .width, ← G .offset, ← G .flags, ← G .port)
+    (wire-back (wireOf os)
+    (offset-fits os (and-true-left (goodOptions os) _ (and-true-left _ _ (and-true-left _ _ (and-true-left _ _ (G .good)))))))
+
+module _ (ws : Wires) (f s : List ℕ) (os : List Opt) (n : Span) where
+  pub wire-stated : {w t k p : ℕ} → WireGood os w t k p → newPort ws os ≡ true → Judged ws f s (some (wire-stmt os (nameIn f n))) (statement.Wire n w t k p)
+  unfolding plainOpen
+  wire-stated G h = stated ws f s _ refl refl refl refl (rw (G .good, h)) (rw (wire-means os G))
+
+  pub memory-stated : {w z t : ℕ} → MemoryGood os w z t → Judged ws f s (some (memory-stmt os (nameIn f n))) (statement.Memory n w z t)
+  unfolding plainOpen goodMemory memoryOf memoryFrom
+  memory-stated G =
+      stated ws f s _ refl refl refl refl (rw (G .good))
+      (rw (← G .width, ← G .size, number-back _ _ (offset-fits os (and-true-left (goodOptions os) _ (and-true-left _ _ (G .good)))) (G .offset)))

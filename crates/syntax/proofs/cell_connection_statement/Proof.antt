@@ -1,0 +1,83 @@
+-- The name, the signal, then the end.
+use mathlib.Core.Path.{_∙_}
+use native.Mathlib.Omega.{arith}
+use Rattle.tokens.specs.Parts.{idGives}
+use Rattle.forms.specs.Forms.{nameIn}
+use Rattle.forms.proofs.Laws.{id-below, rows-left, no-rows}
+use Rattle.syntax.proofs.Connections.{cell-connected}
+use Rattle.syntax.proofs.Lines.{no-name, no-signal, named-read, readable-on}
+use borrow.Author.Needs.{needs}
+use Rattle.syntax.proofs.cell_connection_statement.Statement.{statement}
+use Rattle.syntax.proofs.cell_connection_statement.Tie as tie
+
+id-at-requires : tie.Need-id-at-requires
+id-at-requires c κs = search needs
+
+enum-known-start : tie.Need-enum-known-start
+enum-known-start c = search needs
+
+enum-told : tie.Need-enum-told
+enum-told c = search needs
+
+returns : tie.Need-returns
+unfolding idGives
+returns c = no-name _ _ (rw (c .enum-told .given .1) at (c .before .before .id-at .ensures (c .before .before .before .before .before .before .before .before .args .f .now)))
+
+signal-requires : tie.Need-signal-requires
+signal-requires c κs =
+    (readable-on _ _ _ _ (c .before .before .before .before .before .before .before .before .before .before .pre .rows) (id-below _ _ _ _ _ (c .before .before .before .before .id-at .ensures) (c .before .before .start .given .1)), (omega (arith, c .before .before .before .before .before .before .before .before .before .before .pre .room), c .before .before .before .before .before .before .before .before .before .before .pre .few))
+
+enum-known-next : tie.Need-enum-known-next
+enum-known-next c = search needs
+
+enum-told-2 : tie.Need-enum-told-2
+enum-told-2 c = search needs
+
+same-length : tie.Need-same-length
+same-length c = search needs
+
+returns-2 : tie.Need-returns-2
+unfolding idGives
+returns-2 c =
+    no-signal _ _ _ (rw (c .before .before .before .before .before .before .before .start .given .1) at (c .before .before .before .before .before .before .before .before .before .id-at .ensures (c .before .before .before .before .before .before .before .before .before .before .before .before .before .before .before .args .f .now))) (rw (c .enum-told2 .given .1) at (c .before .before .before .before .signal .ensures .read))
+
+same-length-2 : tie.Need-same-length-2
+same-length-2 c = search needs
+
+returns-3 : tie.Need-returns-3
+unfolding idGives
+returns-3 c =
+    let a = rw (c .before .before .next .given .1) at (c .before .before .before .before .before .before .signal .ensures .read) in
+    named-read _ _ _ (rw (c .before .before .before .before .before .before .before .before .before .start .given .1) at (c .before .before .before .before .before .before .before .before .before .before .before .id-at .ensures (c .before .before .before .before .before .before .before .before .before .before .before .before .before .before .before .before .before .args .f .now))) _ _ (a .3 .is) ∙ rows-left _ _ _ _ (c .if1 .taken)
+
+refused-requires : tie.Need-refused-requires
+refused-requires c κs = search needs
+
+same-length-3 : tie.Need-same-length-3
+same-length-3 c = search needs
+
+returns-4 : tie.Need-returns-4
+unfolding idGives nameIn
+returns-4 c =
+    let a = rw (c .before .before .before .next .given .1) at (c .before .before .before .before .before .before .before .signal .ensures .read) in
+    rw (named-read _ _ _ (rw (c .before .before .before .before .before .before .before .before .before .before .start .given .1) at (c .before .before .before .before .before .before .before .before .before .before .before .before .id-at .ensures (c .before .before .before .before .before .before .before .before .before .before .before .before .before .before .before .before .before .before .args .f .now))) _ _ (a .3 .is) ∙ no-rows _ _ _ _ (c .before .if1 .left), c .refused .ensures)
+    (cell-connected _ _ _ _ (a .3 .sig) _ (a .3 .held))
+
+pub cell-connection-statement-spec : {M : Type 1} → statement M
+cell-connection-statement-spec =
+    tie.close
+    (tie.spec
+    id-at-requires
+    enum-known-start
+    enum-told
+    returns
+    signal-requires
+    enum-known-next
+    enum-told-2
+    same-length
+    returns-2
+    same-length-2
+    returns-3
+    refused-requires
+    same-length-3
+    returns-4)

@@ -1,0 +1,43 @@
+-- By the kind of line.
+use Rattle.forms.specs.Forms.{cellKindOf}
+use borrow.Author.Needs.{needs}
+use Rattle.syntax.proofs.cell_statement.Statement.{statement}
+use Rattle.syntax.proofs.cell_statement.Tie as tie
+
+cell-line-kind-requires : tie.Need-cell-line-kind-requires
+cell-line-kind-requires c κs = search needs
+
+enum-known-form : tie.Need-enum-known-form
+enum-known-form c = search needs
+
+form-statement-requires : tie.Need-form-statement-requires
+form-statement-requires c κs = search needs
+
+enum-told : tie.Need-enum-told
+enum-told c = search needs
+
+cell-connection-statement-requires : tie.Need-cell-connection-statement-requires
+cell-connection-statement-requires c κs = search needs
+
+returns : tie.Need-returns
+unfolding cellKindOf
+returns c first attributed = rw (c .before .before .before .before .cell-line-kind .ensures (c .before .before .before .before .before .before .before .before .before .before .args .f .now) first attributed, c .before .before .form .given .1) (c .form-statement .ensures _ _)
+
+same-length : tie.Need-same-length
+same-length c = search needs
+
+returns-2 : tie.Need-returns-2
+returns-2 c first attributed = rw (c .before .before .before .before .before .before .cell-line-kind .ensures (c .before .before .before .before .before .before .before .before .before .before .before .before .args .f .now) first attributed, c .before .before .before .before .enum-told .given .1) (c .before .before .cell-connection-statement .ensures)
+
+pub cell-statement-spec : {M : Type 1} → statement M
+cell-statement-spec =
+    tie.close
+    (tie.spec
+    cell-line-kind-requires
+    enum-known-form
+    form-statement-requires
+    enum-told
+    cell-connection-statement-requires
+    returns
+    same-length
+    returns-2)

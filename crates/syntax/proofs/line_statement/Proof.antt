@@ -1,0 +1,50 @@
+-- By the scope.
+use borrow.Author.Tests.{ne-eqb}
+use Rattle.syntax.specs.Statements.{scopeOf, contextOf}
+use borrow.Author.Needs.{needs}
+use Rattle.syntax.proofs.line_statement.Statement.{statement}
+use Rattle.syntax.proofs.line_statement.Tie as tie
+
+top-line-requires : tie.Need-top-line-requires
+top-line-requires c κs = search needs
+
+form-statement-requires : tie.Need-form-statement-requires
+form-statement-requires c κs = search needs
+
+returns : tie.Need-returns
+unfolding scopeOf contextOf
+returns c = rw (c .before .before .if1 .taken, c .before .top-line .ensures (c .before .before .before .before .before .before .before .before .before .args .f .now) (c .before .before .before .before .before .before .before .before .before .args .place .attributed)) (c .form-statement .ensures _ _)
+
+module-statement-requires : tie.Need-module-statement-requires
+module-statement-requires c κs = search needs
+
+same-length : tie.Need-same-length
+same-length c = search needs
+
+returns-2 : tie.Need-returns-2
+unfolding scopeOf contextOf
+returns-2 c = rw (c .before .before .before .before .if2 .taken) (c .before .before .module-statement .ensures (c .before .before .before .before .before .before .before .before .before .before .before .before .before .args .place .first))
+
+cell-statement-requires : tie.Need-cell-statement-requires
+cell-statement-requires c κs = search needs
+
+same-length-2 : tie.Need-same-length-2
+same-length-2 c = search needs
+
+returns-3 : tie.Need-returns-3
+unfolding scopeOf contextOf
+returns-3 c = rw (ne-eqb _ _ (c .before .before .before .before .before .before .if1 .left), ne-eqb _ _ (c .before .before .before .before .if2 .left)) (c .before .before .cell-statement .ensures _ _)
+
+pub line-statement-spec : {M : Type 1} → statement M
+line-statement-spec =
+    tie.close
+    (tie.spec
+    top-line-requires
+    form-statement-requires
+    returns
+    module-statement-requires
+    same-length
+    returns-2
+    cell-statement-requires
+    same-length-2
+    returns-3)

@@ -1,0 +1,32 @@
+-- With a constant, by the constant.
+use mathlib.Core.Path.{refl}
+use Rattle.syntax.proofs.Laws.{plainOpen, bad-number, stated}
+use borrow.Author.Needs.{needs}
+use Rattle.syntax.proofs.parameter_statement.Statement.{statement}
+use Rattle.syntax.proofs.parameter_statement.Tie as tie
+
+enum-known-value : tie.Need-enum-known-value
+enum-known-value c = search needs
+
+enum-told : tie.Need-enum-told
+enum-told c = search needs
+
+returns : tie.Need-returns
+unfolding plainOpen
+returns c ws s = rw (c .enum-told .given .1) (stated ws _ s _ refl refl refl refl refl refl)
+
+good-literal-requires : tie.Need-good-literal-requires
+good-literal-requires c κs = search needs
+
+returns-2 : tie.Need-returns-2
+unfolding plainOpen
+returns-2 c ws s = rw (c .before .before .before .value .given .1) (stated ws _ s _ refl refl refl refl (rw (← c .before .good-literal .ensures, c .if1 .taken)) refl)
+
+returns-3 : tie.Need-returns-3
+unfolding plainOpen
+returns-3 c ws s = rw (c .before .before .before .value .given .1) (bad-number ws _ s refl (rw (← c .before .good-literal .ensures, c .if1 .left)))
+
+pub parameter-statement-spec : {M : Type 1} → statement M
+parameter-statement-spec =
+    tie.close
+    (tie.spec enum-known-value enum-told returns good-literal-requires returns-2 returns-3)

@@ -1,0 +1,170 @@
+-- What the answer about a line says of the rules: the line's shape, its first refusal of 5, 6, 7 and 8, and what it means.
+use Prim.Native.Nat.{ℕ, _+_, _≤_}
+use mathlib.Core.Path.{_≡_}
+use mathlib.Core.List.{List, [], _∷_, map, reverse}
+use mathlib.Core.Option.{Option, none, some, Option·map, Option·getD}
+use mathlib.Core.Bool.{Bool, cond}
+use lib.Dec.{eqb}
+use lib.ListN.{length}
+use lib.Seq.{slice}
+use Rattle.rules.specs.Statements as rules
+use Rattle.rules.specs.Statements.{Shape, Signal, Wire, Memory, aProcess, is}
+use Rattle.rules.specs.Shapes as shapes
+use Rattle.rules.specs.Signals.{Wires, kept}
+use Rattle.rules.specs.Judgement.{breaksNumber, lacksWire, breaksWidth, partTooWide, lowest, meaning}
+use Rattle.numbers.specs.Signed.{signedOf}
+use Rattle.numbers.specs.Kinds.{bitOf, bitAt}
+use Rattle.tokens.specs.Rows.{literalIn, line}
+use Rattle.wires.specs.Rows.{wireOf, wiresFrom}
+use Rattle.forms.specs.Forms.{sortOf, nameIn, valueIn, formOf, kindOf}
+use Rattle.forms.specs.declared.Form.{Form}
+use Rattle.forms.specs.declared.Kind.the-variants as kind
+use Rattle.signals.specs.Held.{Held}
+use Rattle.signals.specs.Reads.{Readable}
+use Rattle.signals.specs.declared.Bits.{Bits}
+use Rattle.syntax.specs.declared.Place.{Place}
+use Rattle.syntax.specs.declared.Statement.{Statement}
+use Rattle.syntax.specs.declared.Statement.the-variants.{Autoidx, Attribute, Module, Parameter, Wire as WireOf, Memory as MemoryOf, Cell, CellParameter, CellConnection, Connection, End, NoShape, Process, BadNumber, MissingWire}
+
+-- the number of a refusal
+unfoldable pub numberOf : Statement → Option ℕ
+numberOf (Autoidx w) = none
+numberOf (Attribute n c) = none
+numberOf (Module n) = none
+numberOf (Parameter n c) = none
+numberOf (WireOf n w t k p) = none
+numberOf (MemoryOf n w z t) = none
+numberOf (Cell k n) = none
+numberOf (CellParameter s n c) = none
+numberOf (CellConnection n w l) = none
+numberOf (Connection a b l) = none
+numberOf End = none
+numberOf NoShape = some 5
+numberOf Process = some 6
+numberOf BadNumber = some 7
+numberOf MissingWire = some 8
+
+-- the number that comes behind a taken name: of the statements with signals
+unfoldable pub lateOf : Statement → ℕ
+lateOf (Autoidx w) = 0
+lateOf (Attribute n c) = 0
+lateOf (Module n) = 0
+lateOf (Parameter n c) = 0
+lateOf (WireOf n w t k p) = 0
+lateOf (MemoryOf n w z t) = 0
+lateOf (Cell k n) = 0
+lateOf (CellParameter s n c) = 0
+lateOf (CellConnection n w l) = l
+lateOf (Connection a b l) = l
+lateOf End = 0
+lateOf NoShape = 0
+lateOf Process = 0
+lateOf BadNumber = 0
+lateOf MissingWire = 0
+
+-- of a shape: the number before a taken name, and the one behind it but for the sizes of the design
+unfoldable pub early : Wires → Shape → Option ℕ
+early ws sh = lowest ((6, is aProcess sh) ∷ (7, breaksNumber ws sh) ∷ (8, lacksWire ws sh) ∷ [])
+
+unfoldable pub late : Wires → Shape → ℕ
+late ws sh = Option·getD (lowest ((10, breaksWidth ws sh) ∷ (11, partTooWide ws sh) ∷ [])) 0
+
+-- a wire by its columns, as in a row of the table of wires
+unfoldable pub wireFrom : (width offset flags port : ℕ) → Wire
+wireFrom w t k p = wireOf (0 ∷ 0 ∷ 0 ∷ w ∷ t ∷ k ∷ p ∷ 0 ∷ []) 0
+
+unfoldable pub memoryFrom : (width size offset : ℕ) → Memory
+memoryFrom w z t = record { width = w; size = z; offset = signedOf t }
+
+-- a signal by its codes in the scratch table, highest first
+unfoldable pub signalIn : List ℕ → (at width : ℕ) → Signal
+signalIn s o w = map (λ c. bitOf (bitAt c)) (reverse (slice o (o + w) s))
+
+-- the statement that an answer stands for, over the file and the scratch table
+unfoldable pub statementIn : List ℕ → List ℕ → Statement → Option rules.Statement
+statementIn f s (Autoidx w) = some (rules.autoidx-stmt (signedOf w))
+statementIn f s (Attribute n c) = some (rules.attr-stmt (nameIn f n) (kept (literalIn f c)))
+statementIn f s (Module n) = some (rules.module-stmt (nameIn f n))
+statementIn f s (Parameter n c) = some (rules.param-stmt (nameIn f n) (Option·map kept (valueIn f c)))
+statementIn f s (WireOf n w t k p) = some (rules.wire-stmt (wireFrom w t k p) (nameIn f n))
+statementIn f s (MemoryOf n w z t) = some (rules.memory-stmt (memoryFrom w z t) (nameIn f n))
+statementIn f s (Cell k n) = some (rules.cell-stmt (nameIn f k) (nameIn f n))
+statementIn f s (CellParameter o n c) = some (rules.cell-param-stmt (sortOf o) (nameIn f n) (kept (literalIn f c)))
+statementIn f s (CellConnection n w l) = some (rules.cell-conn-stmt (nameIn f n) (signalIn s 0 w))
+statementIn f s (Connection a b l) = some (rules.conn-stmt (signalIn s 0 a) (signalIn s 2048 b))
+statementIn f s End = some rules.end-stmt
+statementIn f s NoShape = none
+statementIn f s Process = none
+statementIn f s BadNumber = none
+statementIn f s MissingWire = none
+
+-- The line has a shape, which the answer judges: its number; and where it has none, what is left for later, and if that is nothing its meaning
+pub record Judged (ws : Wires) (f s : List ℕ) (o : Option Shape) (r : Statement) : Type 0 where
+  pub sh : Shape
+  pub is : o ≡ some sh
+  pub early : early ws sh ≡ numberOf r
+  pub late : numberOf r ≡ none → late ws sh ≡ lateOf r
+  pub means : numberOf r ≡ none → lateOf r ≡ 0 → statementIn f s r ≡ some (meaning ws sh)
+
+-- an answer about a line: it has no shape, or it is judged
+abbrev pub Says : Wires → (f s : List ℕ) → Option Shape → Statement → Type 0
+Says ws f s o (Autoidx w) = Judged ws f s o (Autoidx w)
+Says ws f s o (Attribute n c) = Judged ws f s o (Attribute n c)
+Says ws f s o (Module n) = Judged ws f s o (Module n)
+Says ws f s o (Parameter n c) = Judged ws f s o (Parameter n c)
+Says ws f s o (WireOf n w t k p) = Judged ws f s o (WireOf n w t k p)
+Says ws f s o (MemoryOf n w z t) = Judged ws f s o (MemoryOf n w z t)
+Says ws f s o (Cell k n) = Judged ws f s o (Cell k n)
+Says ws f s o (CellParameter x n c) = Judged ws f s o (CellParameter x n c)
+Says ws f s o (CellConnection n w l) = Judged ws f s o (CellConnection n w l)
+Says ws f s o (Connection a b l) = Judged ws f s o (Connection a b l)
+Says ws f s o End = Judged ws f s o End
+Says ws f s o NoShape = o ≡ none
+Says ws f s o Process = Judged ws f s o Process
+Says ws f s o BadNumber = Judged ws f s o BadNumber
+Says ws f s o MissingWire = Judged ws f s o MissingWire
+
+-- a line without signals: whatever the wires and the scratch table are; a wire's line
+abbrev pub PlainIs : List ℕ → Option Shape → Statement → Type 0
+PlainIs f o r = (ws : Wires) (s : List ℕ) → Says ws f s o r
+
+abbrev pub FormIs : List ℕ → Form → Statement → Type 0
+FormIs f form r = PlainIs f (formOf f form) r
+
+abbrev pub WireIs : (f t wires : List ℕ) (first count : ℕ) → Statement → Type 0
+WireIs f t wires first count r = (names s : List ℕ) → Says (wiresFrom names wires first count) f s (kindOf f t kind.Wire) r
+
+-- the context of a place
+unfoldable pub scopeOf : ℕ → shapes.Scope
+scopeOf k = cond (eqb k 0) shapes.top (cond (eqb k 1) shapes.inModule shapes.inCell)
+
+unfoldable pub contextOf : Place → shapes.Context
+contextOf p = record { scope = scopeOf (p .scope); first = p .first; attributed = p .attributed }
+
+-- the line in its context
+abbrev pub StatementIs : Place → (f t : List ℕ) → Wires → (s : List ℕ) → Statement → Type 0
+StatementIs p f t ws s r = Says ws f s (shapes.shape (contextOf p) (line f t 0)) r
+
+abbrev pub ModuleIs : Bool → (f t : List ℕ) → Wires → (s : List ℕ) → Statement → Type 0
+ModuleIs attributed f t ws s r =
+    (first : Bool) → Says ws f s (shapes.shape (record { scope = shapes.inModule; first = first; attributed = attributed }) (line f t 0)) r
+
+abbrev pub CellIs : (f t : List ℕ) → Wires → (s : List ℕ) → Statement → Type 0
+CellIs f t ws s r =
+    (first attributed : Bool) →
+    Says ws f s (shapes.shape (record { scope = shapes.inCell; first = first; attributed = attributed }) (line f t 0)) r
+
+-- a statement whose signals' parts have this number
+unfoldable pub faulted : ℕ → Statement → Statement
+faulted n r = cond (eqb n 7) BadNumber (cond (eqb n 8) MissingWire r)
+
+-- the connection of two signals in the scratch table, whatever they are
+abbrev pub ConnectedIs : Bits → Bits → Statement → Type 0
+ConnectedIs a b r =
+    (ws : Wires) (f s : List ℕ) (x y : rules.Sig) → Held ws x 0 s a → Held ws y 2048 s b → Says ws f s (some (rules.conn-stmt x y)) r
+
+-- what a line with signals needs: its rows, of which the first stands, room for two signals of 2,048 bits with bundles 16 deep, and few wires
+pub record Ready (f t s : List ℕ) (count : ℕ) : Type 0 where
+  pub rows : Readable f t 1
+  pub room : 36864 ≤ length s
+  pub few : count ≤ 512

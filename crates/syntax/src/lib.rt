@@ -1,0 +1,375 @@
+// The statement of a line in its context, from the rows of its tokens, and the first refusal of its shape, its numbers and its wires. What comes
+// behind a taken name, the widths, is told with the statement.
+use forms::CellKind;
+use forms::Form;
+use forms::Kind;
+use forms::Span;
+use forms::cell_line_kind;
+use forms::module_line_kind;
+use forms::top_line;
+use literals::Number;
+use literals::good_literal;
+use literals::integer_of;
+use options::Line;
+use options::limits::MemoryRules;
+use options::limits::WireRules;
+use options::limits::memory_rules;
+use options::limits::wire_rules;
+use options::memory_line;
+use options::wire_line;
+use signals::Answer;
+use signals::Bits;
+use signals::Scope;
+use signals::signal;
+use tokens::Constant;
+use tokens::Id;
+use tokens::Literal;
+use tokens::id_at;
+use wires::port_taken;
+ghost use mathlib.Core.Path.{_≡_};
+ghost use Rattle.wires.specs.Rows.{wiresFrom};
+ghost use Rattle.signals.specs.Faults.{merge};
+ghost use Rattle.forms.specs.Forms.{kindOf, cellKindOf};
+ghost use Rattle.forms.specs.declared.CellKind.the-variants as cellKind;
+ghost use Rattle.forms.specs.declared.Form.the-variants as form;
+ghost use Rattle.forms.specs.declared.Kind.the-variants as kind;
+ghost use Rattle.syntax.specs.Statements.{FormIs, PlainIs, WireIs, faulted, ConnectedIs, Says, ModuleIs, CellIs, StatementIs, Ready};
+
+// Where a line stands: scope 0 outside of modules, 1 in a module, 2 in a cell; first: no statement stands before it; attributed: it follows
+// attributes.
+pub struct Place {
+    pub scope: u32,
+    pub first: bool,
+    pub attributed: bool,
+}
+
+// A line's statement, or its first refusal of 5, 6, 7 and 8. Offsets and the number of `autoidx` are words in two's complement.
+pub enum Statement {
+    Autoidx(u32),
+    Attribute {
+        name: Span,
+        value: Constant,
+    },
+    Module(Span),
+    Parameter {
+        name: Span,
+        value: Literal,
+    },
+    Wire {
+        name: Span,
+        width: u32,
+        offset: u32,
+        flags: u32,
+        port: u32,
+    },
+    Memory {
+        name: Span,
+        width: u32,
+        size: u32,
+        offset: u32,
+    },
+    Cell {
+        kind: Span,
+        name: Span,
+    },
+    CellParameter {
+        sort: u32,
+        name: Span,
+        value: Constant,
+    },
+    CellConnection {
+        name: Span,
+        width: usize,
+        late: u32,
+    },
+    Connection {
+        left: usize,
+        right: usize,
+        late: u32,
+    },
+    End,
+    NoShape,
+    Process,
+    BadNumber,
+    MissingWire,
+}
+
+fn parameter_statement(f: &[u8], name: Span, value: Literal) -> Statement
+    ensures { λ r. ⌜ FormIs (now (f .entry)) (form.Parameter name value) r ⌝ }
+{
+    let Literal::Read(c) = value else {
+        return Statement::Parameter { name, value };
+    };
+    if good_literal(f, c) {
+        return Statement::Parameter { name, value };
+    }
+    Statement::BadNumber
+}
+
+// The statement of a line of fixed shape.
+fn form_statement(f: &[u8], form: Form) -> Statement
+    ensures { λ r. ⌜ FormIs (now (f .entry)) form r ⌝ }
+{
+    match form {
+        Form::Autoidx(z) => {
+            let Number::Fits(w) = integer_of(f, z) else {
+                return Statement::BadNumber;
+            };
+            Statement::Autoidx(w)
+        }
+        Form::Attribute { name, value } => {
+            if good_literal(f, value) {
+                return Statement::Attribute { name, value };
+            }
+            Statement::BadNumber
+        }
+        Form::Module(name) => Statement::Module(name),
+        Form::Parameter { name, value } => parameter_statement(f, name, value),
+        Form::Cell { kind, name } => Statement::Cell { kind, name },
+        Form::CellParameter { sort, name, value } => {
+            if good_literal(f, value) {
+                return Statement::CellParameter { sort, name, value };
+            }
+            Statement::BadNumber
+        }
+        Form::Process(_) => Statement::Process,
+        Form::End => Statement::End,
+        Form::NoShape => Statement::NoShape,
+    }
+}
+
+fn memory_statement(f: &[u8], tokens: &[u32]) -> Statement
+    ensures { λ r. ⌜ PlainIs (now (f .entry)) (kindOf (now (f .entry)) (now (tokens .entry)) kind.Memory) r ⌝ }
+{
+    let Line::Read {
+        options,
+        start,
+        end,
+    } = memory_line(tokens, 1)
+    else {
+        return Statement::NoShape;
+    };
+    let MemoryRules::Good {
+        width,
+        size,
+        offset,
+    } = memory_rules(f, options)
+    else {
+        return Statement::BadNumber;
+    };
+    let name = Span { start, end };
+    Statement::Memory {
+        name,
+        width,
+        size,
+        offset,
+    }
+}
+
+// Without a port the flags are below 4.
+fn wire_statement(f: &[u8], tokens: &[u32], wires: &[u32], first: u32, count: u32) -> Statement
+    ensures { λ r. ⌜ WireIs (now (f .entry)) (now (tokens .entry)) (now (wires .entry)) first count r ⌝ }
+{
+    let Line::Read {
+        options,
+        start,
+        end,
+    } = wire_line(tokens, 1)
+    else {
+        return Statement::NoShape;
+    };
+    let WireRules::Good {
+        width,
+        offset,
+        flags,
+        port,
+    } = wire_rules(f, options)
+    else {
+        return Statement::BadNumber;
+    };
+    if 3 < flags {
+        if port_taken(wires, first, count, port) {
+            return Statement::BadNumber;
+        }
+    }
+    let name = Span { start, end };
+    Statement::Wire {
+        name,
+        width,
+        offset,
+        flags,
+        port,
+    }
+}
+
+// The lower of two refusal numbers, of which 0 is none.
+fn lower(a: u32, b: u32) -> u32
+    ensures { λ r. ⌜ r ≡ merge a b ⌝ }
+{
+    if a == 0 {
+        return b;
+    }
+    if b == 0 {
+        return a;
+    }
+    if a < b { a } else { b }
+}
+
+// A signal's fault of 7 or 8 refuses its statement.
+fn refused(fault: u32, statement: Statement) -> Statement
+    ensures { λ r. ⌜ r ≡ faulted fault statement ⌝ }
+{
+    if fault == 7 {
+        return Statement::BadNumber;
+    }
+    if fault == 8 {
+        return Statement::MissingWire;
+    }
+    statement
+}
+
+// A module's connection of two signals, which have the same width.
+fn connected(left: Bits, right: Bits) -> Statement
+    ensures { λ r. ⌜ ConnectedIs left right r ⌝ }
+{
+    let fault = lower(left.fault, right.fault);
+    let uneven = if left.width == right.width { 0 } else { 10 };
+    let late = lower(uneven, fault);
+    refused(
+        fault,
+        Statement::Connection {
+            left: left.width,
+            right: right.width,
+            late,
+        },
+    )
+}
+
+// The left signal's bits go to the scratch table from 0 on, the right one's from 2048 on.
+fn connection_statement(
+    f: &[u8],
+    tokens: &[u32],
+    names: &[u8],
+    wires: &[u32],
+    scope: Scope,
+    scratch: &mut [u32],
+) -> Statement
+    requires { ⌜ Ready (now f) (now tokens) (now scratch) (scope .count) ⌝ }
+    ensures { λ r. ⌜ Says (wiresFrom (now (names .entry)) (now (wires .entry)) (scope .first) (scope .count)) (now (f .entry)) (now (scratch .exit)) (kindOf (now (f .entry)) (now (tokens .entry)) kind.Connect) r ⌝ }
+{
+    let Answer::Read { next, bits: left } = signal(
+        f,
+        tokens,
+        1,
+        16,
+        names,
+        wires,
+        scope,
+        scratch,
+        0,
+    ) else {
+        return Statement::NoShape;
+    };
+    let Answer::Read {
+        next: end,
+        bits: right,
+    } = signal(f, tokens, next, 16, names, wires, scope, scratch, 2048)
+    else {
+        return Statement::NoShape;
+    };
+    if end < tokens.len() / 4 {
+        return Statement::NoShape;
+    }
+    connected(left, right)
+}
+
+fn cell_connection_statement(
+    f: &[u8],
+    tokens: &[u32],
+    names: &[u8],
+    wires: &[u32],
+    scope: Scope,
+    scratch: &mut [u32],
+) -> Statement
+    requires { ⌜ Ready (now f) (now tokens) (now scratch) (scope .count) ⌝ }
+    ensures { λ r. ⌜ Says (wiresFrom (now (names .entry)) (now (wires .entry)) (scope .first) (scope .count)) (now (f .entry)) (now (scratch .exit)) (cellKindOf (now (f .entry)) (now (tokens .entry)) cellKind.Connect) r ⌝ }
+{
+    let Id::Span { start, end } = id_at(tokens, 1) else {
+        return Statement::NoShape;
+    };
+    let Answer::Read { next, bits } = signal(f, tokens, 2, 16, names, wires, scope, scratch, 0)
+    else {
+        return Statement::NoShape;
+    };
+    if next < tokens.len() / 4 {
+        return Statement::NoShape;
+    }
+    let name = Span { start, end };
+    refused(
+        bits.fault,
+        Statement::CellConnection {
+            name,
+            width: bits.width,
+            late: bits.fault,
+        },
+    )
+}
+
+fn module_statement(
+    f: &[u8],
+    tokens: &[u32],
+    attributed: bool,
+    names: &[u8],
+    wires: &[u32],
+    scope: Scope,
+    scratch: &mut [u32],
+) -> Statement
+    requires { ⌜ Ready (now f) (now tokens) (now scratch) (scope .count) ⌝ }
+    ensures { λ r. ⌜ ModuleIs attributed (now (f .entry)) (now (tokens .entry)) (wiresFrom (now (names .entry)) (now (wires .entry)) (scope .first) (scope .count)) (now (scratch .exit)) r ⌝ }
+{
+    match module_line_kind(tokens, attributed) {
+        Kind::Form(form) => form_statement(f, form),
+        Kind::Wire => wire_statement(f, tokens, wires, scope.first, scope.count),
+        Kind::Memory => memory_statement(f, tokens),
+        Kind::Connect => connection_statement(f, tokens, names, wires, scope, scratch),
+    }
+}
+
+fn cell_statement(
+    f: &[u8],
+    tokens: &[u32],
+    names: &[u8],
+    wires: &[u32],
+    scope: Scope,
+    scratch: &mut [u32],
+) -> Statement
+    requires { ⌜ Ready (now f) (now tokens) (now scratch) (scope .count) ⌝ }
+    ensures { λ r. ⌜ CellIs (now (f .entry)) (now (tokens .entry)) (wiresFrom (now (names .entry)) (now (wires .entry)) (scope .first) (scope .count)) (now (scratch .exit)) r ⌝ }
+{
+    match cell_line_kind(tokens) {
+        CellKind::Form(form) => form_statement(f, form),
+        CellKind::Connect => cell_connection_statement(f, tokens, names, wires, scope, scratch),
+    }
+}
+
+// The statement of a line that has a token. The scope is that of the module in which it stands.
+pub fn line_statement(
+    f: &[u8],
+    tokens: &[u32],
+    place: Place,
+    names: &[u8],
+    wires: &[u32],
+    scope: Scope,
+    scratch: &mut [u32],
+) -> Statement
+    requires { ⌜ Ready (now f) (now tokens) (now scratch) (scope .count) ⌝ }
+    ensures { λ r. ⌜ StatementIs place (now (f .entry)) (now (tokens .entry)) (wiresFrom (now (names .entry)) (now (wires .entry)) (scope .first) (scope .count)) (now (scratch .exit)) r ⌝ }
+{
+    if place.scope == 0 {
+        return form_statement(f, top_line(tokens, place.first));
+    }
+    if place.scope == 1 {
+        return module_statement(f, tokens, place.attributed, names, wires, scope, scratch);
+    }
+    cell_statement(f, tokens, names, wires, scope, scratch)
+}

@@ -1,0 +1,91 @@
+-- One piece of text behind another, and the texts of the rules piece by piece.
+-- Assumes nothing.
+use mathlib.Core.Path.{_≡_, refl, sym, ap, _∙_}
+use mathlib.Core.Bool.{Bool, true, false, cond}
+use mathlib.Core.List.{List, [], _∷_, _++_, map, flatMap, reverse, reverse-cons, map-append, append-assoc, append-nil}
+use Prim.Native.Nat.{ℕ, zero, suc, _+_, _/_, _%_, _≤_, _<_}
+use native.Mathlib.Numerals.{add-one}
+use native.Mathlib.Omega.{arith}
+use borrow.Author.Tests.{lt-ltb, le-ltb, ltb-false}
+use lib.Dec.{ltb}
+use lib.ListN.{length, take, drop, getD, set, replicate, length-set, replicate-append-replicate}
+use lib.Seq.{take-suc, drop-cons}
+use Rattle.rules.specs.Text.{decimalOnto, decimalText, digitByte, escaped}
+use Rattle.rules.specs.Tokens.{Digit}
+use Rattle.numbers.specs.Kinds.{digitOf}
+use Rattle.tables.specs.Store.{store}
+use Rattle.text.specs.Written.{Written, moved}
+
+-- a byte in its place (past the room's end that changes nothing)
+pub one-byte : (l m : List ℕ) (at b r : ℕ) → m ≡ set l at b → r ≡ moved at 1 → Written at (b ∷ []) l m r
+unfolding store
+one-byte l m at b r e k = record { place = k; stored = λ h. e; kept = ap length e ∙ length-set l at b }
+
+-- ---- decimal digits
+
+-- what stands behind the digits
+onto-append : (k n : ℕ) (ds es : List ℕ) → decimalOnto k n (ds ++ es) ≡ decimalOnto k n ds ++ es
+unfolding decimalOnto
+onto-append zero n ds es = refl
+onto-append (suc k) n ds es = pick (ltb n 10) (onto-append k (n / 10) one es)
+  where
+    one : List ℕ
+    one = (48 + n % 10) ∷ ds
+
+    pick : (t : Bool) → decimalOnto k (n / 10) (one ++ es) ≡ decimalOnto k (n / 10) one ++ es → cond t (one ++ es) (decimalOnto k (n / 10) (one ++ es)) ≡ cond t one (decimalOnto k (n / 10) one) ++ es
+    pick true e = refl
+    pick false e = e
+
+-- every sufficient number of turns gives the same
+onto-turns : (j k n : ℕ) (ds : List ℕ) → n < j → n < k → decimalOnto j n ds ≡ decimalOnto k n ds
+unfolding decimalOnto
+onto-turns zero k n ds h i = absurd (omega arith)
+onto-turns (suc j) zero n ds h i = absurd (omega arith)
+onto-turns (suc j) (suc k) n ds h i = pick (ltb n 10) refl (onto-turns j k (n / 10) one)
+  where
+    one : List ℕ
+    one = (48 + n % 10) ∷ ds
+
+    pick : (t : Bool) → ltb n 10 ≡ t → (n / 10 < j → n / 10 < k → decimalOnto j (n / 10) one ≡ decimalOnto k (n / 10) one) → cond t one (decimalOnto j (n / 10) one) ≡ cond t one (decimalOnto k (n / 10) one)
+    pick true e more = refl
+    pick false e more =
+        let l : 10 ≤ n = ltb-false n 10 e in
+        more (omega arith) (omega arith)
+
+pub decimal-one : (n : ℕ) → n < 10 → decimalText n ≡ (48 + n % 10) ∷ []
+unfolding decimalText decimalOnto
+decimal-one n h = rw (lt-ltb n 10 h)
+
+pub decimal-more : (n : ℕ) → 10 ≤ n → decimalText n ≡ decimalText (n / 10) ++ (48 + n % 10) ∷ []
+unfolding decimalText decimalOnto
+decimal-more n h = first ∙ onto-append n (n / 10) [] ((48 + n % 10) ∷ []) ∙ ap (λ (ds : List ℕ). ds ++ (48 + n % 10) ∷ []) (onto-turns n (suc (n / 10)) (n / 10) [] (omega arith) (omega arith))
+  where
+    first : decimalOnto (suc n) n [] ≡ decimalOnto n (n / 10) ((48 + n % 10) ∷ [])
+    first = rw (le-ltb n 10 h)
+
+-- ---- turns of loops
+
+pub spaces-more : (n : ℕ) → _++_ {A = ℕ} (replicate n 32) (32 ∷ []) ≡ replicate (n + 1) 32
+spaces-more n = replicate-append-replicate n 1 32
+
+pub bytes-more : (s : List ℕ) (i : ℕ) → i < length s → take i s ++ getD s i 0 ∷ [] ≡ take (i + 1) s
+bytes-more s i h = sym (rw add-one (take-suc s i 0 h))
+
+pub escaped-more : (s : List ℕ) (i : ℕ) → i < length s → flatMap escaped (take i s) ++ escaped (getD s i 0) ≡ flatMap escaped (take (i + 1) s)
+unfolding flatMap
+escaped-more s i h = sym (ap (flatMap escaped) (sym (bytes-more s i h)) ∙ joined (take i s))
+  where
+    joined : (xs : List ℕ) → flatMap escaped (xs ++ getD s i 0 ∷ []) ≡ flatMap escaped xs ++ escaped (getD s i 0)
+    joined [] = append-nil (escaped (getD s i 0))
+    joined (x ∷ xs) = ap (λ (l : List ℕ). escaped x ++ l) (joined xs) ∙ sym (append-assoc (escaped x) (flatMap escaped xs) (escaped (getD s i 0)))
+
+-- the digits from i on, the highest first: one more below them is one more at the end
+pub digits-more : (s : List ℕ) (i j b : ℕ) → j < length s → i ≡ j + 1 → b ≡ digitByte (digitOf (getD s j 0)) → map digitByte (reverse (map digitOf (drop i s))) ++ b ∷ [] ≡ map digitByte (reverse (map digitOf (drop j s)))
+digits-more s i j b h ei eb =
+    let d : Digit = digitOf (getD s j 0) in
+    let ds : List Digit = map digitOf (drop i s) in
+    sym
+    (ap (λ (l : List ℕ). map digitByte (reverse (map digitOf l))) (drop-cons s j 0 h ∙ ap (λ (k : ℕ). getD s j 0 ∷ drop k s) (sym (ei ∙ add-one j)))
+    ∙ ap (map digitByte) (reverse-cons d ds)
+    ∙ map-append digitByte (reverse ds) (d ∷ [])
+    ∙ ap (λ (k : ℕ). map digitByte (reverse ds) ++ k ∷ []) (sym eb))

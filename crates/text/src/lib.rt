@@ -1,0 +1,186 @@
+// The leaves of the writer. Each writes a piece of text into lent room from a place on and answers the place behind it: a byte is stored
+// only where the room has a place for it, and the place moves on all the same, so that writing into an empty room measures.
+ghost use mathlib.Core.Path.{_≡_};
+ghost use mathlib.Core.List.{[], _∷_, map, flatMap, reverse};
+ghost use Prim.Native.Nat.{min, _+_, _≤_};
+ghost use lib.ListN.{length, replicate};
+ghost use Rattle.rules.specs.Tokens.{value, string};
+ghost use Rattle.rules.specs.Text.{decimalText, integerText, digitByte, escaped, literalText, refusal};
+ghost use Rattle.numbers.specs.Kinds.{digitOf};
+ghost use Rattle.numbers.specs.Signed.{signedOf};
+ghost use Rattle.text.specs.Written.{Written};
+
+// One place on.
+fn next(at: usize) -> usize
+    requires { ⌜ at ≤ 32769 ⌝ }
+    ensures { λ r. ⌜ r ≡ min (at + 1) 32769 ⌝ }
+{
+    if at < 32769 {
+        return at + 1;
+    }
+    at
+}
+
+pub fn put_byte(out: &mut [u8], at: usize, b: u8) -> usize
+    requires { ⌜ at ≤ 32769 ⌝ }
+    ensures { λ r. ⌜ Written at (b ∷ []) (now (out .entry)) (now (out .exit)) r ⌝ }
+{
+    if at < out.len() {
+        out[at] = b;
+    }
+    next(at)
+}
+
+pub fn put_bytes(out: &mut [u8], at: usize, s: &[u8]) -> usize
+    requires { ⌜ at ≤ 32769 ⌝ }
+    ensures { λ r. ⌜ Written at (now (s .entry)) (now (out .entry)) (now (out .exit)) r ⌝ }
+{
+    let mut end = at;
+    let mut i = 0;
+    while i < s.len() {
+        end = put_byte(out, end, s[i]);
+        i += 1;
+    }
+    end
+}
+
+pub fn put_spaces(out: &mut [u8], at: usize, n: usize) -> usize
+    requires { ⌜ at ≤ 32769 ⌝ }
+    ensures { λ r. ⌜ Written at (replicate n 32) (now (out .entry)) (now (out .exit)) r ⌝ }
+{
+    let mut end = at;
+    let mut i = 0;
+    while i < n {
+        end = put_byte(out, end, b' ');
+        i += 1;
+    }
+    end
+}
+
+// The digits in front of the last, then the last. There are at most ten, so the calls are at most ten deep.
+pub fn put_decimal(out: &mut [u8], at: usize, n: u32) -> usize
+    requires { ⌜ at ≤ 32769 ⌝ }
+    ensures { λ r. ⌜ Written at (decimalText n) (now (out .entry)) (now (out .exit)) r ⌝ }
+{
+    let last = b'0' + (n % 10) as u8;
+    if n < 10 {
+        return put_byte(out, at, last);
+    }
+    let end = put_decimal(out, at, n / 10);
+    put_byte(out, end, last)
+}
+
+// The integer that a word of 32 bits stands for, in two's complement.
+pub fn put_integer(out: &mut [u8], at: usize, word: u32) -> usize
+    requires { ⌜ at ≤ 32769 ⌝ }
+    ensures { λ r. ⌜ Written at (integerText (signedOf word)) (now (out .entry)) (now (out .exit)) r ⌝ }
+{
+    if word < 2147483648 {
+        return put_decimal(out, at, word);
+    }
+    let end = put_byte(out, at, b'-');
+    put_decimal(out, end, 4294967295 - word + 1)
+}
+
+// A byte as it stands in a string.
+fn put_escaped(out: &mut [u8], at: usize, b: u8) -> usize
+    requires { ⌜ at ≤ 32769 ⌝ }
+    ensures { λ r. ⌜ Written at (escaped b) (now (out .entry)) (now (out .exit)) r ⌝ }
+{
+    if b == b'"' {
+        return put_bytes(out, at, b"\\\"");
+    }
+    if b == b'\\' {
+        return put_bytes(out, at, b"\\\\");
+    }
+    if b == 10 {
+        return put_bytes(out, at, b"\\n");
+    }
+    if b == 9 {
+        return put_bytes(out, at, b"\\t");
+    }
+    if b < 32 {
+        return put_bytes(out, at, &[b'\\', b'0', b'0' + b / 8, b'0' + b % 8]);
+    }
+    put_byte(out, at, b)
+}
+
+// The bytes of a string, without the quotes.
+fn put_inside(out: &mut [u8], at: usize, s: &[u8]) -> usize
+    requires { ⌜ at ≤ 32769 ⌝ }
+    ensures { λ r. ⌜ Written at (flatMap escaped (now (s .entry))) (now (out .entry)) (now (out .exit)) r ⌝ }
+{
+    let mut end = at;
+    let mut i = 0;
+    while i < s.len() {
+        end = put_escaped(out, end, s[i]);
+        i += 1;
+    }
+    end
+}
+
+pub fn put_string(out: &mut [u8], at: usize, s: &[u8]) -> usize
+    requires { ⌜ at ≤ 32769 ⌝ }
+    ensures { λ r. ⌜ Written at (literalText (string (now (s .entry)))) (now (out .entry)) (now (out .exit)) r ⌝ }
+{
+    let open = put_byte(out, at, b'"');
+    let end = put_inside(out, open, s);
+    put_byte(out, end, b'"')
+}
+
+fn digit_byte(code: u32) -> u8
+    ensures { λ r. ⌜ r ≡ digitByte (digitOf code) ⌝ }
+{
+    if code == 0 {
+        return b'0';
+    }
+    if code == 1 {
+        return b'1';
+    }
+    if code == 2 {
+        return b'x';
+    }
+    if code == 3 {
+        return b'z';
+    }
+    if code == 4 {
+        return b'm';
+    }
+    b'-'
+}
+
+// The digits of a value, the highest bit first.
+fn put_digits(out: &mut [u8], at: usize, bits: &[u32]) -> usize
+    requires { ⌜ at ≤ 32769 ⌝ }
+    ensures { λ r. ⌜ Written at (map digitByte (reverse (map digitOf (now (bits .entry))))) (now (out .entry)) (now (out .exit)) r ⌝ }
+{
+    let mut end = at;
+    let mut i = bits.len();
+    while 0 < i {
+        i -= 1;
+        end = put_byte(out, end, digit_byte(bits[i]));
+    }
+    end
+}
+
+// A value of these digit codes, the lowest bit first.
+pub fn put_value(out: &mut [u8], at: usize, bits: &[u32]) -> usize
+    requires { ⌜ at ≤ 32769 ⌝ }
+    requires { ⌜ length (now bits) ≤ 16384 ⌝ }
+    ensures { λ r. ⌜ Written at (literalText (value (length (now (bits .entry))) (reverse (map digitOf (now (bits .entry)))))) (now (out .entry)) (now (out .exit)) r ⌝ }
+{
+    let width = put_decimal(out, at, bits.len() as u32);
+    let quote = put_byte(out, width, b'\'');
+    put_digits(out, quote, bits)
+}
+
+// The program's answer to a file that it refuses.
+pub fn put_refusal(out: &mut [u8], at: usize, number: u32, place: u32) -> usize
+    requires { ⌜ at ≤ 32769 ⌝ }
+    ensures { λ r. ⌜ Written at (refusal number place) (now (out .entry)) (now (out .exit)) r ⌝ }
+{
+    let first = put_decimal(out, at, number);
+    let space = put_byte(out, first, b' ');
+    let second = put_decimal(out, space, place);
+    put_byte(out, second, 10)
+}
