@@ -1,9 +1,8 @@
 -- What the readers of statements cite: the grammar's signal, a signal's words in the order of the table of bits, and closed strings.
 -- Assumes nothing.
 use mathlib.Core.Path.{_≡_, refl, sym, ap, ap₂, subst, _∙_}
-use mathlib.Core.Bool.{true, false}
 use mathlib.Core.List.{List, [], _++_, map, reverse, reverse-reverse}
-use Prim.Native.Nat.{ℕ, _+_, _-_, _*_, _/_, _<_, _≤_}
+use Prim.Native.Nat.{ℕ, _+_, _*_, _/_, _<_, _≤_}
 use native.Mathlib.Nat.{add-zero}
 use native.Mathlib.Omega.{arith}
 use lib.Dec.{ltb}
@@ -17,7 +16,7 @@ use Rattle.rules.specs.Shapes.{signal, sigspec}
 use Rattle.rules.specs.Layout.{bitCode}
 use Rattle.scanner.specs.Laws.{by-test}
 use Rattle.tables.specs.Store.{store, store-eq}
-use Rattle.tokens.specs.Rows.{tokenOf, rowOf, tokenAt, rowWords, Present}
+use Rattle.tokens.specs.Rows.{rowOf, tokenAt, rowWords, Present}
 use Rattle.tokens.specs.declared.Token.{Token}
 use Rattle.tokens.specs.declared.Token.the-variants.{End}
 use Rattle.tokens.proofs.Laws.{words-back, length-rowWords}
