@@ -10,7 +10,7 @@ ghost use Rattle.numbers.specs.Kinds.{digitOf};
 ghost use Rattle.numbers.specs.Signed.{signedOf};
 ghost use Rattle.text.specs.Written.{Written};
 
-// One place on.
+// One place on, to 32,769 at most: a text of more than 32,768 bytes is refused, so where it would end does not matter.
 fn next(at: usize) -> usize
     requires { ⌜ at ≤ 32769 ⌝ }
     ensures { λ r. ⌜ r ≡ min (at + 1) 32769 ⌝ }
