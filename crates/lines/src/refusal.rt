@@ -1,5 +1,5 @@
 // The first refusal of a file's lines that the lexer and the statements' shapes and numbers tell. No wires are kept, so a missing wire and a port
-// number that is taken are not told here. This is for test vectors and promises only safety; the reader carries the full promise.
+// number that is taken are not told here. This is for test vectors and promises only safety; the full promise comes with the reader.
 use lexer::Lexed;
 use lexer::lex_line;
 use scanner::lines::line_from;
