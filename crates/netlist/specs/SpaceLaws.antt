@@ -8,7 +8,7 @@ use native.Mathlib.Omega.{arith}
 use lib.ListN.{length, take, length-take}
 use lib.Seq.{take-length}
 use Rattle.rules.specs.Bytes.{same, any, all}
-use Rattle.rules.specs.Statements.{Kind, anAutoidx, anAttribute, aModule, aParameter, aWire, aMemory, aCell, aCellParameter, aCellConnection, aConnection, aProcess, anEnd, Shape, code, contents, is, ownName}
+use Rattle.rules.specs.Statements.{Kind, anAutoidx, anAttribute, aModule, aParameter, aWire, aMemory, aCell, aCellParameter, aCellConnection, aConnection, aProcess, anEnd, Stmt, code, contents, is, ownName}
 use Rattle.rules.specs.Judgement.{Past, until, only, ofModule, ofCell, ofObject, among, Space, space, namesIn, nameSpaces, takesName}
 use Rattle.scanner.specs.Laws.{by-test}
 use Rattle.netlist.specs.Rows.{namesBetween}
@@ -32,7 +32,7 @@ any-only f g [] = refl
 any-only f g (x ∷ xs) = by-test (f x) (λ e. rw (e, any-only f g xs)) (λ e. rw (e, any-only f g xs))
 
 pub takes-in-spaces :
-    (ss : Past) (sh : Shape) →
+    {C S W M : Type 0} (ss : Past) (sh : Stmt C S W M) →
     takesName ss sh ≡ any (λ z. any (same (ownName (contents sh .names))) (namesIn z ss)) (spacesOf (contents sh .kind))
 unfolding takesName spacesOf ofKinds among is
 takes-in-spaces ss sh = any-only (λ z. among (z .kinds) sh) (λ z. any (same (ownName (contents sh .names))) (namesIn z ss)) nameSpaces
@@ -43,11 +43,11 @@ module _ {names rows : List ℕ} {test : ℕ → Bool} {from count : ℕ} (z : S
   unfolding namesIn
   space-names = ap (ownNames (z .kinds)) (r .part-is) ∙ sym (names-laid (z .kinds) (r .named) test (r .tests) ss l from count (r .ends))
 
-  pub takes-between : (sh : Shape) → spacesOf (contents sh .kind) ≡ z ∷ [] → takesName ss sh ≡ any (same (ownName (contents sh .names))) (namesBetween names rows test from count)
+  pub takes-between : {C S W M : Type 0} (sh : Stmt C S W M) → spacesOf (contents sh .kind) ≡ z ∷ [] → takesName ss sh ≡ any (same (ownName (contents sh .names))) (namesBetween names rows test from count)
   unfolding any
   takes-between sh e = takes-in-spaces ss sh ∙ rw (e, or-false, space-names)
 
-pub takes-nowhere : (ss : Past) (sh : Shape) → spacesOf (contents sh .kind) ≡ [] → takesName ss sh ≡ false
+pub takes-nowhere : {C S W M : Type 0} (ss : Past) (sh : Stmt C S W M) → spacesOf (contents sh .kind) ≡ [] → takesName ss sh ≡ false
 unfolding any
 takes-nowhere ss sh e = takes-in-spaces ss sh ∙ rw e
 
@@ -114,7 +114,7 @@ spaces-in-rows anEnd ss = every-none
 
 -- a name is taken just where a search finds it in the rows of its kind's space
 pub takes-in-rows :
-    {names rows : List ℕ} (ss : Past) (sh : Shape) → Laid (roomsOf ss) names rows →
+    {C S W M : Type 0} {names rows : List ℕ} (ss : Past) (sh : Stmt C S W M) → Laid (roomsOf ss) names rows →
     takesName ss sh
     ≡ any (λ z. any (same (ownName (contents sh .names))) (namesBetween names rows (isKind (kindsOf (contents sh .kind))) (length ss - length (z .part ss)) (length (z .part ss)))) (spacesOf (contents sh .kind))
 takes-in-rows ss sh l =

@@ -143,8 +143,8 @@ unfoldable pub lacksWire : Wires → Shape → Bool
 lacksWire ws sh = not (all (declaredWire ws) (allParts sh))
 
 -- 9: name taken
-unfoldable pub takesName : Past → Shape → Bool
-takesName ss sh = any (λ z. among (z .kinds) sh && any (same (ownName (contents sh .names))) (namesIn z ss)) nameSpaces
+unfoldable pub takesName : {C S W M : Type 0} → Past → Stmt C S W M → Bool
+takesName ss s = any (λ z. among (z .kinds) s && any (same (ownName (contents s .names))) (namesIn z ss)) nameSpaces
 
 -- 10: slice rule broken; both sides of a module's `connect` have equal width
 unfoldable pub equalWidths : Wires → List Sig → Bool
