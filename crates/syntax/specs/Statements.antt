@@ -1,20 +1,26 @@
 -- What the answer about a line says of the rules: the line's shape, its first refusal of 5, 6, 7 and 8, and what it means.
-use Prim.Native.Nat.{ℕ, _+_, _≤_}
+use Prim.Native.Nat.{ℕ, _+_, _≤_, _<_}
 use mathlib.Core.Path.{_≡_}
 use mathlib.Core.List.{List, [], _∷_, map, reverse}
 use mathlib.Core.Option.{Option, none, some, Option·map, Option·getD}
-use mathlib.Core.Bool.{Bool, cond}
+use mathlib.Core.Bool.{Bool, true, cond}
 use lib.Dec.{eqb}
 use lib.ListN.{length}
 use lib.Seq.{slice}
 use Rattle.rules.specs.Statements as rules
 use Rattle.rules.specs.Statements.{Shape, Signal, Wire, Memory, aProcess, is}
+use Rattle.rules.specs.Tokens.{Name}
 use Rattle.rules.specs.Shapes as shapes
+use Rattle.rules.specs.Numbers.{goodLiteral}
 use Rattle.rules.specs.Signals.{Wires, kept}
 use Rattle.rules.specs.Judgement.{breaksNumber, lacksWire, breaksWidth, partTooWide, lowest, meaning}
 use Rattle.numbers.specs.Signed.{signedOf}
 use Rattle.numbers.specs.Kinds.{bitOf, bitAt}
 use Rattle.tokens.specs.Rows.{literalIn, line}
+use Rattle.tokens.specs.declared.Constant.{Constant}
+use Rattle.tokens.specs.declared.Literal.{Literal}
+use Rattle.tokens.specs.declared.Literal.the-variants as literal
+use Rattle.literals.specs.Codes.{Whole}
 use Rattle.wires.specs.Rows.{wireOf, wiresFrom}
 use Rattle.forms.specs.Forms.{sortOf, nameIn, valueIn, formOf, kindOf}
 use Rattle.forms.specs.declared.Form.{Form}
@@ -97,6 +103,67 @@ statementIn f s NoShape = none
 statementIn f s Process = none
 statementIn f s BadNumber = none
 statementIn f s MissingWire = none
+
+-- an answer's kind and its names; of a refusal they say nothing
+unfoldable pub kindIn : Statement → rules.Kind
+kindIn (Autoidx w) = rules.anAutoidx
+kindIn (Attribute n c) = rules.anAttribute
+kindIn (Module n) = rules.aModule
+kindIn (Parameter n c) = rules.aParameter
+kindIn (WireOf n w t k p) = rules.aWire
+kindIn (MemoryOf n w z t) = rules.aMemory
+kindIn (Cell k n) = rules.aCell
+kindIn (CellParameter s n c) = rules.aCellParameter
+kindIn (CellConnection n w l) = rules.aCellConnection
+kindIn (Connection a b l) = rules.aConnection
+kindIn End = rules.anEnd
+kindIn NoShape = rules.aProcess
+kindIn Process = rules.aProcess
+kindIn BadNumber = rules.aProcess
+kindIn MissingWire = rules.aProcess
+
+unfoldable pub namesIn : List ℕ → Statement → List Name
+namesIn f (Autoidx w) = []
+namesIn f (Attribute n c) = nameIn f n ∷ []
+namesIn f (Module n) = nameIn f n ∷ []
+namesIn f (Parameter n c) = nameIn f n ∷ []
+namesIn f (WireOf n w t k p) = nameIn f n ∷ []
+namesIn f (MemoryOf n w z t) = nameIn f n ∷ []
+namesIn f (Cell k n) = nameIn f k ∷ nameIn f n ∷ []
+namesIn f (CellParameter s n c) = nameIn f n ∷ []
+namesIn f (CellConnection n w l) = nameIn f n ∷ []
+namesIn f (Connection a b l) = []
+namesIn f End = []
+namesIn f NoShape = []
+namesIn f Process = []
+namesIn f BadNumber = []
+namesIn f MissingWire = []
+
+-- What storing needs of an answer: a constant keeps the number rules and a string has its end; flags, sorts and widths are those that a row can hold
+pub record GoodConstant (f : List ℕ) (c : Constant) : Type 0 where
+  pub good : goodLiteral (literalIn f c) ≡ true
+  pub whole : Whole f c
+
+abbrev pub GoodOptional : List ℕ → Literal → Type 0
+GoodOptional f (literal.Read c) = GoodConstant f c
+GoodOptional f literal.Nothing = Unit {0}
+
+abbrev pub Sound : List ℕ → Statement → Type 0
+Sound f (Autoidx w) = Unit {0}
+Sound f (Attribute n c) = GoodConstant f c
+Sound f (Module n) = Unit {0}
+Sound f (Parameter n c) = GoodOptional f c
+Sound f (WireOf n w t k p) = (k < 16) × (k < 4 → p ≡ 0)
+Sound f (MemoryOf n w z t) = Unit {0}
+Sound f (Cell k n) = Unit {0}
+Sound f (CellParameter s n c) = (s ≤ 2) × GoodConstant f c
+Sound f (CellConnection n w l) = l ≡ 0 → w ≤ 2048
+Sound f (Connection a b l) = l ≡ 0 → (a ≤ 2048) × (b ≤ 2048)
+Sound f End = Unit {0}
+Sound f NoShape = Unit {0}
+Sound f Process = Unit {0}
+Sound f BadNumber = Unit {0}
+Sound f MissingWire = Unit {0}
 
 -- The line has a shape, which the answer judges: its number; and where it has none, what is left for later, and if that is nothing its meaning
 pub record Judged (ws : Wires) (f s : List ℕ) (o : Option Shape) (r : Statement) : Type 0 where
