@@ -1,4 +1,5 @@
 pub mod Rows
+pub mod Statements
 pub mod Kinds
 pub mod KindLaws
 pub mod RowLaws

@@ -1,0 +1,55 @@
+-- The statement that a row of the table of statements stands for, over the tables of names, strings, bits and wires. Decoding is total: a word past a
+-- table's end counts as 0, and a span past its end is cut.
+use Prim.Native.Nat.{ℕ, _+_}
+use mathlib.Core.List.{List, map}
+use mathlib.Core.Option.{Option, none, some}
+use mathlib.Core.Bool.{cond}
+use lib.Dec.{eqb}
+use lib.Seq.{slice}
+use Rattle.rules.specs.Statements.{Sort, Constant, value, integer, string, Signal, Memory, Statement, autoidx-stmt, attr-stmt, module-stmt, param-stmt, wire-stmt, memory-stmt, cell-stmt, cell-param-stmt, cell-conn-stmt, conn-stmt, end-stmt}
+use Rattle.numbers.specs.Kinds.{digitOf, bitOf, bitAt}
+use Rattle.numbers.specs.Signed.{signedOf}
+use Rattle.wires.specs.Rows.{column, wireOf}
+use Rattle.netlist.specs.Rows.{kindAt, nameFrom}
+
+-- what stands in a table from the place in column c on, as much as column c + 1 says
+unfoldable pub spanAt : (table rows : List ℕ) → (row c : ℕ) → List ℕ
+spanAt t rows k c = slice (column rows k c) (column rows k c + column rows k (c + 1)) t
+
+-- the constant of three columns: its kind, 1 a value, 2 an integer, else a string; then its span, or the integer
+unfoldable pub constantAt : (strings bits rows : List ℕ) → (row c : ℕ) → Constant
+constantAt strings bits rows k c =
+    cond (eqb (column rows k c) 1) (value (map digitOf (spanAt bits rows k (c + 1))))
+    (cond (eqb (column rows k c) 2) (integer (signedOf (column rows k (c + 1)))) (string (spanAt strings rows k (c + 1))))
+
+-- kind 0: a parameter without a constant
+unfoldable pub optionalAt : (strings bits rows : List ℕ) → (row c : ℕ) → Option Constant
+optionalAt strings bits rows k c = cond (eqb (column rows k c) 0) none (some (constantAt strings bits rows k c))
+
+unfoldable pub signalAt : (bits rows : List ℕ) → (row c : ℕ) → Signal
+signalAt bits rows k c = map (λ x. bitOf (bitAt x)) (spanAt bits rows k c)
+
+unfoldable pub memoryAt : (rows : List ℕ) → (row : ℕ) → Memory
+memoryAt rows k = record { width = column rows k 3; size = column rows k 4; offset = signedOf (column rows k 5) }
+
+unfoldable pub sortAt : (rows : List ℕ) → (row c : ℕ) → Sort
+sortAt rows k c = cond (eqb (column rows k c) 0) Sort.plain (cond (eqb (column rows k c) 1) Sort.signed Sort.real)
+
+-- by the kind in the first column; of kind 11, a process, and above 12 there is none
+module _ (names strings bits wires rows : List ℕ) (k : ℕ) where
+  unfoldable pub statementBy : ℕ → Option Statement
+  statementBy n =
+      cond (eqb n 1) (some (autoidx-stmt (signedOf (column rows k 1))))
+      (cond (eqb n 2) (some (attr-stmt (nameFrom names rows k 1) (constantAt strings bits rows k 3)))
+      (cond (eqb n 3) (some (module-stmt (nameFrom names rows k 1)))
+      (cond (eqb n 4) (some (param-stmt (nameFrom names rows k 1) (optionalAt strings bits rows k 3)))
+      (cond (eqb n 5) (some (wire-stmt (wireOf wires (column rows k 3)) (nameFrom names rows k 1)))
+      (cond (eqb n 6) (some (memory-stmt (memoryAt rows k) (nameFrom names rows k 1)))
+      (cond (eqb n 7) (some (cell-stmt (nameFrom names rows k 1) (nameFrom names rows k 3)))
+      (cond (eqb n 8) (some (cell-param-stmt (sortAt rows k 6) (nameFrom names rows k 1) (constantAt strings bits rows k 3)))
+      (cond (eqb n 9) (some (cell-conn-stmt (nameFrom names rows k 1) (signalAt bits rows k 3)))
+      (cond (eqb n 10) (some (conn-stmt (signalAt bits rows k 1) (signalAt bits rows k 3)))
+      (cond (eqb n 12) (some end-stmt) none))))))))))
+
+  unfoldable pub statementAt : Option Statement
+  statementAt = statementBy (kindAt rows k)
