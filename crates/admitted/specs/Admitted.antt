@@ -1,6 +1,5 @@
 -- What may stand after what: the statements that some line says, after the statements so far.
-use Prim.Native.Nat.{ℕ, _-_}
-use mathlib.Core.Path.{_≡_}
+use Prim.Native.Nat.{_-_}
 use mathlib.Core.List.{List, [], _∷_, reverse}
 use mathlib.Core.Option.{Option·elim}
 use mathlib.Core.Bool.{Bool, true, false, not, cond, _&&_, _||_}

@@ -1,1 +1,5 @@
 pub mod Admitted
+pub mod StandLaws
+pub mod CountLaws
+pub mod AdmitLaws
+pub mod AcceptedLaws

@@ -1,4 +1,4 @@
--- Statements that lie in the tables of names and of rows.
+-- Statements that lie in the tables of names, of rows and of wires.
 use Prim.Native.Nat.{ℕ}
 use mathlib.Core.Path.{_≡_}
 use mathlib.Core.List.{List, [], _∷_, _++_}
@@ -17,3 +17,10 @@ pub record Laid (R : Rooms) (names rows : List ℕ) : Type 0 where
   pub more-rows : List ℕ
   pub names-are : names ≡ R .names ++ more-names
   pub rows-are : rows ≡ flat (R .rows) ++ more-rows
+
+-- the same of the tables of names and of wires
+pub record Wired (R : Rooms) (names wires : List ℕ) : Type 0 where
+  pub more-names : List ℕ
+  pub more-wires : List ℕ
+  pub names-are : names ≡ R .names ++ more-names
+  pub wires-are : wires ≡ flat (R .wires) ++ more-wires

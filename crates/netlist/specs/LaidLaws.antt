@@ -48,6 +48,19 @@ laid-padded m n R = record { more-names = replicate (m - length (R .names)) 0; m
 pub laid-past : {names rows : List ℕ} (ss : Past) → Laid (putAll empty (reverse ss)) names rows → Laid (roomsOf ss) names rows
 laid-past ss l = rw rooms-past at l
 
+-- a list and a row that stand in a table behind others
+pub list-behind : (l xs ys more : List ℕ) → l ≡ xs ++ (ys ++ more) → take (length ys) (drop (length xs) l) ≡ ys
+list-behind l xs ys more e =
+    ap (λ (x : List ℕ). take (length ys) (drop (length xs) x)) e ∙ ap (take (length ys)) (drop-append-seam xs (ys ++ more)) ∙ take-append-seam ys more
+
+pub row-behind : (t : List ℕ) (rs : List (List ℕ)) (r more : List ℕ) → Eights rs → length r ≡ 8 → t ≡ flat rs ++ (r ++ more) → RowIs t (length rs) r
+unfolding column wordAt
+row-behind t rs r more h n e c b =
+    ap (λ (x : List ℕ). getD x (8 * length rs + c) 0) e
+    ∙ ap (λ (n : ℕ). getD (flat rs ++ (r ++ more)) (n + c) 0) (sym (length-flat rs h))
+    ∙ getD-append-add (flat rs) (r ++ more) c 0
+    ∙ List·getD-append r more 0 c (omega arith)
+
 -- what is appended to the rooms stands behind them
 module _ {names rows : List ℕ} (R : Rooms) where
   laid-front : (S : Rooms) (ns rs : List ℕ) → S .names ≡ R .names ++ ns → flat (S .rows) ≡ flat (R .rows) ++ rs → Laid S names rows → Laid R names rows
@@ -70,21 +83,14 @@ module _ {names rows : List ℕ} (R : Rooms) where
   -- the last statement's names and row
   pub laid-names : (s : Statement) → Laid (put R s) names rows → take (length (nameBytes s)) (drop (length (R .names)) names) ≡ nameBytes s
   unfolding put
-  laid-names s l =
-      ap (λ (x : List ℕ). take (length (nameBytes s)) (drop (length (R .names)) x)) (l .names-are ∙ append-assoc (R .names) (nameBytes s) (l .more-names))
-      ∙ ap (take (length (nameBytes s))) (drop-append-seam (R .names) (nameBytes s ++ l .more-names))
-      ∙ take-append-seam (nameBytes s) (l .more-names)
+  laid-names s l = list-behind names (R .names) (nameBytes s) (l .more-names) (l .names-are ∙ append-assoc (R .names) (nameBytes s) (l .more-names))
 
   pub laid-row : (s : Statement) → Eights (R .rows) → Laid (put R s) names rows → RowIs rows (length (R .rows)) (statementRow (used R) s)
-  unfolding put column wordAt
-  laid-row s h l c b =
+  unfolding put
+  laid-row s h l =
       let r : List ℕ = statementRow (used R) s in
-      let e : length (flat (R .rows)) ≡ 8 * length (R .rows) = length-flat (R .rows) h in
-      ap (λ (x : List ℕ). getD x (8 * length (R .rows) + c) 0)
+      row-behind rows (R .rows) r (l .more-rows) h (length-statement-row (used R) s)
       (l .rows-are ∙ ap (λ (x : List ℕ). x ++ l .more-rows) (flat-snoc (R .rows) r) ∙ append-assoc (flat (R .rows)) r (l .more-rows))
-      ∙ ap (λ (n : ℕ). getD (flat (R .rows) ++ (r ++ l .more-rows)) (n + c) 0) (sym e)
-      ∙ getD-append-add (flat (R .rows)) (r ++ l .more-rows) c 0
-      ∙ List·getD-append r (l .more-rows) 0 c (omega (arith, length-statement-row (used R) s))
 
 pub laid-renames : {names rows : List ℕ} (R : Rooms) (rs : List Rename) → Laid (putRenames R rs) names rows → Laid R names rows
 unfolding putRenames

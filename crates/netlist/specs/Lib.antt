@@ -8,3 +8,4 @@ pub mod LaidLaws
 pub mod NameLaws
 pub mod Spaces
 pub mod SpaceLaws
+pub mod WireLaws

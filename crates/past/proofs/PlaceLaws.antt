@@ -141,6 +141,10 @@ length-wires ss =
       sum-until (count (aWire ∷ [])) (is aModule) ss,
     )
 
+pub length-all-wires : (ss : Past) → length (flatMap (λ s. zip (contents s .names) (contents s .wires)) ss) ≡ placeOf ss .wires
+unfolding placeOf wiresIn
+length-all-wires ss = length-flatMap (λ s. zip (contents s .names) (contents s .wires)) (count (aWire ∷ [])) wire-count ss
+
 -- they are the last ones of all wires so far
 pub wires-last : (ss : Past)
     → wires ss ≡ take (placeOf ss .wires - placeOf ss .«wires_from») (flatMap (λ s. zip (contents s .names) (contents s .wires)) ss)

@@ -1,7 +1,7 @@
 -- Laws of the sizes: the sums are carried on by one statement, they exceed a limit as the rules say, and what is within the limits is small.
 -- Assumes nothing.
 use Prim.Native.Nat.{ℕ, _≤_}
-use mathlib.Core.Path.{_≡_, refl}
+use mathlib.Core.Path.{_≡_, refl, _∙_}
 use mathlib.Core.Bool.{true, false, true≢false}
 use mathlib.Core.List.{List, [], _∷_}
 use native.Mathlib.Nat.{le-trans}
@@ -96,6 +96,14 @@ module _ (u : Sizes) where
         string-bytes = omega arith;
         name-bytes = omega arith;
       }
+
+-- statements so far that exceed no size; none at all
+pub within-past : (ss : Past) → exceedsSize ss ≡ false → Within (sumsOf ss)
+within-past ss e = within-limits (sumsOf ss) (exceeds-sums ss ∙ e)
+
+pub within-none : Within (sumsOf [])
+unfolding any sum sizes exceedsSize
+within-none = within-past [] refl
 
 pub sizes-small : (s : Statement) (n : ℕ) → 1 ≤ n → signalSize s ≤ n → valueSize s ≤ n → stringSize s ≤ n → nameSize s ≤ n → AtMost n (sizesOf s)
 unfolding sizesBy sizesOf

@@ -1,0 +1,8 @@
+pub mod Lists
+pub mod NumberLaws
+pub mod StringLaws
+pub mod TokenLaws
+pub mod LineLaws
+pub mod WrittenLaws
+pub mod OutcomeLaws
+pub mod TextLaws

@@ -1,0 +1,114 @@
+-- Tests over lists, and runs.
+-- Assumes nothing.
+use mathlib.Core.Path.{_≡_, refl, _∙_}
+use mathlib.Core.Bool.{Bool, true, false, _&&_, false≢true}
+use mathlib.Core.List.{List, [], _∷_, _++_, map}
+use Prim.Native.Nat.{ℕ, zero, suc, _<_, _≤_}
+use lib.Dec.{eqb, leb}
+use lib.ListN.{drop}
+use borrow.Author.Tests.{eqb-true, le-leb, lt-leb, leb-true}
+use Rattle.rules.specs.Bytes.{same, any, all, within, run, rest}
+use Rattle.scanner.specs.Laws.{by-test, and-true-left, and-true-right, same-eq}
+
+module _ {A : Type 0} (f : A → Bool) where
+  pub all-cons : (x : A) (xs : List A) → f x ≡ true → all f xs ≡ true → all f (x ∷ xs) ≡ true
+  unfolding all
+  all-cons x xs h k = rw (h, k)
+
+  pub all-first : (x : A) (xs : List A) → all f (x ∷ xs) ≡ true → f x ≡ true
+  unfolding all
+  all-first x xs h = and-true-left (f x) (all f xs) h
+
+  pub all-later : (x : A) (xs : List A) → all f (x ∷ xs) ≡ true → all f xs ≡ true
+  unfolding all
+  all-later x xs h = and-true-right (f x) (all f xs) h
+
+  pub all-split : (xs ys : List A) → all f (xs ++ ys) ≡ all f xs && all f ys
+  unfolding all
+  all-split [] ys = refl
+  all-split (x ∷ xs) ys = by-test (f x) (λ e. rw (e, all-split xs ys)) (λ e. rw e)
+
+  pub all-append : (xs ys : List A) → all f xs ≡ true → all f ys ≡ true → all f (xs ++ ys) ≡ true
+  all-append xs ys h k = all-split xs ys ∙ rw (h, k)
+
+  pub all-drop : (n : ℕ) (xs : List A) → all f xs ≡ true → all f (drop n xs) ≡ true
+  all-drop zero xs h = h
+  all-drop (suc n) [] h = h
+  all-drop (suc n) (x ∷ xs) h = all-drop n xs (all-later x xs h)
+
+-- what passes a weaker test
+pub all-imp : {A : Type 0} (f g : A → Bool) → ((x : A) → f x ≡ true → g x ≡ true) → (xs : List A) → all f xs ≡ true → all g xs ≡ true
+unfolding all
+all-imp f g i [] h = refl
+all-imp f g i (x ∷ xs) h = all-cons g x xs (i x (all-first f x xs h)) (all-imp f g i xs (all-later f x xs h))
+
+pub all-map : {A B : Type 0} (f : B → Bool) (g : A → B) → ((x : A) → f (g x) ≡ true) → (xs : List A) → all f (map g xs) ≡ true
+unfolding all
+all-map f g i [] = refl
+all-map f g i (x ∷ xs) = all-cons f (g x) (map g xs) (i x) (all-map f g i xs)
+
+-- one of some lists of bytes passes a test that all of them pass
+pub list-passes : (f : List ℕ → Bool) (xs : List (List ℕ)) (b : List ℕ) → all f xs ≡ true → any (same b) xs ≡ true → f b ≡ true
+unfolding any
+list-passes f [] b a h = absurd (false≢true h)
+list-passes f (x ∷ xs) b a h =
+    by-test (same b x)
+    (λ e. rw (same-eq b x e) (all-first f x xs a))
+    (λ e. list-passes f xs b (all-later f x xs a) (rw e at h))
+
+abbrev pub Each : (ℕ → Type 0) → List ℕ → Type 0
+Each P [] = Unit {0}
+Each P (x ∷ xs) = P x × Each P xs
+
+-- what holds of each of some bytes holds of one of them
+pub by-any : (P : ℕ → Type 0) (xs : List ℕ) → Each P xs → (b : ℕ) → any (eqb b) xs ≡ true → P b
+unfolding any
+by-any P [] p b h = absurd (false≢true h)
+by-any P (x ∷ xs) p b h =
+    by-test (eqb b x)
+    (λ e. rw (eqb-true b x e) (p .0))
+    (λ e. by-any P xs (p .1) b (rw e at h))
+
+-- the list is empty, or its first byte fails
+abbrev pub Stops : (ℕ → Bool) → List ℕ → Type 0
+Stops f [] = Unit {0}
+Stops f (x ∷ xs) = f x ≡ false
+
+module _ (f : ℕ → Bool) where
+  run-none : (ys : List ℕ) → Stops f ys → run f ys ≡ []
+  unfolding run
+  run-none [] s = refl
+  run-none (y ∷ ys) s = rw s
+
+  rest-none : (ys : List ℕ) → Stops f ys → rest f ys ≡ ys
+  unfolding rest
+  rest-none [] s = refl
+  rest-none (y ∷ ys) s = rw s
+
+  -- bytes that pass, and then one that fails
+  pub run-upto : (xs ys : List ℕ) → all f xs ≡ true → Stops f ys → run f (xs ++ ys) ≡ xs
+  unfolding run
+  run-upto [] ys a s = run-none ys s
+  run-upto (x ∷ xs) ys a s = rw (all-first f x xs a, run-upto xs ys (all-later f x xs a) s)
+
+  pub rest-upto : (xs ys : List ℕ) → all f xs ≡ true → Stops f ys → rest f (xs ++ ys) ≡ ys
+  unfolding rest
+  rest-upto [] ys a s = rest-none ys s
+  rest-upto (x ∷ xs) ys a s = rw (all-first f x xs a, rest-upto xs ys (all-later f x xs a) s)
+
+module _ (lo hi b : ℕ) where
+  pub inside : lo ≤ b → b ≤ hi → within lo hi b ≡ true
+  unfolding within
+  inside h k = rw (le-leb lo b, le-leb b hi)
+
+  pub below : b < lo → within lo hi b ≡ false
+  unfolding within
+  below h = rw (lt-leb lo b)
+
+  pub within-low : within lo hi b ≡ true → lo ≤ b
+  unfolding within
+  within-low e = leb-true lo b (and-true-left (leb lo b) (leb b hi) e)
+
+  pub within-high : within lo hi b ≡ true → b ≤ hi
+  unfolding within
+  within-high e = leb-true b hi (and-true-right (leb lo b) (leb b hi) e)

@@ -1,0 +1,243 @@
+-- The tokens of a written statement can be written, if its parts keep the rules and the wires have legal names.
+-- Assumes nothing.
+use mathlib.Core.Path.{_≡_, refl}
+use mathlib.Core.Bool.{Bool, true, false, not, cond, _&&_}
+use mathlib.Core.List.{List, [], _∷_, _++_, map, Option·toList}
+use mathlib.Core.Option.{Option, none, some, Option·map}
+use Prim.Native.Nat.{ℕ, _+_, _-_}
+use Prim.Native.String.{String}
+use lib.Dec.{eqb}
+use lib.IntN.{ℤ, pos}
+use lib.ListN.{length, drop}
+use Rattle.rules.specs.Bytes.{bytes, all, isMark, legal, bytesOpen}
+use Rattle.rules.specs.Tokens.{Name, Literal, Token, name, word, literal, mark, keywords, isKeyword}
+use Rattle.rules.specs.Statements.{Sig, wire, slice, bundle, nothing, Opt, Sort, Constant, Signal, Direction, input, output, inout, Wire, Memory, Statement, autoidx-stmt, attr-stmt, module-stmt, param-stmt, wire-stmt, memory-stmt, cell-stmt, cell-param-stmt, cell-conn-stmt, conn-stmt, proc-stmt, end-stmt, contents, holds, translate}
+use Rattle.rules.specs.Shapes.{sigs}
+use Rattle.rules.specs.Numbers.{int32, inRange}
+use Rattle.rules.specs.Signals.{Wires}
+use Rattle.rules.specs.Text.{Run, digits, span, runs, cut, runSig, runsSig, sig, literalOf, setting, unless, directionWord, wireOptions, memoryOptions, written, numberToken, wordToken, lowTokens, sigTokens, sigsTokens, optionTokens, sortTokens, shapeTokens}
+use Rattle.admitted.specs.Admitted.{fineConstant, sameLength, fineParts}
+use Rattle.scanner.specs.Laws.{by-cond, and-true-left, and-true-right}
+use Rattle.theorems.specs.Lists.{all-cons, all-first, all-later, all-split, all-append, all-drop, all-map}
+use Rattle.theorems.specs.TokenLaws.{fineLiteral, fineToken}
+
+-- the wires' names are legal
+unfoldable pub legalNames : Wires → Bool
+legalNames ws = all (λ w. legal (w .0)) ws
+
+-- (shut, so that the tokens are found)
+unfoldable Fine : List Token → Type 0
+Fine ts = all fineToken ts ≡ true
+
+mark-fine : (m : ℕ) → isMark m ≡ true → (ts : List Token) → Fine ts → Fine (mark m ∷ ts)
+unfolding Fine fineToken
+mark-fine m h ts f = all-cons fineToken (mark m) ts h f
+
+number-fine : (i : ℤ) (ts : List Token) → Fine ts → Fine (numberToken i ∷ ts)
+unfolding Fine fineToken fineLiteral numberToken
+number-fine i ts f = all-cons fineToken (numberToken i) ts refl f
+
+name-fine : (n : Name) (ts : List Token) → legal n ≡ true → Fine ts → Fine (name n ∷ ts)
+unfolding Fine fineToken
+name-fine n ts h f = all-cons fineToken (name n) ts h f
+
+word-fine : (w : List ℕ) (ts : List Token) → isKeyword w ≡ true → Fine ts → Fine (word w ∷ ts)
+unfolding Fine fineToken
+word-fine w ts h f = all-cons fineToken (word w) ts h f
+
+literal-fine : (c : Literal) (ts : List Token) → fineLiteral c ≡ true → Fine ts → Fine (literal c ∷ ts)
+unfolding Fine fineToken
+literal-fine c ts h f = all-cons fineToken (literal c) ts h f
+
+none-fine : Fine []
+unfolding Fine all
+none-fine = refl
+
+append-fine : (ts us : List Token) → Fine ts → Fine us → Fine (ts ++ us)
+unfolding Fine
+append-fine ts us f g = all-append fineToken ts us f g
+
+-- ---- signals
+
+low-fine : (l : Option ℤ) → Fine (lowTokens l)
+unfolding lowTokens bytesOpen
+low-fine none = none-fine
+low-fine (some l) = mark-fine 58 refl (numberToken l ∷ []) (number-fine l [] none-fine)
+
+unfoldable fineSig : Sig → Bool
+fineSig s = all fineToken (sigTokens s)
+
+slice-fine : (s : Sig) (h : ℤ) (l : Option ℤ) → fineSig s ≡ true → fineSig (slice s h l) ≡ true
+unfolding Fine fineSig sigTokens bytesOpen
+slice-fine s h l f =
+    append-fine (sigTokens s ++ mark 91 ∷ numberToken h ∷ lowTokens l) (mark 93 ∷ [])
+    (append-fine (sigTokens s) (mark 91 ∷ numberToken h ∷ lowTokens l) f
+    (mark-fine 91 refl (numberToken h ∷ lowTokens l) (number-fine h (lowTokens l) (low-fine l))))
+    (mark-fine 93 refl [] none-fine)
+
+wire-fine : (n : Name) → legal n ≡ true → fineSig (wire n) ≡ true
+unfolding Fine fineSig sigTokens
+wire-fine n h = name-fine n [] h none-fine
+
+sigs-fine : (ss : List Sig) → all fineSig ss ≡ true → Fine (sigsTokens (sigs ss))
+unfolding Fine fineSig sigTokens sigs
+sigs-fine [] f = none-fine
+sigs-fine (s ∷ ss) f = append-fine (sigsTokens (sigs ss)) (sigTokens s) (sigs-fine ss (all-later fineSig s ss f)) (all-first fineSig s ss f)
+
+bundle-fine : (ss : List Sig) → all fineSig ss ≡ true → fineSig (bundle (sigs ss)) ≡ true
+unfolding Fine fineSig sigTokens bytesOpen
+bundle-fine ss f =
+    append-fine (mark 123 ∷ sigsTokens (sigs ss)) (mark 125 ∷ [])
+    (mark-fine 123 refl (sigsTokens (sigs ss)) (sigs-fine ss f))
+    (mark-fine 125 refl [] none-fine)
+
+nothing-fine : fineSig (bundle nothing) ≡ true
+unfolding sigs all
+nothing-fine = bundle-fine [] refl
+
+cut-fine : (ws : Wires) (l n : ℕ) → legalNames ws ≡ true → fineSig (cut ws l n) ≡ true
+unfolding cut legalNames
+cut-fine [] l n h = nothing-fine
+cut-fine (w ∷ ws) l n h =
+    let k : fineSig (wire (w .0)) ≡ true = wire-fine (w .0) (all-first (λ (v : Name × Wire). legal (v .0)) w ws h) in
+    by-cond (λ (s : Sig). fineSig s ≡ true) (eqb n (w .1 .width))
+    (λ e. k)
+    (λ e. slice-fine (wire (w .0)) (pos (l + n - 1)) (cond (eqb n 1) none (some (pos l))) k)
+
+runsSig-fine : (ss : List Sig) → all fineSig ss ≡ true → fineSig (runsSig ss) ≡ true
+unfolding runsSig
+runsSig-fine [] f = nothing-fine
+runsSig-fine (s ∷ []) f = all-first fineSig s [] f
+runsSig-fine (s ∷ t ∷ ss) f = bundle-fine (s ∷ t ∷ ss) f
+
+names-drop : (n : ℕ) (ws : Wires) → legalNames ws ≡ true → legalNames (drop n ws) ≡ true
+unfolding legalNames
+names-drop n ws h = all-drop (λ (w : Name × Wire). legal (w .0)) n ws h
+
+module _ (ws : Wires) (h : legalNames ws ≡ true) where
+  run-fine : (r : Run) → fineSig (runSig ws r) ≡ true
+  unfolding Fine runSig fineSig sigTokens fineLiteral
+  run-fine (digits ds) = literal-fine _ [] refl none-fine
+  run-fine (span n l k) = cut-fine (drop (length ws - (n + 1)) ws) l k (names-drop (length ws - (n + 1)) ws h)
+
+  sig-fine : (bs : Signal) → Fine (sigTokens (sig ws bs))
+  unfolding Fine sig fineSig
+  sig-fine bs = runsSig-fine (map (runSig ws) (runs bs)) (all-map fineSig (runSig ws) run-fine (runs bs))
+
+-- ---- options
+
+unfoldable fineOption : Opt → Bool
+fineOption o = isKeyword (o .0)
+
+numbers-fine : (x : Option ℤ) → Fine (map numberToken (Option·toList x))
+unfolding Option·toList
+numbers-fine none = none-fine
+numbers-fine (some i) = number-fine i [] none-fine
+
+options-fine : (os : List Opt) → all fineOption os ≡ true → Fine (optionTokens os)
+unfolding optionTokens fineOption
+options-fine [] f = none-fine
+options-fine (o ∷ os) f =
+    append-fine (optionTokens os) (word (o .0) ∷ map numberToken (Option·toList (o .1))) (options-fine os (all-later fineOption o os f))
+    (word-fine (o .0) (map numberToken (Option·toList (o .1))) (all-first fineOption o os f) (numbers-fine (o .1)))
+
+unless-fine : (b : Bool) (o : Opt) → fineOption o ≡ true → all fineOption (unless b o) ≡ true
+unfolding unless all
+unless-fine true o h = refl
+unless-fine false o h = rw h
+
+ports-fine : (p : Option (Direction × ℕ)) → all fineOption (map (λ (p : Direction × ℕ). setting (directionWord (p .0)) (pos (p .1))) (Option·toList p)) ≡ true
+unfolding fineOption Option·toList setting directionWord isKeyword keywords bytesOpen
+ports-fine none = refl
+ports-fine (some (input, n)) = refl
+ports-fine (some (output, n)) = refl
+ports-fine (some (inout, n)) = refl
+
+wire-options : (w : Wire) → all fineOption (wireOptions w) ≡ true
+unfolding fineOption wireOptions setting isKeyword keywords bytesOpen
+wire-options w =
+    simp (all-split fineOption)
+    (rw (
+      unless-fine (not (w .signed)) (bytes "signed", none) refl,
+      ports-fine (w .port),
+      unless-fine (not (w .upto)) (bytes "upto", none) refl,
+      unless-fine (inRange 0 0 (w .offset)) (setting "offset" (w .offset)) refl,
+      unless-fine (eqb (w .width) 1) (setting "width" (pos (w .width))) refl,
+    ))
+
+memory-options : (m : Memory) → all fineOption (memoryOptions m) ≡ true
+unfolding fineOption memoryOptions setting isKeyword keywords bytesOpen
+memory-options m =
+    simp (all-split fineOption)
+    (rw (
+      unless-fine (inRange 0 0 (m .offset)) (setting "offset" (m .offset)) refl,
+      unless-fine (eqb (m .size) 0) (setting "size" (pos (m .size))) refl,
+      unless-fine (eqb (m .width) 1) (setting "width" (pos (m .width))) refl,
+    ))
+
+-- ---- statements
+
+sort-fine : (o : Sort) → Fine (sortTokens o)
+unfolding sortTokens wordToken isKeyword keywords bytesOpen
+sort-fine Sort.plain = none-fine
+sort-fine Sort.signed = word-fine (bytes "signed") [] refl none-fine
+sort-fine Sort.real = word-fine (bytes "real") [] refl none-fine
+
+constant-fine : (c : Constant) → fineConstant c ≡ true → fineLiteral (literalOf c) ≡ true
+unfolding fineConstant fineLiteral literalOf
+constant-fine (Constant.value ds) h = refl
+constant-fine (Constant.integer i) h = refl
+constant-fine (Constant.string s) h = h
+
+constants-fine : (x : Option Constant) → all fineConstant (Option·toList x) ≡ true → Fine (map literal (Option·toList (Option·map literalOf x)))
+unfolding Option·toList
+constants-fine none h = none-fine
+constants-fine (some c) h = literal-fine (literalOf c) [] (constant-fine c (all-first fineConstant c [] h)) none-fine
+
+first-fine : (w : String) → isKeyword (bytes w) ≡ true → (ts : List Token) → Fine ts → Fine (wordToken w ∷ ts)
+unfolding wordToken
+first-fine w h ts f = word-fine (bytes w) ts h f
+
+named-fine : (w : String) → isKeyword (bytes w) ≡ true → (os : List Token) (n : Name) → Fine os → legal n ≡ true → Fine ((wordToken w ∷ os) ++ name n ∷ [])
+named-fine w h os n f g = append-fine (wordToken w ∷ os) (name n ∷ []) (first-fine w h os f) (name-fine n [] g none-fine)
+
+-- of the parts that keep the rules: names and constants
+module _ (ws : Wires) (s : Statement) (f : fineParts ws s ≡ true) where
+  parts-early : (all legal (contents s .names) && all int32 (contents s .integers) && all fineConstant (contents s .constants)) ≡ true
+  unfolding fineParts
+  parts-early = and-true-left _ _ (and-true-left _ _ (and-true-left _ _ (and-true-left _ (sameLength (contents s .signals)) f)))
+
+  pub parts-names : all legal (contents s .names) ≡ true
+  parts-names = and-true-left _ _ (and-true-left _ _ parts-early)
+
+  pub parts-constants : all fineConstant (contents s .constants) ≡ true
+  parts-constants = and-true-right (all legal (contents s .names) && all int32 (contents s .integers)) _ parts-early
+
+module _ (ws : Wires) (h : legalNames ws ≡ true) where
+  parts-fine : (s : Statement) → all legal (contents s .names) ≡ true → all fineConstant (contents s .constants) ≡ true → Fine (shapeTokens (written ws s))
+  unfolding contents holds written translate shapeTokens isKeyword keywords bytesOpen
+  parts-fine (autoidx-stmt i) n c = first-fine "autoidx" refl _ (number-fine i [] none-fine)
+  parts-fine (attr-stmt m v) n c =
+      first-fine "attribute" refl _ (name-fine m _ (all-first legal m [] n) (literal-fine (literalOf v) [] (constant-fine v (all-first fineConstant v [] c)) none-fine))
+  parts-fine (module-stmt m) n c = first-fine "module" refl _ (name-fine m [] (all-first legal m [] n) none-fine)
+  parts-fine (param-stmt m v) n c = first-fine "parameter" refl _ (name-fine m _ (all-first legal m [] n) (constants-fine v c))
+  parts-fine (wire-stmt w m) n c = named-fine "wire" refl (optionTokens (wireOptions w)) m (options-fine (wireOptions w) (wire-options w)) (all-first legal m [] n)
+  parts-fine (memory-stmt w m) n c = named-fine "memory" refl (optionTokens (memoryOptions w)) m (options-fine (memoryOptions w) (memory-options w)) (all-first legal m [] n)
+  parts-fine (cell-stmt t m) n c =
+      first-fine "cell" refl _ (name-fine t _ (all-first legal t (m ∷ []) n) (name-fine m [] (all-first legal m [] (all-later legal t (m ∷ []) n)) none-fine))
+  parts-fine (cell-param-stmt o m v) n c =
+      append-fine (wordToken "parameter" ∷ sortTokens o) (name m ∷ literal (literalOf v) ∷ [])
+      (first-fine "parameter" refl (sortTokens o) (sort-fine o))
+      (name-fine m _ (all-first legal m [] n) (literal-fine (literalOf v) [] (constant-fine v (all-first fineConstant v [] c)) none-fine))
+  parts-fine (cell-conn-stmt m b) n c = first-fine "connect" refl _ (name-fine m (sigTokens (sig ws b)) (all-first legal m [] n) (sig-fine ws h b))
+  parts-fine (conn-stmt a b) n c =
+      append-fine (wordToken "connect" ∷ sigTokens (sig ws a)) (sigTokens (sig ws b))
+      (first-fine "connect" refl (sigTokens (sig ws a)) (sig-fine ws h a))
+      (sig-fine ws h b)
+  parts-fine (proc-stmt m) n c = first-fine "process" refl _ (name-fine m [] (all-first legal m [] n) none-fine)
+  parts-fine end-stmt n c = first-fine "end" refl [] none-fine
+
+-- the tokens of a written statement can be written
+pub fine-written : (ws : Wires) (s : Statement) → legalNames ws ≡ true → fineParts ws s ≡ true → all fineToken (shapeTokens (written ws s)) ≡ true
+unfolding Fine fineParts
+fine-written ws s h f = parts-fine ws h s (parts-names ws s f) (parts-constants ws s f)
