@@ -1,23 +1,25 @@
 -- Statements that were accepted, each after those before it: they stand, they are within the sizes, so that there are at most 4,705 of
 -- them, and the offsets of their wires fit in 32 bits.
 -- Assumes nothing.
-use Prim.Native.Nat.{_≤_}
+use Prim.Native.Nat.{ℕ, _≤_}
 use Prim.Native.String.{String}
 use mathlib.Core.Path.{_≡_, refl, sym, ap, _∙_}
 use mathlib.Core.List.{List, [], _∷_, Option·toList}
 use mathlib.Core.Option.{Option, none, some, Option·getD}
 use mathlib.Core.Bool.{Bool, true, false, not, _&&_, _||_, Bool·not-not}
+use native.Mathlib.Omega.{arith}
 use lib.Dec.{leb}
 use lib.IntN.{ℤ, pos}
 use lib.ListN.{length}
 use Rattle.rules.specs.Bytes.{bytes, same, all}
-use Rattle.rules.specs.Tokens.{Token}
+use Rattle.rules.specs.Lines.{Line, place}
+use Rattle.rules.specs.Tokens.{Token, Lexed, bad, good, tokens}
 use Rattle.rules.specs.Statements.{Opt, Shape, Statement, autoidx-stmt, attr-stmt, module-stmt, param-stmt, wire-stmt, memory-stmt, cell-stmt, cell-param-stmt, cell-conn-stmt, conn-stmt, proc-stmt, end-stmt, contents, statementsOpen}
 use Rattle.rules.specs.Shapes.{shape}
 use Rattle.rules.specs.Numbers.{int32, inRange, goodLiteral, goodNumbers, numberOr, ports, wireOf, once, goodOptions, goodWire, goodMemory}
 use Rattle.rules.specs.Signals.{Wires}
 use Rattle.rules.specs.Judgement.{Past, context, wires, newPort, allParts, breaksNumber, exceedsSize, partTooWide, Verdict, meaning}
-use Rattle.rules.specs.Reading.{shaped}
+use Rattle.rules.specs.Reading.{states, shaped, stated, judged, lexed, outcome}
 use Rattle.scanner.specs.Laws.{by-test, and-true-left, and-true-right}
 use Rattle.past.specs.Sizes.{sumsOf, Within}
 use Rattle.past.specs.Offsets.{fitsOffset, Offsets, no-offsets, more-offsets}
@@ -29,6 +31,27 @@ use Rattle.admitted.specs.CountLaws.{Standing, none-stand, one-stands, r
 pub data Accepted : Past → Type 0 where
   none-accepted : Accepted []
   one-accepted : {s : Statement} {ss : Past} (ts : List Token) → shaped ss (shape (context ss) ts) ≡ Verdict.accepted s → Accepted ss → Accepted (s ∷ ss)
+
+-- a line that states a statement has it accepted
+judged-states : (p : ℕ) (v : Verdict Statement) (s : Statement) → judged p v ≡ states s → v ≡ Verdict.accepted s
+unfolding judged
+judged-states p (Verdict.accepted x) s e = cc
+judged-states p (Verdict.refused n) s e = cc
+
+stated-shaped : (ss : Past) (ended : Bool) (ts : List Token) (s : Statement) → stated ss ended ts ≡ Verdict.accepted s → shaped ss (shape (context ss) ts) ≡ Verdict.accepted s
+unfolding stated
+stated-shaped ss true ts s e = e
+stated-shaped ss false ts s e = cc
+
+lexed-accepted : (ss : Past) (l : Line) (x : Lexed) (s : Statement) → lexed ss l x ≡ states s → Accepted ss → Accepted (s ∷ ss)
+unfolding lexed
+lexed-accepted ss l (bad left) s e h = absurd (let z : _≡_ {A = ℕ} 0 1 = cc in omega arith)
+lexed-accepted ss l (good []) s e h = absurd (let z : _≡_ {A = ℕ} 0 1 = cc in omega arith)
+lexed-accepted ss l (good (t ∷ ts)) s e h = one-accepted (t ∷ ts) (stated-shaped ss (l .ended) (t ∷ ts) s (judged-states (place l) _ s e)) h
+
+pub states-accepted : (ss : Past) (l : Line) (s : Statement) → outcome ss l ≡ states s → Accepted ss → Accepted (s ∷ ss)
+unfolding outcome
+states-accepted ss l s e h = lexed-accepted ss l (tokens (l .text)) s e h
 
 -- the number of an option fits in 32 bits where the options are good
 given-fits : (o : Option ℤ) → all int32 (Option·toList o) ≡ true → int32 (Option·getD o (pos 0)) ≡ true

@@ -1,5 +1,5 @@
 -- The shape that a form stands for, over a file's bytes.
-use Prim.Native.Nat.{ℕ}
+use Prim.Native.Nat.{ℕ, _≤_}
 use mathlib.Core.Path.{_≡_}
 use mathlib.Core.List.{List}
 use mathlib.Core.Option.{Option, none, some}
@@ -10,7 +10,9 @@ use Rattle.rules.specs.Tokens as rules
 use Rattle.rules.specs.Statements.{Sort, Shape, autoidx-stmt, attr-stmt, module-stmt, param-stmt, wire-stmt, memory-stmt, cell-stmt, cell-param-stmt, cell-conn-stmt, conn-stmt, proc-stmt, end-stmt}
 use Rattle.rules.specs.Shapes as shapes
 use Rattle.rules.specs.Shapes.{Parse, of₂, id, sigspec, options, wireOptionForms, memoryOptionForms, top, inModule, inCell, whole, wholeBy, shape}
-use Rattle.tokens.specs.Rows.{integerIn, literalIn, line}
+use Rattle.tokens.specs.Rows.{integerIn, literalIn, line, tokenAt}
+use Rattle.tokens.specs.declared.Constant.{Constant}
+use Rattle.tokens.specs.declared.Token.the-variants.{Constant as Constantly}
 use Rattle.tokens.specs.declared.Literal.{Literal}
 use Rattle.tokens.specs.declared.Literal.the-variants as literal
 use Rattle.forms.specs.Words.{announced}
@@ -63,21 +65,59 @@ unfoldable pub ended : Option Shape → List rules.Token → Option Shape
 ended none ts = none
 ended (some s) ts = wholeBy s ts
 
+-- a form's constant is that of one of the rows, and its sort one of three
+abbrev pub InRows : List ℕ → Constant → Type 0
+InRows t c = (i : ℕ) × (tokenAt t i ≡ Constantly c)
+
+abbrev pub ValueFrom : List ℕ → Literal → Type 0
+ValueFrom t (literal.Read c) = InRows t c
+ValueFrom t literal.Nothing = Unit {0}
+
+abbrev pub FormFrom : List ℕ → Form → Type 0
+FormFrom t (Autoidx z) = Unit {0}
+FormFrom t (Attribute n c) = InRows t c
+FormFrom t (Module n) = Unit {0}
+FormFrom t (Parameter n c) = ValueFrom t c
+FormFrom t (Cell k n) = Unit {0}
+FormFrom t (CellParameter s n c) = (s ≤ 2) × InRows t c
+FormFrom t (Process n) = Unit {0}
+FormFrom t End = Unit {0}
+FormFrom t NoShape = Unit {0}
+
+abbrev pub KindFrom : List ℕ → Kind → Type 0
+KindFrom t (kind.Form r) = FormFrom t r
+KindFrom t kind.Wire = Unit {0}
+KindFrom t kind.Memory = Unit {0}
+KindFrom t kind.Connect = Unit {0}
+
+abbrev pub CellKindFrom : List ℕ → CellKind → Type 0
+CellKindFrom t (cellKind.Form r) = FormFrom t r
+CellKindFrom t cellKind.Connect = Unit {0}
+
 -- over every file: the form where its line ends at row i; the line from row i on; the line by where it stands
 abbrev pub FinishedIs : List ℕ → ℕ → Form → Form → Type 0
-FinishedIs t i form r = (f : List ℕ) → ended (formOf f form) (line f t i) ≡ formOf f r
+FinishedIs t i form r = ((f : List ℕ) → ended (formOf f form) (line f t i) ≡ formOf f r) × (FormFrom t form → FormFrom t r)
 
 abbrev pub LineIs : Parse Shape → List ℕ → ℕ → Form → Type 0
-LineIs p t i r = (f : List ℕ) → whole (p (line f t i)) ≡ formOf f r
+LineIs p t i r = ((f : List ℕ) → whole (p (line f t i)) ≡ formOf f r) × FormFrom t r
+
+-- (with a sort that is one of three)
+abbrev pub SortedIs : ℕ → Parse Shape → List ℕ → ℕ → Form → Type 0
+SortedIs s p t i r = ((f : List ℕ) → whole (p (line f t i)) ≡ formOf f r) × (s ≤ 2 → FormFrom t r)
 
 abbrev pub AnnouncedIs : List shapes.Form → List ℕ → ℕ → Kind → Type 0
-AnnouncedIs ps t c r = (f : List ℕ) → whole (announced ps c (line f t 1)) ≡ kindOf f t r
+AnnouncedIs ps t c r = ((f : List ℕ) → whole (announced ps c (line f t 1)) ≡ kindOf f t r) × KindFrom t r
 
 abbrev pub TopIs : List ℕ → Bool → Form → Type 0
-TopIs t first r = (f : List ℕ) (attributed : Bool) → shape (record { scope = top; first = first; attributed = attributed }) (line f t 0) ≡ formOf f r
+TopIs t first r =
+    ((f : List ℕ) (attributed : Bool) → shape (record { scope = top; first = first; attributed = attributed }) (line f t 0) ≡ formOf f r) × FormFrom t r
 
 abbrev pub ModuleIs : List ℕ → Bool → Kind → Type 0
-ModuleIs t attributed r = (f : List ℕ) (first : Bool) → shape (record { scope = inModule; first = first; attributed = attributed }) (line f t 0) ≡ kindOf f t r
+ModuleIs t attributed r =
+    ((f : List ℕ) (first : Bool) → shape (record { scope = inModule; first = first; attributed = attributed }) (line f t 0) ≡ kindOf f t r)
+    × KindFrom t r
 
 abbrev pub CellIs : List ℕ → CellKind → Type 0
-CellIs t r = (f : List ℕ) (first attributed : Bool) → shape (record { scope = inCell; first = first; attributed = attributed }) (line f t 0) ≡ cellKindOf f t r
+CellIs t r =
+    ((f : List ℕ) (first attributed : Bool) → shape (record { scope = inCell; first = first; attributed = attributed }) (line f t 0) ≡ cellKindOf f t r)
+    × CellKindFrom t r

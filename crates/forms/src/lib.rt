@@ -12,7 +12,7 @@ use tokens::token_at;
 ghost use Rattle.rules.specs.Statements.{autoidx-stmt, attr-stmt, module-stmt, param-stmt, cell-stmt, cell-param-stmt, proc-stmt};
 ghost use Rattle.rules.specs.Shapes.{of₁, of₂, of₃, id, int, const, orEnd, sort, objectForms};
 ghost use Rattle.forms.specs.Words.{WordIs};
-ghost use Rattle.forms.specs.Forms.{sortOf, FinishedIs, LineIs, TopIs, AnnouncedIs, ModuleIs, CellIs};
+ghost use Rattle.forms.specs.Forms.{sortOf, FinishedIs, LineIs, SortedIs, TopIs, AnnouncedIs, ModuleIs, CellIs};
 
 // A name's place in the file.
 pub struct Span {
@@ -154,7 +154,7 @@ fn cell_line(tokens: &[u32], i: usize) -> Form
 
 // A cell parameter behind its sort.
 fn sorted_line(tokens: &[u32], i: usize, sort: u32) -> Form
-    ensures { λ r. ⌜ LineIs (of₂ (cell-param-stmt (sortOf sort)) id const) (now (tokens .entry)) i r ⌝ }
+    ensures { λ r. ⌜ SortedIs sort (of₂ (cell-param-stmt (sortOf sort)) id const) (now (tokens .entry)) i r ⌝ }
 {
     let Id::Span { start, end } = id_at(tokens, i) else {
         return Form::NoShape;

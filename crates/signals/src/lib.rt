@@ -51,7 +51,7 @@ enum Bounds {
 }
 
 // The lower of two refusal numbers, of which 0 is none.
-fn merge(a: u32, b: u32) -> u32
+pub fn merge(a: u32, b: u32) -> u32
     ensures { λ r. ⌜ r ≡ merge a b ⌝ }
 {
     if a == 0 {

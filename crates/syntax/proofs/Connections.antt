@@ -19,7 +19,7 @@ use Rattle.signals.specs.Faults.{faults, fault, merge, mild}
 use Rattle.signals.specs.Held.{Held}
 use Rattle.signals.specs.declared.Bits.{Bits}
 use Rattle.signals.proofs.FaultLaws.{faults-append, merge-none, merge-zero, mild-merge, late-merge}
-use Rattle.syntax.specs.Statements.{numberOf, lateOf, early, late, statementIn, Says, faulted}
+use Rattle.syntax.specs.Statements.{numberOf, lateOf, early, late, statementIn, kindIn, namesIn, Says, faulted}
 use Rattle.syntax.specs.declared.Statement.{Statement}
 use Rattle.syntax.specs.declared.Statement.the-variants as statement
 use Rattle.syntax.proofs.Laws.{refused}
@@ -68,8 +68,8 @@ module _ (ws : Wires) (f s : List ℕ) (sh : Shape) where
   by-fault : (n : ℕ) (r : Statement) → early ws sh ≡ earlyOf n → (earlyOf n ≡ none → Says ws f s (some sh) r) → Says ws f s (some sh) (faulted n r)
   unfolding earlyOf faulted numberOf
   by-fault n r e k =
-      by-cond (λ x. Says ws f s (some sh) x) (eqb n 7) (λ h. refused ws f s statement.BadNumber 7 refl (e ∙ rw h))
-      (λ h. by-cond (λ x. Says ws f s (some sh) x) (eqb n 8) (λ g. refused ws f s statement.MissingWire 8 refl (e ∙ rw (h, g))) (λ g. k (rw (h, g))))
+      by-cond (λ x. Says ws f s (some sh) x) (eqb n 7) (λ h. refused ws f s statement.BadNumber 7 refl tt (e ∙ rw h))
+      (λ h. by-cond (λ x. Says ws f s (some sh) x) (eqb n 8) (λ g. refused ws f s statement.MissingWire 8 refl tt (e ∙ rw (h, g))) (λ g. k (rw (h, g))))
 
 -- ---- the parts of one signal and of two
 
@@ -105,7 +105,7 @@ module _ (ws : Wires) (f s : List ℕ) (n : Span) (a : Sig) (b : Bits) (H : Held
   cell-early = early-faults ws cellShape refl cell-numbers ∙ ap earlyOf cell-fault
 
   pub cell-connected : Says ws f s (some cellShape) (faulted (b .fault) (statement.CellConnection n (b .width) (b .fault)))
-  unfolding statementsOpen equalWidths merge numberOf lateOf statementIn meaning
+  unfolding statementsOpen equalWidths merge numberOf lateOf statementIn kindIn namesIn meaning
   cell-connected =
       by-fault ws f s cellShape (b .fault) (statement.CellConnection n (b .width) (b .fault)) cell-early
       (λ h.
@@ -113,6 +113,9 @@ module _ (ws : Wires) (f s : List ℕ) (n : Span) (a : Sig) (b : Bits) (H : Held
         sh = cellShape;
         is = refl;
         early = cell-early ∙ h;
+        kind = λ _. refl;
+        names = λ _. refl;
+        sound = H .small;
         late = λ _. late-faults ws cellShape refl cell-numbers (ap earlyOf cell-fault ∙ h) ∙ cell-fault;
         means = λ _ z. rw (signal-back ws a 0 s b H z);
       })
@@ -146,10 +149,14 @@ module _ (ws : Wires) (f s : List ℕ) (a b : Sig) (l r : Bits) (A : Held ws a 0
       let m : mild (l .fault) && mild (r .fault) ≡ true = sym (mild-merge (l .fault) (r .fault)) ∙ h in
       ap₂ eqb (A .wide (and-true-left _ _ m)) (B .wide (and-true-right (mild (l .fault)) _ m))
 
+  -- without a number both signals have none
+  unfaulted : (u : ℕ) → merge u (merge (l .fault) (r .fault)) ≡ 0 → (l .fault ≡ 0) × (r .fault ≡ 0)
+  unfaulted u z = merge-zero (l .fault) (r .fault) (merge-zero u (merge (l .fault) (r .fault)) z .1)
+
   pub both-connected :
       (u : ℕ) → u ≡ cond (eqb (l .width) (r .width)) 0 10 →
       Says ws f s (some shape) (faulted (merge (l .fault) (r .fault)) (statement.Connection (l .width) (r .width) (merge u (merge (l .fault) (r .fault)))))
-  unfolding statementsOpen equalWidths numberOf lateOf statementIn meaning
+  unfolding statementsOpen equalWidths numberOf lateOf statementIn kindIn namesIn meaning
   both-connected u e =
       by-fault ws f s shape (merge (l .fault) (r .fault)) _ both-early
       (λ h.
@@ -157,12 +164,15 @@ module _ (ws : Wires) (f s : List ℕ) (a b : Sig) (l r : Bits) (A : Held ws a 0
         sh = shape;
         is = refl;
         early = both-early ∙ h;
+        kind = λ _. refl;
+        names = λ _. refl;
+        sound = λ z. let m = unfaulted u z in (A .small (m .0), B .small (m .1));
         late = λ _.
             late-faults ws shape refl numbers (ap earlyOf both-fault ∙ h)
             ∙ ap (merge _) both-fault
             ∙ uneven (eqb (width ws a) (width ws b)) (eqb (l .width) (r .width)) _ widths
             ∙ ap (λ (x : ℕ). merge x (merge (l .fault) (r .fault))) (sym e);
         means = λ _ z.
-            let m = merge-zero (l .fault) (r .fault) (merge-zero u (merge (l .fault) (r .fault)) z .1) in
+            let m = unfaulted u z in
             rw (signal-back ws a 0 s l A (m .0), signal-back ws b 2048 s r B (m .1));
       })

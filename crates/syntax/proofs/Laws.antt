@@ -14,42 +14,55 @@ use Rattle.rules.specs.Signals.{Wires, twosComplement}
 use Rattle.rules.specs.Judgement.{breaksNumber, lowest, meaning, allParts, lacksWire, breaksWidth, equalWidths, partTooWide, judgementOpen}
 use Rattle.numbers.specs.Signed.{signedOf}
 use Rattle.numbers.specs.SignedLaws.{signed-word}
-use Rattle.forms.specs.Forms.{formOf, valueIn}
-use Rattle.syntax.specs.Statements.{numberOf, lateOf, early, late, statementIn, Judged}
+use Rattle.forms.specs.Forms.{formOf, valueIn, InRows, FormFrom}
+use Rattle.forms.specs.declared.Form.{Form}
+use Rattle.forms.specs.declared.Form.the-variants as form
+use Rattle.tokens.specs.declared.Constant.{Constant}
+use Rattle.tokens.specs.declared.Literal.the-variants as literal
+use Rattle.literals.specs.Codes.{Whole}
+use Rattle.signals.specs.Reads.{Closed}
+use Rattle.syntax.specs.Statements.{numberOf, lateOf, early, late, statementIn, kindIn, namesIn, Sound, WholeForm, Judged}
 use Rattle.syntax.specs.declared.Statement.{Statement}
 use Rattle.syntax.specs.declared.Statement.the-variants.{BadNumber}
 
 -- what the judgement of a line without signals computes
 unfoldable pub plainOpen : Unit {0}
-unfolding formOf valueIn numberOf early lateOf statementIn statementsOpen judgementOpen all
+unfolding formOf valueIn numberOf early lateOf statementIn kindIn namesIn statementsOpen judgementOpen all
 plainOpen = tt
 
 module _ (ws : Wires) (f s : List ℕ) {sh : Shape} where
   -- a refusal
-  pub refused : (r : Statement) (n : ℕ) → numberOf r ≡ some n → early ws sh ≡ some n → Judged ws f s (some sh) r
-  refused r n h e =
+  pub refused : (r : Statement) (n : ℕ) → numberOf r ≡ some n → Sound f r → early ws sh ≡ some n → Judged ws f s (some sh) r
+  refused r n h q e =
       record {
         sh = sh;
         is = refl;
         early = cc;
+        kind = λ g. let z : _≡_ {A = ℕ} 0 1 = cc in absurd (omega arith);
+        names = λ g. let z : _≡_ {A = ℕ} 0 1 = cc in absurd (omega arith);
+        sound = q;
         late = λ g. let z : _≡_ {A = ℕ} 0 1 = cc in absurd (omega arith);
         means = λ g l. let z : _≡_ {A = ℕ} 0 1 = cc in absurd (omega arith);
       }
 
   pub bad-number : is aProcess sh ≡ false → breaksNumber ws sh ≡ true → Judged ws f s (some sh) BadNumber
   unfolding numberOf early lowest
-  bad-number p h = refused BadNumber 7 refl (rw (p, h))
+  bad-number p h = refused BadNumber 7 refl tt (rw (p, h))
 
   -- without signals no wire is missing and no width is wrong
   pub stated :
       (r : Statement) → numberOf r ≡ none → lateOf r ≡ 0 → contents sh .signals ≡ [] → is aProcess sh ≡ false → breaksNumber ws sh ≡ false →
-      statementIn f s r ≡ some (meaning ws sh) → Judged ws f s (some sh) r
+      contents sh .kind ≡ kindIn r → contents sh .names ≡ namesIn f r → Sound f r → statementIn f s r ≡ some (meaning ws sh) →
+      Judged ws f s (some sh) r
   unfolding early late lowest lacksWire breaksWidth partTooWide equalWidths allParts judgementOpen all
-  stated r g l e p h m =
+  stated r g l e p h k n q m =
       record {
         sh = sh;
         is = refl;
         early = rw (g, p, h, e);
+        kind = λ _. k;
+        names = λ _. n;
+        sound = q;
         late = λ _. rw (e, l);
         means = λ _ _. m;
       }
@@ -57,3 +70,20 @@ module _ (ws : Wires) (f s : List ℕ) {sh : Shape} where
 -- the integer of its word
 pub number-back : (i : ℤ) (w : ℕ) → int32 i ≡ true → twosComplement i ≡ w → signedOf w ≡ i
 number-back i w h e = rw e at (signed-word i h)
+
+-- a constant of rows whose strings have their ends, and a form of such rows
+module _ (f t : List ℕ) (C : Closed f t) where
+  in-rows : (c : Constant) → InRows t c → Whole f c
+  in-rows c (i, e) = rw e at (C .whole i)
+
+  pub form-whole : (x : Form) → FormFrom t x → WholeForm f x
+  form-whole (form.Autoidx z) h = tt
+  form-whole (form.Attribute n c) h = in-rows c h
+  form-whole (form.Module n) h = tt
+  form-whole (form.Parameter n (literal.Read c)) h = in-rows c h
+  form-whole (form.Parameter n literal.Nothing) h = tt
+  form-whole (form.Cell k n) h = tt
+  form-whole (form.CellParameter s n c) h = (h .0, in-rows c (h .1))
+  form-whole (form.Process n) h = tt
+  form-whole form.End h = tt
+  form-whole form.NoShape h = tt

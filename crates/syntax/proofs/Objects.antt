@@ -60,16 +60,21 @@ flag-small true false = omega arith
 flag-small false true = omega arith
 flag-small false false = omega arith
 
-direction-large : (d : Direction) → 4 ≤ directionCode d
+direction-range : (d : Direction) → (4 ≤ directionCode d) × (directionCode d ≤ 12)
 unfolding directionCode
-direction-large input = omega arith
-direction-large output = omega arith
-direction-large inout = omega arith
+direction-range input = (omega arith, omega arith)
+direction-range output = (omega arith, omega arith)
+direction-range inout = (omega arith, omega arith)
 
 no-port : (k : ℕ) (q : Option (Direction × ℕ)) → k + Option·elim q 0 (λ p. directionCode (p .0)) ≤ 3 → q ≡ none
 unfolding Option·elim
 no-port k none h = refl
-no-port k (some (d, n)) h = absurd (omega (arith, direction-large d))
+no-port k (some (d, n)) h = absurd (omega (arith, direction-range d .0))
+
+port-small : (q : Option (Direction × ℕ)) → Option·elim q 0 (λ p. directionCode (p .0)) ≤ 12
+unfolding Option·elim
+port-small none = omega arith
+port-small (some (d, n)) = direction-range d .1
 
 a-port : (k : ℕ) (q : Option (Direction × ℕ)) → k ≤ 3 → 3 < k + Option·elim q 0 (λ p. directionCode (p .0)) → (d : Direction) × (q ≡ some (d, portNumber q))
 unfolding Option·elim
@@ -115,13 +120,23 @@ wire-means os G =
     (wire-back (wireOf os)
     (offset-fits os (and-true-left (goodOptions os) _ (and-true-left _ _ (and-true-left _ _ (and-true-left _ _ (G .good)))))))
 
+wire-sound : (os : List Opt) {w t k p : ℕ} → WireGood os w t k p → (k < 16) × (k < 4 → p ≡ 0)
+unfolding flags Option·elim
+wire-sound os G =
+    let x = wireOf os in
+    let bits = cond (x .upto) 1 0 + cond (x .signed) 2 0 in
+    let e = G .flags in (
+      omega (arith, e, flag-small (x .upto) (x .signed), port-small (x .port)),
+      λ h. let g : flags x ≤ 3 = omega (arith, e) in rw (← G .port, no-port bits (x .port) g),
+    )
+
 module _ (ws : Wires) (f s : List ℕ) (os : List Opt) (n : Span) where
   pub wire-stated : {w t k p : ℕ} → WireGood os w t k p → newPort ws os ≡ true → Judged ws f s (some (wire-stmt os (nameIn f n))) (statement.Wire n w t k p)
   unfolding plainOpen
-  wire-stated G h = stated ws f s _ refl refl refl refl (rw (G .good, h)) (rw (wire-means os G))
+  wire-stated G h = stated ws f s _ refl refl refl refl (rw (G .good, h)) refl refl (wire-sound os G) (rw (wire-means os G))
 
   pub memory-stated : {w z t : ℕ} → MemoryGood os w z t → Judged ws f s (some (memory-stmt os (nameIn f n))) (statement.Memory n w z t)
   unfolding plainOpen goodMemory memoryOf memoryFrom
   memory-stated G =
-      stated ws f s _ refl refl refl refl (rw (G .good))
+      stated ws f s _ refl refl refl refl (rw (G .good)) refl refl tt
       (rw (← G .width, ← G .size, number-back _ _ (offset-fits os (and-true-left (goodOptions os) _ (and-true-left _ _ (G .good)))) (G .offset)))

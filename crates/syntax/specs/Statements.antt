@@ -8,7 +8,7 @@ use lib.Dec.{eqb}
 use lib.ListN.{length}
 use lib.Seq.{slice}
 use Rattle.rules.specs.Statements as rules
-use Rattle.rules.specs.Statements.{Shape, Signal, Wire, Memory, aProcess, is}
+use Rattle.rules.specs.Statements.{Shape, Signal, Wire, Memory, aProcess, is, contents}
 use Rattle.rules.specs.Tokens.{Name}
 use Rattle.rules.specs.Shapes as shapes
 use Rattle.rules.specs.Numbers.{goodLiteral}
@@ -24,6 +24,7 @@ use Rattle.literals.specs.Codes.{Whole}
 use Rattle.wires.specs.Rows.{wireOf, wiresFrom}
 use Rattle.forms.specs.Forms.{sortOf, nameIn, valueIn, formOf, kindOf}
 use Rattle.forms.specs.declared.Form.{Form}
+use Rattle.forms.specs.declared.Form.the-variants as form
 use Rattle.forms.specs.declared.Kind.the-variants as kind
 use Rattle.signals.specs.Held.{Held}
 use Rattle.signals.specs.Reads.{Readable}
@@ -165,11 +166,15 @@ Sound f Process = Unit {0}
 Sound f BadNumber = Unit {0}
 Sound f MissingWire = Unit {0}
 
--- The line has a shape, which the answer judges: its number; and where it has none, what is left for later, and if that is nothing its meaning
+-- The line has a shape, which the answer judges: its number; and where it has none, its kind and names, what is left for later, and if that is
+-- nothing its meaning
 pub record Judged (ws : Wires) (f s : List ℕ) (o : Option Shape) (r : Statement) : Type 0 where
   pub sh : Shape
   pub is : o ≡ some sh
   pub early : early ws sh ≡ numberOf r
+  pub kind : numberOf r ≡ none → contents sh .kind ≡ kindIn r
+  pub names : numberOf r ≡ none → contents sh .names ≡ namesIn f r
+  pub sound : Sound f r
   pub late : numberOf r ≡ none → late ws sh ≡ lateOf r
   pub means : numberOf r ≡ none → lateOf r ≡ 0 → statementIn f s r ≡ some (meaning ws sh)
 
@@ -195,8 +200,24 @@ Says ws f s o MissingWire = Judged ws f s o MissingWire
 abbrev pub PlainIs : List ℕ → Option Shape → Statement → Type 0
 PlainIs f o r = (ws : Wires) (s : List ℕ) → Says ws f s o r
 
+-- a form's constant, if it is a string, has its end; its sort is one of three
+abbrev pub WholeValue : List ℕ → Literal → Type 0
+WholeValue f (literal.Read c) = Whole f c
+WholeValue f literal.Nothing = Unit {0}
+
+abbrev pub WholeForm : List ℕ → Form → Type 0
+WholeForm f (form.Autoidx z) = Unit {0}
+WholeForm f (form.Attribute n c) = Whole f c
+WholeForm f (form.Module n) = Unit {0}
+WholeForm f (form.Parameter n c) = WholeValue f c
+WholeForm f (form.Cell k n) = Unit {0}
+WholeForm f (form.CellParameter s n c) = (s ≤ 2) × Whole f c
+WholeForm f (form.Process n) = Unit {0}
+WholeForm f form.End = Unit {0}
+WholeForm f form.NoShape = Unit {0}
+
 abbrev pub FormIs : List ℕ → Form → Statement → Type 0
-FormIs f form r = PlainIs f (formOf f form) r
+FormIs f x r = WholeForm f x → PlainIs f (formOf f x) r
 
 abbrev pub WireIs : (f t wires : List ℕ) (first count : ℕ) → Statement → Type 0
 WireIs f t wires first count r = (names s : List ℕ) → Says (wiresFrom names wires first count) f s (kindOf f t kind.Wire) r

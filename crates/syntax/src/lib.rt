@@ -20,6 +20,7 @@ use options::wire_line;
 use signals::Answer;
 use signals::Bits;
 use signals::Scope;
+use signals::merge;
 use signals::signal;
 use tokens::Constant;
 use tokens::Id;
@@ -28,7 +29,6 @@ use tokens::id_at;
 use wires::port_taken;
 ghost use mathlib.Core.Path.{_≡_};
 ghost use Rattle.wires.specs.Rows.{wiresFrom};
-ghost use Rattle.signals.specs.Faults.{merge};
 ghost use Rattle.forms.specs.Forms.{kindOf, cellKindOf};
 ghost use Rattle.forms.specs.declared.CellKind.the-variants as cellKind;
 ghost use Rattle.forms.specs.declared.Form.the-variants as form;
@@ -202,19 +202,6 @@ fn wire_statement(f: &[u8], tokens: &[u32], wires: &[u32], first: u32, count: u3
     }
 }
 
-// The lower of two refusal numbers, of which 0 is none.
-fn lower(a: u32, b: u32) -> u32
-    ensures { λ r. ⌜ r ≡ merge a b ⌝ }
-{
-    if a == 0 {
-        return b;
-    }
-    if b == 0 {
-        return a;
-    }
-    if a < b { a } else { b }
-}
-
 // A signal's fault of 7 or 8 refuses its statement.
 fn refused(fault: u32, statement: Statement) -> Statement
     ensures { λ r. ⌜ r ≡ faulted fault statement ⌝ }
@@ -232,9 +219,9 @@ fn refused(fault: u32, statement: Statement) -> Statement
 fn connected(left: Bits, right: Bits) -> Statement
     ensures { λ r. ⌜ ConnectedIs left right r ⌝ }
 {
-    let fault = lower(left.fault, right.fault);
+    let fault = merge(left.fault, right.fault);
     let uneven = if left.width == right.width { 0 } else { 10 };
-    let late = lower(uneven, fault);
+    let late = merge(uneven, fault);
     refused(
         fault,
         Statement::Connection {

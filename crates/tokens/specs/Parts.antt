@@ -7,7 +7,8 @@ use lib.Seq.{slice}
 use lib.IntN.{ℤ}
 use Rattle.rules.specs.Tokens as rules
 use Rattle.rules.specs.Shapes as shapes
-use Rattle.tokens.specs.Rows.{integerIn, literalIn, line}
+use Rattle.tokens.specs.Rows.{integerIn, literalIn, line, tokenAt}
+use Rattle.tokens.specs.declared.Token.the-variants.{Constant as Constantly}
 use Rattle.tokens.specs.declared.Id.{Id}
 use Rattle.tokens.specs.declared.Id.the-variants as id
 use Rattle.tokens.specs.declared.Slot.{Slot}
@@ -34,5 +35,10 @@ IdIs t i r = (f : List ℕ) → shapes.id (line f t i) ≡ idGives f r (line f t
 abbrev pub IntegerIs : List ℕ → ℕ → Slot → Type 0
 IntegerIs t i r = (f : List ℕ) → shapes.int (line f t i) ≡ integerGives f r (line f t (i + 1))
 
+-- a constant is that of row i
+abbrev pub RowIs : List ℕ → ℕ → Literal → Type 0
+RowIs t i (literal.Read c) = tokenAt t i ≡ Constantly c
+RowIs t i literal.Nothing = Unit {0}
+
 abbrev pub LiteralIs : List ℕ → ℕ → Literal → Type 0
-LiteralIs t i r = (f : List ℕ) → shapes.const (line f t i) ≡ literalGives f r (line f t (i + 1))
+LiteralIs t i r = ((f : List ℕ) → shapes.const (line f t i) ≡ literalGives f r (line f t (i + 1))) × RowIs t i r

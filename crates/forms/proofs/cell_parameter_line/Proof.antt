@@ -21,7 +21,7 @@ sorted-line-requires c κs = search needs
 
 returns : tie.Need-returns
 unfolding shapes.of₃ shapes.after sortOf
-returns c f = rw (sort-word f _ _ _ (c .before .before .word-at .ensures), eq-eqb _ _ (c .before .if1 .taken)) (c .sorted-line .ensures f)
+returns c = (λ f. rw (sort-word f _ _ _ (c .before .before .word-at .ensures), eq-eqb _ _ (c .before .if1 .taken)) (c .sorted-line .ensures .0 f), c .sorted-line .ensures .1 (omega arith))
 
 add-sorted-line-2 : tie.Need-add-sorted-line-2
 unfolding wordsOpen
@@ -32,14 +32,14 @@ sorted-line-requires-2 c κs = search needs
 
 returns-2 : tie.Need-returns-2
 unfolding shapes.of₃ shapes.after sortOf
-returns-2 c f = rw (sort-word f _ _ _ (c .before .before .before .word-at .ensures), ne-eqb _ _ (c .before .before .if1 .left), eq-eqb _ _ (c .before .if2 .taken)) (c .sorted-line2 .ensures f)
+returns-2 c = (λ f. rw (sort-word f _ _ _ (c .before .before .before .word-at .ensures), ne-eqb _ _ (c .before .before .if1 .left), eq-eqb _ _ (c .before .if2 .taken)) (c .sorted-line2 .ensures .0 f), c .sorted-line2 .ensures .1 (omega arith))
 
 sorted-line-requires-3 : tie.Need-sorted-line-requires-3
 sorted-line-requires-3 c κs = search needs
 
 returns-3 : tie.Need-returns-3
 unfolding shapes.of₃ shapes.after sortOf
-returns-3 c f = rw (sort-word f _ _ _ (c .before .before .before .word-at .ensures), ne-eqb _ _ (c .before .before .if1 .left), ne-eqb _ _ (c .before .if2 .left)) (c .sorted-line3 .ensures f)
+returns-3 c = (λ f. rw (sort-word f _ _ _ (c .before .before .before .word-at .ensures), ne-eqb _ _ (c .before .before .if1 .left), ne-eqb _ _ (c .before .if2 .left)) (c .sorted-line3 .ensures .0 f), c .sorted-line3 .ensures .1 (omega arith))
 
 pub cell-parameter-line-spec : {M : Type 1} → statement M
 cell-parameter-line-spec =

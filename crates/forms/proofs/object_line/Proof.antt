@@ -12,33 +12,33 @@ attribute-line-requires c κs = search needs
 
 returns : tie.Need-returns
 unfolding wordsOpen kindOf
-returns c f = rw (c .before .if1 .taken) (c .attribute-line .ensures f)
+returns c = (λ f. rw (c .before .if1 .taken) (c .attribute-line .ensures .0 f), c .attribute-line .ensures .1)
 
 returns-2 : tie.Need-returns-2
 unfolding wordsOpen kindOf
-returns-2 c f = rw (c .if2 .taken)
+returns-2 c = (λ f. rw (c .if2 .taken), tt)
 
 returns-3 : tie.Need-returns-3
 unfolding wordsOpen kindOf
-returns-3 c f = rw (c .if3 .taken)
+returns-3 c = (λ f. rw (c .if3 .taken), tt)
 
 cell-line-requires : tie.Need-cell-line-requires
 cell-line-requires c κs = search needs
 
 returns-4 : tie.Need-returns-4
 unfolding wordsOpen kindOf
-returns-4 c f = rw (c .before .if4 .taken) (c .cell-line .ensures f)
+returns-4 c = (λ f. rw (c .before .if4 .taken) (c .cell-line .ensures .0 f), c .cell-line .ensures .1)
 
 process-line-requires : tie.Need-process-line-requires
 process-line-requires c κs = search needs
 
 returns-5 : tie.Need-returns-5
 unfolding wordsOpen kindOf
-returns-5 c f = rw (c .before .if5 .taken) (c .process-line .ensures f)
+returns-5 c = (λ f. rw (c .before .if5 .taken) (c .process-line .ensures .0 f), c .process-line .ensures .1)
 
 returns-6 : tie.Need-returns-6
 unfolding wordsOpen kindOf formOf shapes.whole
-returns-6 c f = rw (ne-eqb _ _ (c .before .before .before .before .if1 .left), ne-eqb _ _ (c .before .before .before .if2 .left), ne-eqb _ _ (c .before .before .if3 .left), ne-eqb _ _ (c .before .if4 .left), ne-eqb _ _ (c .if5 .left))
+returns-6 c = (λ f. rw (ne-eqb _ _ (c .before .before .before .before .if1 .left), ne-eqb _ _ (c .before .before .before .if2 .left), ne-eqb _ _ (c .before .before .if3 .left), ne-eqb _ _ (c .before .if4 .left), ne-eqb _ _ (c .if5 .left)), tt)
 
 pub object-line-spec : {M : Type 1} → statement M
 object-line-spec =

@@ -15,29 +15,29 @@ autoidx-line-requires c κs = search needs
 
 returns : tie.Need-returns
 unfolding wordsOpen
-returns c f attributed = rw (shape-word _ f _ _ (c .before .before .before .word-at .ensures), c .before .before .if1 .taken, c .before .if2 .taken) (c .autoidx-line .ensures f)
+returns c = (λ f attributed. rw (shape-word _ f _ _ (c .before .before .before .word-at .ensures), c .before .before .if1 .taken, c .before .if2 .taken) (c .autoidx-line .ensures .0 f), c .autoidx-line .ensures .1)
 
 returns-2 : tie.Need-returns-2
 unfolding wordsOpen shapes.whole formOf
-returns-2 c f attributed = rw (shape-word _ f _ _ (c .before .before .word-at .ensures), c .before .if1 .taken, c .if2 .left)
+returns-2 c = (λ f attributed. rw (shape-word _ f _ _ (c .before .before .word-at .ensures), c .before .if1 .taken, c .if2 .left), tt)
 
 attribute-line-requires : tie.Need-attribute-line-requires
 attribute-line-requires c κs = search needs
 
 returns-3 : tie.Need-returns-3
 unfolding wordsOpen
-returns-3 c f attributed = rw (shape-word _ f _ _ (c .before .before .before .word-at .ensures), top-word _ _ _ _ (c .before .before .if1 .left), c .before .if3 .taken) (c .attribute-line .ensures f)
+returns-3 c = (λ f attributed. rw (shape-word _ f _ _ (c .before .before .before .word-at .ensures), top-word _ _ _ _ (c .before .before .if1 .left), c .before .if3 .taken) (c .attribute-line .ensures .0 f), c .attribute-line .ensures .1)
 
 module-line-requires : tie.Need-module-line-requires
 module-line-requires c κs = search needs
 
 returns-4 : tie.Need-returns-4
 unfolding wordsOpen
-returns-4 c f attributed = rw (shape-word _ f _ _ (c .before .before .before .before .word-at .ensures), top-word _ _ _ _ (c .before .before .before .if1 .left), c .before .if4 .taken) (c .module-line .ensures f)
+returns-4 c = (λ f attributed. rw (shape-word _ f _ _ (c .before .before .before .before .word-at .ensures), top-word _ _ _ _ (c .before .before .before .if1 .left), c .before .if4 .taken) (c .module-line .ensures .0 f), c .module-line .ensures .1)
 
 returns-5 : tie.Need-returns-5
 unfolding wordsOpen formOf
-returns-5 c f attributed = rw (shape-word _ f _ _ (c .before .before .before .word-at .ensures), top-word _ _ _ _ (c .before .before .if1 .left), ne-eqb _ _ (c .before .if3 .left), ne-eqb _ _ (c .if4 .left)) no-form
+returns-5 c = (λ f attributed. rw (shape-word _ f _ _ (c .before .before .before .word-at .ensures), top-word _ _ _ _ (c .before .before .if1 .left), ne-eqb _ _ (c .before .if3 .left), ne-eqb _ _ (c .if4 .left)) no-form, tt)
 
 pub top-line-spec : {M : Type 1} → statement M
 top-line-spec =

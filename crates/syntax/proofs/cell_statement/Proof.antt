@@ -1,5 +1,6 @@
 -- By the kind of line.
 use Rattle.forms.specs.Forms.{cellKindOf}
+use Rattle.syntax.proofs.Laws.{form-whole}
 use borrow.Author.Needs.{needs}
 use Rattle.syntax.proofs.cell_statement.Statement.{statement}
 use Rattle.syntax.proofs.cell_statement.Tie as tie
@@ -21,13 +22,13 @@ cell-connection-statement-requires c κs = search needs
 
 returns : tie.Need-returns
 unfolding cellKindOf
-returns c first attributed = rw (c .before .before .before .before .cell-line-kind .ensures (c .before .before .before .before .before .before .before .before .before .before .args .f .now) first attributed, c .before .before .form .given .1) (c .form-statement .ensures _ _)
+returns c first attributed = rw (c .before .before .before .before .cell-line-kind .ensures .0 (c .before .before .before .before .before .before .before .before .before .before .args .f .now) first attributed, c .before .before .form .given .1) (c .form-statement .ensures (form-whole _ _ (c .before .before .before .before .before .before .before .before .before .before .pre .rows .closed) (c .before .before .form .given .0 .0) (rw (c .before .before .form .given .1) at (c .before .before .before .before .cell-line-kind .ensures .1))) _ _)
 
 same-length : tie.Need-same-length
 same-length c = search needs
 
 returns-2 : tie.Need-returns-2
-returns-2 c first attributed = rw (c .before .before .before .before .before .before .cell-line-kind .ensures (c .before .before .before .before .before .before .before .before .before .before .before .before .args .f .now) first attributed, c .before .before .before .before .enum-told .given .1) (c .before .before .cell-connection-statement .ensures)
+returns-2 c first attributed = rw (c .before .before .before .before .before .before .cell-line-kind .ensures .0 (c .before .before .before .before .before .before .before .before .before .before .before .before .args .f .now) first attributed, c .before .before .before .before .enum-told .given .1) (c .before .before .cell-connection-statement .ensures)
 
 pub cell-statement-spec : {M : Type 1} → statement M
 cell-statement-spec =

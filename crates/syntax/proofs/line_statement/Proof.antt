@@ -1,6 +1,7 @@
 -- By the scope.
 use borrow.Author.Tests.{ne-eqb}
 use Rattle.syntax.specs.Statements.{scopeOf, contextOf}
+use Rattle.syntax.proofs.Laws.{form-whole}
 use borrow.Author.Needs.{needs}
 use Rattle.syntax.proofs.line_statement.Statement.{statement}
 use Rattle.syntax.proofs.line_statement.Tie as tie
@@ -13,7 +14,7 @@ form-statement-requires c κs = search needs
 
 returns : tie.Need-returns
 unfolding scopeOf contextOf
-returns c = rw (c .before .before .if1 .taken, c .before .top-line .ensures (c .before .before .before .before .before .before .before .before .before .args .f .now) (c .before .before .before .before .before .before .before .before .before .args .place .attributed)) (c .form-statement .ensures _ _)
+returns c = rw (c .before .before .if1 .taken, c .before .top-line .ensures .0 (c .before .before .before .before .before .before .before .before .before .args .f .now) (c .before .before .before .before .before .before .before .before .before .args .place .attributed)) (c .form-statement .ensures (form-whole _ _ (c .before .before .before .before .before .before .before .before .before .pre .rows .closed) (c .before .top-line .result) (c .before .top-line .ensures .1)) _ _)
 
 module-statement-requires : tie.Need-module-statement-requires
 module-statement-requires c κs = search needs

@@ -1,5 +1,5 @@
 -- With a constant, by the constant.
-use mathlib.Core.Path.{refl}
+use mathlib.Core.Path.{refl, sym, _∙_}
 use Rattle.syntax.proofs.Laws.{plainOpen, bad-number, stated}
 use borrow.Author.Needs.{needs}
 use Rattle.syntax.proofs.parameter_statement.Statement.{statement}
@@ -13,18 +13,18 @@ enum-told c = search needs
 
 returns : tie.Need-returns
 unfolding plainOpen
-returns c ws s = rw (c .enum-told .given .1) (stated ws _ s _ refl refl refl refl refl refl)
+returns c w ws s = rw (c .enum-told .given .1) (stated ws _ s _ refl refl refl refl refl refl refl tt refl)
 
 good-literal-requires : tie.Need-good-literal-requires
 good-literal-requires c κs = search needs
 
 returns-2 : tie.Need-returns-2
 unfolding plainOpen
-returns-2 c ws s = rw (c .before .before .before .value .given .1) (stated ws _ s _ refl refl refl refl (rw (← c .before .good-literal .ensures, c .if1 .taken)) refl)
+returns-2 c w ws s = rw (c .before .before .before .value .given .1) (stated ws _ s _ refl refl refl refl (rw (← c .before .good-literal .ensures, c .if1 .taken)) refl refl (record { good = sym (c .before .good-literal .ensures) ∙ c .if1 .taken; whole = rw (c .before .before .before .value .given .1) at w }) refl)
 
 returns-3 : tie.Need-returns-3
 unfolding plainOpen
-returns-3 c ws s = rw (c .before .before .before .value .given .1) (bad-number ws _ s refl (rw (← c .before .good-literal .ensures, c .if1 .left)))
+returns-3 c w ws s = rw (c .before .before .before .value .given .1) (bad-number ws _ s refl (rw (← c .before .good-literal .ensures, c .if1 .left)))
 
 pub parameter-statement-spec : {M : Type 1} → statement M
 parameter-statement-spec =

@@ -28,23 +28,23 @@ enum-told-4 c = search needs
 
 returns : tie.Need-returns
 unfolding shapes.const shapes.one shapes.isConstant front literalGives
-returns c f = rw (line-read f _ _ _ (sym (c .enum-told .given .1) ∙ c .before .before .token-at .ensures))
+returns c = (λ f. rw (line-read f _ _ _ (sym (c .enum-told .given .1) ∙ c .before .before .token-at .ensures)), tt)
 
 returns-2 : tie.Need-returns-2
 unfolding shapes.const shapes.one shapes.isConstant front literalGives
-returns-2 c f = rw (line-read f _ _ _ (sym (c .enum-told2 .given .1) ∙ c .before .before .token-at .ensures))
+returns-2 c = (λ f. rw (line-read f _ _ _ (sym (c .enum-told2 .given .1) ∙ c .before .before .token-at .ensures)), tt)
 
 returns-3 : tie.Need-returns-3
 unfolding shapes.const shapes.one shapes.isConstant front literalGives
-returns-3 c f = rw (line-read f _ _ _ (sym (c .before .c .given .1) ∙ c .before .before .before .token-at .ensures))
+returns-3 c = (λ f. rw (line-read f _ _ _ (sym (c .before .c .given .1) ∙ c .before .before .before .token-at .ensures)), sym (c .before .before .before .token-at .ensures) ∙ c .before .c .given .1)
 
 returns-4 : tie.Need-returns-4
 unfolding shapes.const shapes.one shapes.isConstant front literalGives
-returns-4 c f = rw (line-read f _ _ _ (sym (c .enum-told3 .given .1) ∙ c .before .before .token-at .ensures))
+returns-4 c = (λ f. rw (line-read f _ _ _ (sym (c .enum-told3 .given .1) ∙ c .before .before .token-at .ensures)), tt)
 
 returns-5 : tie.Need-returns-5
 unfolding shapes.const shapes.one shapes.isConstant front literalGives
-returns-5 c f = rw (line-read f _ _ _ (sym (c .enum-told4 .given .1) ∙ c .before .before .token-at .ensures))
+returns-5 c = (λ f. rw (line-read f _ _ _ (sym (c .enum-told4 .given .1) ∙ c .before .before .token-at .ensures)), tt)
 
 pub literal-at-spec : {M : Type 1} → statement M
 literal-at-spec =

@@ -1,0 +1,205 @@
+-- A written statement that may stand is accepted, as that statement.
+-- Assumes nothing.
+use mathlib.Core.Path.{_≡_, refl, ap}
+use mathlib.Core.List.{List, [], _∷_, map, flatMap}
+use mathlib.Core.Option.{none, some}
+use mathlib.Core.Bool.{Bool, true, false, _&&_, false≢true}
+use native.Mathlib.Omega.{arith}
+use lib.Dec.{leb}
+use lib.ListN.{length, length-reverse}
+use borrow.Author.Tests.{le-leb}
+use Rattle.rules.specs.Bytes.{any, all}
+use Rattle.rules.specs.Tokens.{Literal}
+use Rattle.rules.specs.Statements.{Sig, Constant, Signal, Wire, Memory, Statement, Opt, Contents, autoidx-stmt, attr-stmt, module-stmt, param-stmt, wire-stmt, memory-stmt, cell-stmt, cell-param-stmt, cell-conn-stmt, conn-stmt, proc-stmt, end-stmt, aProcess, contents, is, statementsOpen}
+use Rattle.rules.specs.Shapes.{Scope, top, inModule, inCell, shape}
+use Rattle.rules.specs.Numbers.{goodLiteral, goodNumbers, goodWire, goodMemory}
+use Rattle.rules.specs.Signals.{Wires, literalBits, kept, width, bits, declaredWire, goodSlice, parts}
+use Rattle.rules.specs.Judgement.{Past, context, wires, among, newPort, allParts, breaksNumber, lacksWire, takesName, equalWidths, breaksWidth, partTooWide, lowest, Verdict, verdict, meaning, judgeIn, judge}
+use Rattle.rules.specs.Reading.{shaped}
+use Rattle.rules.specs.Text.{sig, literalOf, wireOptions, memoryOptions, written, shapeTokens}
+use Rattle.admitted.specs.Admitted.{kinds, stands, fineConstant, fineWire, fineMemory, fineSignal, sameLength, admits, admitted}
+use Rattle.scanner.specs.Laws.{and-true-left, and-true-right}
+use Rattle.meaning.specs.Shapes.{shape-written}
+use Rattle.meaning.specs.Wires.{Sound}
+use Rattle.meaning.specs.Bits.{fill-all}
+use Rattle.meaning.specs.Parts.{goodPart, all-append, all-weaker, all-map, sig-means}
+use Rattle.meaning.specs.Settings.{wire-back, wire-fine, memory-back, memory-fine}
+use Rattle.meaning.specs.Kept.{Fine, Admits, admits-is, admitted-sound}
+
+-- ---- what it means
+
+literal-back : (c : Constant) → kept (literalOf c) ≡ c
+unfolding kept literalOf literalBits
+literal-back (Constant.value ds) = ap Constant.value (fill-all ds)
+literal-back (Constant.integer i) = refl
+literal-back (Constant.string s) = refl
+
+literal-good : (c : Constant) → fineConstant c ≡ true → goodLiteral (literalOf c) ≡ true
+unfolding fineConstant goodLiteral literalOf
+literal-good (Constant.value ds) h = rw (h, length-reverse) (le-leb (length ds) (length ds) (omega arith))
+literal-good (Constant.integer i) h = h
+literal-good (Constant.string s) h = refl
+
+module _ (ws : Wires) (sound : Sound ws) where
+  signal-back : (g : Signal) → fineSignal ws g ≡ true → bits ws (sig ws g) ≡ g
+  signal-back g h = sig-means ws sound g h .same-bits
+
+  pub meaning-written : (s : Statement) → Fine ws s → meaning ws (written ws s) ≡ s
+  unfolding meaning written statementsOpen all
+  meaning-written (autoidx-stmt i) f = refl
+  meaning-written (attr-stmt n c) f = rw (literal-back c)
+  meaning-written (module-stmt n) f = refl
+  meaning-written (param-stmt n none) f = refl
+  meaning-written (param-stmt n (some c)) f = rw (literal-back c)
+  meaning-written (wire-stmt w n) f = rw (wire-back w)
+  meaning-written (memory-stmt m n) f = rw (memory-back m)
+  meaning-written (cell-stmt t n) f = refl
+  meaning-written (cell-param-stmt o n c) f = rw (literal-back c)
+  meaning-written (cell-conn-stmt n g) f = rw (signal-back g (and-true-left (fineSignal ws g) _ (f .signals)))
+  meaning-written (conn-stmt g h) f =
+      rw (signal-back g (and-true-left (fineSignal ws g) _ (f .signals)), signal-back h (and-true-left (fineSignal ws h) _ (and-true-right (fineSignal ws g) _ (f .signals))))
+  meaning-written (proc-stmt n) f = refl
+  meaning-written end-stmt f = refl
+
+-- ---- what stands in it
+
+-- the contents of a statement as it is written
+unfoldable pub asWritten : Wires → Contents Constant Signal Wire Memory → Contents Literal Sig (List Opt) (List Opt)
+asWritten ws c =
+    record {
+      kind = c .kind;
+      names = c .names;
+      constants = map literalOf (c .constants);
+      signals = map (sig ws) (c .signals);
+      wires = map wireOptions (c .wires);
+      memories = map memoryOptions (c .memories);
+      integers = c .integers;
+      sorts = c .sorts;
+    }
+
+pub contents-written : (ws : Wires) (s : Statement) → contents (written ws s) ≡ asWritten ws (contents s)
+unfolding asWritten written statementsOpen
+contents-written ws (autoidx-stmt i) = refl
+contents-written ws (attr-stmt n c) = refl
+contents-written ws (module-stmt n) = refl
+contents-written ws (param-stmt n none) = refl
+contents-written ws (param-stmt n (some c)) = refl
+contents-written ws (wire-stmt w n) = refl
+contents-written ws (memory-stmt m n) = refl
+contents-written ws (cell-stmt t n) = refl
+contents-written ws (cell-param-stmt o n c) = refl
+contents-written ws (cell-conn-stmt n g) = refl
+contents-written ws (conn-stmt g h) = refl
+contents-written ws (proc-stmt n) = refl
+contents-written ws end-stmt = refl
+
+-- ---- 6: no process may stand
+
+process-not : (p : Scope) (f a : Bool) (s : Statement) → among (kinds p f a) s ≡ true → is aProcess s ≡ false
+unfolding kinds among any statementsOpen
+process-not p f a (autoidx-stmt i) h = refl
+process-not p f a (attr-stmt n c) h = refl
+process-not p f a (module-stmt n) h = refl
+process-not p f a (param-stmt n c) h = refl
+process-not p f a (wire-stmt w n) h = refl
+process-not p f a (memory-stmt m n) h = refl
+process-not p f a (cell-stmt t n) h = refl
+process-not p f a (cell-param-stmt o n c) h = refl
+process-not p f a (cell-conn-stmt n g) h = refl
+process-not p f a (conn-stmt g k) h = refl
+process-not top true a (proc-stmt n) h = absurd (false≢true h)
+process-not top false a (proc-stmt n) h = absurd (false≢true h)
+process-not inModule f true (proc-stmt n) h = absurd (false≢true h)
+process-not inModule f false (proc-stmt n) h = absurd (false≢true h)
+process-not inCell f a (proc-stmt n) h = absurd (false≢true h)
+process-not p f a end-stmt h = refl
+
+no-process : (ss : Past) (s : Statement) → stands ss s ≡ true → is aProcess (written (wires ss) s) ≡ false
+unfolding stands is asWritten
+no-process ss s h = rw (contents-written (wires ss) s) (process-not (context ss .scope) (context ss .first) (context ss .attributed) s h)
+
+-- ---- 7, 8, 10, 11: the parts of its signals
+
+module _ (ws : Wires) (sound : Sound ws) where
+  parts-good : (gs : List Signal) → all (fineSignal ws) gs ≡ true → all (goodPart ws) (flatMap parts (map (sig ws) gs)) ≡ true
+  unfolding all flatMap
+  parts-good [] h = refl
+  parts-good (g ∷ gs) h =
+      all-append (goodPart ws) (parts (sig ws g)) (flatMap parts (map (sig ws) gs)) (sig-means ws sound g (and-true-left (fineSignal ws g) _ h) .good-parts)
+      (parts-good gs (and-true-right (fineSignal ws g) _ h))
+
+  widths-equal : (gs : List Signal) → all (fineSignal ws) gs ≡ true → sameLength gs ≡ true → equalWidths ws (map (sig ws) gs) ≡ true
+  unfolding all sameLength equalWidths
+  widths-equal [] h k = refl
+  widths-equal (g ∷ []) h k = refl
+  widths-equal (g ∷ q ∷ gs) h k =
+      let hq : all (fineSignal ws) (q ∷ gs) ≡ true = and-true-right (fineSignal ws g) _ h in
+      rw (sig-means ws sound g (and-true-left (fineSignal ws g) _ h) .same-width, sig-means ws sound q (and-true-left (fineSignal ws q) _ hq) .same-width) k
+
+  part-numbers : (x : Sig) → goodPart ws x ≡ true → goodNumbers x ≡ true
+  unfolding goodPart
+  part-numbers x h = and-true-left (goodNumbers x) _ (and-true-left (goodNumbers x && declaredWire ws x) _ (and-true-left (goodNumbers x && declaredWire ws x && goodSlice ws x) _ h))
+
+  part-declared : (x : Sig) → goodPart ws x ≡ true → declaredWire ws x ≡ true
+  unfolding goodPart
+  part-declared x h = and-true-right (goodNumbers x) _ (and-true-left (goodNumbers x && declaredWire ws x) _ (and-true-left (goodNumbers x && declaredWire ws x && goodSlice ws x) _ h))
+
+  part-slice : (x : Sig) → goodPart ws x ≡ true → goodSlice ws x ≡ true
+  unfolding goodPart
+  part-slice x h = and-true-right (goodNumbers x && declaredWire ws x) _ (and-true-left (goodNumbers x && declaredWire ws x && goodSlice ws x) _ h)
+
+  part-narrow : (x : Sig) → goodPart ws x ≡ true → leb (width ws x) 2048 ≡ true
+  unfolding goodPart
+  part-narrow x h = and-true-right (goodNumbers x && declaredWire ws x && goodSlice ws x) _ h
+
+  module _ (s : Statement) (f : Fine ws s) where
+    all-good : all (goodPart ws) (allParts (written ws s)) ≡ true
+    unfolding allParts asWritten
+    all-good = rw (contents-written ws s) (parts-good (contents s .signals) (f .signals))
+
+    each-good : (g : Sig → Bool) → ((x : Sig) → goodPart ws x ≡ true → g x ≡ true) → all g (allParts (written ws s)) ≡ true
+    each-good g e = all-weaker (goodPart ws) g (allParts (written ws s)) e all-good
+
+    pub numbers-kept : breaksNumber ws (written ws s) ≡ false
+    unfolding breaksNumber asWritten
+    numbers-kept =
+        rw (
+          each-good goodNumbers part-numbers,
+          contents-written ws s,
+          f .integers,
+          all-map fineConstant literalOf goodLiteral (contents s .constants) literal-good (f .constants),
+          all-map (fineWire ws) wireOptions (λ os. goodWire os && newPort ws os) (contents s .wires) (wire-fine ws) (f .wires),
+          all-map fineMemory memoryOptions goodMemory (contents s .memories) memory-fine (f .memories),
+        )
+
+    pub wires-there : lacksWire ws (written ws s) ≡ false
+    unfolding lacksWire
+    wires-there = rw (each-good (declaredWire ws) part-declared)
+
+    pub widths-kept : breaksWidth ws (written ws s) ≡ false
+    unfolding breaksWidth asWritten
+    widths-kept = rw (each-good (goodSlice ws) part-slice, contents-written ws s, widths-equal (contents s .signals) (f .signals) (f .lengths))
+
+    pub parts-narrow : partTooWide ws (written ws s) ≡ false
+    unfolding partTooWide
+    parts-narrow = rw (each-good (λ x. leb (width ws x) 2048) part-narrow)
+
+-- ---- 9: its name
+
+pub takes-written : (ss : Past) (ws : Wires) (s : Statement) → takesName ss (written ws s) ≡ takesName ss s
+unfolding takesName among is asWritten
+takes-written ss ws s = rw (contents-written ws s)
+
+-- ---- the whole
+
+pub judge-written : (ss : Past) (s : Statement) → admitted ss ≡ true → admits ss s ≡ true → judge ss (written (wires ss) s) ≡ Verdict.accepted s
+unfolding judge judgeIn lowest verdict
+judge-written ss s h k =
+    let ws : Wires = wires ss in
+    let sound : Sound ws = admitted-sound ss h in
+    let a : Admits ss s = admits-is ss s k in
+    rw (no-process ss s (a .placed), numbers-kept ws sound s (a .parts), wires-there ws sound s (a .parts), takes-written ss ws s, a .new-name, widths-kept ws sound s (a .parts), parts-narrow ws sound s (a .parts), meaning-written ws sound s (a .parts), a .sized)
+
+pub shaped-written : (ss : Past) (s : Statement) → admitted ss ≡ true → admits ss s ≡ true → shaped ss (shape (context ss) (shapeTokens (written (wires ss) s))) ≡ Verdict.accepted s
+unfolding shaped stands
+shaped-written ss s h k = rw (shape-written (context ss) (wires ss) s (admits-is ss s k .placed)) (judge-written ss s h k)

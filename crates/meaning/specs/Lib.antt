@@ -1,0 +1,9 @@
+pub mod Sigs
+pub mod Options
+pub mod Shapes
+pub mod Wires
+pub mod Bits
+pub mod Parts
+pub mod Settings
+pub mod Kept
+pub mod Judged

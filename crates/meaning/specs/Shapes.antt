@@ -1,0 +1,126 @@
+-- The tokens of a written statement have its shape, where a line of its kind may stand.
+-- Assumes nothing.
+use mathlib.Core.Path.{_≡_, refl, sym, ap, _∙_}
+use mathlib.Core.List.{[], _∷_, _++_, map, append-nil, Option·toList}
+use mathlib.Core.Option.{Option, none, some, Option·map}
+use mathlib.Core.Bool.{Bool, true, false, false≢true}
+use Rattle.rules.specs.Bytes.{bytesOpen}
+use Rattle.rules.specs.Tokens.{Name, name, literal}
+use Rattle.rules.specs.Statements.{Sort, plain, signed, real, Constant, Signal, Wire, Memory, Statement, autoidx-stmt, attr-stmt, module-stmt, param-stmt, wire-stmt, memory-stmt, cell-stmt, cell-param-stmt, cell-conn-stmt, conn-stmt, proc-stmt, end-stmt, statementsOpen}
+use Rattle.rules.specs.Shapes.{Scope, top, inModule, inCell, Context, one, of₁, of₂, of₃, after, isId, give, id, const, sort, orEnd, options, wireOptionForms, memoryOptionForms, sigspec, forms, choice, whole, wholeBy, shape, shapesOpen}
+use Rattle.rules.specs.Signals.{Wires}
+use Rattle.rules.specs.Judgement.{among}
+use Rattle.rules.specs.Text.{sig, literalOf, wireOptions, memoryOptions, written, sigTokens, optionTokens, sortTokens, wordToken, numberToken, shapeTokens}
+use Rattle.admitted.specs.Admitted.{kinds}
+use Rattle.meaning.specs.Options.{options-read, wire-options-read, memory-options-read}
+use Rattle.meaning.specs.Sigs.{slices, sig-reads, sig-no-slice}
+
+-- ---- behind the first word
+
+param-reads : (n : Name) (c : Option Constant) → whole (of₂ param-stmt id (orEnd const) (name n ∷ map literal (Option·toList (Option·map literalOf c)))) ≡ some (param-stmt n (Option·map literalOf c))
+unfolding shapesOpen Option·toList
+param-reads n none = refl
+param-reads n (some c) = refl
+
+wire-reads : (w : Wire) (n : Name) → whole (of₂ wire-stmt (options wireOptionForms) id (optionTokens (wireOptions w) ++ name n ∷ [])) ≡ some (wire-stmt (wireOptions w) n)
+unfolding of₂ of₁ after whole wholeBy give id one isId
+wire-reads w n = rw (options-read wireOptionForms (wireOptions w) n [] (wire-options-read w))
+
+memory-reads : (m : Memory) (n : Name) → whole (of₂ memory-stmt (options memoryOptionForms) id (optionTokens (memoryOptions m) ++ name n ∷ [])) ≡ some (memory-stmt (memoryOptions m) n)
+unfolding of₂ of₁ after whole wholeBy give id one isId
+memory-reads m n = rw (options-read memoryOptionForms (memoryOptions m) n [] (memory-options-read m))
+
+cell-param-reads : (o : Sort) (n : Name) (c : Constant) → whole (of₃ cell-param-stmt sort id const (sortTokens o ++ name n ∷ literal (literalOf c) ∷ [])) ≡ some (cell-param-stmt o n (literalOf c))
+unfolding shapesOpen sortTokens wordToken bytesOpen
+cell-param-reads plain n c = refl
+cell-param-reads signed n c = refl
+cell-param-reads real n c = refl
+
+nothing-next : slices [] ≡ false
+unfolding slices
+nothing-next = refl
+
+module _ (ws : Wires) where
+  last-reads : (g : Signal) → sigspec (sigTokens (sig ws g)) ≡ some (sig ws g, [])
+  last-reads g = ap sigspec (sym (append-nil (sigTokens (sig ws g)))) ∙ sig-reads ws g [] nothing-next
+
+  last-no-slice : (g : Signal) → slices (sigTokens (sig ws g)) ≡ false
+  last-no-slice g = ap slices (sym (append-nil (sigTokens (sig ws g)))) ∙ sig-no-slice ws g []
+
+  cell-conn-reads : (n : Name) (g : Signal) → whole (of₂ cell-conn-stmt id sigspec (name n ∷ sigTokens (sig ws g))) ≡ some (cell-conn-stmt n (sig ws g))
+  unfolding of₂ of₁ after whole wholeBy give id one isId
+  cell-conn-reads n g = rw (last-reads g)
+
+  conn-reads : (g h : Signal) → whole (of₂ conn-stmt sigspec sigspec (sigTokens (sig ws g) ++ sigTokens (sig ws h))) ≡ some (conn-stmt (sig ws g) (sig ws h))
+  unfolding of₂ of₁ after whole wholeBy give
+  conn-reads g h = rw (sig-reads ws g (sigTokens (sig ws h)) (last-no-slice h), last-reads h)
+
+-- ---- a line where its kind may stand
+
+at-place : (p : Scope) (f a : Bool) (ws : Wires) (s : Statement) → among (kinds p f a) s ≡ true → whole (choice (forms p f a) (shapeTokens (written ws s))) ≡ some (written ws s)
+unfolding bytesOpen statementsOpen shapesOpen kinds among written shapeTokens wordToken numberToken
+at-place top true a ws (autoidx-stmt i) h = refl
+at-place top true a ws (attr-stmt n c) h = refl
+at-place top true a ws (module-stmt n) h = refl
+at-place top true a ws (param-stmt n c) h = absurd (false≢true h)
+at-place top true a ws (wire-stmt w n) h = absurd (false≢true h)
+at-place top true a ws (memory-stmt m n) h = absurd (false≢true h)
+at-place top true a ws (cell-stmt t n) h = absurd (false≢true h)
+at-place top true a ws (cell-param-stmt o n c) h = absurd (false≢true h)
+at-place top true a ws (cell-conn-stmt n g) e = absurd (false≢true e)
+at-place top true a ws (conn-stmt g h) e = absurd (false≢true e)
+at-place top true a ws (proc-stmt n) h = absurd (false≢true h)
+at-place top true a ws end-stmt h = absurd (false≢true h)
+at-place top false a ws (autoidx-stmt i) h = absurd (false≢true h)
+at-place top false a ws (attr-stmt n c) h = refl
+at-place top false a ws (module-stmt n) h = refl
+at-place top false a ws (param-stmt n c) h = absurd (false≢true h)
+at-place top false a ws (wire-stmt w n) h = absurd (false≢true h)
+at-place top false a ws (memory-stmt m n) h = absurd (false≢true h)
+at-place top false a ws (cell-stmt t n) h = absurd (false≢true h)
+at-place top false a ws (cell-param-stmt o n c) h = absurd (false≢true h)
+at-place top false a ws (cell-conn-stmt n g) e = absurd (false≢true e)
+at-place top false a ws (conn-stmt g h) e = absurd (false≢true e)
+at-place top false a ws (proc-stmt n) h = absurd (false≢true h)
+at-place top false a ws end-stmt h = absurd (false≢true h)
+at-place inModule f true ws (autoidx-stmt i) h = absurd (false≢true h)
+at-place inModule f true ws (attr-stmt n c) h = refl
+at-place inModule f true ws (module-stmt n) h = absurd (false≢true h)
+at-place inModule f true ws (param-stmt n c) h = absurd (false≢true h)
+at-place inModule f true ws (wire-stmt w n) h = wire-reads w n
+at-place inModule f true ws (memory-stmt m n) h = memory-reads m n
+at-place inModule f true ws (cell-stmt t n) h = refl
+at-place inModule f true ws (cell-param-stmt o n c) h = absurd (false≢true h)
+at-place inModule f true ws (cell-conn-stmt n g) e = absurd (false≢true e)
+at-place inModule f true ws (conn-stmt g h) e = absurd (false≢true e)
+at-place inModule f true ws (proc-stmt n) h = absurd (false≢true h)
+at-place inModule f true ws end-stmt h = absurd (false≢true h)
+at-place inModule f false ws (autoidx-stmt i) h = absurd (false≢true h)
+at-place inModule f false ws (attr-stmt n c) h = refl
+at-place inModule f false ws (module-stmt n) h = absurd (false≢true h)
+at-place inModule f false ws (param-stmt n c) h = param-reads n c
+at-place inModule f false ws (wire-stmt w n) h = wire-reads w n
+at-place inModule f false ws (memory-stmt m n) h = memory-reads m n
+at-place inModule f false ws (cell-stmt t n) h = refl
+at-place inModule f false ws (cell-param-stmt o n c) h = absurd (false≢true h)
+at-place inModule f false ws (cell-conn-stmt n g) e = absurd (false≢true e)
+at-place inModule f false ws (conn-stmt g h) e = conn-reads ws g h
+at-place inModule f false ws (proc-stmt n) h = absurd (false≢true h)
+at-place inModule f false ws end-stmt h = refl
+at-place inCell f a ws (autoidx-stmt i) h = absurd (false≢true h)
+at-place inCell f a ws (attr-stmt n c) h = absurd (false≢true h)
+at-place inCell f a ws (module-stmt n) h = absurd (false≢true h)
+at-place inCell f a ws (param-stmt n c) h = absurd (false≢true h)
+at-place inCell f a ws (wire-stmt w n) h = absurd (false≢true h)
+at-place inCell f a ws (memory-stmt m n) h = absurd (false≢true h)
+at-place inCell f a ws (cell-stmt t n) h = absurd (false≢true h)
+at-place inCell f a ws (cell-param-stmt o n c) h = cell-param-reads o n c
+at-place inCell f a ws (cell-conn-stmt n g) e = cell-conn-reads ws n g
+at-place inCell f a ws (conn-stmt g h) e = absurd (false≢true e)
+at-place inCell f a ws (proc-stmt n) h = absurd (false≢true h)
+at-place inCell f a ws end-stmt h = refl
+
+pub shape-written : (c : Context) (ws : Wires) (s : Statement) → among (kinds (c .scope) (c .first) (c .attributed)) s ≡ true
+    → shape c (shapeTokens (written ws s)) ≡ some (written ws s)
+unfolding shape
+shape-written c ws s h = at-place (c .scope) (c .first) (c .attributed) ws s h
