@@ -15,9 +15,9 @@ use Rattle.rules.specs.Tokens.{Digit, S0, S1, Sx, Sz, Sm, Sa, Literal, value, i
 use Rattle.rules.specs.Shapes as shapes
 use Rattle.rules.specs.Text.{decimalText, integerText, digitByte, escaped, literalText, tokenText, tight, behind, spaced}
 use Rattle.scanner.specs.Laws.{by-test, and-true-left, and-true-right}
-use Rattle.theorems.specs.Lists.{all-first, all-later, all-cons, all-map, list-passes, by-any, Stops, run-upto, rest-upto, below, within-low, within-high}
-use Rattle.theorems.specs.NumberLaws.{decimal-text, Digits, some-digits, decimal-digits}
-use Rattle.theorems.specs.StringLaws.{quoted-string}
+use Rattle.written.specs.Lists.{all-first, all-later, all-cons, all-map, list-passes, by-any, Stops, run-upto, rest-upto, below, within-low, within-high}
+use Rattle.written.specs.NumberLaws.{decimal-text, Digits, some-digits, decimal-digits}
+use Rattle.written.specs.StringLaws.{quoted-string}
 
 -- a token that can be written: a legal name, a keyword, any number or value, a string without byte 0, a mark
 unfoldable pub fineLiteral : Literal → Bool

@@ -14,9 +14,9 @@ use Rattle.rules.specs.Tokens.{Digit, S0, S1, Sx, Sz, Sm, Sa, Literal, value, i
 use Rattle.rules.specs.Lines.{Line, longer, linesFrom}
 use Rattle.rules.specs.Text.{decimalText, integerText, digitByte, escaped, literalText, tokenText, tight, behind, spaced}
 use Rattle.scanner.specs.Laws.{by-cond}
-use Rattle.theorems.specs.Lists.{all-cons, all-first, all-later, all-append, all-imp, all-map, by-any, within-low}
-use Rattle.theorems.specs.NumberLaws.{Digits, some-digits, decimal-digits}
-use Rattle.theorems.specs.TokenLaws.{fineToken, legal-start, legal-bytes, keyword-lower}
+use Rattle.written.specs.Lists.{all-cons, all-first, all-later, all-append, all-imp, all-map, by-any, within-low}
+use Rattle.written.specs.NumberLaws.{Digits, some-digits, decimal-digits}
+use Rattle.written.specs.TokenLaws.{fineToken, legal-start, legal-bytes, keyword-lower}
 
 -- Bytes 10 and 13 end lines: any other byte may stand in one
 unfoldable pub inLine : ℕ → Bool

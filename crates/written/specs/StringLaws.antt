@@ -11,7 +11,7 @@ use Rattle.rules.specs.Bytes.{all, within, isOctal, isStringByte, isLineEnd, by
 use Rattle.rules.specs.Tokens.{Inside, plain, escape, octal, goes, Quoted, closed, broken, turn, octalTurn, octalByte, onto, plainTurn, escapeTurn, quotedOnto, quotedBy, quoted}
 use Rattle.rules.specs.Text.{escaped}
 use Rattle.scanner.specs.Laws.{by-cond}
-use Rattle.theorems.specs.Lists.{all-first, all-later, inside, within-low, within-high}
+use Rattle.written.specs.Lists.{all-first, all-later, inside, within-low, within-high}
 
 onto-none : (q : Quoted) → quotedOnto [] q ≡ q
 unfolding quotedOnto

@@ -15,10 +15,10 @@ use Rattle.rules.specs.Text.{written, shapeTokens, indent, lineText, textFrom}
 use Rattle.rules.specs.Reading.{shaped, stated, judged, lexed, outcome}
 use Rattle.admitted.specs.Admitted.{stands, fineParts, admits, admitted}
 use Rattle.scanner.specs.Laws.{by-cond, and-true-left, and-true-right}
-use Rattle.theorems.specs.Lists.{all-cons, all-first, all-later, all-append}
-use Rattle.theorems.specs.TokenLaws.{tokens-spaced}
-use Rattle.theorems.specs.LineLaws.{inLine, line-free, lineAt, lines-first}
-use Rattle.theorems.specs.WrittenLaws.{legalNames, parts-names, fine-written}
+use Rattle.written.specs.Lists.{all-cons, all-first, all-later, all-append}
+use Rattle.written.specs.TokenLaws.{tokens-spaced}
+use Rattle.written.specs.LineLaws.{inLine, line-free, lineAt, lines-first}
+use Rattle.written.specs.WrittenLaws.{legalNames, parts-names, fine-written}
 
 -- a written line has a token
 lexed-shape : (ss : Past) (l : Line) (sh : Shape) → lexed ss l (good (shapeTokens sh)) ≡ judged (place l) (stated ss (l .ended) (shapeTokens sh))

@@ -1,0 +1,61 @@
+-- A written text is read back, line by line.
+-- Assumes nothing.
+use mathlib.Core.Path.{_≡_, refl, ap, _∙_}
+use mathlib.Core.Bool.{true}
+use mathlib.Core.List.{List, [], _∷_, reverseAux, reverse, reverse-reverse}
+use Prim.Native.Nat.{ℕ, _+_, _≤_}
+use lib.ListN.{length}
+use borrow.Author.Tests.{le-ltb}
+use Rattle.rules.specs.Tokens.{tokens, tokensFrom}
+use Rattle.rules.specs.Lines.{lines, linesFrom, place}
+use Rattle.rules.specs.Statements.{Statement}
+use Rattle.rules.specs.Judgement.{Past}
+use Rattle.rules.specs.Text.{lineText, textFrom}
+use Rattle.rules.specs.Reading.{states, judged, lexed, outcome, accepted, finish, next, readLines, readAny, read}
+use Rattle.admitted.specs.Admitted.{admits, admitted, closes}
+use Rattle.meaning.specs.Judged.{shaped-written}
+use Rattle.scanner.specs.Laws.{and-true-left, and-true-right}
+use Rattle.written.specs.LineLaws.{lineAt}
+use Rattle.written.specs.OutcomeLaws.{admits-fine, wires-legal, outcome-written, lines-written}
+
+-- what is admitted behind admitted statements is admitted one by one
+admitted-past : (more : List Statement) (ss : Past) → admitted (reverseAux more ss) ≡ true → admitted ss ≡ true
+unfolding admitted
+admitted-past [] ss a = a
+admitted-past (s ∷ more) ss a = and-true-left (admitted ss) (admits ss s) (admitted-past more (s ∷ ss) a)
+
+admitted-next : (s : Statement) (more : List Statement) (ss : Past) → admitted (reverseAux more (s ∷ ss)) ≡ true → admits ss s ≡ true
+unfolding admitted
+admitted-next s more ss a = and-true-right (admitted ss) (admits ss s) (admitted-past more (s ∷ ss) a)
+
+-- the empty line behind the last line end
+last-skipped : (at : ℕ) (ss : Past) (size : ℕ) → readLines size (linesFrom at []) ss ≡ finish size ss
+unfolding linesFrom readLines outcome tokens tokensFrom lexed next
+last-skipped at ss size = refl
+
+-- a line gives its statement
+pub states-written : (ss : Past) (s : Statement) (at : ℕ) → admitted ss ≡ true → admits ss s ≡ true → outcome ss (lineAt at (lineText ss s) true) ≡ states s
+unfolding judged
+states-written ss s at a m =
+    outcome-written ss s (wires-legal ss a) (admits-fine ss s m) at
+    ∙ ap (judged (place (lineAt at (lineText ss s) true))) (shaped-written ss s a m)
+
+-- the lines of statements behind others give those statements
+pub lines-read : (size at : ℕ) (ss : Past) (more : List Statement) → admitted (reverseAux more ss) ≡ true → readLines size (linesFrom at (textFrom ss more)) ss ≡ finish size (reverseAux more ss)
+unfolding readLines next textFrom
+lines-read size at ss [] a = last-skipped at ss size
+lines-read size at ss (s ∷ more) a =
+    let m : admits ss s ≡ true = admitted-next s more ss a in
+    let p : admitted ss ≡ true = admitted-past (s ∷ more) ss a in
+    ap (λ ls. readLines size ls ss) (lines-written ss s (wires-legal ss p) (admits-fine ss s m) at more)
+    ∙ ap (next (readLines size (linesFrom (at + length (lineText ss s) + 1) (textFrom (s ∷ ss) more))) ss) (states-written ss s at p m)
+    ∙ lines-read size (at + length (lineText ss s) + 1) (s ∷ ss) more a
+
+-- a text of any length, and one that fits
+pub any-read : (ss : List Statement) → admitted (reverse ss) ≡ true → closes (reverse ss) ≡ true → readAny (textFrom [] ss) ≡ accepted ss
+unfolding readAny lines finish closes
+any-read ss a c = lines-read (length (textFrom [] ss)) 0 [] ss a ∙ rw c (ap accepted (reverse-reverse ss))
+
+pub text-read : (ss : List Statement) → admitted (reverse ss) ≡ true → closes (reverse ss) ≡ true → length (textFrom [] ss) ≤ 32768 → read (textFrom [] ss) ≡ accepted ss
+unfolding read
+text-read ss a c h = rw (le-ltb 32768 (length (textFrom [] ss)) h) (any-read ss a c)
