@@ -3,3 +3,4 @@ pub mod StandLaws
 pub mod CountLaws
 pub mod AdmitLaws
 pub mod AcceptedLaws
+pub mod Holds
