@@ -59,7 +59,7 @@ unfolding all int32 Option·toList
 given-fits none e = refl
 given-fits (some i) e = and-true-left (int32 i) true e
 
-number-fits : (w : String) (os : List Opt) → all (λ o. all int32 (Option·toList (o .1))) os ≡ true → int32 (numberOr (pos 0) w os) ≡ true
+pub number-fits : (w : String) (os : List Opt) → all (λ o. all int32 (Option·toList (o .1))) os ≡ true → int32 (numberOr (pos 0) w os) ≡ true
 unfolding all numberOr int32
 number-fits w [] e = refl
 number-fits w (o ∷ os) e =
@@ -67,7 +67,7 @@ number-fits w (o ∷ os) e =
     let k = and-true-right (all int32 (Option·toList (o .1))) _ e in
     by-test (same (o .0) (bytes w)) (λ q. rw q (given-fits (o .1) h)) (λ q. rw q (number-fits w os k))
 
-good-offset : (os : List Opt) → goodWire os ≡ true → int32 (wireOf os .offset) ≡ true
+pub good-offset : (os : List Opt) → goodWire os ≡ true → int32 (wireOf os .offset) ≡ true
 unfolding goodWire goodOptions wireOf
 good-offset os e =
     let a : Bool = goodOptions os in
@@ -95,7 +95,7 @@ meaning-fits ws end-stmt e = refl
 not-false : (b : Bool) → not b ≡ false → b ≡ true
 not-false b e = sym (Bool·not-not b) ∙ ap not e
 
-or-false-right : (a b : Bool) → a || b ≡ false → b ≡ false
+pub or-false-right : (a b : Bool) → a || b ≡ false → b ≡ false
 or-false-right true b e = cc
 or-false-right false b e = e
 

@@ -92,7 +92,7 @@ module _ (ss : Past) where
       rw p at h
 
 -- what a shape means is of its kind
-meaning-kind : (ws : Wires) (sh : Shape) → contents (meaning ws sh) .kind ≡ contents sh .kind
+pub meaning-kind : (ws : Wires) (sh : Shape) → contents (meaning ws sh) .kind ≡ contents sh .kind
 unfolding meaning statementsOpen
 meaning-kind ws (autoidx-stmt i) = refl
 meaning-kind ws (attr-stmt n c) = refl

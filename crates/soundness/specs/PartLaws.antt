@@ -1,0 +1,165 @@
+-- The parts of what a shape means keep their rules, where those of the shape do.
+-- Assumes nothing.
+use Prim.Native.Nat.{ℕ}
+use mathlib.Core.Path.{_≡_, refl}
+use mathlib.Core.List.{List, [], _∷_, _++_, map, flatMap, Option·toList}
+use mathlib.Core.Option.{none, some}
+use mathlib.Core.Bool.{Bool, true, _&&_, false≢true}
+use lib.Dec.{leb}
+use lib.IntN.{ℤ, pos, negsuc, natAbs}
+use lib.ListN.{length}
+use borrow.Author.Tests.{le-leb}
+use Rattle.rules.specs.Bytes.{all, within}
+use Rattle.rules.specs.Tokens.{Digit, Literal, value, integer, string}
+use Rattle.rules.specs.Statements.{Sig, constant, wire, slice, bundle, Opt, Direction, Contents, Stmt, autoidx-stmt, attr-stmt, module-stmt, param-stmt, wire-stmt, memory-stmt, cell-stmt, cell-param-stmt, cell-conn-stmt, conn-stmt, proc-stmt, end-stmt, holds, contents, translate}
+use Rattle.rules.specs.Numbers.{inRange, goodLiteral, goodNumbers, numberOr, ports, portOf, wireOf, memoryOf, once, goodOptions, goodWire, goodMemory}
+use Rattle.rules.specs.Signals.{Wires, kept, valueBits, literalBits, literalWidth, width, bits, goodSlice, parts, partsOf}
+use Rattle.rules.specs.Judgement.{portNumbers, newPort, equalWidths}
+use Rattle.scanner.specs.Laws.{and-true-left, and-true-right}
+use Rattle.literals.proofs.Laws.{literal-long}
+use Rattle.admitted.specs.Admitted.{fineConstant, newPorts, fineWire, fineMemory, fineSignal, sameLength}
+use Rattle.admitted.specs.AcceptedLaws.{number-fits, good-offset}
+use Rattle.written.specs.Lists.{all-cons, all-first, all-later, within-high}
+use Rattle.written.specs.TokenLaws.{fineLiteral}
+use Rattle.soundness.specs.SignalLaws.{all-left, all-right, bits-fine, bits-long}
+
+pub both : (a b : Bool) → a ≡ true → b ≡ true → a && b ≡ true
+both a b h k = rw (h, k)
+
+-- what passes a test is translated to what passes another
+pub all-mapped : {A B : Type 0} (f : A → Bool) (g : B → Bool) (t : A → B) → ((x : A) → f x ≡ true → g (t x) ≡ true) → (xs : List A) → all f xs ≡ true → all g (map t xs) ≡ true
+unfolding all
+all-mapped f g t i [] h = refl
+all-mapped f g t i (x ∷ xs) h = all-cons g (t x) (map t xs) (i x (all-first f x xs h)) (all-mapped f g t i xs (all-later f x xs h))
+
+-- what a translated statement holds
+module _ {C S W M C′ S′ W′ M′ : Type 0} (f : C → C′) (g : S → S′) (h : W → W′) (k : M → M′) where
+  unfoldable pub translated : Contents C S W M → Contents C′ S′ W′ M′
+  translated c = holds (c .kind) (c .names) (map f (c .constants)) (map g (c .signals)) (map h (c .wires)) (map k (c .memories)) (c .integers) (c .sorts)
+
+  pub contents-translated : (s : Stmt C S W M) → contents (translate f g h k s) ≡ translated (contents s)
+  unfolding translated contents holds translate Option·toList
+  contents-translated (autoidx-stmt i) = refl
+  contents-translated (attr-stmt n c) = refl
+  contents-translated (module-stmt n) = refl
+  contents-translated (param-stmt n none) = refl
+  contents-translated (param-stmt n (some c)) = refl
+  contents-translated (wire-stmt w n) = refl
+  contents-translated (memory-stmt m n) = refl
+  contents-translated (cell-stmt t n) = refl
+  contents-translated (cell-param-stmt o n c) = refl
+  contents-translated (cell-conn-stmt n s) = refl
+  contents-translated (conn-stmt s t) = refl
+  contents-translated (proc-stmt n) = refl
+  contents-translated end-stmt = refl
+
+-- ---- constants
+
+value-long : (w : ℕ) (ds : List Digit) → goodLiteral (value w ds) ≡ true → length (valueBits w ds) ≡ w
+unfolding literalBits literalWidth
+value-long w ds g = literal-long (value w ds) g
+
+pub constant-fine : (c : Literal) → goodLiteral c ≡ true → fineLiteral c ≡ true → fineConstant (kept c) ≡ true
+unfolding goodLiteral fineLiteral fineConstant kept
+constant-fine (value w ds) g f = rw (value-long w ds g) (and-true-left (leb w 2048) (leb (length ds) w) g)
+constant-fine (integer i) g f = g
+constant-fine (string s) g f = f
+
+pub constants-fine : (cs : List Literal) → all goodLiteral cs ≡ true → all fineLiteral cs ≡ true → all fineConstant (map kept cs) ≡ true
+unfolding all
+constants-fine [] g f = refl
+constants-fine (c ∷ cs) g f =
+    all-cons fineConstant (kept c) (map kept cs) (constant-fine c (all-first goodLiteral c cs g) (all-first fineLiteral c cs f))
+    (constants-fine cs (all-later goodLiteral c cs g) (all-later fineLiteral c cs f))
+
+-- ---- wires and memories
+
+range-within : (lo hi : ℕ) (z : ℤ) → inRange lo hi z ≡ true → within lo hi (natAbs z) ≡ true
+unfolding inRange
+range-within lo hi (pos n) e = e
+range-within lo hi (negsuc n) e = absurd (false≢true e)
+
+range-high : (lo hi : ℕ) (z : ℤ) → inRange lo hi z ≡ true → leb (natAbs z) hi ≡ true
+range-high lo hi z e = le-leb (natAbs z) hi (within-high lo hi (natAbs z) (range-within lo hi z e))
+
+-- of the ports the first
+port-within : (ps : List (Direction × ℤ)) → all (λ (p : Direction × ℤ). inRange 1 1023 (p .1)) ps ≡ true → all (within 1 1023) (map (λ (p : Direction × ℕ). p .1) (Option·toList (portOf ps))) ≡ true
+unfolding portOf Option·toList all
+port-within [] e = refl
+port-within (p ∷ ps) e = both _ true (range-within 1 1023 (p .1) (all-first (λ (p : Direction × ℤ). inRange 1 1023 (p .1)) p ps e)) refl
+
+module _ (ws : Wires) (os : List Opt) where
+  pub wire-fine : goodWire os && newPort ws os ≡ true → fineWire ws (wireOf os) ≡ true
+  unfolding goodWire wireOf portNumbers newPort fineWire newPorts
+  wire-fine e =
+      let a : Bool = goodOptions os in
+      let b : Bool = inRange 0 2048 (numberOr (pos 1) "width" os) in
+      let c : Bool = leb (length (ports os)) 1 in
+      let d : Bool = all (λ (p : Direction × ℤ). inRange 1 1023 (p .1)) (ports os) in
+      let g : goodWire os ≡ true = and-true-left (goodWire os) (newPort ws os) e in
+      let e₄ : a && b && c && d ≡ true = and-true-left (a && b && c && d) _ g in
+      let e₂ : a && b ≡ true = and-true-left (a && b) c (and-true-left (a && b && c) d e₄) in
+      both _ _
+      (both _ _
+      (both _ _
+      (both _ _ (range-high 0 2048 (numberOr (pos 1) "width" os) (and-true-right a b e₂)) (good-offset os g))
+      (and-true-right (a && b && c && d) _ g))
+      (port-within (ports os) (and-true-right (a && b && c) d e₄)))
+      (and-true-right (goodWire os) (newPort ws os) e)
+
+pub memory-fine : (os : List Opt) → goodMemory os ≡ true → fineMemory (memoryOf os) ≡ true
+unfolding goodMemory goodOptions memoryOf fineMemory
+memory-fine os e =
+    let a : Bool = goodOptions os in
+    let b : Bool = inRange 1 2048 (numberOr (pos 1) "width" os) in
+    let c : Bool = inRange 0 2147483647 (numberOr (pos 0) "size" os) in
+    let e₂ : a && b ≡ true = and-true-left (a && b) c e in
+    both _ _
+    (both _ _ (range-within 1 2048 (numberOr (pos 1) "width" os) (and-true-right a b e₂)) (range-high 0 2147483647 (numberOr (pos 0) "size" os) (and-true-right (a && b) c e)))
+    (number-fits "offset" os (and-true-right (once os) _ (and-true-left a b e₂)))
+
+-- ---- signals
+
+-- a signal is a part of itself
+part-self : (f : Sig → Bool) (s : Sig) → all f (parts s) ≡ true → f s ≡ true
+unfolding parts
+part-self f (constant c) h = all-first f (constant c) [] h
+part-self f (wire n) h = all-first f (wire n) [] h
+part-self f (slice s x l) h = all-first f (slice s x l) (parts s) h
+part-self f (bundle ss) h = all-first f (bundle ss) (partsOf ss) h
+
+module _ (ws : Wires) where
+  unfoldable pub narrow : Sig → Bool
+  narrow s = leb (width ws s) 2048
+
+  signal-fine : (s : Sig) → all goodNumbers (parts s) ≡ true → all (goodSlice ws) (parts s) ≡ true → all narrow (parts s) ≡ true → fineSignal ws (bits ws s) ≡ true
+  unfolding fineSignal narrow
+  signal-fine s n g w =
+      let few : leb (length (bits ws s)) 2048 ≡ true = rw (bits-long ws s n g) (part-self narrow s w) in
+      both _ _ few (bits-fine ws s)
+
+  pub signals-fine :
+      (ss : List Sig) → all goodNumbers (flatMap parts ss) ≡ true → all (goodSlice ws) (flatMap parts ss) ≡ true → all narrow (flatMap parts ss) ≡ true →
+      all (fineSignal ws) (map (bits ws) ss) ≡ true
+  unfolding flatMap all
+  signals-fine [] n g w = refl
+  signals-fine (s ∷ ss) n g w =
+      let r : List Sig = flatMap parts ss in
+      all-cons (fineSignal ws) (bits ws s) (map (bits ws) ss)
+      (signal-fine s (all-left goodNumbers (parts s) r n) (all-left (goodSlice ws) (parts s) r g) (all-left narrow (parts s) r w))
+      (signals-fine ss (all-right goodNumbers (parts s) r n) (all-right (goodSlice ws) (parts s) r g) (all-right narrow (parts s) r w))
+
+  pub equal-lengths :
+      (ss : List Sig) → all goodNumbers (flatMap parts ss) ≡ true → all (goodSlice ws) (flatMap parts ss) ≡ true → equalWidths ws ss ≡ true →
+      sameLength (map (bits ws) ss) ≡ true
+  unfolding flatMap equalWidths sameLength
+  equal-lengths [] n g e = refl
+  equal-lengths (s ∷ []) n g e = refl
+  equal-lengths (s ∷ t ∷ ss) n g e =
+      let r : List Sig = flatMap parts ss in
+      let n₂ = all-right goodNumbers (parts s) (parts t ++ r) n in
+      let g₂ = all-right (goodSlice ws) (parts s) (parts t ++ r) g in
+      rw (
+        bits-long ws s (all-left goodNumbers (parts s) (parts t ++ r) n) (all-left (goodSlice ws) (parts s) (parts t ++ r) g),
+        bits-long ws t (all-left goodNumbers (parts t) r n₂) (all-left (goodSlice ws) (parts t) r g₂),
+      ) e

@@ -1,0 +1,137 @@
+-- The bits of a signal: each stands inside a declared wire, and they are as many as its width says.
+-- Assumes nothing.
+use Prim.Native.Nat.{ℕ, zero, suc, _+_, _≤_}
+use native.Mathlib.Omega.{arith}
+use mathlib.Core.Path.{_≡_, refl, ap, ap₂, _∙_}
+use mathlib.Core.List.{List, [], _∷_, _++_, map, reverse, reverseAux}
+use mathlib.Core.Option.{Option, none, some, Option·elim}
+use mathlib.Core.Bool.{Bool, true, false≢true}
+use lib.Dec.{leb, ltb}
+use lib.IntN.{ℤ, pos, negsuc, natAbs}
+use lib.ListN.{length, take, drop, getElem?, length-append, length-map, length-drop}
+use lib.Seq.{length-take-le}
+use borrow.Author.Tests.{leb-true, ltb-true, lt-ltb}
+use Rattle.rules.specs.Bytes.{same, all}
+use Rattle.rules.specs.Tokens.{Name, Literal}
+use Rattle.rules.specs.Statements.{Sig, Sigs, constant, wire, slice, bundle, nothing, _below_, Bit, digit, bit, Wire}
+use Rattle.rules.specs.Numbers.{goodNumbers}
+use Rattle.rules.specs.Signals.{Wires, find, literalBits, wireBits, inside, lower, span, width, widths, bits, bitsOf, goodSlice, parts, partsOf}
+use Rattle.scanner.specs.Laws.{by-cond, and-true-left, and-true-right}
+use Rattle.literals.proofs.Laws.{literal-long}
+use Rattle.admitted.specs.Admitted.{fineBit}
+use Rattle.written.specs.Lists.{all-cons, all-first, all-later, all-split, all-append, all-drop, all-map}
+
+all-take : {A : Type 0} (f : A → Bool) (n : ℕ) (xs : List A) → all f xs ≡ true → all f (take n xs) ≡ true
+unfolding all
+all-take f zero xs h = refl
+all-take f (suc n) [] h = refl
+all-take f (suc n) (x ∷ xs) h = all-cons f x (take n xs) (all-first f x xs h) (all-take f n xs (all-later f x xs h))
+
+module _ {A : Type 0} (f : A → Bool) (xs ys : List A) (h : all f (xs ++ ys) ≡ true) where
+  pub all-left : all f xs ≡ true
+  all-left = and-true-left (all f xs) (all f ys) (rw (all-split f xs ys) at h)
+
+  pub all-right : all f ys ≡ true
+  all-right = and-true-right (all f xs) (all f ys) (rw (all-split f xs ys) at h)
+
+-- ---- a wire that is found stands at its number
+
+behind-reverse : (l r : Wires) (i n : ℕ) → n ≡ length l + i → getElem? (reverseAux l r) n ≡ getElem? r i
+behind-reverse [] r i n e = let q : n ≡ i = omega arith in rw q
+behind-reverse (x ∷ l) r i n e = behind-reverse l (x ∷ r) (suc i) n (omega arith)
+
+data Found (vs : Wires) : Option (ℕ × Wire) → Type 0 where
+  not-found : Found vs none
+  found : {k : ℕ} {w : Wire} (n : Name) → getElem? vs k ≡ some (n, w) → Found vs (some (k, w))
+
+find-found : (n : Name) (ws r : Wires) → Found (reverseAux ws r) (find n ws)
+unfolding find
+find-found n [] r = not-found
+find-found n (w ∷ ws) r =
+    by-cond (Found (reverseAux ws (w ∷ r))) (same (w .0) n)
+    (λ e. found (w .0) (behind-reverse ws (w ∷ r) 0 (length ws) (omega arith)))
+    (λ e. find-found n ws (w ∷ r))
+
+module _ (ws : Wires) where
+  bit-fine : (k i : ℕ) (v : Name × Wire) → getElem? (reverse ws) k ≡ some v → suc i ≤ v .1 .width → fineBit ws (bit k i) ≡ true
+  unfolding fineBit Option·elim
+  bit-fine k i v e h = rw e (lt-ltb i (v .1 .width) h)
+
+  wire-fine : (k i n : ℕ) (v : Name × Wire) → getElem? (reverse ws) k ≡ some v → i + n ≤ v .1 .width → all (fineBit ws) (wireBits k i n) ≡ true
+  unfolding wireBits all
+  wire-fine k i zero v e h = refl
+  wire-fine k i (suc n) v e h = all-cons (fineBit ws) (bit k i) (wireBits k (i + 1) n) (bit-fine k i v e (omega arith)) (wire-fine k (i + 1) n v e (omega arith))
+
+  found-fine : {o : Option (ℕ × Wire)} → Found (reverse ws) o → all (fineBit ws) (Option·elim o [] (λ w. wireBits (w .0) 0 (w .1 .width))) ≡ true
+  unfolding Option·elim all
+  found-fine not-found = refl
+  found-fine (found {k} {w} n e) = wire-fine k 0 (w .width) (n, w) e (omega arith)
+
+  digit-fine : (c : Literal) → all (fineBit ws) (map digit (literalBits c)) ≡ true
+  unfolding fineBit
+  digit-fine c = all-map (fineBit ws) digit (λ d. refl) (literalBits c)
+
+  -- whatever a signal is, its bits are fine
+  mutual
+    unfolding bits all
+
+    pub bits-fine : (s : Sig) → all (fineBit ws) (bits ws s) ≡ true
+    bits-fine (constant c) = digit-fine c
+    bits-fine (wire n) = found-fine (find-found n ws [])
+    bits-fine (slice s h l) = all-take (fineBit ws) (span h (lower h l)) _ (all-drop (fineBit ws) (natAbs (lower h l)) (bits ws s) (bits-fine s))
+    bits-fine (bundle ss) = bits-of-fine ss
+
+    bits-of-fine : (ss : Sigs) → all (fineBit ws) (bitsOf ws ss) ≡ true
+    bits-of-fine nothing = refl
+    bits-of-fine (s below ss) = all-append (fineBit ws) (bits ws s) (bitsOf ws ss) (bits-fine s) (bits-of-fine ss)
+
+-- ---- the bits are as many as the width says
+
+length-wire : (n i w : ℕ) → length (wireBits n i w) ≡ w
+unfolding wireBits
+length-wire n i zero = refl
+length-wire n i (suc w) = ap suc (length-wire n (i + 1) w)
+
+length-found : (o : Option (ℕ × Wire)) → length (Option·elim o [] (λ w. wireBits (w .0) 0 (w .1 .width))) ≡ Option·elim o 0 (λ w. w .1 .width)
+unfolding Option·elim
+length-found none = refl
+length-found (some w) = length-wire (w .0) 0 (w .1 .width)
+
+inside-room : (w : ℕ) (h l : ℤ) → inside w h l ≡ true → natAbs l + span h l ≤ w
+unfolding inside span
+inside-room w (pos h) (pos l) e =
+    let a : l ≤ h = leb-true l h (and-true-left (leb l h) (ltb h w) e) in
+    let b : suc h ≤ w = ltb-true h w (and-true-right (leb l h) (ltb h w) e) in
+    omega arith
+inside-room w (pos h) (negsuc l) e = absurd (false≢true e)
+inside-room w (negsuc h) (pos l) e = absurd (false≢true e)
+inside-room w (negsuc h) (negsuc l) e = absurd (false≢true e)
+
+part-long : (xs : List Bit) (l n : ℕ) → l + n ≤ length xs → length (take n (drop l xs)) ≡ n
+part-long xs l n h = length-take-le n (drop l xs) (omega (arith, length-drop l xs))
+
+module _ (ws : Wires) where
+  slice-long : (s : Sig) (h : ℤ) (l : Option ℤ) → goodSlice ws (slice s h l) ≡ true → length (bits ws s) ≡ width ws s → length (bits ws (slice s h l)) ≡ width ws (slice s h l)
+  unfolding goodSlice bits width
+  slice-long s h l g e =
+      part-long (bits ws s) (natAbs (lower h l)) (span h (lower h l)) (omega (arith, inside-room (width ws s) h (lower h l) g))
+
+  -- where numbers and slices are good
+  mutual
+    unfolding bits width parts goodNumbers
+
+    pub bits-long : (s : Sig) → all goodNumbers (parts s) ≡ true → all (goodSlice ws) (parts s) ≡ true → length (bits ws s) ≡ width ws s
+    bits-long (constant c) n g = length-map (literalBits c) digit ∙ literal-long c (all-first goodNumbers (constant c) [] n)
+    bits-long (wire x) n g = length-found (find x ws)
+    bits-long (slice s h l) n g =
+        slice-long s h l (all-first (goodSlice ws) (slice s h l) (parts s) g)
+        (bits-long s (all-later goodNumbers (slice s h l) (parts s) n) (all-later (goodSlice ws) (slice s h l) (parts s) g))
+    bits-long (bundle ss) n g =
+        bits-of-long ss (all-later goodNumbers (bundle ss) (partsOf ss) n) (all-later (goodSlice ws) (bundle ss) (partsOf ss) g)
+
+    bits-of-long : (ss : Sigs) → all goodNumbers (partsOf ss) ≡ true → all (goodSlice ws) (partsOf ss) ≡ true → length (bitsOf ws ss) ≡ widths ws ss
+    bits-of-long nothing n g = refl
+    bits-of-long (s below ss) n g =
+        length-append (bits ws s) (bitsOf ws ss)
+        ∙ ap₂ _+_ (bits-long s (all-left goodNumbers (parts s) (partsOf ss) n) (all-left (goodSlice ws) (parts s) (partsOf ss) g))
+        (bits-of-long ss (all-right goodNumbers (parts s) (partsOf ss) n) (all-right (goodSlice ws) (parts s) (partsOf ss) g))
