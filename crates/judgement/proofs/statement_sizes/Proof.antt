@@ -1,0 +1,51 @@
+-- The signals of a sound statement are narrow, and its other parts are no longer than the file.
+use native.Mathlib.Omega.{arith}
+use Rattle.judgement.proofs.PartLaws.{parts-good, parts-narrow, name-few, sizes-are, sizes-few}
+use borrow.Author.Needs.{needs}
+use Rattle.judgement.proofs.statement_sizes.Statement.{statement}
+use Rattle.judgement.proofs.statement_sizes.Tie as tie
+
+parts-of-requires : tie.Need-parts-of-requires
+parts-of-requires c κs = search needs
+
+add-bits : tie.Need-add-bits
+add-bits c = omega (arith, parts-narrow (c .before .before .before .args .f .now) _ _ (c .before .parts-of .ensures) (c .before .before .before .pre .1 .1 .1) (c .before .before .before .pre .1 .1 .0))
+
+cast-bits : tie.Need-cast-bits
+cast-bits c = omega (arith, parts-narrow (c .before .before .before .args .f .now) _ _ (c .before .parts-of .ensures) (c .before .before .before .pre .1 .1 .1) (c .before .before .before .pre .1 .1 .0))
+
+span-size-requires : tie.Need-span-size-requires
+span-size-requires c κs = search needs
+
+span-size-requires-2 : tie.Need-span-size-requires-2
+span-size-requires-2 c κs = search needs
+
+add-names : tie.Need-add-names
+add-names c = omega (arith, c .before .span-size .ensures, c .span-size2 .ensures, name-few (c .before .before .before .before .before .args .f .now) (c .before .before .before .parts-of .result .first), name-few (c .before .before .before .before .before .args .f .now) (c .before .before .before .parts-of .result .name), c .before .before .before .before .before .pre .0)
+
+value-bits-requires : tie.Need-value-bits-requires
+value-bits-requires c κs = parts-good (c .before .before .before .before .before .args .f .now) _ _ (c .before .before .before .parts-of .ensures) (c .before .before .before .before .before .pre .1 .1 .1)
+
+string-bytes-requires : tie.Need-string-bytes-requires
+string-bytes-requires c κs = search needs
+
+kind-sizes-requires : tie.Need-kind-sizes-requires
+kind-sizes-requires c κs = search needs
+
+returns : tie.Need-returns
+returns c = (sizes-are (c .before .before .before .before .before .before .before .before .args .f .now) _ _ _ _ _ _ _ (c .before .before .before .before .before .before .parts-of .ensures) (c .before .before .before .before .before .before .before .before .pre .1 .1 .1) (c .before .before .before .before .before .before .before .before .pre .1 .1 .0) (c .before .before .value-bits .ensures) (c .before .string-bytes .ensures) (c .before .before .before .before .span-size .ensures) (c .before .before .before .span-size2 .ensures) (c .kind-sizes .ensures), sizes-few (c .before .before .before .before .before .before .before .before .args .f .now) _ _ _ _ _ _ _ (c .before .before .before .before .before .before .parts-of .ensures) (c .before .before .before .before .before .before .before .before .pre .1 .1 .1) (c .before .before .before .before .before .before .before .before .pre .1 .1 .0) (c .before .before .value-bits .ensures) (c .before .string-bytes .ensures) (c .before .before .before .before .span-size .ensures) (c .before .before .before .span-size2 .ensures) (c .kind-sizes .ensures) (c .before .before .before .before .before .before .before .before .pre .1 .0) (c .before .before .before .before .before .before .before .before .pre .0))
+
+pub statement-sizes-spec : {M : Type 1} → statement M
+statement-sizes-spec =
+    tie.close
+    (tie.spec
+    parts-of-requires
+    add-bits
+    cast-bits
+    span-size-requires
+    span-size-requires-2
+    add-names
+    value-bits-requires
+    string-bytes-requires
+    kind-sizes-requires
+    returns)

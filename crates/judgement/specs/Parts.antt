@@ -1,0 +1,66 @@
+-- What the tests of a statement go by, and the sizes of a statement.
+use Prim.Native.Nat.{ℕ, _≤_}
+use mathlib.Core.Path.{_≡_}
+use mathlib.Core.List.{List, Option·toList}
+use mathlib.Core.Option.{some, Option·map}
+use lib.ListN.{length}
+use Rattle.rules.specs.Statements as rules
+use Rattle.rules.specs.Statements.{digitsOf, bytesOf}
+use Rattle.rules.specs.Signals.{kept}
+use Rattle.rules.specs.Judgement.{sum}
+use Rattle.tokens.specs.declared.Literal.{Literal}
+use Rattle.tokens.specs.declared.Literal.the-variants as literal
+use Rattle.forms.specs.Forms.{valueIn}
+use Rattle.forms.specs.declared.Span.{Span}
+use Rattle.syntax.specs.Statements.{statementIn}
+use Rattle.syntax.specs.declared.Statement.{Statement}
+use Rattle.syntax.specs.declared.Statement.the-variants.{Autoidx, Attribute, Module, Parameter, Wire, Memory, Cell, CellParameter, CellConnection, Connection, End, NoShape, Process, BadNumber, MissingWire}
+use Rattle.past.specs.Sizes.{sizesOf}
+use Rattle.past.specs.declared.sizes.Sizes.{Sizes}
+use Rattle.judgement.specs.declared.Parts.{Parts}
+
+-- a span of no bytes
+abbrev pub noName : Span
+noName = record { start = 0; end = 0 }
+
+-- the parts of a statement without signals, of a refusal, of a connection
+unfoldable pub namedParts : ℕ → Span → Span → Literal → Parts
+namedParts k m n c = record { number = 0; kind = k; first = m; name = n; value = c; left = 0; right = 0; late = 0 }
+
+unfoldable pub refusalParts : ℕ → Parts
+refusalParts n = record { number = n; kind = 11; first = noName; name = noName; value = literal.Nothing; left = 0; right = 0; late = 0 }
+
+unfoldable pub connectionParts : ℕ → Span → (left right late : ℕ) → Parts
+connectionParts k n a b l = record { number = 0; kind = k; first = noName; name = n; value = literal.Nothing; left = a; right = b; late = l }
+
+-- of each answer about a line, with its kind's code
+unfoldable pub partsOf : Statement → Parts
+partsOf (Autoidx w) = namedParts 1 noName noName literal.Nothing
+partsOf (Attribute n c) = namedParts 2 noName n (literal.Read c)
+partsOf (Module n) = namedParts 3 noName n literal.Nothing
+partsOf (Parameter n c) = namedParts 4 noName n c
+partsOf (Wire n w t k p) = namedParts 5 noName n literal.Nothing
+partsOf (Memory n w z t) = namedParts 6 noName n literal.Nothing
+partsOf (Cell k n) = namedParts 7 k n literal.Nothing
+partsOf (CellParameter o n c) = namedParts 8 noName n (literal.Read c)
+partsOf (CellConnection n w l) = connectionParts 9 n w 0 l
+partsOf (Connection a b l) = connectionParts 10 noName a b l
+partsOf End = namedParts 12 noName noName literal.Nothing
+partsOf NoShape = refusalParts 5
+partsOf Process = refusalParts 6
+partsOf BadNumber = refusalParts 7
+partsOf MissingWire = refusalParts 8
+
+-- the constant that a statement keeps, if it has one; how many digits and how many bytes it has
+unfoldable pub constantsIn : List ℕ → Literal → List rules.Constant
+constantsIn f c = Option·toList (Option·map kept (valueIn f c))
+
+unfoldable pub digitsIn : List ℕ → Literal → ℕ
+digitsIn f c = sum (λ d. length (digitsOf d)) (constantsIn f c)
+
+unfoldable pub bytesIn : List ℕ → Literal → ℕ
+bytesIn f c = sum (λ d. length (bytesOf d)) (constantsIn f c)
+
+-- r is the sizes of the statement that an answer stands for, over any scratch table that has room for two signals
+abbrev pub SizesAre : List ℕ → Statement → Sizes → Type 0
+SizesAre f a r = (s : List ℕ) (x : rules.Statement) → 4096 ≤ length s → statementIn f s a ≡ some x → sizesOf x ≡ r

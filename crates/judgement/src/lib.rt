@@ -1,0 +1,303 @@
+// The verdict on one line after the statements so far: its statement with the sums of each size, or the lowest number that it is refused with.
+use forms::Span;
+use literals::literal_width;
+use netlist::rows::Kinds;
+use netlist::rows::name_taken;
+use past::place::Place;
+use past::sizes::Sizes;
+use past::sizes::kind_sizes;
+use past::sizes::plus;
+use past::sizes::within;
+use scanner::parts::part;
+use signals::Scope;
+use strings::string_size;
+use syntax::Statement;
+use syntax::line_statement;
+use tokens::Constant;
+use tokens::Literal;
+ghost use mathlib.Core.Path.{_≡_};
+ghost use mathlib.Core.Option.{none};
+ghost use Prim.Native.Nat.{_-_, _≤_};
+ghost use lib.ListN.{length};
+ghost use Rattle.forms.specs.Forms.{nameIn};
+ghost use Rattle.syntax.specs.Statements.{numberOf, lateOf, Sound, GoodOptional, Ready};
+ghost use Rattle.past.specs.Place.{Bounds};
+ghost use Rattle.past.specs.Sizes.{Within, AtMost};
+ghost use Rattle.judgement.specs.Parts.{namedParts, refusalParts, connectionParts, partsOf, digitsIn, bytesIn, SizesAre};
+ghost use Rattle.judgement.specs.Spaces.{spaceFrom, kindsFrom, takenIn};
+ghost use Rattle.judgement.specs.Judged.{JudgedAs, JudgesAs, Storable};
+
+// What the tests of a statement go by: the number of its refusal, or 0; its kind by its code; a cell's type, and the own name, empty where there is
+// none; its constant; the widths of its signals, and the number that they leave, or 0.
+struct Parts {
+    number: u32,
+    kind: u32,
+    first: Span,
+    name: Span,
+    value: Literal,
+    left: usize,
+    right: usize,
+    late: u32,
+}
+
+// A line's statement, with the sums over it and all before it; or the number of its refusal.
+pub enum Judged {
+    Stated { statement: Statement, sums: Sizes },
+    Refused(u32),
+}
+
+fn no_name() -> Span
+    ensures { λ r. ⌜ r ≡ record { start = 0; end = 0 } ⌝ }
+{
+    Span { start: 0, end: 0 }
+}
+
+// A statement without signals.
+fn named(kind: u32, first: Span, name: Span, value: Literal) -> Parts
+    ensures { λ r. ⌜ r ≡ namedParts kind first name value ⌝ }
+{
+    Parts {
+        number: 0,
+        kind,
+        first,
+        name,
+        value,
+        left: 0,
+        right: 0,
+        late: 0,
+    }
+}
+
+// A line that is refused; its kind is that of no statement.
+fn refusing(number: u32) -> Parts
+    ensures { λ r. ⌜ r ≡ refusalParts number ⌝ }
+{
+    let name = no_name();
+    Parts {
+        number,
+        kind: 11,
+        first: name,
+        name,
+        value: Literal::Nothing,
+        left: 0,
+        right: 0,
+        late: 0,
+    }
+}
+
+// A connection of a cell or of a module.
+fn connecting(kind: u32, name: Span, left: usize, right: usize, late: u32) -> Parts
+    ensures { λ r. ⌜ r ≡ connectionParts kind name left right late ⌝ }
+{
+    Parts {
+        number: 0,
+        kind,
+        first: no_name(),
+        name,
+        value: Literal::Nothing,
+        left,
+        right,
+        late,
+    }
+}
+
+fn parts_of(statement: Statement) -> Parts
+    ensures { λ r. ⌜ r ≡ partsOf statement ⌝ }
+{
+    let empty = no_name();
+    match statement {
+        Statement::Autoidx(_) => named(1, empty, empty, Literal::Nothing),
+        Statement::Attribute { name, value } => named(2, empty, name, Literal::Read(value)),
+        Statement::Module(name) => named(3, empty, name, Literal::Nothing),
+        Statement::Parameter { name, value } => named(4, empty, name, value),
+        Statement::Wire { name, .. } => named(5, empty, name, Literal::Nothing),
+        Statement::Memory { name, .. } => named(6, empty, name, Literal::Nothing),
+        Statement::Cell { kind, name } => named(7, kind, name, Literal::Nothing),
+        Statement::CellParameter { name, value, .. } => named(8, empty, name, Literal::Read(value)),
+        Statement::CellConnection { name, width, late } => connecting(9, name, width, 0, late),
+        Statement::Connection { left, right, late } => connecting(10, empty, left, right, late),
+        Statement::End => named(12, empty, empty, Literal::Nothing),
+        Statement::NoShape => refusing(5),
+        Statement::Process => refusing(6),
+        Statement::BadNumber => refusing(7),
+        Statement::MissingWire => refusing(8),
+    }
+}
+
+fn span_size(f: &[u8], span: Span) -> u32
+    requires { ⌜ length (now f) ≤ 32768 ⌝ }
+    ensures { λ r. ⌜ r ≡ length (nameIn (now (f .entry)) span) ⌝ }
+{
+    part(f, span.start, span.end).len() as u32
+}
+
+// The bits of a value; an integer and a string have none.
+fn value_bits(f: &[u8], value: Literal) -> u32
+    requires { ⌜ GoodOptional (now f) value ⌝ }
+    ensures { λ r. ⌜ r ≡ digitsIn (now (f .entry)) value ⌝ }
+{
+    let Literal::Read(c) = value else {
+        return 0;
+    };
+    match c {
+        Constant::Integer(_) => 0,
+        Constant::Value { .. } => literal_width(f, c) as u32,
+        Constant::Text(_) => 0,
+    }
+}
+
+// The bytes of a string; an integer and a value have none.
+fn string_bytes(f: &[u8], value: Literal) -> u32
+    requires { ⌜ length (now f) ≤ 32768 ⌝ }
+    ensures { λ r. ⌜ r ≡ bytesIn (now (f .entry)) value ⌝ }
+{
+    let Literal::Read(c) = value else {
+        return 0;
+    };
+    match c {
+        Constant::Integer(_) => 0,
+        Constant::Value { .. } => 0,
+        Constant::Text(start) => string_size(f, start) as u32,
+    }
+}
+
+// The sizes of one statement whose signals leave no number.
+fn statement_sizes(f: &[u8], statement: Statement) -> Sizes
+    requires { ⌜ length (now f) ≤ 32768 ⌝ }
+    requires { ⌜ numberOf statement ≡ none ⌝ }
+    requires { ⌜ lateOf statement ≡ 0 ⌝ }
+    requires { ⌜ Sound (now f) statement ⌝ }
+    ensures { λ r. ⌜ SizesAre (now (f .entry)) statement r ⌝ }
+    ensures { λ r. ⌜ AtMost 2147483647 r ⌝ }
+{
+    let parts = parts_of(statement);
+    let value = parts.value;
+    let bits = (parts.left + parts.right) as u32;
+    let names = span_size(f, parts.first) + span_size(f, parts.name);
+    kind_sizes(
+        parts.kind,
+        bits,
+        value_bits(f, value),
+        string_bytes(f, value),
+        names,
+    )
+}
+
+// The first row of the name space of a kind's names: those of modules are all rows, those without a name have none.
+fn space_from(place: Place, kind: u32) -> u32
+    ensures { λ r. ⌜ r ≡ spaceFrom place kind ⌝ }
+{
+    if kind == 2 {
+        return place.object_from;
+    }
+    if kind == 3 {
+        return 0;
+    }
+    if kind < 4 {
+        return place.rows;
+    }
+    if kind < 8 {
+        return place.module_from;
+    }
+    if kind < 10 {
+        return place.cell_from;
+    }
+    place.rows
+}
+
+// The kinds that share a kind's name space: wires, memories and cells do.
+fn space_kinds(kind: u32) -> Kinds
+    ensures { λ r. ⌜ r ≡ kindsFrom kind ⌝ }
+{
+    let shared = Kinds { a: 5, b: 6, c: 7 };
+    let own = Kinds {
+        a: kind,
+        b: kind,
+        c: kind,
+    };
+    if kind < 5 {
+        return own;
+    }
+    if kind < 8 { shared } else { own }
+}
+
+// Whether the statement's own name is taken in its name space.
+fn name_is_taken(f: &[u8], names: &[u8], rows: &[u32], place: Place, statement: Statement) -> bool
+    requires { ⌜ Bounds place ⌝ }
+    ensures { λ r. ⌜ r ≡ takenIn (now (f .entry)) (now (names .entry)) (now (rows .entry)) place statement ⌝ }
+{
+    let parts = parts_of(statement);
+    let name = parts.name;
+    let from = space_from(place, parts.kind);
+    name_taken(
+        names,
+        rows,
+        from,
+        place.rows - from,
+        space_kinds(parts.kind),
+        part(f, name.start, name.end),
+    )
+}
+
+// The verdict on a statement or a refusal of 5 to 8: then a taken name, then what its signals leave, then the sums.
+fn judge_statement(
+    f: &[u8],
+    names: &[u8],
+    rows: &[u32],
+    place: Place,
+    sums: Sizes,
+    statement: Statement,
+) -> Judged
+    requires { ⌜ length (now f) ≤ 32768 ⌝ }
+    requires { ⌜ Sound (now f) statement ⌝ }
+    requires { ⌜ Within sums ⌝ }
+    requires { ⌜ Bounds place ⌝ }
+    ensures { λ r. ⌜ Storable (now (f .entry)) r ⌝ }
+    ensures { λ r. ⌜ JudgesAs (now (f .entry)) (now (names .entry)) (now (rows .entry)) place sums statement r ⌝ }
+{
+    let parts = parts_of(statement);
+    if parts.number != 0 {
+        return Judged::Refused(parts.number);
+    }
+    if name_is_taken(f, names, rows, place, statement) {
+        return Judged::Refused(9);
+    }
+    if parts.late != 0 {
+        return Judged::Refused(parts.late);
+    }
+    let sums = plus(sums, statement_sizes(f, statement));
+    if within(sums) {
+        return Judged::Stated { statement, sums };
+    }
+    Judged::Refused(11)
+}
+
+// The verdict on a line that has a token.
+pub fn judge_line(
+    f: &[u8],
+    tokens: &[u32],
+    place: Place,
+    sums: Sizes,
+    names: &[u8],
+    wires: &[u32],
+    rows: &[u32],
+    scratch: &mut [u32],
+) -> Judged
+    requires { ⌜ Ready (now f) (now tokens) (now scratch) (place .wires - place .«wires_from») ⌝ }
+    requires { ⌜ Within sums ⌝ }
+    requires { ⌜ Bounds place ⌝ }
+    ensures { λ r. ⌜ Storable (now (f .entry)) r ⌝ }
+    ensures { λ r. ⌜ JudgedAs (now (f .entry)) (now (tokens .entry)) place sums (now (names .entry)) (now (wires .entry)) (now (rows .entry)) (now (scratch .exit)) r ⌝ }
+{
+    let here = syntax::Place {
+        scope: place.scope,
+        first: place.first,
+        attributed: place.attributed,
+    };
+    let scope = Scope {
+        first: place.wires_from,
+        count: place.wires - place.wires_from,
+    };
+    let statement = line_statement(f, tokens, here, names, wires, scope, scratch);
+    judge_statement(f, names, rows, place, sums, statement)
+}
