@@ -23,7 +23,8 @@ use Rattle.scanner.proofs.NumberLaws.{capped-small}
 use Rattle.tokens.specs.Rows.{literalIn}
 use Rattle.tokens.specs.declared.Constant.the-variants as constant
 use Rattle.literals.proofs.Laws.{literal-long}
-use Rattle.layout.specs.Put.{signalIn, WireHas}
+use Rattle.syntax.specs.Statements.{signalIn}
+use Rattle.layout.specs.Put.{WireHas}
 use Rattle.layout.specs.SignalLaws.{signal-codes, signal-words}
 use Rattle.layout.specs.PartLaws.{one-name, two-names, one-string, one-value, one-signal, two-signals, one-wire}
 

@@ -1,1 +1,3 @@
 mod Laws
+mod Stored
+pub mod PastLaws

@@ -2,3 +2,4 @@ pub mod Put
 pub mod PartLaws
 pub mod SignalLaws
 pub mod RoomLaws
+pub mod Stored

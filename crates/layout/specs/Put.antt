@@ -1,15 +1,13 @@
 -- What a statement puts into each table, behind what is used of it, and the parts of statements as code holds them.
 use Prim.Native.Nat.{ℕ, _+_, _*_, _<_, _≤_}
 use mathlib.Core.Path.{_≡_}
-use mathlib.Core.List.{List, [], _∷_, map, reverse}
-use mathlib.Core.Option.{Option, none, some, Option·elim}
+use mathlib.Core.List.{List, [], _∷_}
+use mathlib.Core.Option.{Option, Option·elim, Option·map}
 use mathlib.Core.Bool.{true}
 use lib.ListN.{length}
-use lib.Seq.{slice}
-use lib.IntN.{ℤ}
 use Rattle.rules.specs.Tokens.{Name}
 use Rattle.rules.specs.Statements as rules
-use Rattle.rules.specs.Statements.{Statement, aModule, Signal, Wire, Memory, digitsOf, bytesOf, autoidx-stmt, wire-stmt, memory-stmt}
+use Rattle.rules.specs.Statements.{Statement, aModule, Wire, digitsOf, bytesOf, wire-stmt}
 use Rattle.rules.specs.Judgement.{count}
 use Rattle.rules.specs.Numbers.{goodLiteral}
 use Rattle.rules.specs.Signals.{twosComplement, kept}
@@ -17,12 +15,12 @@ use Rattle.rules.specs.Layout as layout
 use Rattle.rules.specs.Layout.{flags, nameBytes, stringBytes, bitCodes, wireRows, statementRow}
 use Rattle.tables.specs.Store.{store}
 use Rattle.tables.specs.Flat.{flat}
-use Rattle.numbers.specs.Kinds.{bitOf, bitAt}
 use Rattle.tokens.specs.Rows.{literalIn}
 use Rattle.tokens.specs.declared.Constant.{Constant}
 use Rattle.tokens.specs.declared.Literal.{Literal}
 use Rattle.tokens.specs.declared.Literal.the-variants as literal
 use Rattle.literals.specs.Codes.{Whole}
+use Rattle.forms.specs.Forms.{valueIn}
 use Rattle.layout.specs.declared.Used.{Used}
 
 -- how much is used, in the rules' words
@@ -99,9 +97,8 @@ Fits at n t = (at + n ≤ length t) × (length t < 4294967296)
 abbrev pub constantIn : List ℕ → Constant → rules.Constant
 constantIn f c = kept (literalIn f c)
 
-unfoldable pub optionalIn : List ℕ → Literal → Option rules.Constant
-optionalIn f (literal.Read c) = some (constantIn f c)
-optionalIn f literal.Nothing = none
+abbrev pub optionalIn : List ℕ → Literal → Option rules.Constant
+optionalIn f c = Option·map kept (valueIn f c)
 
 -- it keeps the number rules, a string has its end, and there is room for what it puts
 pub record ConstantFits (f : List ℕ) (c : Constant) (u : Used) (strings bits : List ℕ) : Type 0 where
@@ -114,31 +111,14 @@ abbrev pub OptionalFits : List ℕ → Literal → Used → List ℕ → List �
 OptionalFits f (literal.Read c) u strings bits = ConstantFits f c u strings bits
 OptionalFits f literal.Nothing u strings bits = Unit {0}
 
--- the signal of w codes from place o on, highest first
-unfoldable pub signalIn : List ℕ → ℕ → ℕ → Signal
-signalIn scratch o w = map (λ c. bitOf (bitAt c)) (reverse (slice o (o + w) scratch))
-
--- the numbers of a wire and of a memory
+-- the numbers of a wire
 pub record WireHas (width offset flags′ port : ℕ) (w : Wire) : Type 0 where
   pub width-is : w .width ≡ width
   pub offset-is : twosComplement (w .offset) ≡ offset
   pub flags-are : flags w ≡ flags′
   pub port-is : Option·elim (w .port) 0 (λ p. p .1) ≡ port
 
-pub record MemoryHas (width size offset : ℕ) (m : Memory) : Type 0 where
-  pub width-is : m .width ≡ width
-  pub size-is : m .size ≡ size
-  pub offset-is : twosComplement (m .offset) ≡ offset
-
--- the tables with a statement more, whatever the thing that has these numbers
-abbrev pub AutoidxPut : Used → ℕ → (rows rows′ : List ℕ) → Type 0
-AutoidxPut u word rows rows′ = (i : ℤ) → twosComplement i ≡ word → rows′ ≡ rowsPut (usedOf u) (autoidx-stmt i) rows
-
-abbrev pub MemoryPut : Used → Name → ℕ → ℕ → ℕ → (names names′ rows rows′ : List ℕ) → Type 0
-MemoryPut u n width size offset names names′ rows rows′ =
-    (m : Memory) → MemoryHas width size offset m →
-    (names′ ≡ namesPut (usedOf u) (memory-stmt m n) names) × (rows′ ≡ rowsPut (usedOf u) (memory-stmt m n) rows)
-
+-- the tables with a wire more, whatever the wire that has these numbers
 abbrev pub WirePut : Used → Name → ℕ → ℕ → ℕ → ℕ → (names names′ wires wires′ rows rows′ : List ℕ) → Type 0
 WirePut u n width offset flags′ port names names′ wires wires′ rows rows′ =
     (w : Wire) → WireHas width offset flags′ port w →

@@ -9,7 +9,7 @@ use lib.Seq.{slice, length-slice}
 use Rattle.rules.specs.Layout.{bitCode}
 use Rattle.numbers.specs.Kinds.{bitOf, bitAt}
 use Rattle.numbers.specs.KindLaws.{code-back}
-use Rattle.layout.specs.Put.{signalIn}
+use Rattle.syntax.specs.Statements.{signalIn}
 
 codes-back : (cs : List ℕ) → map bitCode (map (λ c. bitOf (bitAt c)) cs) ≡ cs
 codes-back [] = refl

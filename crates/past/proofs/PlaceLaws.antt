@@ -53,7 +53,7 @@ module _ {A : Type 0} where
   sum-le g h [] = omega arith
   sum-le g h (x ∷ xs) = omega (arith, h x, sum-le g h xs)
 
-  length-flatMap : {B : Type 0} (f : A → List B) (g : A → ℕ) → ((x : A) → length (f x) ≡ g x) → (xs : List A) → length (flatMap f xs) ≡ sum g xs
+  pub length-flatMap : {B : Type 0} (f : A → List B) (g : A → ℕ) → ((x : A) → length (f x) ≡ g x) → (xs : List A) → length (flatMap f xs) ≡ sum g xs
   unfolding sum flatMap
   length-flatMap f g h [] = refl
   length-flatMap f g h (x ∷ xs) = rw (length-append, h x, length-flatMap f g h xs)
@@ -107,7 +107,7 @@ context-is (s ∷ ss) =
     λ i. record { scope = scope-back (scope (s ∷ ss)) i; first = false; attributed = is anAttribute s }
 
 -- how many wires the module has
-wire-count : (s : Statement) → length (zip (contents s .names) (contents s .wires)) ≡ count (aWire ∷ []) s
+pub wire-count : (s : Statement) → length (zip (contents s .names) (contents s .wires)) ≡ count (aWire ∷ []) s
 unfolding zip zipWith count among any statementsOpen
 wire-count (autoidx-stmt i) = refl
 wire-count (attr-stmt n c) = refl

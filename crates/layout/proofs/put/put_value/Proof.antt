@@ -1,0 +1,50 @@
+-- The digits stand in scratch, highest first; their width is below the cap with which it is read.
+use mathlib.Core.Path.{ap, _∙_}
+use native.Mathlib.Omega.{arith}
+use denote.Ref.{now}
+use Rattle.tables.specs.Store.{store}
+use Rattle.layout.proofs.Laws.{value-narrow, value-width, value-few, value-stored}
+use borrow.Author.Needs.{needs}
+use Rattle.layout.proofs.put.put_value.Statement.{statement}
+use Rattle.layout.proofs.put.put_value.Tie as tie
+
+put-literal-requires : tie.Need-put-literal-requires
+put-literal-requires c κs =
+    let w = value-narrow _ _ _ _ (c .before .before .before .before .pre .0) in
+    (c .before .before .before .before .pre .0, (w, (omega (arith, w, c .before .before .before .before .pre .1 .0), tt)))
+
+literal-width-requires : tie.Need-literal-width-requires
+literal-width-requires c κs = search needs
+
+reverse-words-requires : tie.Need-reverse-words-requires
+reverse-words-requires c κs =
+    let n = value-width _ _ _ _ (c .before .before .before .before .before .before .before .before .before .before .pre .0) _ (c .before .before .literal-width .ensures .0) in
+    let l = value-few _ _ _ _ (c .before .before .before .before .before .before .before .before .before .before .pre .0) in
+    (omega arith, omega (arith, n, l, c .before .before .before .before .before .before .before .before .before .before .pre .1 .0, c .before .before .before .before .before .put-literal .kept), omega (arith, n, c .before .before .before .before .before .before .before .before .before .before .pre .1 .1))
+
+cast-result : tie.Need-cast-result
+cast-result c = search needs
+
+same-length : tie.Need-same-length
+same-length c = search needs
+
+same-length-2 : tie.Need-same-length-2
+same-length-2 c = search needs
+
+returns : tie.Need-returns
+returns c = (
+  value-width _ _ _ _ (c .before .before .before .before .before .before .before .before .before .before .before .before .before .pre .0) _ (c .before .before .before .before .before .literal-width .ensures .0),
+  c .before .before .reverse-words .ensures ∙ ap (store (now (c .before .before .before .before .before .before .before .before .before .before .before .before .before .args .bits)) (c .before .before .before .before .before .before .before .before .before .before .before .before .before .args .at)) (value-stored _ _ _ _ (c .before .before .before .before .before .before .before .before .before .before .before .before .before .pre .0) _ _ _ (c .before .before .before .before .before .before .before .before .before .before .before .before .before .pre .1 .0) (c .before .before .before .before .before .literal-width .ensures .0) (c .before .before .before .before .before .before .before .before .put-literal .ensures)),
+)
+
+pub put-value-spec : {M : Type 1} → statement M
+put-value-spec =
+    tie.close
+    (tie.spec
+    put-literal-requires
+    literal-width-requires
+    reverse-words-requires
+    cast-result
+    same-length
+    same-length-2
+    returns)

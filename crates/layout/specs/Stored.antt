@@ -1,0 +1,89 @@
+-- What storing the answer about a line needs, and what it leaves in the tables.
+use Prim.Native.Nat.{ℕ, _+_, _*_, _≤_}
+use mathlib.Core.Path.{_≡_}
+use mathlib.Core.List.{List}
+use mathlib.Core.Option.{some}
+use lib.ListN.{length}
+use Rattle.rules.specs.Statements as rules
+use Rattle.rules.specs.Judgement.{Past}
+use Rattle.rules.specs.Layout as rooms
+use Rattle.rules.specs.Layout.{used}
+use Rattle.netlist.specs.Laid.{roomsOf}
+use Rattle.past.specs.Place.{placeOf}
+use Rattle.past.specs.Sizes.{sumsOf}
+use Rattle.past.specs.declared.place.Place.{Place}
+use Rattle.past.specs.declared.sizes.Sizes.{Sizes}
+use Rattle.syntax.specs.Statements.{lateOf, statementIn, Sound}
+use Rattle.syntax.specs.declared.Statement.{Statement}
+use Rattle.syntax.specs.declared.Statement.the-variants.{Autoidx, Attribute, Module, Parameter, Wire as WireOf, Memory as MemoryOf, Cell, CellParameter, CellConnection, Connection, End, NoShape, Process, BadNumber, MissingWire}
+use Rattle.layout.specs.Put.{usedOf, Tables, Puts, RoomFor}
+use Rattle.layout.specs.declared.Used.{Used}
+
+abbrev pub tabled : (names strings bits wires rows : List ℕ) → Tables
+tabled n s b w r = record { names = n; strings = s; bits = b; wires = w; rows = r }
+
+-- the stated lengths
+pub record Sized (t : Tables) : Type 0 where
+  pub names : length (t .names) ≡ 16384
+  pub strings : length (t .strings) ≡ 8192
+  pub bits : length (t .bits) ≡ 16384
+  pub wires : length (t .wires) ≡ 8 * 512
+  pub rows : length (t .rows) ≡ 8 * 4769
+
+-- no number is left for later, and there is room for the statement
+pub record Storable (f s : List ℕ) (r : Statement) (u : Used) (t : Tables) : Type 0 where
+  pub sound : Sound f r
+  pub settled : lateOf r ≡ 0
+  pub room : (x : rules.Statement) → statementIn f s r ≡ some x → RoomFor (usedOf u) x
+  pub sized : Sized t
+  pub scratch : 36864 ≤ length s
+
+-- the tables with the statement that the answer stands for
+abbrev pub PutIs : (f s : List ℕ) → Statement → Used → (t t′ : Tables) → Type 0
+PutIs f s r u t t′ = (x : rules.Statement) → statementIn f s r ≡ some x → Puts (usedOf u) x t t′
+
+-- The same of the kinds without a constant or a wire's row, whatever the tables of strings and of wires are
+abbrev pub Plain : Statement → Type 0
+Plain (Autoidx w) = Unit {0}
+Plain (Attribute n c) = ⊥
+Plain (Module n) = Unit {0}
+Plain (Parameter n c) = ⊥
+Plain (WireOf n w t k p) = ⊥
+Plain (MemoryOf n w z t) = Unit {0}
+Plain (Cell k n) = Unit {0}
+Plain (CellParameter s n c) = ⊥
+Plain (CellConnection n w l) = Unit {0}
+Plain (Connection a b l) = Unit {0}
+Plain End = Unit {0}
+Plain NoShape = Unit {0}
+Plain Process = Unit {0}
+Plain BadNumber = Unit {0}
+Plain MissingWire = Unit {0}
+
+pub record PlainStorable (f s : List ℕ) (r : Statement) (u : Used) (names bits rows : List ℕ) : Type 0 where
+  pub sound : Sound f r
+  pub settled : lateOf r ≡ 0
+  pub room : (x : rules.Statement) → statementIn f s r ≡ some x → RoomFor (usedOf u) x
+  pub names-long : length names ≡ 16384
+  pub bits-long : length bits ≡ 16384
+  pub rows-long : length rows ≡ 8 * 4769
+  pub scratch : 36864 ≤ length s
+
+abbrev pub PlainPut : (f s : List ℕ) → Statement → Used → (names names′ bits bits′ rows rows′ : List ℕ) → Type 0
+PlainPut f s r u names names′ bits bits′ rows rows′ =
+    Plain r → (strings wires : List ℕ) → PutIs f s r u (tabled names strings bits wires rows) (tabled names′ strings bits′ wires rows′)
+
+-- how much the statements before a line use, by its place and their sums; and that a record says so of every such past
+unfoldable pub usedBy : Place → Sizes → rooms.Used
+usedBy p z =
+    record {
+      names = z .«name_bytes»;
+      strings = z .«string_bytes»;
+      bits = z .«value_bits» + z .«signal_bits»;
+      wires = p .wires;
+      rows = p .rows;
+      modules = p .modules;
+    }
+
+abbrev pub UsedIs : Place → Sizes → Used → Type 0
+UsedIs p z r = (ss : Past) → placeOf ss ≡ p → sumsOf ss ≡ z → usedOf r ≡ used (roomsOf ss)

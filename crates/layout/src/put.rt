@@ -1,0 +1,500 @@
+// The parts of a statement in design memory: names, string, bits and a wire's row behind what is used of their tables, and the statement's row of columns.
+use crate::Used;
+use forms::Span;
+use literals::literal_width;
+use literals::put_literal;
+use numbers::signed::word_of;
+use scanner::numbers::decimal;
+use scanner::parts::part;
+use strings::put_string;
+use syntax::Statement;
+use tables::Row;
+use tables::put_bytes;
+use tables::put_row;
+use tables::reverse_words;
+use tokens::Constant;
+use tokens::Integer;
+use tokens::Literal;
+ghost use mathlib.Core.Path.{_≡_};
+ghost use mathlib.Core.Bool.{true};
+ghost use mathlib.Core.List.{[], _∷_, _++_, map};
+ghost use Prim.Native.Nat.{_+_, _-_, _*_, _≤_};
+ghost use lib.ListN.{length, drop};
+ghost use Rattle.rules.specs.Statements.{Sort, digitsOf, bytesOf, attr-stmt, param-stmt, cell-stmt, cell-param-stmt, cell-conn-stmt, conn-stmt};
+ghost use Rattle.rules.specs.Numbers.{int32, goodLiteral};
+ghost use Rattle.rules.specs.Signals.{twosComplement, literalBits};
+ghost use Rattle.rules.specs.Layout.{row, digitCode, constantColumns, sortCode};
+ghost use Rattle.tables.specs.Store.{store};
+ghost use Rattle.strings.specs.Decoded.{decoded, closes};
+ghost use Rattle.tokens.specs.Rows.{integerIn, literalIn};
+ghost use Rattle.forms.specs.Forms.{nameIn};
+ghost use Rattle.syntax.specs.Statements.{signalIn};
+ghost use Rattle.layout.specs.Put.{usedOf, namesPut, stringsPut, bitsPut, rowsPut, Fits, constantIn, optionalIn, ConstantFits, OptionalFits, WirePut};
+ghost use Rattle.layout.specs.Stored.{PlainStorable, PlainPut};
+
+// The kinds of statement, by the code in the first column of a row.
+const AUTOIDX: u32 = 1;
+
+const ATTRIBUTE: u32 = 2;
+
+const MODULE: u32 = 3;
+
+const PARAMETER: u32 = 4;
+
+const WIRE: u32 = 5;
+
+const MEMORY: u32 = 6;
+
+const CELL: u32 = 7;
+
+const CELL_PARAMETER: u32 = 8;
+
+const CELL_CONNECTION: u32 = 9;
+
+const CONNECTION: u32 = 10;
+
+const END: u32 = 12;
+
+// The columns of a constant: its kind, where it starts and its length; or its kind and the integer.
+pub struct Columns {
+    pub kind: u32,
+    pub a: u32,
+    pub b: u32,
+}
+
+// Row k of a table; no row has an eighth column.
+fn put_columns(table: &mut [u32], k: u32, kind: u32, a: u32, b: u32, c: u32, d: u32, e: u32, g: u32)
+    requires { ⌜ 8 * k + 8 ≤ length (now table) ⌝ }
+    ensures { λ _. ⌜ now (table .exit) ≡ store (now (table .entry)) (8 * k) (row (kind ∷ a ∷ b ∷ c ∷ d ∷ e ∷ g ∷ [])) ⌝ }
+{
+    let r = Row {
+        kind,
+        a,
+        b,
+        c,
+        d,
+        e,
+        f: g,
+        g: 0,
+    };
+    put_row(table, 8 * (k as usize), r);
+}
+
+// Stores a name, and answers its length.
+fn put_name(f: &[u8], name: Span, names: &mut [u8], at: u32) -> u32
+    requires { ⌜ Fits at (length (nameIn (now f) name)) (now names) ⌝ }
+    ensures { λ r. ⌜ r ≡ length (nameIn (now (f .entry)) name) ⌝ }
+    ensures { λ _. ⌜ now (names .exit) ≡ store (now (names .entry)) at (nameIn (now (f .entry)) name) ⌝ }
+{
+    let bytes = part(f, name.start, name.end);
+    put_bytes(names, at as usize, bytes);
+    bytes.len() as u32
+}
+
+// A statement of one name, with the columns behind it; answers the name's length.
+fn put_named(
+    f: &[u8],
+    name: Span,
+    u: Used,
+    names: &mut [u8],
+    rows: &mut [u32],
+    kind: u32,
+    c: u32,
+    d: u32,
+    e: u32,
+    g: u32,
+) -> u32
+    requires { ⌜ Fits (u .names) (length (nameIn (now f) name)) (now names) ⌝ }
+    requires { ⌜ 8 * u .rows + 8 ≤ length (now rows) ⌝ }
+    ensures { λ r. ⌜ r ≡ length (nameIn (now (f .entry)) name) ⌝ }
+    ensures { λ _. ⌜ now (names .exit) ≡ store (now (names .entry)) (u .names) (nameIn (now (f .entry)) name) ⌝ }
+    ensures { λ _. ⌜ now (rows .exit) ≡ store (now (rows .entry)) (8 * u .rows) (row (kind ∷ u .names ∷ length (nameIn (now (f .entry)) name) ∷ c ∷ d ∷ e ∷ g ∷ [])) ⌝ }
+{
+    let size = put_name(f, name, names, u.names);
+    put_columns(rows, u.rows, kind, u.names, size, c, d, e, g);
+    size
+}
+
+// An integer's word in two's complement.
+fn integer_word(f: &[u8], z: Integer) -> u32
+    requires { ⌜ int32 (integerIn (now f) z) ≡ true ⌝ }
+    ensures { λ r. ⌜ r ≡ twosComplement (integerIn (now (f .entry)) z) ⌝ }
+{
+    let size = decimal(part(f, z.start, z.end));
+    word_of(z.negative, size)
+}
+
+// Stores the digits of a value, lowest first, and answers its width. A value's digits come highest first.
+fn put_value(
+    f: &[u8],
+    start: usize,
+    quote: usize,
+    end: usize,
+    scratch: &mut [u32],
+    bits: &mut [u32],
+    at: u32,
+) -> u32
+    requires { ⌜ goodLiteral (literalIn (now f) (Constant.Value start quote end)) ≡ true ⌝ }
+    requires { ⌜ 2048 ≤ length (now scratch) ⌝ }
+    requires { ⌜ Fits at (length (literalBits (literalIn (now f) (Constant.Value start quote end)))) (now bits) ⌝ }
+    ensures { λ r. ⌜ r ≡ length (literalBits (literalIn (now (f .entry)) (Constant.Value start quote end))) ⌝ }
+    ensures { λ _. ⌜ now (bits .exit) ≡ store (now (bits .entry)) at (map digitCode (literalBits (literalIn (now (f .entry)) (Constant.Value start quote end)))) ⌝ }
+{
+    let c = Constant::Value { start, quote, end };
+    put_literal(f, c, scratch, 0);
+    let width = literal_width(f, c);
+    reverse_words(scratch, 0, width, bits, at as usize);
+    width as u32
+}
+
+// Stores the bytes of a string, and answers how many there are.
+fn put_text(f: &[u8], start: usize, strings: &mut [u8], at: u32) -> u32
+    requires { ⌜ closes (drop start (now f)) ≡ true ⌝ }
+    requires { ⌜ Fits at (length (decoded (drop start (now f)))) (now strings) ⌝ }
+    ensures { λ r. ⌜ r ≡ length (decoded (drop start (now (f .entry)))) ⌝ }
+    ensures { λ _. ⌜ now (strings .exit) ≡ store (now (strings .entry)) at (decoded (drop start (now (f .entry)))) ⌝ }
+{
+    let stop = put_string(f, start, strings, at as usize);
+    stop as u32 - at
+}
+
+// Stores a constant of an attribute or a parameter, and answers its columns.
+fn put_constant(
+    f: &[u8],
+    c: Constant,
+    u: Used,
+    scratch: &mut [u32],
+    strings: &mut [u8],
+    bits: &mut [u32],
+) -> Columns
+    requires { ⌜ ConstantFits (now f) c u (now strings) (now bits) ⌝ }
+    requires { ⌜ 2048 ≤ length (now scratch) ⌝ }
+    ensures { λ r. ⌜ constantColumns (usedOf u) (constantIn (now (f .entry)) c) ≡ r .kind ∷ r .a ∷ r .b ∷ [] ⌝ }
+    ensures { λ _. ⌜ now (strings .exit) ≡ store (now (strings .entry)) (u .strings) (bytesOf (constantIn (now (f .entry)) c)) ⌝ }
+    ensures { λ _. ⌜ now (bits .exit) ≡ store (now (bits .entry)) (u .bits) (map digitCode (digitsOf (constantIn (now (f .entry)) c))) ⌝ }
+{
+    match c {
+        Constant::Integer(z) => Columns {
+            kind: 2,
+            a: integer_word(f, z),
+            b: 0,
+        },
+        Constant::Value { start, quote, end } => Columns {
+            kind: 1,
+            a: u.bits,
+            b: put_value(f, start, quote, end, scratch, bits, u.bits),
+        },
+        Constant::Text(start) => Columns {
+            kind: 3,
+            a: u.strings,
+            b: put_text(f, start, strings, u.strings),
+        },
+    }
+}
+
+// A statement of a name and a constant.
+fn put_valued(
+    f: &[u8],
+    name: Span,
+    c: Constant,
+    u: Used,
+    scratch: &mut [u32],
+    names: &mut [u8],
+    strings: &mut [u8],
+    bits: &mut [u32],
+    rows: &mut [u32],
+    kind: u32,
+    sort: u32,
+)
+    requires { ⌜ Fits (u .names) (length (nameIn (now f) name)) (now names) ⌝ }
+    requires { ⌜ ConstantFits (now f) c u (now strings) (now bits) ⌝ }
+    requires { ⌜ 2048 ≤ length (now scratch) ⌝ }
+    requires { ⌜ 8 * u .rows + 8 ≤ length (now rows) ⌝ }
+    ensures { λ _. ⌜ now (names .exit) ≡ store (now (names .entry)) (u .names) (nameIn (now (f .entry)) name) ⌝ }
+    ensures { λ _. ⌜ now (strings .exit) ≡ store (now (strings .entry)) (u .strings) (bytesOf (constantIn (now (f .entry)) c)) ⌝ }
+    ensures { λ _. ⌜ now (bits .exit) ≡ store (now (bits .entry)) (u .bits) (map digitCode (digitsOf (constantIn (now (f .entry)) c))) ⌝ }
+    ensures { λ _. ⌜ now (rows .exit) ≡ store (now (rows .entry)) (8 * u .rows) (row (kind ∷ u .names ∷ length (nameIn (now (f .entry)) name) ∷ constantColumns (usedOf u) (constantIn (now (f .entry)) c) ++ sort ∷ [])) ⌝ }
+{
+    let k = put_constant(f, c, u, scratch, strings, bits);
+    let _ = put_named(f, name, u, names, rows, kind, k.kind, k.a, k.b, sort);
+}
+
+pub fn put_attribute(
+    f: &[u8],
+    name: Span,
+    c: Constant,
+    u: Used,
+    scratch: &mut [u32],
+    names: &mut [u8],
+    strings: &mut [u8],
+    bits: &mut [u32],
+    rows: &mut [u32],
+)
+    requires { ⌜ Fits (u .names) (length (nameIn (now f) name)) (now names) ⌝ }
+    requires { ⌜ ConstantFits (now f) c u (now strings) (now bits) ⌝ }
+    requires { ⌜ 2048 ≤ length (now scratch) ⌝ }
+    requires { ⌜ 8 * u .rows + 8 ≤ length (now rows) ⌝ }
+    ensures { λ _. ⌜ now (names .exit) ≡ namesPut (usedOf u) (attr-stmt (nameIn (now (f .entry)) name) (constantIn (now (f .entry)) c)) (now (names .entry)) ⌝ }
+    ensures { λ _. ⌜ now (strings .exit) ≡ stringsPut (usedOf u) (attr-stmt (nameIn (now (f .entry)) name) (constantIn (now (f .entry)) c)) (now (strings .entry)) ⌝ }
+    ensures { λ _. ⌜ now (bits .exit) ≡ bitsPut (usedOf u) (attr-stmt (nameIn (now (f .entry)) name) (constantIn (now (f .entry)) c)) (now (bits .entry)) ⌝ }
+    ensures { λ _. ⌜ now (rows .exit) ≡ rowsPut (usedOf u) (attr-stmt (nameIn (now (f .entry)) name) (constantIn (now (f .entry)) c)) (now (rows .entry)) ⌝ }
+{
+    put_valued(
+        f,
+        name,
+        c,
+        u,
+        scratch,
+        names,
+        strings,
+        bits,
+        rows,
+        ATTRIBUTE,
+        0,
+    );
+}
+
+// A parameter of a module may have no constant.
+pub fn put_parameter(
+    f: &[u8],
+    name: Span,
+    c: Literal,
+    u: Used,
+    scratch: &mut [u32],
+    names: &mut [u8],
+    strings: &mut [u8],
+    bits: &mut [u32],
+    rows: &mut [u32],
+)
+    requires { ⌜ Fits (u .names) (length (nameIn (now f) name)) (now names) ⌝ }
+    requires { ⌜ OptionalFits (now f) c u (now strings) (now bits) ⌝ }
+    requires { ⌜ 2048 ≤ length (now scratch) ⌝ }
+    requires { ⌜ 8 * u .rows + 8 ≤ length (now rows) ⌝ }
+    ensures { λ _. ⌜ now (names .exit) ≡ namesPut (usedOf u) (param-stmt (nameIn (now (f .entry)) name) (optionalIn (now (f .entry)) c)) (now (names .entry)) ⌝ }
+    ensures { λ _. ⌜ now (strings .exit) ≡ stringsPut (usedOf u) (param-stmt (nameIn (now (f .entry)) name) (optionalIn (now (f .entry)) c)) (now (strings .entry)) ⌝ }
+    ensures { λ _. ⌜ now (bits .exit) ≡ bitsPut (usedOf u) (param-stmt (nameIn (now (f .entry)) name) (optionalIn (now (f .entry)) c)) (now (bits .entry)) ⌝ }
+    ensures { λ _. ⌜ now (rows .exit) ≡ rowsPut (usedOf u) (param-stmt (nameIn (now (f .entry)) name) (optionalIn (now (f .entry)) c)) (now (rows .entry)) ⌝ }
+{
+    match c {
+        Literal::Read(k) => put_valued(
+            f,
+            name,
+            k,
+            u,
+            scratch,
+            names,
+            strings,
+            bits,
+            rows,
+            PARAMETER,
+            0,
+        ),
+        Literal::Nothing => {
+            let _ = put_named(f, name, u, names, rows, PARAMETER, 0, 0, 0, 0);
+        }
+    }
+}
+
+// The sort by its code.
+pub fn put_cell_parameter(
+    f: &[u8],
+    sort: u32,
+    name: Span,
+    c: Constant,
+    u: Used,
+    scratch: &mut [u32],
+    names: &mut [u8],
+    strings: &mut [u8],
+    bits: &mut [u32],
+    rows: &mut [u32],
+)
+    requires { ⌜ Fits (u .names) (length (nameIn (now f) name)) (now names) ⌝ }
+    requires { ⌜ ConstantFits (now f) c u (now strings) (now bits) ⌝ }
+    requires { ⌜ 2048 ≤ length (now scratch) ⌝ }
+    requires { ⌜ 8 * u .rows + 8 ≤ length (now rows) ⌝ }
+    ensures { λ _. ⌜ ((o : Sort) → now (names .exit) ≡ namesPut (usedOf u) (cell-param-stmt o (nameIn (now (f .entry)) name) (constantIn (now (f .entry)) c)) (now (names .entry))) ⌝ }
+    ensures { λ _. ⌜ ((o : Sort) → now (strings .exit) ≡ stringsPut (usedOf u) (cell-param-stmt o (nameIn (now (f .entry)) name) (constantIn (now (f .entry)) c)) (now (strings .entry))) ⌝ }
+    ensures { λ _. ⌜ ((o : Sort) → now (bits .exit) ≡ bitsPut (usedOf u) (cell-param-stmt o (nameIn (now (f .entry)) name) (constantIn (now (f .entry)) c)) (now (bits .entry))) ⌝ }
+    ensures { λ _. ⌜ ((o : Sort) → sortCode o ≡ sort → now (rows .exit) ≡ rowsPut (usedOf u) (cell-param-stmt o (nameIn (now (f .entry)) name) (constantIn (now (f .entry)) c)) (now (rows .entry))) ⌝ }
+{
+    put_valued(
+        f,
+        name,
+        c,
+        u,
+        scratch,
+        names,
+        strings,
+        bits,
+        rows,
+        CELL_PARAMETER,
+        sort,
+    );
+}
+
+// The number of the last of so many modules; 0 if there is none.
+fn last_module(modules: u32) -> u32
+    ensures { λ r. ⌜ r ≡ modules - 1 ⌝ }
+{
+    if modules == 0 {
+        return 0;
+    }
+    modules - 1
+}
+
+// The offset's word is in two's complement; the flags are those of a wire's row.
+pub fn put_wire(
+    f: &[u8],
+    name: Span,
+    width: u32,
+    offset: u32,
+    flags: u32,
+    port: u32,
+    u: Used,
+    names: &mut [u8],
+    wires: &mut [u32],
+    rows: &mut [u32],
+)
+    requires { ⌜ Fits (u .names) (length (nameIn (now f) name)) (now names) ⌝ }
+    requires { ⌜ 8 * u .wires + 8 ≤ length (now wires) ⌝ }
+    requires { ⌜ 8 * u .rows + 8 ≤ length (now rows) ⌝ }
+    ensures { λ _. ⌜ WirePut u (nameIn (now (f .entry)) name) width offset flags port (now (names .entry)) (now (names .exit)) (now (wires .entry)) (now (wires .exit)) (now (rows .entry)) (now (rows .exit)) ⌝ }
+{
+    let size = put_named(f, name, u, names, rows, WIRE, u.wires, 0, 0, 0);
+    put_columns(
+        wires,
+        u.wires,
+        last_module(u.modules),
+        u.names,
+        size,
+        width,
+        offset,
+        flags,
+        port,
+    );
+}
+
+// A cell's type stands before its name.
+fn put_cell(f: &[u8], kind: Span, name: Span, u: Used, names: &mut [u8], rows: &mut [u32])
+    requires { ⌜ Fits (u .names) (length (nameIn (now f) kind) + length (nameIn (now f) name)) (now names) ⌝ }
+    requires { ⌜ 8 * u .rows + 8 ≤ length (now rows) ⌝ }
+    ensures { λ _. ⌜ now (names .exit) ≡ namesPut (usedOf u) (cell-stmt (nameIn (now (f .entry)) kind) (nameIn (now (f .entry)) name)) (now (names .entry)) ⌝ }
+    ensures { λ _. ⌜ now (rows .exit) ≡ rowsPut (usedOf u) (cell-stmt (nameIn (now (f .entry)) kind) (nameIn (now (f .entry)) name)) (now (rows .entry)) ⌝ }
+{
+    let first = put_name(f, kind, names, u.names);
+    let size = put_name(f, name, names, u.names + first);
+    put_columns(
+        rows,
+        u.rows,
+        CELL,
+        u.names,
+        first,
+        u.names + first,
+        size,
+        0,
+        0,
+    );
+}
+
+// The signal's codes stand in scratch, highest first.
+fn put_cell_connection(
+    f: &[u8],
+    name: Span,
+    width: usize,
+    u: Used,
+    scratch: &[u32],
+    names: &mut [u8],
+    bits: &mut [u32],
+    rows: &mut [u32],
+)
+    requires { ⌜ Fits (u .names) (length (nameIn (now f) name)) (now names) ⌝ }
+    requires { ⌜ width ≤ length (now scratch) ⌝ }
+    requires { ⌜ Fits (u .bits) width (now bits) ⌝ }
+    requires { ⌜ 8 * u .rows + 8 ≤ length (now rows) ⌝ }
+    ensures { λ _. ⌜ now (names .exit) ≡ namesPut (usedOf u) (cell-conn-stmt (nameIn (now (f .entry)) name) (signalIn (now (scratch .entry)) 0 width)) (now (names .entry)) ⌝ }
+    ensures { λ _. ⌜ now (bits .exit) ≡ bitsPut (usedOf u) (cell-conn-stmt (nameIn (now (f .entry)) name) (signalIn (now (scratch .entry)) 0 width)) (now (bits .entry)) ⌝ }
+    ensures { λ _. ⌜ now (rows .exit) ≡ rowsPut (usedOf u) (cell-conn-stmt (nameIn (now (f .entry)) name) (signalIn (now (scratch .entry)) 0 width)) (now (rows .entry)) ⌝ }
+{
+    reverse_words(scratch, 0, width, bits, u.bits as usize);
+    let _ = put_named(
+        f,
+        name,
+        u,
+        names,
+        rows,
+        CELL_CONNECTION,
+        u.bits,
+        width as u32,
+        0,
+        0,
+    );
+}
+
+// The codes of the left signal stand in scratch from 0 on and those of the right one from 2048 on, highest first.
+fn put_connection(
+    left: usize,
+    right: usize,
+    u: Used,
+    scratch: &[u32],
+    bits: &mut [u32],
+    rows: &mut [u32],
+)
+    requires { ⌜ (left ≤ 2048) × (2048 + right ≤ length (now scratch)) ⌝ }
+    requires { ⌜ Fits (u .bits) (left + right) (now bits) ⌝ }
+    requires { ⌜ 8 * u .rows + 8 ≤ length (now rows) ⌝ }
+    ensures { λ _. ⌜ now (bits .exit) ≡ bitsPut (usedOf u) (conn-stmt (signalIn (now (scratch .entry)) 0 left) (signalIn (now (scratch .entry)) 2048 right)) (now (bits .entry)) ⌝ }
+    ensures { λ _. ⌜ now (rows .exit) ≡ rowsPut (usedOf u) (conn-stmt (signalIn (now (scratch .entry)) 0 left) (signalIn (now (scratch .entry)) 2048 right)) (now (rows .entry)) ⌝ }
+{
+    let at = u.bits as usize;
+    reverse_words(scratch, 0, left, bits, at);
+    reverse_words(scratch, 2048, 2048 + right, bits, at + left);
+    put_columns(
+        rows,
+        u.rows,
+        CONNECTION,
+        u.bits,
+        left as u32,
+        u.bits + left as u32,
+        right as u32,
+        0,
+        0,
+    );
+}
+
+// A statement without a constant that is no wire; any other puts nothing.
+pub fn put_plain(
+    f: &[u8],
+    statement: Statement,
+    u: Used,
+    scratch: &[u32],
+    names: &mut [u8],
+    bits: &mut [u32],
+    rows: &mut [u32],
+)
+    requires { ⌜ PlainStorable (now f) (now scratch) statement u (now names) (now bits) (now rows) ⌝ }
+    ensures { λ _. ⌜ PlainPut (now (f .entry)) (now (scratch .entry)) statement u (now (names .entry)) (now (names .exit)) (now (bits .entry)) (now (bits .exit)) (now (rows .entry)) (now (rows .exit)) ⌝ }
+{
+    match statement {
+        Statement::Autoidx(word) => put_columns(rows, u.rows, AUTOIDX, word, 0, 0, 0, 0, 0),
+        Statement::Module(name) => {
+            let _ = put_named(f, name, u, names, rows, MODULE, 0, 0, 0, 0);
+        }
+        Statement::Memory {
+            name,
+            width,
+            size,
+            offset,
+        } => {
+            let _ = put_named(f, name, u, names, rows, MEMORY, width, size, offset, 0);
+        }
+        Statement::Cell { kind, name } => put_cell(f, kind, name, u, names, rows),
+        Statement::CellConnection { name, width, .. } => {
+            put_cell_connection(f, name, width, u, scratch, names, bits, rows)
+        }
+        Statement::Connection { left, right, .. } => {
+            put_connection(left, right, u, scratch, bits, rows)
+        }
+        Statement::End => put_columns(rows, u.rows, END, 0, 0, 0, 0, 0, 0),
+        _ => {}
+    }
+}
