@@ -1,9 +1,11 @@
 -- The tests in the order of their numbers.
-use mathlib.Core.Path.{sym, _∙_}
+use mathlib.Core.Path.{sym, ap, _∙_}
 use native.Mathlib.Omega.{arith}
 use borrow.Author.Tests.{not-true, not-false}
+use Rattle.rules.specs.Judgement.{Verdict}
 use Rattle.past.specs.Sizes.{exceeds}
 use Rattle.past.proofs.SizeLaws.{within-limits, within-small}
+use Rattle.judgement.specs.declared.Parts.{Parts}
 use Rattle.judgement.proofs.PartLaws.{no-number, no-late}
 use Rattle.judgement.proofs.Verdicts.{number-refused, taken-refused, late-refused, sizes-refused, accepted}
 use borrow.Author.Needs.{needs}
@@ -14,7 +16,7 @@ parts-of-requires : tie.Need-parts-of-requires
 parts-of-requires c κs = search needs
 
 returns : tie.Need-returns
-returns c = (tt, λ ss ws s o st room says. rw (c .before .before .parts-of .ensures) (number-refused ss (c .before .before .before .before .before .before .args .f .now) s (c .before .before .before .before .before .before .args .names .now) ws (c .before .before .before .before .before .before .args .rows .now) o (c .before .before .before .before .before .before .args .statement) (c .before .before .before .before .before .before .args .place) (c .before .before .before .before .before .before .args .sums) st says (rw (c .before .before .parts-of .ensures) at (c .if1 .taken))))
+returns c = (tt, λ ss ws s o st room says. number-refused ss (c .before .before .before .before .before .before .args .f .now) s (c .before .before .before .before .before .before .args .names .now) ws (c .before .before .before .before .before .before .args .rows .now) o (c .before .before .before .before .before .before .args .statement) (c .before .before .before .before .before .before .args .place) (c .before .before .before .before .before .before .args .sums) st says (rw (c .before .before .parts-of .ensures) at (c .if1 .taken)) ∙ ap (λ (q : Parts). Verdict.refused (q .number)) (sym (c .before .before .parts-of .ensures)))
 
 name-is-taken-requires : tie.Need-name-is-taken-requires
 name-is-taken-requires c κs = search needs
@@ -23,7 +25,7 @@ returns-2 : tie.Need-returns-2
 returns-2 c = (tt, λ ss ws s o st room says. taken-refused ss (c .before .before .before .before .before .before .before .before .args .f .now) s (c .before .before .before .before .before .before .before .before .args .names .now) ws (c .before .before .before .before .before .before .before .before .args .rows .now) o (c .before .before .before .before .before .before .before .before .args .statement) (c .before .before .before .before .before .before .before .before .args .place) (c .before .before .before .before .before .before .before .before .args .sums) st says (rw (c .before .before .before .before .parts-of .ensures) at (c .before .before .if1 .left)) (sym (c .before .name-is-taken .ensures) ∙ c .if2 .taken))
 
 returns-3 : tie.Need-returns-3
-returns-3 c = (tt, λ ss ws s o st room says. rw (c .before .before .before .before .before .before .parts-of .ensures) (late-refused ss (c .before .before .before .before .before .before .before .before .before .before .args .f .now) s (c .before .before .before .before .before .before .before .before .before .before .args .names .now) ws (c .before .before .before .before .before .before .before .before .before .before .args .rows .now) o (c .before .before .before .before .before .before .before .before .before .before .args .statement) (c .before .before .before .before .before .before .before .before .before .before .args .place) (c .before .before .before .before .before .before .before .before .before .before .args .sums) st says (rw (c .before .before .before .before .before .before .parts-of .ensures) at (c .before .before .before .before .if1 .left)) (sym (c .before .before .before .name-is-taken .ensures) ∙ c .before .before .if2 .left) (rw (c .before .before .before .before .before .before .parts-of .ensures) at (c .if3 .taken))))
+returns-3 c = (tt, λ ss ws s o st room says. late-refused ss (c .before .before .before .before .before .before .before .before .before .before .args .f .now) s (c .before .before .before .before .before .before .before .before .before .before .args .names .now) ws (c .before .before .before .before .before .before .before .before .before .before .args .rows .now) o (c .before .before .before .before .before .before .before .before .before .before .args .statement) (c .before .before .before .before .before .before .before .before .before .before .args .place) (c .before .before .before .before .before .before .before .before .before .before .args .sums) st says (rw (c .before .before .before .before .before .before .parts-of .ensures) at (c .before .before .before .before .if1 .left)) (sym (c .before .before .before .name-is-taken .ensures) ∙ c .before .before .if2 .left) (rw (c .before .before .before .before .before .before .parts-of .ensures) at (c .if3 .taken)) ∙ ap (λ (q : Parts). Verdict.refused (q .late)) (sym (c .before .before .before .before .before .before .parts-of .ensures)))
 
 statement-sizes-requires : tie.Need-statement-sizes-requires
 statement-sizes-requires c κs = (c .before .before .before .before .before .before .before .before .before .before .pre .0, (no-number _ (rw (c .before .before .before .before .before .before .parts-of .ensures) at (c .before .before .before .before .if1 .left)), (no-late _ (rw (c .before .before .before .before .before .before .parts-of .ensures) at (c .if3 .left)), c .before .before .before .before .before .before .before .before .before .before .pre .1 .0)))
