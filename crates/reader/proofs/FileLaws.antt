@@ -1,24 +1,22 @@
 -- The lines of a file so far, where they end, and what the whole reading leaves.
 -- Assumes nothing.
-use Prim.Native.Nat.{ℕ, zero-le, _+_, _-_, _*_, _≤_, _<_}
+use Prim.Native.Nat.{ℕ, zero-le, _-_, _*_, _≤_, _<_}
 use mathlib.Core.Path.{_≡_, refl, sym, ap, _∙_, subst}
 use mathlib.Core.Bool.{Bool, true, false, not, cond, _&&_}
-use mathlib.Core.List.{List, [], _∷_, reverse, flatMap}
+use mathlib.Core.List.{List, [], reverse, flatMap}
 use native.Mathlib.Omega.{arith}
 use lib.Dec.{ltb, eqb}
 use lib.ListN.{length, take, drop, drop-of-length-le, replicate}
 use lib.Seq.{length-take-le}
-use borrow.Author.Tests.{ltb-true, ltb-false, lt-ltb, le-ltb, eqb-true, eq-eqb, ne-eqb}
-use Rattle.rules.specs.Bytes.{isBlank, run}
+use borrow.Author.Tests.{ltb-false, lt-ltb, le-ltb, eqb-true}
 use Rattle.rules.specs.Lines as rules
 use Rattle.rules.specs.Lines.{linesFrom, lines, place}
 use Rattle.rules.specs.Tokens.{tokensFrom}
 use Rattle.rules.specs.Tokens as tokens
-use Rattle.rules.specs.Shapes.{Scope, Context}
 use Rattle.rules.specs.Judgement.{Past, context}
 use Rattle.rules.specs.Reading as reading
 use Rattle.rules.specs.Reading.{lexed, outcome, isTop, finish, next, readLines, readAny, read}
-use Rattle.rules.specs.Layout.{Rooms, Memory, empty, putAll, putRenames, rooms, used, memory, layout}
+use Rattle.rules.specs.Layout.{Rooms, empty, putAll, putRenames, rooms, used, memory, layout}
 use Rattle.rules.specs.Layout as layouts
 use Rattle.tables.specs.Padded.{padded-nil}
 use Rattle.scanner.specs.Class.{inClass}
@@ -79,10 +77,10 @@ module _ (f : List ℕ) (at : ℕ) (l : Line) (is : l ≡ lineFrom f at) where
       let z : ℕ = endOf (inClass 1 14) f at in
       by-cond (λ (k : ℕ). at < k) (ltb z (length f)) (λ e. omega (arith, endOf-low (inClass 1 14) f at)) (λ e. omega (arith, ltb-false z (length f) e))
 
-  pub on : at < length f → at < l .next
+  on : at < length f → at < l .next
   on h = rw is (next-low h)
 
-  pub inside : at ≤ length f → l .next ≤ length f
+  inside : at ≤ length f → l .next ≤ length f
   inside h = rw is (line-next f at h)
 
   -- the lines behind it are those from there on
@@ -120,18 +118,37 @@ pub record Reached (f tokens scratch : List ℕ) (p : Place) (u : Sizes) (t : Ta
   pub done : Done past p u t
   pub rest : readAny f ≡ readLines (length f) (linesFrom at (drop at f)) past
 
+-- the lines before this one are read
+pub record Before (f tokens scratch : List ℕ) (p : Place) (u : Sizes) (t : Tables) (l : Line) : Type 0 where
+  pub reached : Reached f tokens scratch p u t (l .start)
+  pub is : l ≡ lineFrom f (l .start)
+
+pub before : {f tokens scratch : List ℕ} {p : Place} {u : Sizes} {t : Tables} (at : ℕ) (l : Line) → Reached f tokens scratch p u t at → l ≡ lineFrom f at → Before f tokens scratch p u t l
+unfolding lineFrom
+before {f} {tokens} {scratch} {p} {u} {t} at l r e =
+    let q : at ≡ l .start = sym (ap (λ (x : Line). x .start) e) in
+    record { reached = subst (Reached f tokens scratch p u t) q r; is = subst (λ (k : ℕ). l ≡ lineFrom f k) q e }
+
+-- fewer bytes are left behind it
+pub less :
+    {f tokens scratch : List ℕ} {p : Place} {u : Sizes} {t : Tables} {l : Line} → Before f tokens scratch p u t l → (l′ : Line) → l .start < length f → l′ ≡ lineFrom f (l .next) →
+    length f - l′ .start < length f - l .start
+unfolding lineFrom
+less {f} {l = l} b l′ h e = omega (arith, on f (l .start) l (b .is) h, ap (λ (x : Line). x .start) e)
+
 pub reached-start :
-    (f tokens scratch : List ℕ) (p : Place) (u : Sizes) (t : Tables) → (length f ≤ 32768) × (length tokens ≡ 131072) × (length scratch ≡ 36864) →
-    t ≡ tablesOf (memory empty 0) → p ≡ placeOf [] → u ≡ sumsOf [] → Reached f tokens scratch p u t 0
+    (f tokens scratch : List ℕ) (p : Place) (u : Sizes) (t : Tables) →
+    (length f ≤ 32768) × (length tokens ≡ 131072) × (length scratch ≡ 36864) × (t ≡ tablesOf (memory empty 0)) →
+    p ≡ placeOf [] → u ≡ sumsOf [] → Reached f tokens scratch p u t 0
 unfolding roomsOf readAny lines
-reached-start f tokens scratch p u t h et ep eu =
+reached-start f tokens scratch p u t h ep eu =
     record {
       inside = zero-le;
       file = h .0;
       tokens-long = h .1;
       scratch-long = h .2;
       past = [];
-      done = record { accepted = none-accepted; place-is = sym ep; sums-are = sym eu; tables-are = et };
+      done = record { accepted = none-accepted; place-is = sym ep; sums-are = sym eu; tables-are = h .3 };
       rest = refl;
     }
 

@@ -4,7 +4,6 @@ use Prim.Native.Nat.{ℕ, suc, _+_, _-_, _*_, _/_, _<_, _≤_}
 use mathlib.Core.Path.{_≡_, refl, sym, ap, _∙_, subst}
 use mathlib.Core.Bool.{Bool, true, false, not, Bool·not-not}
 use mathlib.Core.List.{List, [], _∷_}
-use mathlib.Core.Option.{some}
 use native.Mathlib.Omega.{arith}
 use lib.Dec.{ltb}
 use lib.ListN.{length, getD, take, drop}
@@ -12,16 +11,14 @@ use lib.Seq.{length-take-le, getD-take}
 use borrow.Author.Tests.{ltb-true}
 use Rattle.rules.specs.Lines as rules
 use Rattle.rules.specs.Lines.{place}
-use Rattle.rules.specs.Tokens as tokens
 use Rattle.rules.specs.Tokens.{Token, good}
-use Rattle.rules.specs.Statements as statements
 use Rattle.rules.specs.Shapes.{shape}
-use Rattle.rules.specs.Judgement.{Past, context, Verdict}
+use Rattle.rules.specs.Judgement.{Past, context}
 use Rattle.rules.specs.Reading as reading
 use Rattle.rules.specs.Reading.{shaped, stated, judged, lexed, outcome, skipped}
 use Rattle.scanner.specs.Laws.{by-test}
 use Rattle.scanner.specs.declared.lines.Line.{Line}
-use Rattle.tokens.specs.Rows.{rowOf, tokenAt, rowsFrom, line, front}
+use Rattle.tokens.specs.Rows.{rowOf, tokenAt, rowsFrom, line}
 use Rattle.tokens.specs.declared.Constant.the-variants as constant
 use Rattle.tokens.specs.declared.Token as row
 use Rattle.tokens.specs.declared.Token.the-variants.{Name, Word, Constant as Constantly, Mark, End}
@@ -31,12 +28,12 @@ use Rattle.lexer.specs.Lines.{lexedOf, Among, LexedIs}
 use Rattle.lexer.specs.declared.Lexed.{Lexed}
 use Rattle.lexer.specs.declared.Lexed.the-variants.{Tokens, Bad}
 use Rattle.signals.specs.Reads.{WholeToken, Closed}
-use Rattle.syntax.specs.Statements.{Ready, statementIn}
+use Rattle.syntax.specs.Statements.{Ready}
 use Rattle.judgement.specs.Judged as judgement
 use Rattle.judgement.specs.Judged.{Verdicts}
 use Rattle.judgement.specs.declared.Judged.{Judged}
 use Rattle.judgement.specs.declared.Judged.the-variants as judgedly
-use Rattle.reader.specs.Steps.{lineOf, judgedAs, States, OutcomeIs, Storable}
+use Rattle.reader.specs.Steps.{lineOf, judgedAs, OutcomeIs, Storable}
 use Rattle.reader.specs.declared.Outcome.{Outcome}
 
 -- ---- the rows of a line

@@ -1,8 +1,8 @@
 -- The statements so far: what they give the next line, and what its statement adds to them.
 -- Assumes nothing.
-use Prim.Native.Nat.{ℕ, _+_, _*_, _≤_, _<_}
+use Prim.Native.Nat.{ℕ, _*_, _≤_, _<_}
 use mathlib.Core.Path.{_≡_, refl, sym, ap, _∙_, subst}
-use mathlib.Core.List.{List, [], _∷_}
+use mathlib.Core.List.{List, _∷_}
 use mathlib.Core.Option.{Option, some}
 use native.Mathlib.Omega.{arith}
 use lib.ListN.{length}
@@ -17,7 +17,7 @@ use Rattle.rules.specs.Layout.{memory, used, padded}
 use Rattle.rules.specs.Layout as rooms
 use Rattle.tables.specs.Padded.{length-padded}
 use Rattle.tables.specs.Flat.{flat, Eights, length-flat}
-use Rattle.past.specs.Place.{placeOf, Bounds, AfterIs}
+use Rattle.past.specs.Place.{placeOf, AfterIs}
 use Rattle.past.specs.Sizes.{sumsOf, Within}
 use Rattle.past.specs.declared.place.Place.{Place}
 use Rattle.past.specs.declared.sizes.Sizes.{Sizes}
@@ -31,13 +31,13 @@ use Rattle.syntax.specs.Statements.{lateOf, statementIn, kindIn, Sound}
 use Rattle.syntax.specs.declared.Statement.{Statement}
 use Rattle.syntax.specs.declared.Statement.the-variants.{Autoidx, Attribute, Module, Parameter, Wire, Memory, Cell, CellParameter, CellConnection, Connection, End, NoShape, Process, BadNumber, MissingWire}
 use Rattle.layout.specs.Put.{Tables, tablesOf, usedOf, RoomFor}
-use Rattle.layout.specs.RoomLaws.{Rowed, tables-put}
+use Rattle.layout.specs.RoomLaws.{tables-put}
 use Rattle.layout.specs.Stored as stored
 use Rattle.layout.specs.Stored.{Sized, PutIs, UsedIs, usedBy}
 use Rattle.layout.specs.declared.Used.{Used}
 use Rattle.layout.proofs.PastLaws.{used-past, room-past}
 use Rattle.judgement.specs.Judged.{Stands}
-use Rattle.reader.specs.Steps.{PlaceFits, States, OutcomeIs, Storable, Done, SomeDone, Goes, StepIs}
+use Rattle.reader.specs.Steps.{PlaceFits, States, OutcomeIs, Storable, Done, Goes}
 use Rattle.reader.specs.declared.Outcome.{Outcome}
 use Rattle.reader.specs.declared.Outcome.the-variants as outcomes
 

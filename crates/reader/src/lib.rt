@@ -143,38 +143,15 @@ fn kind_code(statement: Statement) -> u32
 {
     match statement {
         Statement::Autoidx(_) => 1,
-        Statement::Attribute { name: _, value: _ } => 2,
+        Statement::Attribute { .. } => 2,
         Statement::Module(_) => 3,
-        Statement::Parameter { name: _, value: _ } => 4,
-        Statement::Wire {
-            name: _,
-            width: _,
-            offset: _,
-            flags: _,
-            port: _,
-        } => 5,
-        Statement::Memory {
-            name: _,
-            width: _,
-            size: _,
-            offset: _,
-        } => 6,
-        Statement::Cell { kind: _, name: _ } => 7,
-        Statement::CellParameter {
-            sort: _,
-            name: _,
-            value: _,
-        } => 8,
-        Statement::CellConnection {
-            name: _,
-            width: _,
-            late: _,
-        } => 9,
-        Statement::Connection {
-            left: _,
-            right: _,
-            late: _,
-        } => 10,
+        Statement::Parameter { .. } => 4,
+        Statement::Wire { .. } => 5,
+        Statement::Memory { .. } => 6,
+        Statement::Cell { .. } => 7,
+        Statement::CellParameter { .. } => 8,
+        Statement::CellConnection { .. } => 9,
+        Statement::Connection { .. } => 10,
         Statement::End => 12,
         Statement::NoShape => 11,
         Statement::Process => 11,
@@ -230,15 +207,13 @@ fn read_lines(
     wires: &mut [u32],
     rows: &mut [u32],
 ) -> Answer
-    requires { ⌜ (length (now f) ≤ 32768) × (length (now tokens) ≡ 131072) × (length (now scratch) ≡ 36864) ⌝ }
-    requires { ⌜ tabled (now names) (now strings) (now bits) (now wires) (now rows) ≡ tablesOf (memory empty 0) ⌝ }
+    requires { ⌜ (length (now f) ≤ 32768) × (length (now tokens) ≡ 131072) × (length (now scratch) ≡ 36864) × (tabled (now names) (now strings) (now bits) (now wires) (now rows) ≡ tablesOf (memory empty 0)) ⌝ }
     ensures { λ r. ⌜ Landed (readAny (now (f .entry))) (tabled (now (names .exit)) (now (strings .exit)) (now (bits .exit)) (now (wires .exit)) (now (rows .exit))) r ⌝ }
 {
-    let mut at: usize = 0;
+    let mut line = line_from(f, 0);
     let mut place = start();
     let mut sums = none();
-    while at < f.len() {
-        let line = line_from(f, at);
+    while line.start < f.len() {
         let step = take_line(
             f,
             line,
@@ -252,16 +227,12 @@ fn read_lines(
             wires,
             rows,
         );
-        let Step::Next {
-            place: next,
-            sums: more,
-        } = step
-        else {
+        let Step::Next { place: p, sums: u } = step else {
             return refusal(f, line, step);
         };
-        place = next;
-        sums = more;
-        at = line.next;
+        place = p;
+        sums = u;
+        line = line_from(f, line.next);
     }
     finish(f.len(), place, sums)
 }
