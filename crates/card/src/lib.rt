@@ -1,7 +1,8 @@
 // The calls for other languages: a struct is laid out as C's, and the session card is lent and changed in place.
 use reader::read;
 ghost use mathlib.Core.Path.{_≡_};
-ghost use Rattle.reader.specs.Read.{result, lent, readInto};
+ghost use Rattle.reader.specs.Read.{readInto};
+ghost use Rattle.card.specs.Lent.{lentWith, answered};
 
 // The session card: renames standing, name room used.
 #[repr(C)]
@@ -27,7 +28,7 @@ pub extern "C" fn skytassel_read(
     rows: &mut [u32],
     card: &mut Card,
 ) -> Answer
-    ensures { λ r. ⌜ result (r .number) (r .place) (lent (now (names .exit)) (now (strings .exit)) (now (bits .exit)) (now (wires .exit)) (now (rows .exit)) (now (card .exit) .renames) (now (card .exit) .room)) ≡ readInto (now (f .entry)) (lent (now (names .entry)) (now (strings .entry)) (now (bits .entry)) (now (wires .entry)) (now (rows .entry)) (now (card .entry) .renames) (now (card .entry) .room)) ⌝ }
+    ensures { λ r. ⌜ answered r (lentWith (now (card .exit)) (now (names .exit)) (now (strings .exit)) (now (bits .exit)) (now (wires .exit)) (now (rows .exit))) ≡ readInto (now (f .entry)) (lentWith (now (card .entry)) (now (names .entry)) (now (strings .entry)) (now (bits .entry)) (now (wires .entry)) (now (rows .entry))) ⌝ }
 {
     let left = read(
         f,
