@@ -41,7 +41,7 @@ counts z first n =
     && eqb (one 12 n + scopeAfter z n) (one 3 n + one 7 n + z)
 
 -- a test of the kinds of a list holds for what is among them
-among-test : (g : ℕ → Bool) (ks : List Kind) (s : Statement) → all (λ k. g (code k)) ks ≡ true → among ks s ≡ true → g (code (contents s .kind)) ≡ true
+pub among-test : (g : ℕ → Bool) (ks : List Kind) (s : Statement) → all (λ k. g (code k)) ks ≡ true → among ks s ≡ true → g (code (contents s .kind)) ≡ true
 unfolding all any among is
 among-test g [] s h e = cc
 among-test g (k ∷ ks) s h e =

@@ -11,10 +11,10 @@ use lib.Dec.{leb}
 use lib.ListN.{length, take, drop, length-map, length-reverse}
 use lib.Seq.{slice, take-at}
 use Rattle.rules.specs.Tokens.{Name, decimal, digit}
-use Rattle.rules.specs.Statements.{Statement, Constant, value, integer, string, Wire, wire-stmt, contents, holds, digitsOf, bytesOf}
+use Rattle.rules.specs.Statements.{Statement, Constant, value, integer, string, Wire, wire-stmt, contents, holds}
 use Rattle.rules.specs.Numbers.{goodLiteral}
 use Rattle.rules.specs.Signals.{literalBits, literalWidth}
-use Rattle.rules.specs.Layout.{Used, padded, row, digitCode, nameBytes, stringBytes, bitCodes, wireRow, wireRows, constantColumns}
+use Rattle.rules.specs.Layout.{Used, padded, row, digitCode, nameBytes, bitCodes, wireRow, wireRows, constantColumns}
 use Rattle.tables.specs.Store.{store, store-eq, store-store}
 use Rattle.tables.specs.Flat.{flat}
 use Rattle.scanner.specs.Laws.{and-true-left}
@@ -26,7 +26,7 @@ use Rattle.literals.proofs.Laws.{literal-long}
 use Rattle.syntax.specs.Statements.{signalIn}
 use Rattle.layout.specs.Put.{WireHas}
 use Rattle.layout.specs.SignalLaws.{signal-codes, signal-words}
-use Rattle.layout.specs.PartLaws.{one-name, two-names, one-string, one-value, one-signal, two-signals, one-wire}
+use Rattle.layout.specs.PartLaws.{one-name, two-names, one-signal, two-signals, one-wire}
 
 -- values stored highest first, read from the last on
 stored-back : (d t vs : List ℕ) (n : ℕ) → t ≡ store d 0 (reverse vs) → length vs ≡ n → n ≤ length d → reverse (slice 0 n t) ≡ vs
@@ -61,16 +61,10 @@ module _ (f : List ℕ) (a b e : ℕ) (h : goodLiteral (literalIn f (constant.Va
       let en : length (map digitCode ds) ≡ n = length-map ds digitCode ∙ sym (value-width n r) in
       stored-back d t (map digitCode ds) n et en (omega (arith, value-few, value-width n r))
 
--- the parts of a statement
+-- a statement's one name
 module _ (s : Statement) (t t′ : List ℕ) (at : ℕ) where
   pub name-put : (n : Name) → contents s .names ≡ n ∷ [] → t′ ≡ store t at n → t′ ≡ store t at (nameBytes s)
   name-put n e h = h ∙ ap (store t at) (sym (one-name s n e))
-
-  pub string-put : (c : Constant) → contents s .constants ≡ c ∷ [] → t′ ≡ store t at (bytesOf c) → t′ ≡ store t at (stringBytes s)
-  string-put c e h = h ∙ ap (store t at) (sym (one-string s c e))
-
-  pub value-put : (c : Constant) → contents s .constants ≡ c ∷ [] → contents s .signals ≡ [] → t′ ≡ store t at (map digitCode (digitsOf c)) → t′ ≡ store t at (bitCodes s)
-  value-put c e g h = h ∙ ap (store t at) (sym (one-value s c e g))
 
 -- two runs, one behind the other
 both-put : (t t₁ t₂ xs ys : List ℕ) (at i : ℕ) → t₁ ≡ store t at xs → i ≡ at + length xs → t₂ ≡ store t₁ i ys → t₂ ≡ store t at (xs ++ ys)

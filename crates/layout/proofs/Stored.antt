@@ -3,24 +3,21 @@
 use Prim.Native.Nat.{ℕ, zero, suc, _+_, _*_, _/_, _%_, _≤_, _<_}
 use mathlib.Core.Path.{_≡_, refl, sym, ap, _∙_}
 use mathlib.Core.Bool.{cond}
-use mathlib.Core.List.{List, [], _∷_, _++_, Option·toList}
-use mathlib.Core.Option.{none, some, Option·elim, Option·map, Option·some-injective, Option·none-ne-some}
+use mathlib.Core.List.{List, [], _∷_, map, Option·toList}
+use mathlib.Core.Option.{Option, none, some, Option·elim, Option·map, Option·some-injective, Option·none-ne-some}
 use native.Mathlib.Omega.{arith}
 use types.Run.{OneOf, miss}
 use denote.Enum.Declared.{tagOf}
-use borrow.Author.Tests.{eqb-true, eqb-false}
 use lib.Dec.{eqb}
 use lib.ListN.{length, getD}
 use Rattle.rules.specs.Tokens.{Name}
 use Rattle.rules.specs.Statements as rules
 use Rattle.rules.specs.Statements.{autoidx-stmt, attr-stmt, module-stmt, param-stmt, wire-stmt, memory-stmt, cell-stmt, cell-param-stmt, cell-conn-stmt, conn-stmt, end-stmt, code, holds, contents}
-use Rattle.rules.specs.Signals.{kept}
-use Rattle.rules.specs.Layout.{padded, row, directionCode, flags, sortCode, columns, statementRow}
+use Rattle.rules.specs.Layout as rooms
+use Rattle.rules.specs.Layout.{padded, row, digitCode, directionCode, flags, sortCode, stringBytes, bitCodes, columns, statementRow}
 use Rattle.tables.specs.Store.{store}
-use Rattle.scanner.specs.Laws.{by-test}
 use Rattle.numbers.specs.Signed.{signedOf}
 use Rattle.numbers.specs.SignedLaws.{word-signed}
-use Rattle.tokens.specs.Rows.{literalIn}
 use Rattle.tokens.specs.declared.Constant.{Constant}
 use Rattle.tokens.specs.declared.Literal.{Literal}
 use Rattle.tokens.specs.declared.Literal.the-variants as literal
@@ -31,182 +28,17 @@ use Rattle.syntax.specs.Statements.{lateOf, wireFrom, memoryFrom, signalIn, sta
 use Rattle.syntax.specs.declared.Statement.{Statement}
 use Rattle.syntax.specs.declared.Statement.the-variants.{Autoidx, Attribute, Module, Parameter, Wire as WireOf, Memory as MemoryOf, Cell, CellParameter, CellConnection, Connection, End, NoShape, Process, BadNumber, MissingWire}
 use Rattle.syntax.proofs.Statement.{the-type}
-use Rattle.layout.specs.Put.{usedOf, namesPut, stringsPut, bitsPut, wiresPut, rowsPut, Tables, Puts, RoomFor, Fits, constantIn, optionalIn, ConstantFits, OptionalFits, WireHas, WirePut}
+use Rattle.layout.specs.Put.{usedOf, namesPut, bitsPut, rowsPut, Tables, Puts, RoomFor, Fits, constantIn, optionalIn, optionalColumns, optionalBytes, optionalDigits, valuedRow, OptionalFits, WireHas, WirePut}
+use Rattle.layout.specs.PartLaws.{no-string, one-string, no-bits, one-value}
 use Rattle.layout.specs.SignalLaws.{signal-long}
 use Rattle.layout.specs.RoomLaws.{names-same, strings-same, bits-same, wires-same, name-fits, names-fit, string-fits, value-fits, signal-fits, signals-fit, wire-fits, row-fits}
-use Rattle.layout.specs.Stored.{tabled, Storable, PutIs, Plain, PlainStorable, PlainPut}
+use Rattle.layout.specs.Stored.{tabled, Storable, PutIs, ValuedHas, Plain, PlainStorable, PlainPut}
 use Rattle.layout.specs.declared.Used.{Used}
-use Rattle.layout.proofs.Laws.{name-put}
+use Rattle.layout.proofs.Laws.{name-put, row-zero}
 
 -- what is put for the statement that the answer stands for
-pub puts-is : (f s : List ℕ) (r : Statement) (u : Used) (t t′ : Tables) (y : rules.Statement) → statementIn f s r ≡ some y → Puts (usedOf u) y t t′ → PutIs f s r u t t′
+puts-is : (f s : List ℕ) (r : Statement) (u : Used) (t t′ : Tables) (y : rules.Statement) → statementIn f s r ≡ some y → Puts (usedOf u) y t t′ → PutIs f s r u t t′
 puts-is f s r u t t′ y e p x q = rw (← Option·some-injective y x (sym e ∙ q)) p
-
--- ---- answers without a constant or a wire's row
-
--- what their parts need
-module _ (f s : List ℕ) (r : Statement) (u : Used) (names bits rows : List ℕ) (h : PlainStorable f s r u names bits rows) where
-  row-room : (x : rules.Statement) → statementIn f s r ≡ some x → 8 * u .rows + 8 ≤ length rows
-  row-room x e = row-fits (usedOf u) x (h .room x e) rows (h .rows-long)
-
-  named-room : (x : rules.Statement) (n : Name) → statementIn f s r ≡ some x → contents x .names ≡ n ∷ [] → (Fits (u .names) (length n) names) × (8 * u .rows + 8 ≤ length rows)
-  named-room x n e k = (name-fits (usedOf u) x (h .room x e) names n k (h .names-long), row-room x e)
-
-  pub autoidx-room : (w : ℕ) → r ≡ Autoidx w → 8 * u .rows + 8 ≤ length rows
-  unfolding statementIn
-  autoidx-room w e = row-room (autoidx-stmt (signedOf w)) (ap (statementIn f s) e)
-
-  pub end-room : r ≡ End → 8 * u .rows + 8 ≤ length rows
-  unfolding statementIn
-  end-room e = row-room end-stmt (ap (statementIn f s) e)
-
-  pub module-room : (n : Span) → r ≡ Module n → (Fits (u .names) (length (nameIn f n)) names) × (8 * u .rows + 8 ≤ length rows)
-  unfolding statementIn holds contents
-  module-room n e = named-room (module-stmt (nameIn f n)) (nameIn f n) (ap (statementIn f s) e) refl
-
-  pub memory-room : (n : Span) (w z t : ℕ) → r ≡ MemoryOf n w z t → (Fits (u .names) (length (nameIn f n)) names) × (8 * u .rows + 8 ≤ length rows)
-  unfolding statementIn holds contents
-  memory-room n w z t e = named-room (memory-stmt (memoryFrom w z t) (nameIn f n)) (nameIn f n) (ap (statementIn f s) e) refl
-
-  pub cell-room : (k n : Span) → r ≡ Cell k n → (Fits (u .names) (length (nameIn f k) + length (nameIn f n)) names) × (8 * u .rows + 8 ≤ length rows)
-  unfolding statementIn holds contents
-  cell-room k n e =
-      let x : rules.Statement = cell-stmt (nameIn f k) (nameIn f n) in
-      let q : statementIn f s r ≡ some x = ap (statementIn f s) e in
-      (names-fit (usedOf u) x (h .room x q) names (nameIn f k) (nameIn f n) refl (h .names-long), row-room x q)
-
-  pub cell-connection-room :
-      (n : Span) (w l : ℕ) → r ≡ CellConnection n w l →
-      (Fits (u .names) (length (nameIn f n)) names) × ((w ≤ length s) × ((Fits (u .bits) w bits) × (8 * u .rows + 8 ≤ length rows)))
-  unfolding statementIn holds contents lateOf
-  cell-connection-room n w l e =
-      let x : rules.Statement = cell-conn-stmt (nameIn f n) (signalIn s 0 w) in
-      let q : statementIn f s r ≡ some x = ap (statementIn f s) e in
-      let late : l ≡ 0 = rw e at (h .settled) in
-      let sound : l ≡ 0 → w ≤ 2048 = rw e at (h .sound) in
-      let k : w ≤ length s = omega (arith, sound late, h .scratch) in
-      let b : Fits (u .bits) (length (signalIn s 0 w)) bits = signal-fits (usedOf u) x (h .room x q) bits (signalIn s 0 w) refl refl (h .bits-long) in
-      (name-fits (usedOf u) x (h .room x q) names (nameIn f n) refl (h .names-long), (k, (rw (signal-long s 0 w (omega arith)) at b, row-room x q)))
-
-  pub connection-room :
-      (a b l : ℕ) → r ≡ Connection a b l →
-      ((a ≤ 2048) × (2048 + b ≤ length s)) × ((Fits (u .bits) (a + b) bits) × (8 * u .rows + 8 ≤ length rows))
-  unfolding statementIn holds contents lateOf
-  connection-room a b l e =
-      let x : rules.Statement = conn-stmt (signalIn s 0 a) (signalIn s 2048 b) in
-      let q : statementIn f s r ≡ some x = ap (statementIn f s) e in
-      let late : l ≡ 0 = rw e at (h .settled) in
-      let sound : l ≡ 0 → (a ≤ 2048) × (b ≤ 2048) = rw e at (h .sound) in
-      let ka : a ≤ 2048 = sound late .0 in
-      let kb : 2048 + b ≤ length s = omega (arith, sound late .1, h .scratch) in
-      let g : Fits (u .bits) (length (signalIn s 0 a) + length (signalIn s 2048 b)) bits =
-      signals-fit (usedOf u) x (h .room x q) bits (signalIn s 0 a) (signalIn s 2048 b) refl refl (h .bits-long) in
-      ((ka, kb), (rw (signal-long s 0 a (omega (arith, h .scratch)), signal-long s 2048 b kb) at g, row-room x q))
-
--- what they put
-module _ (f s : List ℕ) (r : Statement) (u : Used) (names names′ bits bits′ rows rows′ : List ℕ) where
-  plain-is :
-      (y : rules.Statement) → statementIn f s r ≡ some y → contents y .constants ≡ [] → contents y .wires ≡ [] →
-      names′ ≡ namesPut (usedOf u) y names → bits′ ≡ bitsPut (usedOf u) y bits → rows′ ≡ rowsPut (usedOf u) y rows →
-      PlainPut f s r u names names′ bits bits′ rows rows′
-  plain-is y e c w en eb er k strings wires =
-      puts-is f s r u (tabled names strings bits wires rows) (tabled names′ strings bits′ wires rows′) y e
-      (record {
-        names-put = en;
-        strings-put = strings-same y strings (u .strings) c;
-        bits-put = eb;
-        wires-put = wires-same y wires (8 * u .wires) (usedOf u) w;
-        rows-put = er;
-      })
-
-module _ (f s : List ℕ) (r : Statement) (u : Used) (names bits rows rows′ : List ℕ) where
-  pub autoidx-put : (w : ℕ) → w < 4294967296 → r ≡ Autoidx w → rows′ ≡ store rows (8 * u .rows) (row (1 ∷ w ∷ 0 ∷ 0 ∷ 0 ∷ 0 ∷ 0 ∷ [])) → PlainPut f s r u names names bits bits rows rows′
-  unfolding statementIn statementRow columns code holds contents row padded
-  autoidx-put w b e q =
-      let x : rules.Statement = autoidx-stmt (signedOf w) in
-      plain-is f s r u names names bits bits rows rows′ x (ap (statementIn f s) e) refl refl (names-same x names (u .names) refl) (bits-same x bits (u .bits) refl refl) (rw (word-signed w b) q)
-
-  pub end-put : r ≡ End → rows′ ≡ store rows (8 * u .rows) (row (12 ∷ 0 ∷ 0 ∷ 0 ∷ 0 ∷ 0 ∷ 0 ∷ [])) → PlainPut f s r u names names bits bits rows rows′
-  unfolding statementIn statementRow columns code holds contents row padded
-  end-put e q = plain-is f s r u names names bits bits rows rows′ end-stmt (ap (statementIn f s) e) refl refl (names-same end-stmt names (u .names) refl) (bits-same end-stmt bits (u .bits) refl refl) q
-
-module _ (f s : List ℕ) (r : Statement) (u : Used) (names names′ bits rows rows′ : List ℕ) where
-  pub module-put :
-      (n : Span) → r ≡ Module n → names′ ≡ store names (u .names) (nameIn f n) →
-      rows′ ≡ store rows (8 * u .rows) (row (3 ∷ u .names ∷ length (nameIn f n) ∷ 0 ∷ 0 ∷ 0 ∷ 0 ∷ [])) → PlainPut f s r u names names′ bits bits rows rows′
-  unfolding statementIn statementRow columns code holds contents row padded
-  module-put n e en er =
-      let x : rules.Statement = module-stmt (nameIn f n) in
-      plain-is f s r u names names′ bits bits rows rows′ x (ap (statementIn f s) e) refl refl (name-put x names names′ (u .names) (nameIn f n) refl en) (bits-same x bits (u .bits) refl refl) er
-
-  pub memory-put :
-      (n : Span) (w z t : ℕ) → t < 4294967296 → r ≡ MemoryOf n w z t → names′ ≡ store names (u .names) (nameIn f n) →
-      rows′ ≡ store rows (8 * u .rows) (row (6 ∷ u .names ∷ length (nameIn f n) ∷ w ∷ z ∷ t ∷ 0 ∷ [])) → PlainPut f s r u names names′ bits bits rows rows′
-  unfolding statementIn memoryFrom statementRow columns code holds contents row padded
-  memory-put n w z t b e en er =
-      let x : rules.Statement = memory-stmt (memoryFrom w z t) (nameIn f n) in
-      plain-is f s r u names names′ bits bits rows rows′ x (ap (statementIn f s) e) refl refl (name-put x names names′ (u .names) (nameIn f n) refl en) (bits-same x bits (u .bits) refl refl) (rw (word-signed t b) er)
-
-  pub cell-put :
-      (k n : Span) → r ≡ Cell k n → let x = cell-stmt (nameIn f k) (nameIn f n) in
-      names′ ≡ namesPut (usedOf u) x names → rows′ ≡ rowsPut (usedOf u) x rows → PlainPut f s r u names names′ bits bits rows rows′
-  unfolding statementIn holds contents
-  cell-put k n e en er =
-      let x : rules.Statement = cell-stmt (nameIn f k) (nameIn f n) in
-      plain-is f s r u names names′ bits bits rows rows′ x (ap (statementIn f s) e) refl refl en (bits-same x bits (u .bits) refl refl) er
-
-module _ (f s : List ℕ) (r : Statement) (u : Used) (names names′ bits bits′ rows rows′ : List ℕ) where
-  pub cell-connection-put :
-      (n : Span) (w l : ℕ) → r ≡ CellConnection n w l → let x = cell-conn-stmt (nameIn f n) (signalIn s 0 w) in
-      names′ ≡ namesPut (usedOf u) x names → bits′ ≡ bitsPut (usedOf u) x bits → rows′ ≡ rowsPut (usedOf u) x rows → PlainPut f s r u names names′ bits bits′ rows rows′
-  unfolding statementIn holds contents
-  cell-connection-put n w l e en eb er = plain-is f s r u names names′ bits bits′ rows rows′ (cell-conn-stmt (nameIn f n) (signalIn s 0 w)) (ap (statementIn f s) e) refl refl en eb er
-
-module _ (f s : List ℕ) (r : Statement) (u : Used) (names bits bits′ rows rows′ : List ℕ) where
-  pub connection-put :
-      (a b l : ℕ) → r ≡ Connection a b l → let x = conn-stmt (signalIn s 0 a) (signalIn s 2048 b) in
-      bits′ ≡ bitsPut (usedOf u) x bits → rows′ ≡ rowsPut (usedOf u) x rows → PlainPut f s r u names names bits bits′ rows rows′
-  unfolding statementIn holds contents
-  connection-put a b l e eb er =
-      let x : rules.Statement = conn-stmt (signalIn s 0 a) (signalIn s 2048 b) in
-      plain-is f s r u names names bits bits′ rows rows′ x (ap (statementIn f s) e) refl refl (names-same x names (u .names) refl) eb er
-
--- any other answer that is plain is a refusal
-module _ (f s : List ℕ) (u : Used) (names bits rows : List ℕ) where
-  pub refusal-put : (r : Statement) → OneOf (1 ∷ 3 ∷ 4 ∷ 7 ∷ 11 ∷ 12 ∷ 13 ∷ 14 ∷ []) (tagOf the-type r) → PlainPut f s r u names names bits bits rows rows
-  unfolding statementIn
-  refusal-put (Autoidx w) o = absurd (miss (1 ∷ 3 ∷ 4 ∷ 7 ∷ 11 ∷ 12 ∷ 13 ∷ 14 ∷ []) 0 tt o)
-  refusal-put (Attribute n c) o = λ k. absurd k
-  refusal-put (Module n) o = absurd (miss (1 ∷ 3 ∷ 4 ∷ 7 ∷ 11 ∷ 12 ∷ 13 ∷ 14 ∷ []) 2 tt o)
-  refusal-put (Parameter n c) o = λ k. absurd k
-  refusal-put (WireOf n w t g p) o = λ k. absurd k
-  refusal-put (MemoryOf n w z t) o = absurd (miss (1 ∷ 3 ∷ 4 ∷ 7 ∷ 11 ∷ 12 ∷ 13 ∷ 14 ∷ []) 5 tt o)
-  refusal-put (Cell t n) o = absurd (miss (1 ∷ 3 ∷ 4 ∷ 7 ∷ 11 ∷ 12 ∷ 13 ∷ 14 ∷ []) 6 tt o)
-  refusal-put (CellParameter z n c) o = λ k. absurd k
-  refusal-put (CellConnection n w l) o = absurd (miss (1 ∷ 3 ∷ 4 ∷ 7 ∷ 11 ∷ 12 ∷ 13 ∷ 14 ∷ []) 8 tt o)
-  refusal-put (Connection a b l) o = absurd (miss (1 ∷ 3 ∷ 4 ∷ 7 ∷ 11 ∷ 12 ∷ 13 ∷ 14 ∷ []) 9 tt o)
-  refusal-put End o = absurd (miss (1 ∷ 3 ∷ 4 ∷ 7 ∷ 11 ∷ 12 ∷ 13 ∷ 14 ∷ []) 10 tt o)
-  refusal-put NoShape o = λ k strings wires x q. absurd (Option·none-ne-some x q)
-  refusal-put Process o = λ k strings wires x q. absurd (Option·none-ne-some x q)
-  refusal-put BadNumber o = λ k strings wires x q. absurd (Option·none-ne-some x q)
-  refusal-put MissingWire o = λ k strings wires x q. absurd (Option·none-ne-some x q)
-
-pub plain-rest : (r : Statement) → OneOf (0 ∷ 2 ∷ 5 ∷ 6 ∷ 8 ∷ 9 ∷ 10 ∷ 11 ∷ 12 ∷ 13 ∷ 14 ∷ []) (tagOf the-type r) → Plain r
-plain-rest (Autoidx w) o = tt
-plain-rest (Attribute n c) o = absurd (miss (0 ∷ 2 ∷ 5 ∷ 6 ∷ 8 ∷ 9 ∷ 10 ∷ 11 ∷ 12 ∷ 13 ∷ 14 ∷ []) 1 tt o)
-plain-rest (Module n) o = tt
-plain-rest (Parameter n c) o = absurd (miss (0 ∷ 2 ∷ 5 ∷ 6 ∷ 8 ∷ 9 ∷ 10 ∷ 11 ∷ 12 ∷ 13 ∷ 14 ∷ []) 3 tt o)
-plain-rest (WireOf n w t g p) o = absurd (miss (0 ∷ 2 ∷ 5 ∷ 6 ∷ 8 ∷ 9 ∷ 10 ∷ 11 ∷ 12 ∷ 13 ∷ 14 ∷ []) 4 tt o)
-plain-rest (MemoryOf n w z t) o = tt
-plain-rest (Cell t n) o = tt
-plain-rest (CellParameter z n c) o = absurd (miss (0 ∷ 2 ∷ 5 ∷ 6 ∷ 8 ∷ 9 ∷ 10 ∷ 11 ∷ 12 ∷ 13 ∷ 14 ∷ []) 7 tt o)
-plain-rest (CellConnection n w l) o = tt
-plain-rest (Connection a b l) o = tt
-plain-rest End o = tt
-plain-rest NoShape o = tt
-plain-rest Process o = tt
-plain-rest BadNumber o = tt
-plain-rest MissingWire o = tt
 
 -- ---- a wire and a sort by their numbers
 
@@ -252,124 +84,139 @@ sort-code (suc zero) h = refl
 sort-code (suc (suc zero)) h = refl
 sort-code (suc (suc (suc z))) h = absurd (omega arith)
 
--- ---- answers with a constant, and wires
+-- ---- answers without a constant or a wire's row
 
 -- what their parts need
-module _ (f s : List ℕ) (r : Statement) (u : Used) (t : Tables) (h : Storable f s r u t) where
-  constant-room :
-      (x : rules.Statement) (c : Constant) → statementIn f s r ≡ some x → contents x .constants ≡ constantIn f c ∷ [] → contents x .signals ≡ [] → GoodConstant f c →
-      ConstantFits f c u (t .strings) (t .bits)
-  constant-room x c e kc ks g =
-      record {
-        good = g .good;
-        whole = g .whole;
-        strings-fit = string-fits (usedOf u) x (h .room x e) (t .strings) (constantIn f c) kc (h .sized .strings);
-        bits-fit = value-fits (usedOf u) x (h .room x e) (t .bits) (constantIn f c) kc ks (h .sized .bits);
-      }
+module _ (f s : List ℕ) (r : Statement) (u : Used) (names bits wires rows : List ℕ) (h : PlainStorable f s r u names bits wires rows) where
+  row-room : (x : rules.Statement) → statementIn f s r ≡ some x → 8 * u .rows + 8 ≤ length rows
+  row-room x e = row-fits (usedOf u) x (h .room x e) rows (h .rows-long)
 
-  storing : (x : rules.Statement) → statementIn f s r ≡ some x → (2048 ≤ length s) × (8 * u .rows + 8 ≤ length (t .rows))
-  storing x e = (omega (arith, h .scratch), row-fits (usedOf u) x (h .room x e) (t .rows) (h .sized .rows))
+  named-room : (x : rules.Statement) (n : Name) → statementIn f s r ≡ some x → contents x .names ≡ n ∷ [] → (Fits (u .names) (length n) names) × (8 * u .rows + 8 ≤ length rows)
+  named-room x n e k = (name-fits (usedOf u) x (h .room x e) names n k (h .names-long), row-room x e)
 
-  pub attribute-room :
-      (n : Span) (c : Constant) → r ≡ Attribute n c →
-      (Fits (u .names) (length (nameIn f n)) (t .names)) × ((ConstantFits f c u (t .strings) (t .bits)) × ((2048 ≤ length s) × (8 * u .rows + 8 ≤ length (t .rows))))
+  pub autoidx-room : (w : ℕ) → r ≡ Autoidx w → 8 * u .rows + 8 ≤ length rows
+  unfolding statementIn
+  autoidx-room w e = row-room (autoidx-stmt (signedOf w)) (ap (statementIn f s) e)
+
+  pub end-room : r ≡ End → 8 * u .rows + 8 ≤ length rows
+  unfolding statementIn
+  end-room e = row-room end-stmt (ap (statementIn f s) e)
+
+  pub memory-room : (n : Span) (w z t : ℕ) → r ≡ MemoryOf n w z t → (Fits (u .names) (length (nameIn f n)) names) × (8 * u .rows + 8 ≤ length rows)
   unfolding statementIn holds contents
-  attribute-room n c e =
-      let x : rules.Statement = attr-stmt (nameIn f n) (constantIn f c) in
-      let q : statementIn f s r ≡ some x = ap (statementIn f s) e in
-      let g : GoodConstant f c = rw e at (h .sound) in
-      (name-fits (usedOf u) x (h .room x q) (t .names) (nameIn f n) refl (h .sized .names), (constant-room x c q refl refl g, storing x q))
+  memory-room n w z t e = named-room (memory-stmt (memoryFrom w z t) (nameIn f n)) (nameIn f n) (ap (statementIn f s) e) refl
 
-  pub cell-parameter-room :
-      (z : ℕ) (n : Span) (c : Constant) → r ≡ CellParameter z n c →
-      (Fits (u .names) (length (nameIn f n)) (t .names)) × ((ConstantFits f c u (t .strings) (t .bits)) × ((2048 ≤ length s) × (8 * u .rows + 8 ≤ length (t .rows))))
+  pub cell-room : (k n : Span) → r ≡ Cell k n → (Fits (u .names) (length (nameIn f k) + length (nameIn f n)) names) × (8 * u .rows + 8 ≤ length rows)
   unfolding statementIn holds contents
-  cell-parameter-room z n c e =
-      let x : rules.Statement = cell-param-stmt (sortOf z) (nameIn f n) (constantIn f c) in
+  cell-room k n e =
+      let x : rules.Statement = cell-stmt (nameIn f k) (nameIn f n) in
       let q : statementIn f s r ≡ some x = ap (statementIn f s) e in
-      let g : (z ≤ 2) × GoodConstant f c = rw e at (h .sound) in
-      (name-fits (usedOf u) x (h .room x q) (t .names) (nameIn f n) refl (h .sized .names), (constant-room x c q refl refl (g .1), storing x q))
+      (names-fit (usedOf u) x (h .room x q) names (nameIn f k) (nameIn f n) refl (h .names-long), row-room x q)
 
-  optional-room : (n : Span) (c : Literal) → r ≡ Parameter n c → GoodOptional f c → OptionalFits f c u (t .strings) (t .bits)
-  unfolding statementIn holds contents valueIn Option·map Option·toList
-  optional-room n (literal.Read c) e g = constant-room (param-stmt (nameIn f n) (some (constantIn f c))) c (ap (statementIn f s) e) refl refl g
-  optional-room n literal.Nothing e g = tt
-
-  pub parameter-room :
-      (n : Span) (c : Literal) → r ≡ Parameter n c →
-      (Fits (u .names) (length (nameIn f n)) (t .names)) × ((OptionalFits f c u (t .strings) (t .bits)) × ((2048 ≤ length s) × (8 * u .rows + 8 ≤ length (t .rows))))
-  unfolding statementIn holds contents
-  parameter-room n c e =
-      let x : rules.Statement = param-stmt (nameIn f n) (optionalIn f c) in
+  pub cell-connection-room :
+      (n : Span) (w l : ℕ) → r ≡ CellConnection n w l →
+      (Fits (u .names) (length (nameIn f n)) names) × ((w ≤ length s) × ((Fits (u .bits) w bits) × (8 * u .rows + 8 ≤ length rows)))
+  unfolding statementIn holds contents lateOf
+  cell-connection-room n w l e =
+      let x : rules.Statement = cell-conn-stmt (nameIn f n) (signalIn s 0 w) in
       let q : statementIn f s r ≡ some x = ap (statementIn f s) e in
-      let g : GoodOptional f c = rw e at (h .sound) in
-      (name-fits (usedOf u) x (h .room x q) (t .names) (nameIn f n) refl (h .sized .names), (optional-room n c e g, storing x q))
+      let late : l ≡ 0 = rw e at (h .settled) in
+      let sound : l ≡ 0 → w ≤ 2048 = rw e at (h .sound) in
+      let k : w ≤ length s = omega (arith, sound late, h .scratch) in
+      let b : Fits (u .bits) (length (signalIn s 0 w)) bits = signal-fits (usedOf u) x (h .room x q) bits (signalIn s 0 w) refl refl (h .bits-long) in
+      (name-fits (usedOf u) x (h .room x q) names (nameIn f n) refl (h .names-long), (k, (rw (signal-long s 0 w (omega arith)) at b, row-room x q)))
+
+  pub connection-room :
+      (a b l : ℕ) → r ≡ Connection a b l →
+      ((a ≤ 2048) × (2048 + b ≤ length s)) × ((Fits (u .bits) (a + b) bits) × (8 * u .rows + 8 ≤ length rows))
+  unfolding statementIn holds contents lateOf
+  connection-room a b l e =
+      let x : rules.Statement = conn-stmt (signalIn s 0 a) (signalIn s 2048 b) in
+      let q : statementIn f s r ≡ some x = ap (statementIn f s) e in
+      let late : l ≡ 0 = rw e at (h .settled) in
+      let sound : l ≡ 0 → (a ≤ 2048) × (b ≤ 2048) = rw e at (h .sound) in
+      let ka : a ≤ 2048 = sound late .0 in
+      let kb : 2048 + b ≤ length s = omega (arith, sound late .1, h .scratch) in
+      let g : Fits (u .bits) (length (signalIn s 0 a) + length (signalIn s 2048 b)) bits =
+      signals-fit (usedOf u) x (h .room x q) bits (signalIn s 0 a) (signalIn s 2048 b) refl refl (h .bits-long) in
+      ((ka, kb), (rw (signal-long s 0 a (omega (arith, h .scratch)), signal-long s 2048 b kb) at g, row-room x q))
 
   pub wire-room :
       (n : Span) (w o k p : ℕ) → r ≡ WireOf n w o k p →
-      (Fits (u .names) (length (nameIn f n)) (t .names)) × ((8 * u .wires + 8 ≤ length (t .wires)) × (8 * u .rows + 8 ≤ length (t .rows)))
+      (Fits (u .names) (length (nameIn f n)) names) × ((8 * u .wires + 8 ≤ length wires) × (8 * u .rows + 8 ≤ length rows))
   unfolding statementIn holds contents
   wire-room n w o k p e =
       let x : rules.Statement = wire-stmt (wireFrom w o k p) (nameIn f n) in
-      let q : statementIn f s r ≡ some x = ap (statementIn f s) e in (
-        name-fits (usedOf u) x (h .room x q) (t .names) (nameIn f n) refl (h .sized .names),
-        (wire-fits (usedOf u) x (h .room x q) (t .wires) (nameIn f n) (wireFrom w o k p) refl refl (h .sized .wires), storing x q .1),
-      )
-
-  pub plain-room : PlainStorable f s r u (t .names) (t .bits) (t .rows)
-  plain-room =
-      record {
-        sound = h .sound;
-        settled = h .settled;
-        room = h .room;
-        names-long = h .sized .names;
-        bits-long = h .sized .bits;
-        rows-long = h .sized .rows;
-        scratch = h .scratch;
-      }
+      let q : statementIn f s r ≡ some x = ap (statementIn f s) e in
+      let g : 8 * u .wires + 8 ≤ length wires = wire-fits (usedOf u) x (h .room x q) wires (nameIn f n) (wireFrom w o k p) refl refl (h .wires-long) in
+      (name-fits (usedOf u) x (h .room x q) names (nameIn f n) refl (h .names-long), (g, row-room x q))
 
 -- what they put
-module _ (f s : List ℕ) (r : Statement) (u : Used) (names names′ strings strings′ bits bits′ wires rows rows′ : List ℕ) where
-  valued-is :
-      (y : rules.Statement) → statementIn f s r ≡ some y → contents y .wires ≡ [] →
-      names′ ≡ namesPut (usedOf u) y names → strings′ ≡ stringsPut (usedOf u) y strings → bits′ ≡ bitsPut (usedOf u) y bits → rows′ ≡ rowsPut (usedOf u) y rows →
-      PutIs f s r u (tabled names strings bits wires rows) (tabled names′ strings′ bits′ wires rows′)
-  valued-is y e w en es eb er =
-      puts-is f s r u (tabled names strings bits wires rows) (tabled names′ strings′ bits′ wires rows′) y e
-      (record { names-put = en; strings-put = es; bits-put = eb; wires-put = wires-same y wires (8 * u .wires) (usedOf u) w; rows-put = er })
+module _ (f s : List ℕ) (r : Statement) (u : Used) (names names′ bits bits′ wires rows rows′ : List ℕ) where
+  plain-is :
+      (y : rules.Statement) → statementIn f s r ≡ some y → contents y .constants ≡ [] → contents y .wires ≡ [] →
+      names′ ≡ namesPut (usedOf u) y names → bits′ ≡ bitsPut (usedOf u) y bits → rows′ ≡ rowsPut (usedOf u) y rows →
+      PlainPut f s r u names names′ bits bits′ wires wires rows rows′
+  plain-is y e c w en eb er k strings =
+      puts-is f s r u (tabled names strings bits wires rows) (tabled names′ strings bits′ wires rows′) y e
+      (record {
+        names-put = en;
+        strings-put = strings-same y strings (u .strings) c;
+        bits-put = eb;
+        wires-put = wires-same y wires (8 * u .wires) (usedOf u) w;
+        rows-put = er;
+      })
 
-module _ (f s : List ℕ) (r : Statement) (u : Used) (names names′ strings strings′ bits bits′ wires rows rows′ : List ℕ) where
-  pub attribute-put :
-      (n : Span) (c : Constant) → r ≡ Attribute n c → let x = attr-stmt (nameIn f n) (constantIn f c) in
-      names′ ≡ namesPut (usedOf u) x names → strings′ ≡ stringsPut (usedOf u) x strings → bits′ ≡ bitsPut (usedOf u) x bits → rows′ ≡ rowsPut (usedOf u) x rows →
-      PutIs f s r u (tabled names strings bits wires rows) (tabled names′ strings′ bits′ wires rows′)
+module _ (f s : List ℕ) (r : Statement) (u : Used) (names bits wires rows rows′ : List ℕ) where
+  pub autoidx-put : (w : ℕ) → w < 4294967296 → r ≡ Autoidx w → rows′ ≡ store rows (8 * u .rows) (row (1 ∷ w ∷ 0 ∷ 0 ∷ 0 ∷ 0 ∷ 0 ∷ [])) → PlainPut f s r u names names bits bits wires wires rows rows′
+  unfolding statementIn statementRow columns code holds contents row padded
+  autoidx-put w b e q =
+      let x : rules.Statement = autoidx-stmt (signedOf w) in
+      plain-is f s r u names names bits bits wires rows rows′ x (ap (statementIn f s) e) refl refl (names-same x names (u .names) refl) (bits-same x bits (u .bits) refl refl) (rw (word-signed w b) q)
+
+  pub end-put : r ≡ End → rows′ ≡ store rows (8 * u .rows) (row (12 ∷ 0 ∷ 0 ∷ 0 ∷ 0 ∷ 0 ∷ 0 ∷ [])) → PlainPut f s r u names names bits bits wires wires rows rows′
+  unfolding statementIn statementRow columns code holds contents row padded
+  end-put e q = plain-is f s r u names names bits bits wires rows rows′ end-stmt (ap (statementIn f s) e) refl refl (names-same end-stmt names (u .names) refl) (bits-same end-stmt bits (u .bits) refl refl) q
+
+module _ (f s : List ℕ) (r : Statement) (u : Used) (names names′ bits wires rows rows′ : List ℕ) where
+  pub memory-put :
+      (n : Span) (w z t : ℕ) → t < 4294967296 → r ≡ MemoryOf n w z t → names′ ≡ store names (u .names) (nameIn f n) →
+      rows′ ≡ store rows (8 * u .rows) (row (6 ∷ u .names ∷ length (nameIn f n) ∷ w ∷ z ∷ t ∷ 0 ∷ [])) → PlainPut f s r u names names′ bits bits wires wires rows rows′
+  unfolding statementIn memoryFrom statementRow columns code holds contents row padded
+  memory-put n w z t b e en er =
+      let x : rules.Statement = memory-stmt (memoryFrom w z t) (nameIn f n) in
+      plain-is f s r u names names′ bits bits wires rows rows′ x (ap (statementIn f s) e) refl refl (name-put x names names′ (u .names) (nameIn f n) refl en) (bits-same x bits (u .bits) refl refl) (rw (word-signed t b) er)
+
+  pub cell-put :
+      (k n : Span) → r ≡ Cell k n → let x = cell-stmt (nameIn f k) (nameIn f n) in
+      names′ ≡ namesPut (usedOf u) x names → rows′ ≡ rowsPut (usedOf u) x rows → PlainPut f s r u names names′ bits bits wires wires rows rows′
   unfolding statementIn holds contents
-  attribute-put n c e en es eb er = valued-is f s r u names names′ strings strings′ bits bits′ wires rows rows′ (attr-stmt (nameIn f n) (constantIn f c)) (ap (statementIn f s) e) refl en es eb er
+  cell-put k n e en er =
+      let x : rules.Statement = cell-stmt (nameIn f k) (nameIn f n) in
+      plain-is f s r u names names′ bits bits wires rows rows′ x (ap (statementIn f s) e) refl refl en (bits-same x bits (u .bits) refl refl) er
 
-  pub parameter-put :
-      (n : Span) (c : Literal) → r ≡ Parameter n c → let x = param-stmt (nameIn f n) (optionalIn f c) in
-      names′ ≡ namesPut (usedOf u) x names → strings′ ≡ stringsPut (usedOf u) x strings → bits′ ≡ bitsPut (usedOf u) x bits → rows′ ≡ rowsPut (usedOf u) x rows →
-      PutIs f s r u (tabled names strings bits wires rows) (tabled names′ strings′ bits′ wires rows′)
+module _ (f s : List ℕ) (r : Statement) (u : Used) (names names′ bits bits′ wires rows rows′ : List ℕ) where
+  pub cell-connection-put :
+      (n : Span) (w l : ℕ) → r ≡ CellConnection n w l → let x = cell-conn-stmt (nameIn f n) (signalIn s 0 w) in
+      names′ ≡ namesPut (usedOf u) x names → bits′ ≡ bitsPut (usedOf u) x bits → rows′ ≡ rowsPut (usedOf u) x rows → PlainPut f s r u names names′ bits bits′ wires wires rows rows′
   unfolding statementIn holds contents
-  parameter-put n c e en es eb er = valued-is f s r u names names′ strings strings′ bits bits′ wires rows rows′ (param-stmt (nameIn f n) (optionalIn f c)) (ap (statementIn f s) e) refl en es eb er
+  cell-connection-put n w l e en eb er = plain-is f s r u names names′ bits bits′ wires rows rows′ (cell-conn-stmt (nameIn f n) (signalIn s 0 w)) (ap (statementIn f s) e) refl refl en eb er
 
-  pub cell-parameter-put :
-      (z : ℕ) (n : Span) (c : Constant) → r ≡ CellParameter z n c → Sound f r → let x : rules.Sort → rules.Statement = λ o. cell-param-stmt o (nameIn f n) (constantIn f c) in
-      ((o : rules.Sort) → names′ ≡ namesPut (usedOf u) (x o) names) → ((o : rules.Sort) → strings′ ≡ stringsPut (usedOf u) (x o) strings) →
-      ((o : rules.Sort) → bits′ ≡ bitsPut (usedOf u) (x o) bits) → ((o : rules.Sort) → sortCode o ≡ z → rows′ ≡ rowsPut (usedOf u) (x o) rows) →
-      PutIs f s r u (tabled names strings bits wires rows) (tabled names′ strings′ bits′ wires rows′)
+module _ (f s : List ℕ) (r : Statement) (u : Used) (names bits bits′ wires rows rows′ : List ℕ) where
+  pub connection-put :
+      (a b l : ℕ) → r ≡ Connection a b l → let x = conn-stmt (signalIn s 0 a) (signalIn s 2048 b) in
+      bits′ ≡ bitsPut (usedOf u) x bits → rows′ ≡ rowsPut (usedOf u) x rows → PlainPut f s r u names names bits bits′ wires wires rows rows′
   unfolding statementIn holds contents
-  cell-parameter-put z n c e g en es eb er =
-      let k : (z ≤ 2) × GoodConstant f c = rw e at g in
-      let o : rules.Sort = sortOf z in
-      valued-is f s r u names names′ strings strings′ bits bits′ wires rows rows′ (cell-param-stmt o (nameIn f n) (constantIn f c)) (ap (statementIn f s) e) refl (en o) (es o) (eb o) (er o (sort-code z (k .0)))
+  connection-put a b l e eb er =
+      let x : rules.Statement = conn-stmt (signalIn s 0 a) (signalIn s 2048 b) in
+      plain-is f s r u names names bits bits′ wires rows rows′ x (ap (statementIn f s) e) refl refl (names-same x names (u .names) refl) eb er
 
-module _ (f s : List ℕ) (r : Statement) (u : Used) (names names′ strings bits wires wires′ rows rows′ : List ℕ) where
+module _ (f s : List ℕ) (r : Statement) (u : Used) (names names′ bits wires wires′ rows rows′ : List ℕ) where
   pub wire-puts :
       (n : Span) (w o k p : ℕ) → o < 4294967296 → r ≡ WireOf n w o k p → Sound f r → WirePut u (nameIn f n) w o k p names names′ wires wires′ rows rows′ →
-      PutIs f s r u (tabled names strings bits wires rows) (tabled names′ strings bits wires′ rows′)
+      PlainPut f s r u names names′ bits bits wires wires′ rows rows′
   unfolding statementIn holds contents
-  wire-puts n w o k p ho e g q =
+  wire-puts n w o k p ho e g q i strings =
       let x : rules.Statement = wire-stmt (wireFrom w o k p) (nameIn f n) in
       let b : (k < 16) × (k < 4 → p ≡ 0) = rw e at g in
       let z = q (wireFrom w o k p) (wire-has w o k p ho (b .0) (b .1)) in
@@ -380,4 +227,172 @@ module _ (f s : List ℕ) (r : Statement) (u : Used) (names names′ strings bit
         bits-put = bits-same x bits (u .bits) refl refl;
         wires-put = z .1;
         rows-put = z .2;
+      })
+
+-- any other answer that is plain is a refusal
+module _ (f s : List ℕ) (u : Used) (names bits wires rows : List ℕ) where
+  pub refusal-put : (r : Statement) → OneOf (1 ∷ 2 ∷ 3 ∷ 7 ∷ 11 ∷ 12 ∷ 13 ∷ 14 ∷ []) (tagOf the-type r) → PlainPut f s r u names names bits bits wires wires rows rows
+  unfolding statementIn
+  refusal-put (Autoidx w) o = absurd (miss (1 ∷ 2 ∷ 3 ∷ 7 ∷ 11 ∷ 12 ∷ 13 ∷ 14 ∷ []) 0 tt o)
+  refusal-put (Attribute n c) o = λ k. absurd k
+  refusal-put (Module n) o = λ k. absurd k
+  refusal-put (Parameter n c) o = λ k. absurd k
+  refusal-put (WireOf n w t g p) o = absurd (miss (1 ∷ 2 ∷ 3 ∷ 7 ∷ 11 ∷ 12 ∷ 13 ∷ 14 ∷ []) 4 tt o)
+  refusal-put (MemoryOf n w z t) o = absurd (miss (1 ∷ 2 ∷ 3 ∷ 7 ∷ 11 ∷ 12 ∷ 13 ∷ 14 ∷ []) 5 tt o)
+  refusal-put (Cell t n) o = absurd (miss (1 ∷ 2 ∷ 3 ∷ 7 ∷ 11 ∷ 12 ∷ 13 ∷ 14 ∷ []) 6 tt o)
+  refusal-put (CellParameter z n c) o = λ k. absurd k
+  refusal-put (CellConnection n w l) o = absurd (miss (1 ∷ 2 ∷ 3 ∷ 7 ∷ 11 ∷ 12 ∷ 13 ∷ 14 ∷ []) 8 tt o)
+  refusal-put (Connection a b l) o = absurd (miss (1 ∷ 2 ∷ 3 ∷ 7 ∷ 11 ∷ 12 ∷ 13 ∷ 14 ∷ []) 9 tt o)
+  refusal-put End o = absurd (miss (1 ∷ 2 ∷ 3 ∷ 7 ∷ 11 ∷ 12 ∷ 13 ∷ 14 ∷ []) 10 tt o)
+  refusal-put NoShape o = λ k strings x q. absurd (Option·none-ne-some x q)
+  refusal-put Process o = λ k strings x q. absurd (Option·none-ne-some x q)
+  refusal-put BadNumber o = λ k strings x q. absurd (Option·none-ne-some x q)
+  refusal-put MissingWire o = λ k strings x q. absurd (Option·none-ne-some x q)
+
+pub plain-rest : (r : Statement) → OneOf (0 ∷ 4 ∷ 5 ∷ 6 ∷ 8 ∷ 9 ∷ 10 ∷ 11 ∷ 12 ∷ 13 ∷ 14 ∷ []) (tagOf the-type r) → Plain r
+plain-rest (Autoidx w) o = tt
+plain-rest (Attribute n c) o = absurd (miss (0 ∷ 4 ∷ 5 ∷ 6 ∷ 8 ∷ 9 ∷ 10 ∷ 11 ∷ 12 ∷ 13 ∷ 14 ∷ []) 1 tt o)
+plain-rest (Module n) o = absurd (miss (0 ∷ 4 ∷ 5 ∷ 6 ∷ 8 ∷ 9 ∷ 10 ∷ 11 ∷ 12 ∷ 13 ∷ 14 ∷ []) 2 tt o)
+plain-rest (Parameter n c) o = absurd (miss (0 ∷ 4 ∷ 5 ∷ 6 ∷ 8 ∷ 9 ∷ 10 ∷ 11 ∷ 12 ∷ 13 ∷ 14 ∷ []) 3 tt o)
+plain-rest (WireOf n w t g p) o = tt
+plain-rest (MemoryOf n w z t) o = tt
+plain-rest (Cell t n) o = tt
+plain-rest (CellParameter z n c) o = absurd (miss (0 ∷ 4 ∷ 5 ∷ 6 ∷ 8 ∷ 9 ∷ 10 ∷ 11 ∷ 12 ∷ 13 ∷ 14 ∷ []) 7 tt o)
+plain-rest (CellConnection n w l) o = tt
+plain-rest (Connection a b l) o = tt
+plain-rest End o = tt
+plain-rest NoShape o = tt
+plain-rest Process o = tt
+plain-rest BadNumber o = tt
+plain-rest MissingWire o = tt
+
+-- ---- answers of a name and, if they have one, a constant
+
+module _ (f s : List ℕ) where
+  pub attribute-valued : (r : Statement) (n : Span) (c : Constant) → r ≡ Attribute n c → Sound f r → ValuedHas f s r 2 n (literal.Read c) 0
+  unfolding statementIn holds contents valueIn Option·map Option·toList Option·elim statementRow columns code valuedRow optionalColumns
+  attribute-valued r n c e g =
+      record {
+        x = attr-stmt (nameIn f n) (constantIn f c);
+        is = ap (statementIn f s) e;
+        names-are = refl;
+        constants-are = refl;
+        no-signals = refl;
+        no-wires = refl;
+        good = rw e at g;
+        row-is = λ u. sym (row-zero u (constantIn f c) 2 (u .names) (length (nameIn f n)));
+      }
+
+  pub cell-parameter-valued : (r : Statement) (z : ℕ) (n : Span) (c : Constant) → r ≡ CellParameter z n c → Sound f r → ValuedHas f s r 8 n (literal.Read c) z
+  unfolding statementIn holds contents valueIn Option·map Option·toList Option·elim statementRow columns code valuedRow optionalColumns
+  cell-parameter-valued r z n c e g =
+      let k : (z ≤ 2) × GoodConstant f c = rw e at g in
+      record {
+        x = cell-param-stmt (sortOf z) (nameIn f n) (constantIn f c);
+        is = ap (statementIn f s) e;
+        names-are = refl;
+        constants-are = refl;
+        no-signals = refl;
+        no-wires = refl;
+        good = k .1;
+        row-is = λ u. rw (sort-code z (k .0));
+      }
+
+  parameter-row : (u : rooms.Used) (n : Name) (c : Literal) → statementRow u (param-stmt n (optionalIn f c)) ≡ valuedRow u 4 n (optionalIn f c) 0
+  unfolding holds contents valueIn Option·map Option·elim statementRow columns code valuedRow optionalColumns row padded
+  parameter-row u n (literal.Read c) = sym (row-zero u (constantIn f c) 4 (u .names) (length n))
+  parameter-row u n literal.Nothing = refl
+
+  pub parameter-valued : (r : Statement) (n : Span) (c : Literal) → r ≡ Parameter n c → Sound f r → ValuedHas f s r 4 n c 0
+  unfolding statementIn holds contents
+  parameter-valued r n c e g =
+      record {
+        x = param-stmt (nameIn f n) (optionalIn f c);
+        is = ap (statementIn f s) e;
+        names-are = refl;
+        constants-are = refl;
+        no-signals = refl;
+        no-wires = refl;
+        good = rw e at g;
+        row-is = λ u. parameter-row u (nameIn f n) c;
+      }
+
+  pub module-valued : (r : Statement) (n : Span) → r ≡ Module n → Sound f r → ValuedHas f s r 3 n literal.Nothing 0
+  unfolding statementIn holds contents valueIn Option·map Option·toList Option·elim statementRow columns code valuedRow optionalColumns row padded
+  module-valued r n e g =
+      record {
+        x = module-stmt (nameIn f n);
+        is = ap (statementIn f s) e;
+        names-are = refl;
+        constants-are = refl;
+        no-signals = refl;
+        no-wires = refl;
+        good = tt;
+        row-is = λ u. refl;
+      }
+
+-- what they need
+module _ (f s : List ℕ) (r : Statement) (u : Used) (t : Tables) (h : Storable f s r u t) where
+  constant-room :
+      (x : rules.Statement) (c : Literal) → statementIn f s r ≡ some x → contents x .constants ≡ Option·toList (optionalIn f c) → contents x .signals ≡ [] → GoodOptional f c →
+      OptionalFits f c u (t .strings) (t .bits)
+  unfolding valueIn Option·map Option·toList
+  constant-room x (literal.Read c) e kc ks g =
+      record {
+        good = g .good;
+        whole = g .whole;
+        strings-fit = string-fits (usedOf u) x (h .room x e) (t .strings) (constantIn f c) kc (h .sized .strings);
+        bits-fit = value-fits (usedOf u) x (h .room x e) (t .bits) (constantIn f c) kc ks (h .sized .bits);
+      }
+  constant-room x literal.Nothing e kc ks g = tt
+
+  pub valued-room :
+      (kind : ℕ) (n : Span) (c : Literal) (sort : ℕ) → ValuedHas f s r kind n c sort →
+      (Fits (u .names) (length (nameIn f n)) (t .names)) × ((OptionalFits f c u (t .strings) (t .bits)) × ((2048 ≤ length s) × (8 * u .rows + 8 ≤ length (t .rows))))
+  valued-room kind n c sort v =
+      let room : RoomFor (usedOf u) (v .x) = h .room (v .x) (v .is) in (
+        name-fits (usedOf u) (v .x) room (t .names) (nameIn f n) (v .names-are) (h .sized .names),
+        (constant-room (v .x) c (v .is) (v .constants-are) (v .no-signals) (v .good), (omega (arith, h .scratch), row-fits (usedOf u) (v .x) room (t .rows) (h .sized .rows))),
+      )
+
+  pub plain-room : PlainStorable f s r u (t .names) (t .bits) (t .wires) (t .rows)
+  plain-room =
+      record {
+        sound = h .sound;
+        settled = h .settled;
+        room = h .room;
+        names-long = h .sized .names;
+        bits-long = h .sized .bits;
+        wires-long = h .sized .wires;
+        rows-long = h .sized .rows;
+        scratch = h .scratch;
+      }
+
+-- what they put
+bytes-put : (x : rules.Statement) (t : List ℕ) (at : ℕ) (o : Option rules.Constant) → contents x .constants ≡ Option·toList o → store t at (optionalBytes o) ≡ store t at (stringBytes x)
+unfolding optionalBytes Option·elim Option·toList
+bytes-put x t at (some c) e = ap (store t at) (sym (one-string x c e))
+bytes-put x t at none e = ap (store t at) (sym (no-string x e))
+
+digits-put :
+    (x : rules.Statement) (t : List ℕ) (at : ℕ) (o : Option rules.Constant) → contents x .constants ≡ Option·toList o → contents x .signals ≡ [] →
+    store t at (map digitCode (optionalDigits o)) ≡ store t at (bitCodes x)
+unfolding optionalDigits Option·elim Option·toList
+digits-put x t at (some c) e g = ap (store t at) (sym (one-value x c e g))
+digits-put x t at none e g = ap (store t at) (sym (no-bits x e g))
+
+module _ (f s : List ℕ) (r : Statement) (u : Used) (names names′ strings strings′ bits bits′ wires rows rows′ : List ℕ) where
+  pub valued-put :
+      (kind : ℕ) (n : Span) (c : Literal) (sort : ℕ) → ValuedHas f s r kind n c sort →
+      names′ ≡ store names (u .names) (nameIn f n) → strings′ ≡ store strings (u .strings) (optionalBytes (optionalIn f c)) →
+      bits′ ≡ store bits (u .bits) (map digitCode (optionalDigits (optionalIn f c))) → rows′ ≡ store rows (8 * u .rows) (valuedRow (usedOf u) kind (nameIn f n) (optionalIn f c) sort) →
+      PutIs f s r u (tabled names strings bits wires rows) (tabled names′ strings′ bits′ wires rows′)
+  valued-put kind n c sort v en es eb er =
+      puts-is f s r u (tabled names strings bits wires rows) (tabled names′ strings′ bits′ wires rows′) (v .x) (v .is)
+      (record {
+        names-put = name-put (v .x) names names′ (u .names) (nameIn f n) (v .names-are) en;
+        strings-put = es ∙ bytes-put (v .x) strings (u .strings) (optionalIn f c) (v .constants-are);
+        bits-put = eb ∙ digits-put (v .x) bits (u .bits) (optionalIn f c) (v .constants-are) (v .no-signals);
+        wires-put = wires-same (v .x) wires (8 * u .wires) (usedOf u) (v .no-wires);
+        rows-put = er ∙ ap (store rows (8 * u .rows)) (sym (v .row-is (usedOf u)));
       })

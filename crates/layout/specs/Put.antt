@@ -1,18 +1,18 @@
 -- What a statement puts into each table, behind what is used of it, and the parts of statements as code holds them.
 use Prim.Native.Nat.{ℕ, _+_, _*_, _<_, _≤_}
 use mathlib.Core.Path.{_≡_}
-use mathlib.Core.List.{List, [], _∷_}
+use mathlib.Core.List.{List, [], _∷_, _++_}
 use mathlib.Core.Option.{Option, Option·elim, Option·map}
 use mathlib.Core.Bool.{true}
 use lib.ListN.{length}
-use Rattle.rules.specs.Tokens.{Name}
+use Rattle.rules.specs.Tokens.{Name, Digit}
 use Rattle.rules.specs.Statements as rules
 use Rattle.rules.specs.Statements.{Statement, aModule, Wire, digitsOf, bytesOf, wire-stmt}
 use Rattle.rules.specs.Judgement.{count}
 use Rattle.rules.specs.Numbers.{goodLiteral}
 use Rattle.rules.specs.Signals.{twosComplement, kept}
 use Rattle.rules.specs.Layout as layout
-use Rattle.rules.specs.Layout.{flags, nameBytes, stringBytes, bitCodes, wireRows, statementRow}
+use Rattle.rules.specs.Layout.{row, flags, nameBytes, stringBytes, bitCodes, wireRows, constantColumns, statementRow}
 use Rattle.tables.specs.Store.{store}
 use Rattle.tables.specs.Flat.{flat}
 use Rattle.tokens.specs.Rows.{literalIn}
@@ -99,6 +99,20 @@ constantIn f c = kept (literalIn f c)
 
 abbrev pub optionalIn : List ℕ → Literal → Option rules.Constant
 optionalIn f c = Option·map kept (valueIn f c)
+
+-- the columns of such a constant, zeros where there is none; its string's bytes and its value's digits
+unfoldable pub optionalColumns : layout.Used → Option rules.Constant → List ℕ
+optionalColumns u c = Option·elim c (0 ∷ 0 ∷ 0 ∷ []) (constantColumns u)
+
+unfoldable pub optionalBytes : Option rules.Constant → List ℕ
+optionalBytes c = Option·elim c [] bytesOf
+
+unfoldable pub optionalDigits : Option rules.Constant → List Digit
+optionalDigits c = Option·elim c [] digitsOf
+
+-- the row of a statement of a name and such a constant
+unfoldable pub valuedRow : layout.Used → ℕ → Name → Option rules.Constant → ℕ → List ℕ
+valuedRow u kind n c sort = row (kind ∷ u .names ∷ length n ∷ optionalColumns u c ++ sort ∷ [])
 
 -- it keeps the number rules, a string has its end, and there is room for what it puts
 pub record ConstantFits (f : List ℕ) (c : Constant) (u : Used) (strings bits : List ℕ) : Type 0 where

@@ -1,23 +1,29 @@
 -- What storing the answer about a line needs, and what it leaves in the tables.
 use Prim.Native.Nat.{ℕ, _+_, _*_, _≤_}
 use mathlib.Core.Path.{_≡_}
-use mathlib.Core.List.{List}
+use mathlib.Core.List.{List, [], _∷_, Option·toList}
 use mathlib.Core.Option.{some}
 use lib.ListN.{length}
 use Rattle.rules.specs.Statements as rules
+use Rattle.rules.specs.Statements.{contents}
 use Rattle.rules.specs.Judgement.{Past}
 use Rattle.rules.specs.Layout as rooms
-use Rattle.rules.specs.Layout.{used}
+use Rattle.rules.specs.Layout.{statementRow, used}
 use Rattle.netlist.specs.Laid.{roomsOf}
 use Rattle.past.specs.Place.{placeOf}
 use Rattle.past.specs.Sizes.{sumsOf}
 use Rattle.past.specs.declared.place.Place.{Place}
 use Rattle.past.specs.declared.sizes.Sizes.{Sizes}
-use Rattle.syntax.specs.Statements.{lateOf, statementIn, Sound}
+use Rattle.tokens.specs.declared.Literal.{Literal}
+use Rattle.forms.specs.Forms.{nameIn}
+use Rattle.forms.specs.declared.Span.{Span}
+use Rattle.syntax.specs.Statements.{lateOf, statementIn, GoodOptional, Sound}
 use Rattle.syntax.specs.declared.Statement.{Statement}
 use Rattle.syntax.specs.declared.Statement.the-variants.{Autoidx, Attribute, Module, Parameter, Wire as WireOf, Memory as MemoryOf, Cell, CellParameter, CellConnection, Connection, End, NoShape, Process, BadNumber, MissingWire}
-use Rattle.layout.specs.Put.{usedOf, Tables, Puts, RoomFor}
+use Rattle.layout.specs.Put.{usedOf, Tables, Puts, RoomFor, optionalIn, valuedRow}
 use Rattle.layout.specs.declared.Used.{Used}
+use Rattle.layout.specs.declared.put.Valued.{Valued}
+use Rattle.layout.specs.declared.put.Valued.the-variants.{Named, Nothing}
 
 abbrev pub tabled : (names strings bits wires rows : List ℕ) → Tables
 tabled n s b w r = record { names = n; strings = s; bits = b; wires = w; rows = r }
@@ -42,13 +48,24 @@ pub record Storable (f s : List ℕ) (r : Statement) (u : Used) (t : Tables) : T
 abbrev pub PutIs : (f s : List ℕ) → Statement → Used → (t t′ : Tables) → Type 0
 PutIs f s r u t t′ = (x : rules.Statement) → statementIn f s r ≡ some x → Puts (usedOf u) x t t′
 
--- The same of the kinds without a constant or a wire's row, whatever the tables of strings and of wires are
+-- an answer of a kind, a name, a constant if it has one, and a sort's column, over a file and the scratch table
+pub record ValuedHas (f s : List ℕ) (r : Statement) (kind : ℕ) (n : Span) (c : Literal) (sort : ℕ) : Type 0 where
+  pub x : rules.Statement
+  pub is : statementIn f s r ≡ some x
+  pub names-are : contents x .names ≡ nameIn f n ∷ []
+  pub constants-are : contents x .constants ≡ Option·toList (optionalIn f c)
+  pub no-signals : contents x .signals ≡ []
+  pub no-wires : contents x .wires ≡ []
+  pub good : GoodOptional f c
+  pub row-is : (u : rooms.Used) → statementRow u x ≡ valuedRow u kind (nameIn f n) (optionalIn f c) sort
+
+-- the other kinds
 abbrev pub Plain : Statement → Type 0
 Plain (Autoidx w) = Unit {0}
 Plain (Attribute n c) = ⊥
-Plain (Module n) = Unit {0}
+Plain (Module n) = ⊥
 Plain (Parameter n c) = ⊥
-Plain (WireOf n w t k p) = ⊥
+Plain (WireOf n w t k p) = Unit {0}
 Plain (MemoryOf n w z t) = Unit {0}
 Plain (Cell k n) = Unit {0}
 Plain (CellParameter s n c) = ⊥
@@ -60,18 +77,24 @@ Plain Process = Unit {0}
 Plain BadNumber = Unit {0}
 Plain MissingWire = Unit {0}
 
-pub record PlainStorable (f s : List ℕ) (r : Statement) (u : Used) (names bits rows : List ℕ) : Type 0 where
+abbrev pub ValuedIs : Statement → Valued → Type 0
+ValuedIs r (Named kind n c sort) = (f s : List ℕ) → Sound f r → ValuedHas f s r kind n c sort
+ValuedIs r Nothing = Plain r
+
+-- storing those, whatever the table of strings is
+pub record PlainStorable (f s : List ℕ) (r : Statement) (u : Used) (names bits wires rows : List ℕ) : Type 0 where
   pub sound : Sound f r
   pub settled : lateOf r ≡ 0
   pub room : (x : rules.Statement) → statementIn f s r ≡ some x → RoomFor (usedOf u) x
   pub names-long : length names ≡ 16384
   pub bits-long : length bits ≡ 16384
+  pub wires-long : length wires ≡ 8 * 512
   pub rows-long : length rows ≡ 8 * 4769
   pub scratch : 36864 ≤ length s
 
-abbrev pub PlainPut : (f s : List ℕ) → Statement → Used → (names names′ bits bits′ rows rows′ : List ℕ) → Type 0
-PlainPut f s r u names names′ bits bits′ rows rows′ =
-    Plain r → (strings wires : List ℕ) → PutIs f s r u (tabled names strings bits wires rows) (tabled names′ strings bits′ wires rows′)
+abbrev pub PlainPut : (f s : List ℕ) → Statement → Used → (names names′ bits bits′ wires wires′ rows rows′ : List ℕ) → Type 0
+PlainPut f s r u names names′ bits bits′ wires wires′ rows rows′ =
+    Plain r → (strings : List ℕ) → PutIs f s r u (tabled names strings bits wires rows) (tabled names′ strings bits′ wires′ rows′)
 
 -- how much the statements before a line use, by its place and their sums; and that a record says so of every such past
 unfoldable pub usedBy : Place → Sizes → rooms.Used

@@ -3,11 +3,10 @@ mod put;
 
 use past::place::Place;
 use past::sizes::Sizes;
-use put::put_attribute;
-use put::put_cell_parameter;
-use put::put_parameter;
+use put::Valued;
+use put::as_valued;
 use put::put_plain;
-use put::put_wire;
+use put::put_valued;
 use syntax::Statement;
 ghost use Rattle.past.specs.Sizes.{Within};
 ghost use Rattle.layout.specs.Stored.{tabled, Storable, PutIs, UsedIs};
@@ -52,23 +51,25 @@ pub fn put_statement(
     requires { ⌜ Storable (now f) (now scratch) statement u (tabled (now names) (now strings) (now bits) (now wires) (now rows)) ⌝ }
     ensures { λ _. ⌜ PutIs (now (f .entry)) (now (scratch .entry)) statement u (tabled (now (names .entry)) (now (strings .entry)) (now (bits .entry)) (now (wires .entry)) (now (rows .entry))) (tabled (now (names .exit)) (now (strings .exit)) (now (bits .exit)) (now (wires .exit)) (now (rows .exit))) ⌝ }
 {
-    match statement {
-        Statement::Attribute { name, value } => {
-            put_attribute(f, name, value, u, scratch, names, strings, bits, rows)
-        }
-        Statement::Parameter { name, value } => {
-            put_parameter(f, name, value, u, scratch, names, strings, bits, rows)
-        }
-        Statement::CellParameter { sort, name, value } => {
-            put_cell_parameter(f, sort, name, value, u, scratch, names, strings, bits, rows)
-        }
-        Statement::Wire {
+    match as_valued(statement) {
+        Valued::Named {
+            kind,
             name,
-            width,
-            offset,
-            flags,
-            port,
-        } => put_wire(f, name, width, offset, flags, port, u, names, wires, rows),
-        _ => put_plain(f, statement, u, scratch, names, bits, rows),
+            value,
+            sort,
+        } => put_valued(
+            f,
+            kind,
+            name,
+            value,
+            sort,
+            u,
+            scratch,
+            names,
+            strings,
+            bits,
+            rows,
+        ),
+        Valued::Nothing => put_plain(f, statement, u, scratch, names, bits, wires, rows),
     }
 }

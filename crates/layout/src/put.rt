@@ -17,20 +17,20 @@ use tokens::Integer;
 use tokens::Literal;
 ghost use mathlib.Core.Path.{_≡_};
 ghost use mathlib.Core.Bool.{true};
-ghost use mathlib.Core.List.{[], _∷_, _++_, map};
+ghost use mathlib.Core.List.{[], _∷_, map};
 ghost use Prim.Native.Nat.{_+_, _-_, _*_, _≤_};
 ghost use lib.ListN.{length, drop};
-ghost use Rattle.rules.specs.Statements.{Sort, digitsOf, bytesOf, attr-stmt, param-stmt, cell-stmt, cell-param-stmt, cell-conn-stmt, conn-stmt};
+ghost use Rattle.rules.specs.Statements.{digitsOf, bytesOf, cell-stmt, cell-conn-stmt, conn-stmt};
 ghost use Rattle.rules.specs.Numbers.{int32, goodLiteral};
 ghost use Rattle.rules.specs.Signals.{twosComplement, literalBits};
-ghost use Rattle.rules.specs.Layout.{row, digitCode, constantColumns, sortCode};
+ghost use Rattle.rules.specs.Layout.{row, digitCode, constantColumns};
 ghost use Rattle.tables.specs.Store.{store};
 ghost use Rattle.strings.specs.Decoded.{decoded, closes};
 ghost use Rattle.tokens.specs.Rows.{integerIn, literalIn};
 ghost use Rattle.forms.specs.Forms.{nameIn};
 ghost use Rattle.syntax.specs.Statements.{signalIn};
-ghost use Rattle.layout.specs.Put.{usedOf, namesPut, stringsPut, bitsPut, rowsPut, Fits, constantIn, optionalIn, ConstantFits, OptionalFits, WirePut};
-ghost use Rattle.layout.specs.Stored.{PlainStorable, PlainPut};
+ghost use Rattle.layout.specs.Put.{usedOf, namesPut, bitsPut, rowsPut, Fits, constantIn, optionalIn, optionalColumns, optionalBytes, optionalDigits, valuedRow, ConstantFits, OptionalFits, WirePut};
+ghost use Rattle.layout.specs.Stored.{ValuedIs, PlainStorable, PlainPut};
 
 // The kinds of statement, by the code in the first column of a row.
 const AUTOIDX: u32 = 1;
@@ -60,6 +60,49 @@ pub struct Columns {
     pub kind: u32,
     pub a: u32,
     pub b: u32,
+}
+
+// A statement of a name and, if it has one, a constant: its kind, these, and a cell parameter's sort.
+pub enum Valued {
+    Named {
+        kind: u32,
+        name: Span,
+        value: Literal,
+        sort: u32,
+    },
+    Nothing,
+}
+
+pub fn as_valued(statement: Statement) -> Valued
+    ensures { λ r. ⌜ ValuedIs statement r ⌝ }
+{
+    match statement {
+        Statement::Attribute { name, value } => Valued::Named {
+            kind: ATTRIBUTE,
+            name,
+            value: Literal::Read(value),
+            sort: 0,
+        },
+        Statement::Parameter { name, value } => Valued::Named {
+            kind: PARAMETER,
+            name,
+            value,
+            sort: 0,
+        },
+        Statement::CellParameter { sort, name, value } => Valued::Named {
+            kind: CELL_PARAMETER,
+            name,
+            value: Literal::Read(value),
+            sort,
+        },
+        Statement::Module(name) => Valued::Named {
+            kind: MODULE,
+            name,
+            value: Literal::Nothing,
+            sort: 0,
+        },
+        _ => Valued::Nothing,
+    }
 }
 
 // Row k of a table; no row has an eighth column.
@@ -192,73 +235,38 @@ fn put_constant(
     }
 }
 
-// A statement of a name and a constant.
-fn put_valued(
+// The constant, if there is one.
+fn put_optional(
     f: &[u8],
-    name: Span,
-    c: Constant,
+    c: Literal,
     u: Used,
     scratch: &mut [u32],
-    names: &mut [u8],
     strings: &mut [u8],
     bits: &mut [u32],
-    rows: &mut [u32],
+) -> Columns
+    requires { ⌜ OptionalFits (now f) c u (now strings) (now bits) ⌝ }
+    requires { ⌜ 2048 ≤ length (now scratch) ⌝ }
+    ensures { λ r. ⌜ optionalColumns (usedOf u) (optionalIn (now (f .entry)) c) ≡ r .kind ∷ r .a ∷ r .b ∷ [] ⌝ }
+    ensures { λ _. ⌜ now (strings .exit) ≡ store (now (strings .entry)) (u .strings) (optionalBytes (optionalIn (now (f .entry)) c)) ⌝ }
+    ensures { λ _. ⌜ now (bits .exit) ≡ store (now (bits .entry)) (u .bits) (map digitCode (optionalDigits (optionalIn (now (f .entry)) c))) ⌝ }
+{
+    match c {
+        Literal::Read(k) => put_constant(f, k, u, scratch, strings, bits),
+        Literal::Nothing => Columns {
+            kind: 0,
+            a: 0,
+            b: 0,
+        },
+    }
+}
+
+// A statement of a name and, if it has one, a constant, with the column behind them.
+pub fn put_valued(
+    f: &[u8],
     kind: u32,
-    sort: u32,
-)
-    requires { ⌜ Fits (u .names) (length (nameIn (now f) name)) (now names) ⌝ }
-    requires { ⌜ ConstantFits (now f) c u (now strings) (now bits) ⌝ }
-    requires { ⌜ 2048 ≤ length (now scratch) ⌝ }
-    requires { ⌜ 8 * u .rows + 8 ≤ length (now rows) ⌝ }
-    ensures { λ _. ⌜ now (names .exit) ≡ store (now (names .entry)) (u .names) (nameIn (now (f .entry)) name) ⌝ }
-    ensures { λ _. ⌜ now (strings .exit) ≡ store (now (strings .entry)) (u .strings) (bytesOf (constantIn (now (f .entry)) c)) ⌝ }
-    ensures { λ _. ⌜ now (bits .exit) ≡ store (now (bits .entry)) (u .bits) (map digitCode (digitsOf (constantIn (now (f .entry)) c))) ⌝ }
-    ensures { λ _. ⌜ now (rows .exit) ≡ store (now (rows .entry)) (8 * u .rows) (row (kind ∷ u .names ∷ length (nameIn (now (f .entry)) name) ∷ constantColumns (usedOf u) (constantIn (now (f .entry)) c) ++ sort ∷ [])) ⌝ }
-{
-    let k = put_constant(f, c, u, scratch, strings, bits);
-    let _ = put_named(f, name, u, names, rows, kind, k.kind, k.a, k.b, sort);
-}
-
-pub fn put_attribute(
-    f: &[u8],
-    name: Span,
-    c: Constant,
-    u: Used,
-    scratch: &mut [u32],
-    names: &mut [u8],
-    strings: &mut [u8],
-    bits: &mut [u32],
-    rows: &mut [u32],
-)
-    requires { ⌜ Fits (u .names) (length (nameIn (now f) name)) (now names) ⌝ }
-    requires { ⌜ ConstantFits (now f) c u (now strings) (now bits) ⌝ }
-    requires { ⌜ 2048 ≤ length (now scratch) ⌝ }
-    requires { ⌜ 8 * u .rows + 8 ≤ length (now rows) ⌝ }
-    ensures { λ _. ⌜ now (names .exit) ≡ namesPut (usedOf u) (attr-stmt (nameIn (now (f .entry)) name) (constantIn (now (f .entry)) c)) (now (names .entry)) ⌝ }
-    ensures { λ _. ⌜ now (strings .exit) ≡ stringsPut (usedOf u) (attr-stmt (nameIn (now (f .entry)) name) (constantIn (now (f .entry)) c)) (now (strings .entry)) ⌝ }
-    ensures { λ _. ⌜ now (bits .exit) ≡ bitsPut (usedOf u) (attr-stmt (nameIn (now (f .entry)) name) (constantIn (now (f .entry)) c)) (now (bits .entry)) ⌝ }
-    ensures { λ _. ⌜ now (rows .exit) ≡ rowsPut (usedOf u) (attr-stmt (nameIn (now (f .entry)) name) (constantIn (now (f .entry)) c)) (now (rows .entry)) ⌝ }
-{
-    put_valued(
-        f,
-        name,
-        c,
-        u,
-        scratch,
-        names,
-        strings,
-        bits,
-        rows,
-        ATTRIBUTE,
-        0,
-    );
-}
-
-// A parameter of a module may have no constant.
-pub fn put_parameter(
-    f: &[u8],
     name: Span,
     c: Literal,
+    sort: u32,
     u: Used,
     scratch: &mut [u32],
     names: &mut [u8],
@@ -270,66 +278,13 @@ pub fn put_parameter(
     requires { ⌜ OptionalFits (now f) c u (now strings) (now bits) ⌝ }
     requires { ⌜ 2048 ≤ length (now scratch) ⌝ }
     requires { ⌜ 8 * u .rows + 8 ≤ length (now rows) ⌝ }
-    ensures { λ _. ⌜ now (names .exit) ≡ namesPut (usedOf u) (param-stmt (nameIn (now (f .entry)) name) (optionalIn (now (f .entry)) c)) (now (names .entry)) ⌝ }
-    ensures { λ _. ⌜ now (strings .exit) ≡ stringsPut (usedOf u) (param-stmt (nameIn (now (f .entry)) name) (optionalIn (now (f .entry)) c)) (now (strings .entry)) ⌝ }
-    ensures { λ _. ⌜ now (bits .exit) ≡ bitsPut (usedOf u) (param-stmt (nameIn (now (f .entry)) name) (optionalIn (now (f .entry)) c)) (now (bits .entry)) ⌝ }
-    ensures { λ _. ⌜ now (rows .exit) ≡ rowsPut (usedOf u) (param-stmt (nameIn (now (f .entry)) name) (optionalIn (now (f .entry)) c)) (now (rows .entry)) ⌝ }
+    ensures { λ _. ⌜ now (names .exit) ≡ store (now (names .entry)) (u .names) (nameIn (now (f .entry)) name) ⌝ }
+    ensures { λ _. ⌜ now (strings .exit) ≡ store (now (strings .entry)) (u .strings) (optionalBytes (optionalIn (now (f .entry)) c)) ⌝ }
+    ensures { λ _. ⌜ now (bits .exit) ≡ store (now (bits .entry)) (u .bits) (map digitCode (optionalDigits (optionalIn (now (f .entry)) c))) ⌝ }
+    ensures { λ _. ⌜ now (rows .exit) ≡ store (now (rows .entry)) (8 * u .rows) (valuedRow (usedOf u) kind (nameIn (now (f .entry)) name) (optionalIn (now (f .entry)) c) sort) ⌝ }
 {
-    match c {
-        Literal::Read(k) => put_valued(
-            f,
-            name,
-            k,
-            u,
-            scratch,
-            names,
-            strings,
-            bits,
-            rows,
-            PARAMETER,
-            0,
-        ),
-        Literal::Nothing => {
-            let _ = put_named(f, name, u, names, rows, PARAMETER, 0, 0, 0, 0);
-        }
-    }
-}
-
-// The sort by its code.
-pub fn put_cell_parameter(
-    f: &[u8],
-    sort: u32,
-    name: Span,
-    c: Constant,
-    u: Used,
-    scratch: &mut [u32],
-    names: &mut [u8],
-    strings: &mut [u8],
-    bits: &mut [u32],
-    rows: &mut [u32],
-)
-    requires { ⌜ Fits (u .names) (length (nameIn (now f) name)) (now names) ⌝ }
-    requires { ⌜ ConstantFits (now f) c u (now strings) (now bits) ⌝ }
-    requires { ⌜ 2048 ≤ length (now scratch) ⌝ }
-    requires { ⌜ 8 * u .rows + 8 ≤ length (now rows) ⌝ }
-    ensures { λ _. ⌜ ((o : Sort) → now (names .exit) ≡ namesPut (usedOf u) (cell-param-stmt o (nameIn (now (f .entry)) name) (constantIn (now (f .entry)) c)) (now (names .entry))) ⌝ }
-    ensures { λ _. ⌜ ((o : Sort) → now (strings .exit) ≡ stringsPut (usedOf u) (cell-param-stmt o (nameIn (now (f .entry)) name) (constantIn (now (f .entry)) c)) (now (strings .entry))) ⌝ }
-    ensures { λ _. ⌜ ((o : Sort) → now (bits .exit) ≡ bitsPut (usedOf u) (cell-param-stmt o (nameIn (now (f .entry)) name) (constantIn (now (f .entry)) c)) (now (bits .entry))) ⌝ }
-    ensures { λ _. ⌜ ((o : Sort) → sortCode o ≡ sort → now (rows .exit) ≡ rowsPut (usedOf u) (cell-param-stmt o (nameIn (now (f .entry)) name) (constantIn (now (f .entry)) c)) (now (rows .entry))) ⌝ }
-{
-    put_valued(
-        f,
-        name,
-        c,
-        u,
-        scratch,
-        names,
-        strings,
-        bits,
-        rows,
-        CELL_PARAMETER,
-        sort,
-    );
+    let k = put_optional(f, c, u, scratch, strings, bits);
+    let _ = put_named(f, name, u, names, rows, kind, k.kind, k.a, k.b, sort);
 }
 
 // The number of the last of so many modules; 0 if there is none.
@@ -343,7 +298,7 @@ fn last_module(modules: u32) -> u32
 }
 
 // The offset's word is in two's complement; the flags are those of a wire's row.
-pub fn put_wire(
+fn put_wire(
     f: &[u8],
     name: Span,
     width: u32,
@@ -372,6 +327,25 @@ pub fn put_wire(
         flags,
         port,
     );
+}
+
+// The offset's word is in two's complement.
+fn put_memory(
+    f: &[u8],
+    name: Span,
+    width: u32,
+    size: u32,
+    offset: u32,
+    u: Used,
+    names: &mut [u8],
+    rows: &mut [u32],
+)
+    requires { ⌜ Fits (u .names) (length (nameIn (now f) name)) (now names) ⌝ }
+    requires { ⌜ 8 * u .rows + 8 ≤ length (now rows) ⌝ }
+    ensures { λ _. ⌜ now (names .exit) ≡ store (now (names .entry)) (u .names) (nameIn (now (f .entry)) name) ⌝ }
+    ensures { λ _. ⌜ now (rows .exit) ≡ store (now (rows .entry)) (8 * u .rows) (row (6 ∷ u .names ∷ length (nameIn (now (f .entry)) name) ∷ width ∷ size ∷ offset ∷ 0 ∷ [])) ⌝ }
+{
+    let _ = put_named(f, name, u, names, rows, MEMORY, width, size, offset, 0);
 }
 
 // A cell's type stands before its name.
@@ -461,7 +435,7 @@ fn put_connection(
     );
 }
 
-// A statement without a constant that is no wire; any other puts nothing.
+// A statement of any other kind; a refusing answer puts nothing.
 pub fn put_plain(
     f: &[u8],
     statement: Statement,
@@ -469,24 +443,27 @@ pub fn put_plain(
     scratch: &[u32],
     names: &mut [u8],
     bits: &mut [u32],
+    wires: &mut [u32],
     rows: &mut [u32],
 )
-    requires { ⌜ PlainStorable (now f) (now scratch) statement u (now names) (now bits) (now rows) ⌝ }
-    ensures { λ _. ⌜ PlainPut (now (f .entry)) (now (scratch .entry)) statement u (now (names .entry)) (now (names .exit)) (now (bits .entry)) (now (bits .exit)) (now (rows .entry)) (now (rows .exit)) ⌝ }
+    requires { ⌜ PlainStorable (now f) (now scratch) statement u (now names) (now bits) (now wires) (now rows) ⌝ }
+    ensures { λ _. ⌜ PlainPut (now (f .entry)) (now (scratch .entry)) statement u (now (names .entry)) (now (names .exit)) (now (bits .entry)) (now (bits .exit)) (now (wires .entry)) (now (wires .exit)) (now (rows .entry)) (now (rows .exit)) ⌝ }
 {
     match statement {
         Statement::Autoidx(word) => put_columns(rows, u.rows, AUTOIDX, word, 0, 0, 0, 0, 0),
-        Statement::Module(name) => {
-            let _ = put_named(f, name, u, names, rows, MODULE, 0, 0, 0, 0);
-        }
+        Statement::Wire {
+            name,
+            width,
+            offset,
+            flags,
+            port,
+        } => put_wire(f, name, width, offset, flags, port, u, names, wires, rows),
         Statement::Memory {
             name,
             width,
             size,
             offset,
-        } => {
-            let _ = put_named(f, name, u, names, rows, MEMORY, width, size, offset, 0);
-        }
+        } => put_memory(f, name, width, size, offset, u, names, rows),
         Statement::Cell { kind, name } => put_cell(f, kind, name, u, names, rows),
         Statement::CellConnection { name, width, .. } => {
             put_cell_connection(f, name, width, u, scratch, names, bits, rows)

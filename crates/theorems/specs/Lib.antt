@@ -1,2 +1,4 @@
 pub mod StandingLaws
 pub mod DamagedMemory
+pub mod ReadingBack
+pub mod OneText

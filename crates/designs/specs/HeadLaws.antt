@@ -1,0 +1,95 @@
+-- Where each statement stands after those before it, no wire stands before the first module line.
+-- Assumes nothing.
+use Prim.Native.Nat.{ℕ, suc, _*_, _≤_, _<_}
+use mathlib.Core.Path.{_≡_, refl, sym, ap, _∙_}
+use mathlib.Core.List.{[], _∷_}
+use mathlib.Core.Bool.{Bool, true, false, _||_}
+use native.Mathlib.Omega.{arith}
+use Rattle.rules.specs.Bytes.{any}
+use Rattle.rules.specs.Tokens.{Name}
+use Rattle.rules.specs.Statements.{Statement, Wire, autoidx-stmt, attr-stmt, module-stmt, param-stmt, wire-stmt, memory-stmt, cell-stmt, cell-param-stmt, cell-conn-stmt, conn-stmt, proc-stmt, end-stmt, aModule, aWire, aCell, anEnd, is, statementsOpen}
+use Rattle.rules.specs.Shapes.{Scope, top, inModule, inCell}
+use Rattle.rules.specs.Judgement.{Past, outer, scope, context, among}
+use Rattle.scanner.specs.Laws.{by-test}
+use Rattle.past.specs.Place.{scopeCode}
+use Rattle.admitted.specs.Admitted.{kinds, stands}
+use Rattle.admitted.specs.CountLaws.{Standing, none-stand, one-stands}
+use Rattle.designs.specs.Modules.{moduleCount, Headed, none-headed, one-headed}
+use Rattle.designs.specs.PastLaws.{module-counts, count-step}
+
+-- a wire and a cell stand in a module
+data Inner : Statement → Type 0 where
+  a-wire : (w : Wire) (n : Name) → Inner (wire-stmt w n)
+  a-cell : (t n : Name) → Inner (cell-stmt t n)
+  neither : {s : Statement} → is aWire s || is aCell s ≡ false → Inner s
+
+inner-of : (s : Statement) → Inner s
+unfolding statementsOpen
+inner-of (autoidx-stmt i) = neither refl
+inner-of (attr-stmt n c) = neither refl
+inner-of (module-stmt n) = neither refl
+inner-of (param-stmt n c) = neither refl
+inner-of (wire-stmt w n) = a-wire w n
+inner-of (memory-stmt m n) = neither refl
+inner-of (cell-stmt t n) = a-cell t n
+inner-of (cell-param-stmt o n c) = neither refl
+inner-of (cell-conn-stmt n x) = neither refl
+inner-of (conn-stmt x y) = neither refl
+inner-of (proc-stmt n) = neither refl
+inner-of end-stmt = neither refl
+
+in-module : (z : Scope) (first attributed : Bool) (s : Statement) → Inner s → among (kinds z first attributed) s ≡ true → is aWire s || is aCell s ≡ true → scopeCode z ≡ 1
+unfolding kinds among any scopeCode statementsOpen
+in-module inModule first attributed s o e h = refl
+in-module top true attributed s (a-wire w n) e h = cc
+in-module top true attributed s (a-cell t n) e h = cc
+in-module top true attributed s (neither q) e h = cc
+in-module top false attributed s (a-wire w n) e h = cc
+in-module top false attributed s (a-cell t n) e h = cc
+in-module top false attributed s (neither q) e h = cc
+in-module inCell first attributed s (a-wire w n) e h = cc
+in-module inCell first attributed s (a-cell t n) e h = cc
+in-module inCell first attributed s (neither q) e h = cc
+
+context-scope : (ss : Past) → context ss .scope ≡ scope ss
+unfolding context scope
+context-scope [] = refl
+context-scope (s ∷ ss) = refl
+
+stands-inside : (ss : Past) (s : Statement) → stands ss s ≡ true → is aWire s || is aCell s ≡ true → scopeCode (scope ss) ≡ 1
+unfolding stands
+stands-inside ss s e h =
+    ap scopeCode (sym (context-scope ss)) ∙ in-module (context ss .scope) (context ss .first) (context ss .attributed) s (inner-of s) e h
+
+-- so a module was opened
+outer-le : (z : Scope) → scopeCode (outer z) ≤ scopeCode z
+unfolding outer scopeCode
+outer-le top = omega arith
+outer-le inModule = omega arith
+outer-le inCell = omega arith
+
+or-right : (a b : Bool) → b ≡ true → a || b ≡ true
+or-right true b e = refl
+or-right false b e = e
+
+scope-headed : (ss : Past) → Standing ss → scopeCode (scope ss) ≤ 2 * moduleCount ss
+unfolding scope scopeCode
+scope-headed [] none-stand = omega arith
+scope-headed (s ∷ ss) (one-stands e h) =
+    let i : scopeCode (scope ss) ≤ 2 * moduleCount ss = scope-headed ss h in
+    let c = count-step s ss in
+    by-test (is aModule s)
+    (λ a. rw a (omega (arith, module-counts s ss a)))
+    (λ a. by-test (is aCell s)
+    (λ b. rw (a, b) (omega (arith, stands-inside ss s e (or-right (is aWire s) (is aCell s) b))))
+    (λ b. by-test (is anEnd s) (λ d. rw (a, b, d) (omega (arith, outer-le (scope ss)))) (λ d. rw (a, b, d) (omega arith))))
+
+or-left : (a b : Bool) → a ≡ true → a || b ≡ true
+or-left a b e = rw e
+
+pub standing-headed : {ss : Past} → Standing ss → Headed ss
+standing-headed none-stand = none-headed
+standing-headed (one-stands {s} {ss} e h) =
+    let p : is aWire s ≡ true → 0 < moduleCount ss =
+    λ w. omega (arith, scope-headed ss h, stands-inside ss s e (or-left (is aWire s) (is aCell s) w)) in
+    one-headed p (standing-headed h)

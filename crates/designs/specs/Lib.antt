@@ -1,0 +1,13 @@
+pub mod Modules
+pub mod ListLaws
+pub mod DesignLaws
+pub mod Now
+pub mod NowLaws
+pub mod PastLaws
+pub mod AttributeLaws
+pub mod Ranges
+pub mod RangeLaws
+pub mod RowLaws
+pub mod WireLaws
+pub mod HeadLaws
+pub mod LayoutLaws

@@ -1,0 +1,61 @@
+-- Laws of lists: an element by its number, joined lists, and tests of some element.
+-- Assumes nothing.
+use Prim.Native.Nat.{ℕ, zero, suc}
+use mathlib.Core.Path.{_≡_, refl, sym, ap, _∙_}
+use mathlib.Core.List.{List, [], _∷_, _++_, map, map-append, flatMap, reverse, reverse-cons, append-assoc, append-nil}
+use mathlib.Core.Option.{Option, Option·elim}
+use mathlib.Core.Bool.{Bool, cond, _||_, or-assoc}
+use lib.ListN.{getD, getElem?}
+use Rattle.rules.specs.Bytes.{any}
+use Rattle.rules.specs.Judgement.{only}
+use Rattle.scanner.specs.Laws.{by-test}
+
+module _ {A B : Type 0} where
+  -- the element of that number, or a value given for none
+  pub elim-at : {C : Type 0} (f : A → B) (g : B → C) (z : C) (xs : List A) (i : ℕ) → Option·elim (getElem? (map f xs) i) z g ≡ getD (map (λ x. g (f x)) xs) i z
+  unfolding Option·elim
+  elim-at f g z [] i = refl
+  elim-at f g z (x ∷ xs) zero = refl
+  elim-at f g z (x ∷ xs) (suc i) = elim-at f g z xs i
+
+  pub getD-map : (f : A → B) (d : A) (xs : List A) (i : ℕ) → getD (map f xs) i (f d) ≡ f (getD xs i d)
+  getD-map f d [] i = refl
+  getD-map f d (x ∷ xs) zero = refl
+  getD-map f d (x ∷ xs) (suc i) = getD-map f d xs i
+
+  pub map-same : (f g : A → B) → ((x : A) → f x ≡ g x) → (xs : List A) → map f xs ≡ map g xs
+  map-same f g h [] = refl
+  map-same f g h (x ∷ xs) = rw (h x, map-same f g h xs)
+
+  pub flatMap-same : (f g : A → List B) → ((x : A) → f x ≡ g x) → (xs : List A) → flatMap f xs ≡ flatMap g xs
+  unfolding flatMap
+  flatMap-same f g h [] = refl
+  flatMap-same f g h (x ∷ xs) = rw (h x, flatMap-same f g h xs)
+
+  pub flatMap-append : (f : A → List B) (xs ys : List A) → flatMap f (xs ++ ys) ≡ flatMap f xs ++ flatMap f ys
+  unfolding flatMap
+  flatMap-append f [] ys = refl
+  flatMap-append f (x ∷ xs) ys = ap (λ (l : List B). f x ++ l) (flatMap-append f xs ys) ∙ sym (append-assoc (f x) (flatMap f xs) (flatMap f ys))
+
+  -- with one element more in front, read from the end
+  pub flatMap-back : (f : A → List B) (x : A) (xs : List A) → flatMap f (reverse (x ∷ xs)) ≡ flatMap f (reverse xs) ++ f x
+  unfolding flatMap
+  flatMap-back f x xs =
+      ap (flatMap f) (reverse-cons x xs) ∙ flatMap-append f (reverse xs) (x ∷ []) ∙ ap (λ (l : List B). flatMap f (reverse xs) ++ l) (append-nil (f x))
+
+  pub map-flatMap : {C : Type 0} (g : B → C) (f : A → List B) (xs : List A) → map g (flatMap f xs) ≡ flatMap (λ x. map g (f x)) xs
+  unfolding flatMap
+  map-flatMap g f [] = refl
+  map-flatMap g f (x ∷ xs) = map-append g (f x) (flatMap f xs) ∙ ap (λ (l : List _). map g (f x) ++ l) (map-flatMap g f xs)
+
+  -- one value for each element that passes a test
+  pub chosen : (test : A → Bool) (g : A → B) (xs : List A) → flatMap (λ x. cond (test x) (g x ∷ []) []) xs ≡ map g (only test xs)
+  unfolding flatMap only
+  chosen test g [] = refl
+  chosen test g (x ∷ xs) = by-test (test x) (λ e. rw (e, chosen test g xs)) (λ e. rw (e, chosen test g xs))
+
+module _ {A : Type 0} (f : A → Bool) where
+  pub any-append : (xs ys : List A) → any f (xs ++ ys) ≡ any f xs || any f ys
+  unfolding any
+  any-append [] ys = refl
+  any-append (x ∷ xs) ys = ap (λ (b : Bool). f x || b) (any-append xs ys) ∙ sym (or-assoc (f x) (any f xs) (any f ys))

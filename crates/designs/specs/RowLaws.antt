@@ -1,0 +1,177 @@
+-- A module's range of rows holds its statements.
+-- Assumes nothing.
+use Prim.Native.Nat.{ℕ, zero, suc, _+_, _-_, _≤_, _<_}
+use mathlib.Core.Path.{_≡_, refl, sym, ap, ap₂, _∙_}
+use mathlib.Core.List.{List, [], _∷_, _++_, map, reverse, reverse-cons, reverse-append, reverse-reverse, append-assoc}
+use mathlib.Core.Bool.{Bool, true, false, _||_, or-assoc, or-comm}
+use native.Mathlib.Omega.{arith}
+use lib.Dec.{eqb, leb, ltb}
+use lib.ListN.{length, take, drop, length-append, length-reverse, length-drop, length-take, take-append-drop}
+use lib.Seq.{take-append-seam, drop-append-seam, take-at, drop-at}
+use borrow.Author.Tests.{eq-eqb, ne-eqb, leb-true, leb-false, ltb-true, ltb-false}
+use Rattle.rules.specs.Bytes.{same, any, all}
+use Rattle.rules.specs.Tokens.{Name}
+use Rattle.rules.specs.Statements.{Statement, Kind, aModule, code, contents, is, ownName}
+use Rattle.rules.specs.Judgement.{Past, until, only, sum, among, count, ofModule}
+use Rattle.rules.specs.Layout.{used, statementRow}
+use Rattle.wires.specs.Rows.{column}
+use Rattle.wires.specs.RowLaws.{RowIs}
+use Rattle.scanner.specs.Laws.{by-test}
+use Rattle.past.proofs.KindLaws.{count-one}
+use Rattle.netlist.specs.Rows.{kindAt, namesBetween}
+use Rattle.netlist.specs.Kinds.{Tests, hasName}
+use Rattle.netlist.specs.RowLaws.{row-kind}
+use Rattle.netlist.specs.Laid.{roomsOf, Laid}
+use Rattle.netlist.specs.LaidLaws.{length-rows, eights-rows, laid-put, laid-row}
+use Rattle.netlist.specs.NameLaws.{ownNames, names-laid}
+use Rattle.netlist.specs.SpaceLaws.{until-last}
+use Rattle.designs.specs.Modules.{statementsOf, moduleCount, upTo}
+use Rattle.designs.specs.PastLaws.{module-counts, other-counts, count-step, module-first, module-more, none-counts, module-past, no-module, up-to-all, up-to-back, up-to-holds, up-to-le, up-to-split}
+use Rattle.designs.specs.Ranges.{rowsWhere, linesIn, lineOf, rowRange}
+use Rattle.designs.specs.RangeLaws.{line-le, line-all, line-back}
+
+module _ {names rows : List ℕ} where
+  laid-before : (s : Statement) (ss : Past) → Laid (roomsOf (s ∷ ss)) names rows → Laid (roomsOf ss) names rows
+  unfolding roomsOf
+  laid-before s ss l = laid-put (roomsOf ss) s l
+
+  laid-up-to : (m : ℕ) (ss : Past) → Laid (roomsOf ss) names rows → Laid (roomsOf (upTo m ss)) names rows
+  laid-up-to m ss l = up-to-holds (λ qs. Laid (roomsOf qs) names rows) laid-before m ss l
+
+  -- the kind of the last statement, in its row; and so the module lines
+  last-kind : (s : Statement) (ss : Past) (k : ℕ) → k ≡ length ss → Laid (roomsOf (s ∷ ss)) names rows → column rows k 0 ≡ code (contents s .kind)
+  unfolding roomsOf kindAt
+  last-kind s ss k e l =
+      let q : k ≡ length (roomsOf ss .rows) = e ∙ sym (length-rows ss) in
+      let r : RowIs rows k (statementRow (used (roomsOf ss)) s) = rw q (laid-row (roomsOf ss) s (eights-rows ss) l) in
+      row-kind rows k (used (roomsOf ss)) s r
+
+  lines-laid : (ss : Past) → Laid (roomsOf ss) names rows → linesIn rows (length ss) ≡ moduleCount ss
+  unfolding linesIn rowsWhere sum code
+  lines-laid [] l = refl
+  lines-laid (s ∷ ss) l =
+      let e : column rows (length ss) 0 ≡ code (contents s .kind) = last-kind s ss (length ss) refl l in
+      rw e (omega (arith, lines-laid ss (laid-before s ss l), count-one s aModule))
+
+  -- where a module ends, and where its line stands
+  end-laid : (m : ℕ) (ss : Past) → Laid (roomsOf ss) names rows → lineOf rows (length ss) (suc m) ≡ length (upTo m ss)
+  unfolding lineOf upTo
+  end-laid m [] l = refl
+  end-laid m (s ∷ ss) l =
+      let e : linesIn rows (suc (length ss)) ≡ moduleCount (s ∷ ss) = lines-laid (s ∷ ss) l in
+      rw e
+      (by-test (leb (moduleCount (s ∷ ss)) (suc m)) (λ h. rw h) (λ h. rw h (end-laid m ss (laid-before s ss l))))
+
+  line-laid : (m : ℕ) (ss : Past) → Laid (roomsOf ss) names rows → m < moduleCount ss → suc (lineOf rows (length ss) m) + length (ofModule (upTo m ss)) ≡ length (upTo m ss)
+  line-laid m [] l h = absurd (let z : moduleCount [] ≡ 0 = none-counts in omega arith)
+  line-laid m (s ∷ ss) l h =
+      let e : linesIn rows (suc (length ss)) ≡ moduleCount (s ∷ ss) = lines-laid (s ∷ ss) l in
+      let d : linesIn rows (length ss) ≡ moduleCount ss = lines-laid ss (laid-before s ss l) in
+      let k : lineOf rows (suc (length ss)) m ≡ lineOf rows (length ss) m = line-back rows (length ss) m (omega arith) in
+      by-test (leb (moduleCount (s ∷ ss)) (suc m))
+      (λ q.
+      let b : moduleCount (s ∷ ss) ≤ suc m = leb-true _ _ q in
+      rw (up-to-all m (s ∷ ss) b, k)
+      (by-test (is aModule s)
+      (λ f. rw (module-first s ss f, line-all rows (length ss) m (omega (arith, module-counts s ss f))) (omega arith))
+      (λ f.
+      let c : moduleCount (s ∷ ss) ≡ moduleCount ss = other-counts s ss f in
+      let i : suc (lineOf rows (length ss) m) + length (ofModule (upTo m ss)) ≡ length (upTo m ss) = line-laid m ss (laid-before s ss l) (omega arith) in
+      let j : suc (lineOf rows (length ss) m) + length (ofModule ss) ≡ length ss = rw (up-to-all m ss (omega arith)) at i in
+      rw (module-more s ss f) (omega arith))))
+      (λ q.
+      let b : suc m < moduleCount (s ∷ ss) = omega (arith, leb-false (moduleCount (s ∷ ss)) (suc m) q) in
+      rw (up-to-back m s ss b, k) (line-laid m ss (laid-before s ss l) (omega (arith, count-step s ss))))
+
+  -- THE RANGE OF A MODULE ends where it ends, and has as many rows as statements stand behind its line
+  module _ (m : ℕ) (ss : Past) (l : Laid (roomsOf ss) names rows) where
+    pub range-there :
+        m < moduleCount ss → let r = rowRange rows (length ss) m in (r .first + r .count ≡ length (upTo m ss)) × (r .count ≡ length (ofModule (upTo m ss)))
+    unfolding rowRange
+    range-there h =
+        let a : suc (lineOf rows (length ss) m) + length (ofModule (upTo m ss)) ≡ length (upTo m ss) = line-laid m ss l h in
+        let b : lineOf rows (length ss) m ≡ length ss → ⊥ = λ e. omega (arith, up-to-le m ss) in
+        rw (ne-eqb (lineOf rows (length ss) m) (length ss) b, end-laid m ss l) (omega arith, omega arith)
+
+    pub range-none : moduleCount ss ≤ m → let r = rowRange rows (length ss) m in (r .first ≡ length ss) × (r .count ≡ 0)
+    unfolding rowRange
+    range-none h =
+        let a : lineOf rows (length ss) m ≡ length ss = line-all rows (length ss) m (omega (arith, lines-laid ss l)) in
+        rw (a, eq-eqb (length ss) (length ss) refl) (refl, omega (arith, line-le rows (length ss) (suc m)))
+
+    -- the names of its statements of some kinds
+    pub names-range :
+        (ks : List Kind) → all (λ k. hasName (code k)) ks ≡ true → (test : ℕ → Bool) → Tests test ks →
+        let r = rowRange rows (length ss) m in namesBetween names rows test (r .first) (r .count) ≡ ownNames ks (reverse (statementsOf m (reverse ss)))
+    unfolding ofModule namesBetween only
+    names-range ks h test t =
+        let r = rowRange rows (length ss) m in
+        by-test (ltb m (moduleCount ss))
+        (λ e.
+        let b : m < moduleCount ss = ltb-true m (moduleCount ss) e in
+        let q : Past = upTo m ss in
+        let p = range-there b in
+        names-laid ks h test t q (laid-up-to m ss l) (r .first) (r .count) (p .0)
+        ∙ ap (λ (n : ℕ). ownNames ks (take n q)) (p .1)
+        ∙ ap (ownNames ks) (sym (until-last (is aModule) q) ∙ sym (reverse-reverse (ofModule q)) ∙ ap reverse (sym (module-past ss m b))))
+        (λ e.
+        let b : moduleCount ss ≤ m = ltb-false m (moduleCount ss) e in
+        ap (namesBetween names rows test (r .first)) (range-none b .1) ∙ ap (λ (qs : List Statement). ownNames ks (reverse qs)) (sym (no-module ss m b)))
+
+    -- the statements of those numbers in the file
+    pub statements-range : let r = rowRange rows (length ss) m in take (r .count) (drop (r .first) (reverse ss)) ≡ statementsOf m (reverse ss)
+    unfolding ofModule
+    statements-range =
+        let r = rowRange rows (length ss) m in
+        by-test (ltb m (moduleCount ss))
+        (λ e.
+        let b : m < moduleCount ss = ltb-true m (moduleCount ss) e in
+        let q : Past = upTo m ss in
+        let c : ℕ = r .count in
+        let p = range-there b in
+        let xs : Past = up-to-split m ss .0 in
+        let early : List Statement = reverse (drop c q) in
+        let own : List Statement = reverse (take c q) in
+        let s : reverse ss ≡ early ++ (own ++ reverse xs) =
+        ap reverse (up-to-split m ss .1)
+        ∙ reverse-append xs q
+        ∙ ap (λ (z : List Statement). z ++ reverse xs) (ap reverse (sym (take-append-drop c q)) ∙ reverse-append (take c q) (drop c q))
+        ∙ append-assoc early own (reverse xs) in
+        let le : length early ≡ r .first = length-reverse (drop c q) ∙ length-drop c q ∙ (omega arith) in
+        let lo : length own ≡ c = length-reverse (take c q) ∙ length-take c q ∙ (omega arith) in
+        ap (λ (z : List Statement). take c (drop (r .first) z)) s
+        ∙ ap (take c) (drop-at early (own ++ reverse xs) (r .first) le)
+        ∙ take-at own (reverse xs) c lo
+        ∙ ap (λ (n : ℕ). reverse (take n q)) (p .1)
+        ∙ ap reverse (sym (until-last (is aModule) q))
+        ∙ sym (module-past ss m b))
+        (λ e.
+        let b : moduleCount ss ≤ m = ltb-false m (moduleCount ss) e in
+        ap (λ (n : ℕ). take n (drop (r .first) (reverse ss))) (range-none b .1) ∙ sym (no-module ss m b))
+
+-- whether some name passes a test doesn't depend on the order
+module _ (f : Name → Bool) (ks : List Kind) where
+  any-names : (xs ys : List Statement) → any f (ownNames ks (xs ++ ys)) ≡ any f (ownNames ks xs) || any f (ownNames ks ys)
+  unfolding only any
+  any-names [] ys = refl
+  any-names (x ∷ xs) ys =
+      by-test (among ks x)
+      (λ e. rw (e, any-names xs ys) (sym (or-assoc (f (ownName (contents x .names))) (any f (ownNames ks xs)) (any f (ownNames ks ys)))))
+      (λ e. rw e (any-names xs ys))
+
+  pub any-names-back : (xs : List Statement) → any f (ownNames ks (reverse xs)) ≡ any f (ownNames ks xs)
+  unfolding only any
+  any-names-back [] = refl
+  any-names-back (x ∷ xs) =
+      ap (λ (l : List Statement). any f (ownNames ks l)) (reverse-cons x xs)
+      ∙ any-names (reverse xs) (x ∷ [])
+      ∙ or-comm (any f (ownNames ks (reverse xs))) (any f (ownNames ks (x ∷ [])))
+      ∙ ap (λ (b : Bool). any f (ownNames ks (x ∷ [])) || b) (any-names-back xs)
+      ∙ sym (any-names (x ∷ []) xs)
+
+-- so a search for a name in the range is one among the module's statements
+pub taken-range :
+    {names rows : List ℕ} (m : ℕ) (ss : Past) → Laid (roomsOf ss) names rows → (ks : List Kind) → all (λ k. hasName (code k)) ks ≡ true →
+    (test : ℕ → Bool) → Tests test ks → (n : Name) →
+    let r = rowRange rows (length ss) m in any (same n) (namesBetween names rows test (r .first) (r .count)) ≡ any (same n) (ownNames ks (statementsOf m (reverse ss)))
+taken-range m ss l ks h test t n = ap (any (same n)) (names-range m ss l ks h test t) ∙ any-names-back (same n) ks (statementsOf m (reverse ss))

@@ -1,0 +1,248 @@
+-- A module's range in the table of wires holds its wires.
+-- Assumes nothing.
+use Prim.Native.Nat.{ℕ, zero, suc, _+_, _-_, _≤_, _<_}
+use mathlib.Core.Path.{_≡_, refl, sym, ap, ap₂, _∙_}
+use mathlib.Core.List.{List, [], _∷_, _++_, map, flatMap, zip, zipWith, reverse, reverse-append, reverse-reverse, append-assoc}
+use mathlib.Core.Bool.{Bool, true, false, cond, _&&_}
+use native.Mathlib.Omega.{arith}
+use lib.Dec.{eqb, leb, ltb}
+use lib.ListN.{length}
+use borrow.Author.Tests.{eq-eqb, ne-eqb, lt-ltb, le-ltb, leb-true, leb-false, ltb-true, ltb-false}
+use Rattle.rules.specs.Bytes.{any}
+use Rattle.rules.specs.Tokens.{Name}
+use Rattle.rules.specs.Statements.{Statement, Wire, autoidx-stmt, attr-stmt, module-stmt, param-stmt, wire-stmt, memory-stmt, cell-stmt, cell-param-stmt, cell-conn-stmt, conn-stmt, proc-stmt, end-stmt, aModule, aWire, contents, is, statementsOpen}
+use Rattle.rules.specs.Signals.{Wires}
+use Rattle.rules.specs.Judgement.{Past, sum, among, count, ofModule, wires}
+use Rattle.rules.specs.Design.{design}
+use Rattle.rules.specs.Session.{wiresAt}
+use Rattle.rules.specs.Layout.{Rooms, used, padded, row, wireRow, wireRows, put}
+use Rattle.tables.specs.Flat.{flat, Eights, flat-snoc}
+use Rattle.wires.specs.Rows.{column, wiresFrom}
+use Rattle.wires.specs.RowLaws.{RowIs}
+use Rattle.wires.specs.StoreLaws.{length-wire-row}
+use Rattle.scanner.specs.Laws.{by-test}
+use Rattle.past.specs.Place.{wiresIn, placeOf}
+use Rattle.past.specs.Offsets.{Offsets, more-offsets}
+use Rattle.past.proofs.PlaceLaws.{length-all-wires}
+use Rattle.netlist.specs.Laid.{roomsOf, Wired}
+use Rattle.netlist.specs.LaidLaws.{row-behind}
+use Rattle.netlist.specs.WireLaws.{length-wire-rows, eights-wires, wired-put, wires-laid}
+use Rattle.designs.specs.Modules.{statementsOf, wiresOf, moduleCount, upTo, Headed, none-headed, one-headed}
+use Rattle.designs.specs.ListLaws.{flatMap-back}
+use Rattle.designs.specs.DesignLaws.{pairs-at}
+use Rattle.designs.specs.PastLaws.{module-counts, other-counts, count-step, module-first, module-more, none-counts, module-past, no-module, up-to-all, up-to-back, up-to-holds}
+use Rattle.designs.specs.Ranges.{rowsWhere, wireRange}
+use Rattle.designs.specs.RangeLaws.{where-next}
+
+-- A WIRE'S ROW HOLDS ITS MODULE
+rooms-modules : (ss : Past) → roomsOf ss .modules ≡ moduleCount ss
+unfolding roomsOf put sum
+rooms-modules [] = refl
+rooms-modules (s ∷ ss) = omega (arith, rooms-modules ss)
+
+rooms-wires : (ss : Past) → length (roomsOf ss .wires) ≡ wiresIn ss
+unfolding placeOf
+rooms-wires ss = length-wire-rows ss ∙ length-all-wires ss
+
+module _ {names t : List ℕ} where
+  wired-before : (s : Statement) (ss : Past) → Wired (roomsOf (s ∷ ss)) names t → Wired (roomsOf ss) names t
+  unfolding roomsOf
+  wired-before s ss l = wired-put (roomsOf ss) s l
+
+  last-row : (R : Rooms) (w : Wire) (n : Name) → Eights (R .wires) → Wired (put R (wire-stmt w n)) names t → RowIs t (length (R .wires)) (wireRow (used R) (n, w))
+  unfolding put wireRows zip zipWith statementsOpen
+  last-row R w n h l =
+      let r : List ℕ = wireRow (used R) (n, w) in
+      row-behind t (R .wires) r (l .more-wires) h (length-wire-row (used R) (n, w))
+      (l .wires-are ∙ ap (λ (x : List ℕ). x ++ l .more-wires) (flat-snoc (R .wires) r) ∙ append-assoc (flat (R .wires)) r (l .more-wires))
+
+  last-module : (w : Wire) (n : Name) (ss : Past) → Wired (roomsOf (wire-stmt w n ∷ ss)) names t → column t (wiresIn ss) 0 ≡ moduleCount ss - 1
+  unfolding roomsOf wireRow row padded used
+  last-module w n ss l =
+      ap (λ (k : ℕ). column t k 0) (sym (rooms-wires ss))
+      ∙ last-row (roomsOf ss) w n (eights-wires ss) l 0 (omega arith)
+      ∙ ap (λ (k : ℕ). k - 1) (rooms-modules ss)
+
+true-not-false : true ≡ false → ⊥
+true-not-false e = let z : _≡_ {A = ℕ} 0 1 = cc in omega arith
+
+-- WHAT A STATEMENT ADDS to the wires
+data Adds : Statement → Type 0 where
+  a-wire : (w : Wire) (n : Name) → Adds (wire-stmt w n)
+  no-wire : {s : Statement} → is aWire s ≡ false → Adds s
+
+adds : (s : Statement) → Adds s
+unfolding statementsOpen
+adds (autoidx-stmt i) = no-wire refl
+adds (attr-stmt n c) = no-wire refl
+adds (module-stmt n) = no-wire refl
+adds (param-stmt n c) = no-wire refl
+adds (wire-stmt w n) = a-wire w n
+adds (memory-stmt m n) = no-wire refl
+adds (cell-stmt y n) = no-wire refl
+adds (cell-param-stmt o n c) = no-wire refl
+adds (cell-conn-stmt n x) = no-wire refl
+adds (conn-stmt x y) = no-wire refl
+adds (proc-stmt n) = no-wire refl
+adds end-stmt = no-wire refl
+
+wire-alone : (s : Statement) → Adds s → is aWire s ≡ true → is aModule s ≡ false
+unfolding statementsOpen
+wire-alone s (a-wire w n) e = refl
+wire-alone s (no-wire h) e = cc
+
+wires-more : (s : Statement) (ss : Past) → wiresIn (s ∷ ss) ≡ wiresIn ss + cond (is aWire s) 1 0
+unfolding wiresIn sum count among any
+wires-more s ss = by-test (is aWire s) (λ e. rw e (omega arith)) (λ e. rw e (omega arith))
+
+module _ {names t : List ℕ} (f : ℕ → Bool) where
+  where-step :
+      (s : Statement) (ss : Past) → Adds s → Wired (roomsOf (s ∷ ss)) names t →
+      rowsWhere f t (wiresIn (s ∷ ss)) ≡ rowsWhere f t (wiresIn ss) + cond (is aWire s && f (moduleCount ss - 1)) 1 0
+  unfolding rowsWhere statementsOpen
+  where-step s ss (a-wire w n) l =
+      let e : wiresIn (wire-stmt w n ∷ ss) ≡ suc (wiresIn ss) = omega (arith, wires-more (wire-stmt w n) ss) in
+      rw (e, last-module w n ss l)
+  where-step s ss (no-wire h) l =
+      let e : wiresIn (s ∷ ss) ≡ wiresIn ss = omega (arith, rw h at (wires-more s ss)) in
+      rw (e, h) (omega arith)
+
+  -- a wire that doesn't pass the test, or a statement that is no wire, adds no row
+  where-same :
+      (s : Statement) (ss : Past) → Wired (roomsOf (s ∷ ss)) names t → (is aWire s ≡ true → is aModule s ≡ false → f (moduleCount ss - 1) ≡ false) →
+      rowsWhere f t (wiresIn (s ∷ ss)) ≡ rowsWhere f t (wiresIn ss)
+  where-same s ss l h =
+      by-test (is aWire s)
+      (λ e. where-step s ss (adds s) l ∙ rw (e, h e (wire-alone s (adds s) e)) (omega arith))
+      (λ e. where-step s ss (adds s) l ∙ rw e (omega arith))
+
+  -- a wire that passes it adds one, as it adds a wire
+  where-one :
+      (s : Statement) (ss : Past) → Wired (roomsOf (s ∷ ss)) names t → f (moduleCount ss - 1) ≡ true →
+      rowsWhere f t (wiresIn (s ∷ ss)) ≡ rowsWhere f t (wiresIn ss) + cond (is aWire s) 1 0
+  where-one s ss l h = where-step s ss (adds s) l ∙ by-test (is aWire s) (λ e. rw (e, h)) (λ e. rw e)
+
+where-none : (f : ℕ → Bool) (t : List ℕ) → rowsWhere f t (wiresIn []) ≡ 0
+unfolding rowsWhere wiresIn sum
+where-none f t = refl
+
+none-wires : wiresIn [] ≡ 0
+unfolding wiresIn sum
+none-wires = refl
+
+none-up-to : (m : ℕ) → upTo m [] ≡ []
+unfolding upTo
+none-up-to m = refl
+
+module _ {names t : List ℕ} (m : ℕ) where
+  -- the wires up to a module's end
+  below-laid : (ss : Past) → Wired (roomsOf ss) names t → rowsWhere (λ c. ltb c (suc m)) t (wiresIn ss) ≡ wiresIn (upTo m ss)
+  below-laid [] l = rw (none-up-to m) (where-none (λ c. ltb c (suc m)) t ∙ sym none-wires)
+  below-laid (s ∷ ss) l =
+      let i : rowsWhere (λ c. ltb c (suc m)) t (wiresIn ss) ≡ wiresIn (upTo m ss) = below-laid ss (wired-before s ss l) in
+      by-test (leb (moduleCount (s ∷ ss)) (suc m))
+      (λ e.
+      let b : moduleCount (s ∷ ss) ≤ suc m = leb-true _ _ e in
+      let j : rowsWhere (λ c. ltb c (suc m)) t (wiresIn ss) ≡ wiresIn ss = rw (up-to-all m ss (omega (arith, count-step s ss))) at i in
+      rw (up-to-all m (s ∷ ss) b)
+      (where-one (λ c. ltb c (suc m)) s ss l (lt-ltb (moduleCount ss - 1) (suc m) (omega (arith, count-step s ss)))
+      ∙ (omega (arith, wires-more s ss))))
+      (λ e.
+      let b : suc m < moduleCount (s ∷ ss) = omega (arith, leb-false (moduleCount (s ∷ ss)) (suc m) e) in
+      rw (up-to-back m s ss b)
+      (where-same (λ c. ltb c (suc m)) s ss l (λ w q. le-ltb (moduleCount ss - 1) (suc m) (omega (arith, other-counts s ss q))) ∙ i))
+
+  -- the wires of a module that there isn't yet, and of one that there is
+  none-laid : (ss : Past) → Headed ss → Wired (roomsOf ss) names t → moduleCount ss ≤ m → rowsWhere (λ c. eqb c m) t (wiresIn ss) ≡ 0
+  none-laid [] none-headed l h = where-none (λ c. eqb c m) t
+  none-laid (s ∷ ss) (one-headed p q) l h =
+      where-same (λ c. eqb c m) s ss l
+      (λ w n. ne-eqb (moduleCount ss - 1) m (λ e. omega (arith, other-counts s ss n, p w)))
+      ∙ none-laid ss q (wired-before s ss l) (omega (arith, count-step s ss))
+
+  own-laid : (ss : Past) → Headed ss → Wired (roomsOf ss) names t → m < moduleCount ss → rowsWhere (λ c. eqb c m) t (wiresIn ss) ≡ wiresIn (ofModule (upTo m ss))
+  own-laid [] none-headed l h = absurd (let z : moduleCount [] ≡ 0 = none-counts in omega arith)
+  own-laid (s ∷ ss) (one-headed p q) l h =
+      let l′ = wired-before s ss l in
+      by-test (leb (moduleCount (s ∷ ss)) (suc m))
+      (λ e.
+      let b : moduleCount (s ∷ ss) ≤ suc m = leb-true _ _ e in
+      rw (up-to-all m (s ∷ ss) b)
+      (by-test (is aModule s)
+      (λ f.
+      let c : moduleCount (s ∷ ss) ≡ suc (moduleCount ss) = module-counts s ss f in
+      rw (module-first s ss f)
+      (where-same (λ c. eqb c m) s ss l (λ w n. absurd (true-not-false (sym f ∙ n))) ∙ none-laid ss q l′ (omega arith) ∙ sym none-wires))
+      (λ f.
+      let c : moduleCount (s ∷ ss) ≡ moduleCount ss = other-counts s ss f in
+      let i : rowsWhere (λ c. eqb c m) t (wiresIn ss) ≡ wiresIn (ofModule (upTo m ss)) = own-laid ss q l′ (omega arith) in
+      let j : rowsWhere (λ c. eqb c m) t (wiresIn ss) ≡ wiresIn (ofModule ss) = rw (up-to-all m ss (omega arith)) at i in
+      rw (module-more s ss f)
+      (where-one (λ c. eqb c m) s ss l (eq-eqb (moduleCount ss - 1) m (omega arith)) ∙ (omega (arith, wires-more s (ofModule ss)))))))
+      (λ e.
+      let b : suc m < moduleCount (s ∷ ss) = omega (arith, leb-false (moduleCount (s ∷ ss)) (suc m) e) in
+      rw (up-to-back m s ss b)
+      (where-same (λ c. eqb c m) s ss l (λ w n. ne-eqb (moduleCount ss - 1) m (λ d. omega (arith, other-counts s ss n)))
+      ∙ own-laid ss q l′ (omega (arith, count-step s ss))))
+
+offsets-before : (s : Statement) (ss : Past) → Offsets (s ∷ ss) → Offsets ss
+offsets-before s ss (more-offsets h o) = o
+
+-- wires from the end
+zip-back : (s : Statement) → reverse (zip (contents s .names) (contents s .wires)) ≡ zip (contents s .names) (contents s .wires)
+unfolding zip zipWith statementsOpen
+zip-back (autoidx-stmt i) = refl
+zip-back (attr-stmt n c) = refl
+zip-back (module-stmt n) = refl
+zip-back (param-stmt n c) = refl
+zip-back (wire-stmt w n) = refl
+zip-back (memory-stmt m n) = refl
+zip-back (cell-stmt y n) = refl
+zip-back (cell-param-stmt o n c) = refl
+zip-back (cell-conn-stmt n x) = refl
+zip-back (conn-stmt x y) = refl
+zip-back (proc-stmt n) = refl
+zip-back end-stmt = refl
+
+pub wires-back : (qs : List Statement) → reverse (wiresOf qs) ≡ wiresOf (reverse qs)
+unfolding flatMap
+wires-back [] = refl
+wires-back (s ∷ qs) =
+    let f : Statement → Wires = λ s. zip (contents s .names) (contents s .wires) in
+    reverse-append (f s) (flatMap f qs) ∙ ap₂ _++_ (wires-back qs) (zip-back s) ∙ sym (flatMap-back f s qs)
+
+-- THE RANGE OF A MODULE'S WIRES
+module _ {names t : List ℕ} (m : ℕ) (ss : Past) (headed : Headed ss) (l : Wired (roomsOf ss) names t) where
+  pub wire-range-there : m < moduleCount ss → let r = wireRange t (wiresIn ss) m in (r .first + r .count ≡ wiresIn (upTo m ss)) × (r .count ≡ wiresIn (ofModule (upTo m ss)))
+  unfolding wireRange
+  wire-range-there h = (sym (where-next t m (wiresIn ss)) ∙ below-laid m ss l, own-laid m ss headed l h)
+
+  pub wire-range-none : moduleCount ss ≤ m → wireRange t (wiresIn ss) m .count ≡ 0
+  unfolding wireRange
+  wire-range-none h = none-laid m ss headed l h
+
+  pub wires-range : Offsets ss → let r = wireRange t (wiresIn ss) m in wiresFrom names t (r .first) (r .count) ≡ wiresOf (reverse (statementsOf m (reverse ss)))
+  unfolding placeOf wires wiresFrom flatMap
+  wires-range o =
+      let r = wireRange t (wiresIn ss) m in
+      by-test (ltb m (moduleCount ss))
+      (λ e.
+      let b : m < moduleCount ss = ltb-true m (moduleCount ss) e in
+      let q : Past = upTo m ss in
+      let p = wire-range-there b in
+      let first : r .first ≡ wiresIn q - wiresIn (ofModule q) = omega arith in
+      let count : r .count ≡ wiresIn q - (wiresIn q - wiresIn (ofModule q)) = omega arith in
+      ap₂ (wiresFrom names t) first count
+      ∙ wires-laid names t q (up-to-holds Offsets offsets-before m ss o) (up-to-holds (λ qs. Wired (roomsOf qs) names t) wired-before m ss l)
+      ∙ ap wiresOf (sym (reverse-reverse (ofModule q)) ∙ ap reverse (sym (module-past ss m b))))
+      (λ e.
+      let b : moduleCount ss ≤ m = ltb-false m (moduleCount ss) e in
+      ap (wiresFrom names t (r .first)) (wire-range-none b) ∙ ap (λ (qs : List Statement). wiresOf (reverse qs)) (sym (no-module ss m b)))
+
+  -- in the order of the file they are the module's of the design
+  pub pairs-range : Offsets ss → let r = wireRange t (wiresIn ss) m in reverse (wiresFrom names t (r .first) (r .count)) ≡ wiresOf (statementsOf m (reverse ss))
+  pairs-range o =
+      ap reverse (wires-range o) ∙ wires-back (reverse (statementsOf m (reverse ss))) ∙ ap wiresOf (reverse-reverse (statementsOf m (reverse ss)))
+
+  pub design-range : Offsets ss → let r = wireRange t (wiresIn ss) m in reverse (wiresFrom names t (r .first) (r .count)) ≡ map (λ o. (o .name, o .body)) (wiresAt (design (reverse ss)) m)
+  design-range o = pairs-range o ∙ sym (pairs-at (reverse ss) m)

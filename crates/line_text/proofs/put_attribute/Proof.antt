@@ -1,0 +1,43 @@
+-- The word, the name, the constant.
+-- Assumes nothing.
+use mathlib.Core.Path.{refl}
+use Rattle.text.specs.Written.{written-most, written-then, written-as}
+use Rattle.line_text.specs.LineLaws.{span-name, line-attribute}
+use native.Mathlib.Omega.{arith}
+use borrow.Author.Needs.{needs}
+use denote.Ref.{now}
+use Rattle.line_text.proofs.put_attribute.Statement.{statement}
+use Rattle.line_text.proofs.put_attribute.Tie as tie
+
+slice-aggregate-put-bytes : tie.Need-slice-aggregate-put-bytes
+slice-aggregate-put-bytes c = refl
+
+put-bytes-requires : tie.Need-put-bytes-requires
+put-bytes-requires c κs = search needs
+
+bytes-at-requires : tie.Need-bytes-at-requires
+bytes-at-requires c κs = search needs
+
+put-token-requires : tie.Need-put-token-requires
+put-token-requires c κs = written-most (c .before .before .before .before .put-bytes .ensures)
+
+put-constant-requires : tie.Need-put-constant-requires
+put-constant-requires c κs = (written-most (c .before .before .before .put-token .ensures), omega arith, omega arith, omega arith)
+
+returns : tie.Need-returns
+returns c = written-as (written-then (c .before .before .before .before .before .before .before .before .before .before .before .put-bytes .ensures) (written-then (c .before .before .before .before .before .before .put-token .ensures) (c .before .before .put-constant .ensures))) (line-attribute _ _ (span-name (now (c .before .before .before .before .before .before .before .before .before .before .before .before .before .before .before .before .before .before .before .args .names)) (now (c .before .before .before .before .before .before .before .before .before .before .before .before .before .before .before .before .before .before .before .args .rows)) _ (c .before .before .before .before .before .before .before .before .before .before .before .before .before .before .before .before .before .before .before .args .row) 1 (c .before .before .before .before .before .before .before .bytes-at .ensures)) _)
+
+same-length : tie.Need-same-length
+same-length c = returns c .kept
+
+pub put-attribute-spec : {M : Type 1} → statement M
+put-attribute-spec =
+    tie.close
+    (tie.spec
+    slice-aggregate-put-bytes
+    put-bytes-requires
+    bytes-at-requires
+    put-token-requires
+    put-constant-requires
+    same-length
+    returns)

@@ -1,0 +1,38 @@
+-- The word, the name.
+-- Assumes nothing.
+use mathlib.Core.Path.{refl}
+use Rattle.text.specs.Written.{written-most, written-then, written-as}
+use Rattle.line_text.specs.LineLaws.{span-name, line-module}
+use borrow.Author.Needs.{needs}
+use denote.Ref.{now}
+use Rattle.line_text.proofs.put_module.Statement.{statement}
+use Rattle.line_text.proofs.put_module.Tie as tie
+
+slice-aggregate-put-bytes : tie.Need-slice-aggregate-put-bytes
+slice-aggregate-put-bytes c = refl
+
+put-bytes-requires : tie.Need-put-bytes-requires
+put-bytes-requires c κs = search needs
+
+bytes-at-requires : tie.Need-bytes-at-requires
+bytes-at-requires c κs = search needs
+
+put-token-requires : tie.Need-put-token-requires
+put-token-requires c κs = written-most (c .before .before .before .before .put-bytes .ensures)
+
+returns : tie.Need-returns
+returns c = written-as (written-then (c .before .before .before .before .before .before .before .put-bytes .ensures) (c .before .before .put-token .ensures)) (line-module _ _ (span-name (now (c .before .before .before .before .before .before .before .before .before .before .before .before .before .args .names)) (now (c .before .before .before .before .before .before .before .before .before .before .before .before .before .args .rows)) _ (c .before .before .before .before .before .before .before .before .before .before .before .before .before .args .row) 1 (c .before .before .before .bytes-at .ensures)))
+
+same-length : tie.Need-same-length
+same-length c = returns c .kept
+
+pub put-module-spec : {M : Type 1} → statement M
+put-module-spec =
+    tie.close
+    (tie.spec
+    slice-aggregate-put-bytes
+    put-bytes-requires
+    bytes-at-requires
+    put-token-requires
+    same-length
+    returns)

@@ -1,0 +1,68 @@
+-- A kind that names wires of the module, or another.
+-- Assumes nothing.
+use mathlib.Core.Path.{sym}
+use borrow.Author.Tests.{ne-eqb}
+use Rattle.text.specs.Written.{written-as}
+use Rattle.line_text.specs.Now.{wiresIn}
+use Rattle.line_text.specs.LineLaws.{statement-wire, statement-cell-connection, statement-connection, statement-plain}
+use borrow.Author.Needs.{needs}
+use denote.Ref.{now}
+use Rattle.line_text.proofs.put_statement.Statement.{statement}
+use Rattle.line_text.proofs.put_statement.Tie as tie
+
+column-requires : tie.Need-column-requires
+column-requires c κs = search needs
+
+put-wire-requires : tie.Need-put-wire-requires
+put-wire-requires c κs = search needs
+
+returns : tie.Need-returns
+returns c = written-as (c .before .before .put-wire .ensures) (statement-wire (now (c .before .before .before .before .before .before .before .before .before .before .before .before .args .names)) (now (c .before .before .before .before .before .before .before .before .before .before .before .before .args .strings)) (now (c .before .before .before .before .before .before .before .before .before .before .before .before .args .bits)) (now (c .before .before .before .before .before .before .before .before .before .before .before .before .args .wires)) (now (c .before .before .before .before .before .before .before .before .before .before .before .before .args .rows)) (c .before .before .before .before .before .before .before .before .before .before .before .before .args .m) (wiresIn (now (c .before .before .before .before .before .before .before .before .before .before .before .before .args .names)) (now (c .before .before .before .before .before .before .before .before .before .before .before .before .args .wires)) (now (c .before .before .before .before .before .before .before .before .before .before .before .before .args .rows)) (c .before .before .before .before .before .before .before .before .before .before .before .before .args .m)) (c .before .before .before .before .before .before .before .before .before .before .before .before .args .row) _ (c .before .before .before .before .before .column .ensures) (c .before .before .before .before .if1 .taken))
+
+same-length : tie.Need-same-length
+same-length c = returns c .kept
+
+put-cell-connection-requires : tie.Need-put-cell-connection-requires
+put-cell-connection-requires c κs = search needs
+
+returns-2 : tie.Need-returns-2
+returns-2 c = written-as (c .before .before .put-cell-connection .ensures) (statement-cell-connection (now (c .before .before .before .before .before .before .before .before .before .before .before .before .before .args .names)) (now (c .before .before .before .before .before .before .before .before .before .before .before .before .before .args .strings)) (now (c .before .before .before .before .before .before .before .before .before .before .before .before .before .args .bits)) (now (c .before .before .before .before .before .before .before .before .before .before .before .before .before .args .wires)) (now (c .before .before .before .before .before .before .before .before .before .before .before .before .before .args .rows)) (c .before .before .before .before .before .before .before .before .before .before .before .before .before .args .m) (wiresIn (now (c .before .before .before .before .before .before .before .before .before .before .before .before .before .args .names)) (now (c .before .before .before .before .before .before .before .before .before .before .before .before .before .args .wires)) (now (c .before .before .before .before .before .before .before .before .before .before .before .before .before .args .rows)) (c .before .before .before .before .before .before .before .before .before .before .before .before .before .args .m)) (c .before .before .before .before .before .before .before .before .before .before .before .before .before .args .row) _ (c .before .before .before .before .before .before .column .ensures) (c .before .before .before .before .if2 .taken))
+
+same-length-2 : tie.Need-same-length-2
+same-length-2 c = returns-2 c .kept
+
+put-connection-requires : tie.Need-put-connection-requires
+put-connection-requires c κs = search needs
+
+returns-3 : tie.Need-returns-3
+returns-3 c = written-as (c .before .before .put-connection .ensures) (statement-connection (now (c .before .before .before .before .before .before .before .before .before .before .before .before .before .before .args .names)) (now (c .before .before .before .before .before .before .before .before .before .before .before .before .before .before .args .strings)) (now (c .before .before .before .before .before .before .before .before .before .before .before .before .before .before .args .bits)) (now (c .before .before .before .before .before .before .before .before .before .before .before .before .before .before .args .wires)) (now (c .before .before .before .before .before .before .before .before .before .before .before .before .before .before .args .rows)) (c .before .before .before .before .before .before .before .before .before .before .before .before .before .before .args .m) (wiresIn (now (c .before .before .before .before .before .before .before .before .before .before .before .before .before .before .args .names)) (now (c .before .before .before .before .before .before .before .before .before .before .before .before .before .before .args .wires)) (now (c .before .before .before .before .before .before .before .before .before .before .before .before .before .before .args .rows)) (c .before .before .before .before .before .before .before .before .before .before .before .before .before .before .args .m)) (c .before .before .before .before .before .before .before .before .before .before .before .before .before .before .args .row) _ (c .before .before .before .before .before .before .before .column .ensures) (c .before .before .before .before .if3 .taken))
+
+same-length-3 : tie.Need-same-length-3
+same-length-3 c = returns-3 c .kept
+
+put-plain-requires : tie.Need-put-plain-requires
+put-plain-requires c κs = search needs
+
+returns-4 : tie.Need-returns-4
+returns-4 c = written-as (c .before .before .put-plain .ensures (now (c .before .before .before .before .before .before .before .before .before .before .before .before .before .before .args .wires)) (wiresIn (now (c .before .before .before .before .before .before .before .before .before .before .before .before .before .before .args .names)) (now (c .before .before .before .before .before .before .before .before .before .before .before .before .before .before .args .wires)) (now (c .before .before .before .before .before .before .before .before .before .before .before .before .before .before .args .rows)) (c .before .before .before .before .before .before .before .before .before .before .before .before .before .before .args .m)) (ne-eqb _ _ (c .before .before .before .before .before .before .if1 .left)) (ne-eqb _ _ (c .before .before .before .before .before .if2 .left)) (ne-eqb _ _ (c .before .before .before .before .if3 .left))) (statement-plain (now (c .before .before .before .before .before .before .before .before .before .before .before .before .before .before .args .names)) (now (c .before .before .before .before .before .before .before .before .before .before .before .before .before .before .args .strings)) (now (c .before .before .before .before .before .before .before .before .before .before .before .before .before .before .args .bits)) (now (c .before .before .before .before .before .before .before .before .before .before .before .before .before .before .args .wires)) (now (c .before .before .before .before .before .before .before .before .before .before .before .before .before .before .args .rows)) (c .before .before .before .before .before .before .before .before .before .before .before .before .before .before .args .m) (wiresIn (now (c .before .before .before .before .before .before .before .before .before .before .before .before .before .before .args .names)) (now (c .before .before .before .before .before .before .before .before .before .before .before .before .before .before .args .wires)) (now (c .before .before .before .before .before .before .before .before .before .before .before .before .before .before .args .rows)) (c .before .before .before .before .before .before .before .before .before .before .before .before .before .before .args .m)) (c .before .before .before .before .before .before .before .before .before .before .before .before .before .before .args .row) _ (c .before .before .before .before .before .before .before .column .ensures) (ne-eqb _ _ (c .before .before .before .before .before .before .if1 .left)))
+
+same-length-4 : tie.Need-same-length-4
+same-length-4 c = returns-4 c .kept
+
+pub put-statement-spec : {M : Type 1} → statement M
+put-statement-spec =
+    tie.close
+    (tie.spec
+    column-requires
+    put-wire-requires
+    same-length
+    returns
+    put-cell-connection-requires
+    same-length-2
+    returns-2
+    put-connection-requires
+    same-length-3
+    returns-3
+    put-plain-requires
+    same-length-4
+    returns-4)

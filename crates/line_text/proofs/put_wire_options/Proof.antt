@@ -1,0 +1,66 @@
+-- One option behind another.
+-- Assumes nothing.
+use mathlib.Core.Path.{refl}
+use Rattle.text.specs.Written.{written-most, written-then, written-as}
+use Rattle.line_text.specs.LineLaws.{wire-options}
+use borrow.Author.Needs.{needs}
+use denote.Ref.{now}
+use Rattle.line_text.proofs.put_wire_options.Statement.{statement}
+use Rattle.line_text.proofs.put_wire_options.Tie as tie
+
+column-requires : tie.Need-column-requires
+column-requires c κs = search needs
+
+column-requires-2 : tie.Need-column-requires-2
+column-requires-2 c κs = search needs
+
+put-width-requires : tie.Need-put-width-requires
+put-width-requires c κs = search needs
+
+column-requires-3 : tie.Need-column-requires-3
+column-requires-3 c κs = search needs
+
+put-offset-requires : tie.Need-put-offset-requires
+put-offset-requires c κs = written-most (c .before .before .before .before .put-width .ensures)
+
+slice-aggregate-put-flag : tie.Need-slice-aggregate-put-flag
+slice-aggregate-put-flag c = refl
+
+put-flag-requires : tie.Need-put-flag-requires
+put-flag-requires c κs = written-most (c .before .before .before .before .put-offset .ensures)
+
+column-requires-4 : tie.Need-column-requires-4
+column-requires-4 c κs = search needs
+
+put-port-requires : tie.Need-put-port-requires
+put-port-requires c κs = written-most (c .before .before .before .before .put-flag .ensures)
+
+slice-aggregate-put-flag-2 : tie.Need-slice-aggregate-put-flag-2
+slice-aggregate-put-flag-2 c = refl
+
+put-flag-requires-2 : tie.Need-put-flag-requires-2
+put-flag-requires-2 c κs = written-most (c .before .before .before .before .put-port .ensures)
+
+returns : tie.Need-returns
+returns c = written-as (written-then (c .before .before .before .before .before .before .before .before .before .before .before .before .before .before .before .before .before .before .before .before .before .before .put-width .ensures) (written-then (c .before .before .before .before .before .before .before .before .before .before .before .before .before .before .before .before .before .put-offset .ensures) (written-then (c .before .before .before .before .before .before .before .before .before .before .before .before .put-flag .ensures) (written-then (c .before .before .before .before .before .before .before .put-port .ensures) (c .before .before .put-flag2 .ensures))))) (wire-options (now (c .before .before .before .before .before .before .before .before .before .before .before .before .before .before .before .before .before .before .before .before .before .before .before .before .before .before .before .before .args .wires)) (c .before .before .before .before .before .before .before .before .before .before .before .before .before .before .before .before .before .before .before .before .before .before .before .before .before .before .before .before .args .row) _ _ _ _ (c .before .before .before .before .before .before .before .before .before .before .before .before .before .before .before .before .before .before .before .before .before .before .before .column2 .ensures) (c .before .before .before .before .before .before .before .before .before .before .before .before .before .before .before .before .before .before .column3 .ensures) (c .before .before .before .before .before .before .before .before .before .before .before .before .before .before .before .before .before .before .before .before .before .before .before .before .before .column .ensures) (c .before .before .before .before .before .before .before .before .column4 .ensures))
+
+same-length : tie.Need-same-length
+same-length c = returns c .kept
+
+pub put-wire-options-spec : {M : Type 1} → statement M
+put-wire-options-spec =
+    tie.close
+    (tie.spec
+    column-requires
+    column-requires-2
+    put-width-requires
+    column-requires-3
+    put-offset-requires
+    slice-aggregate-put-flag
+    put-flag-requires
+    column-requires-4
+    put-port-requires
+    slice-aggregate-put-flag-2
+    put-flag-requires-2
+    same-length
+    returns)

@@ -1,0 +1,8 @@
+pub mod Now
+pub mod NowLaws
+pub mod Pieces
+pub mod Runs
+pub mod RunLaws
+pub mod Options
+pub mod Lines
+pub mod LineLaws

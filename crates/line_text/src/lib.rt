@@ -1,0 +1,684 @@
+// The written line of the statement in a row, with the wires' names as they are now.
+// All of it is total: a word past a table's end counts as 0, and a span past its end is cut.
+use numbers::kinds::ModuleNumber;
+use numbers::kinds::WireNumber;
+use scanner::parts::part;
+use tables::word;
+use text::put_byte;
+use text::put_bytes;
+use text::put_decimal;
+use text::put_integer;
+use text::put_spaces;
+use text::put_string;
+use text::put_value;
+ghost use mathlib.Core.Path.{_≡_};
+ghost use mathlib.Core.Bool.{cond, not};
+ghost use mathlib.Core.List.{[], _∷_, _++_};
+ghost use mathlib.Core.Option.{none, some, Option·map};
+ghost use Prim.Native.Nat.{_+_, _-_, _*_, _≤_, _<_};
+ghost use lib.Dec.{eqb};
+ghost use lib.IntN.{pos};
+ghost use lib.ListN.{length, drop};
+ghost use lib.Seq.{slice};
+ghost use Rattle.rules.specs.Tokens.{literal, mark};
+ghost use Rattle.rules.specs.Statements.{autoidx-stmt, attr-stmt, module-stmt, param-stmt, wire-stmt, memory-stmt, cell-stmt, cell-param-stmt, cell-conn-stmt, conn-stmt};
+ghost use Rattle.rules.specs.Text.{cut, runSig, sig, literalOf, setting, unless, wireOptions, memoryOptions, numberToken, lowTokens, sigTokens, optionTokens, sortTokens, shapeTokens, decimalText, integerText, spaced};
+ghost use Rattle.rules.specs.Numbers.{inRange};
+ghost use Rattle.numbers.specs.Signed.{signedOf};
+ghost use Rattle.wires.specs.Rows.{column, portOf, wireOf};
+ghost use Rattle.netlist.specs.Rows.{nameFrom};
+ghost use Rattle.netlist.specs.Statements.{spanAt, constantAt, optionalAt, signalAt, memoryAt, sortAt};
+ghost use Rattle.text.specs.Written.{Written};
+ghost use Rattle.line_text.specs.Now.{renames, nameNow, wiresIn, ownNow};
+ghost use Rattle.line_text.specs.Pieces.{spread};
+ghost use Rattle.line_text.specs.Runs.{bitsOf, joint, firstRun, runsText, Apart, Lowest};
+ghost use Rattle.line_text.specs.Lines.{portOptions, statementNow, bodyText, lineOf, PlainIs};
+
+// A module: its number, the rows of its wires, and the rows of the renames that stand.
+pub struct Module {
+    pub number: ModuleNumber,
+    pub first: u32,
+    pub wires: u32,
+    pub from: u32,
+    pub renames: u32,
+}
+
+// A row's number is the sum of two words at most, so that it may pass 32 bits.
+fn column(t: &[u32], row: usize, c: usize) -> u32
+    requires { ⌜ (row < 8589934592) × (c < 8) ⌝ }
+    ensures { λ r. ⌜ r ≡ column (now (t .entry)) row c ⌝ }
+{
+    word(t, 8 * row + c)
+}
+
+// The bytes whose start stands in column c, and their number behind it.
+fn bytes_at<'a>(s: &'a [u8], rows: &[u32], row: usize, c: usize) -> &'a [u8]
+    requires { ⌜ (row < 8589934592) × (c < 7) ⌝ }
+    ensures { λ r. ⌜ now r ≡ spanAt (now (s .entry)) (now (rows .entry)) row c ⌝ }
+{
+    let start = column(rows, row, c) as usize;
+    let size = column(rows, row, c + 1) as usize;
+    part(s, start, start + size)
+}
+
+// The words from start up to end, cut to those that are there.
+fn words<'a>(t: &'a [u32], start: usize, end: usize) -> &'a [u32]
+    ensures { λ r. ⌜ now r ≡ slice start end (now (t .entry)) ⌝ }
+{
+    let stop = if end < t.len() { end } else { t.len() };
+    if stop <= start {
+        return &t[0..0];
+    }
+    &t[start..stop]
+}
+
+fn words_at<'a>(t: &'a [u32], rows: &[u32], row: usize, c: usize) -> &'a [u32]
+    requires { ⌜ (row < 8589934592) × (c < 7) ⌝ }
+    ensures { λ r. ⌜ now r ≡ spanAt (now (t .entry)) (now (rows .entry)) row c ⌝ }
+{
+    let start = column(rows, row, c) as usize;
+    let size = column(rows, row, c + 1) as usize;
+    words(t, start, start + size)
+}
+
+// Whether a rename's row is of this wire.
+fn renames(rows: &[u32], row: usize, number: u32, wire: u32) -> bool
+    requires { ⌜ row < 8589934592 ⌝ }
+    ensures { λ r. ⌜ r ≡ renames (now (rows .entry)) row number wire ⌝ }
+{
+    if column(rows, row, 3) != number {
+        return false;
+    }
+    column(rows, row, 4) == wire
+}
+
+// The name now of a wire of the module whose row in the table of wires is k: the last rename of it, else its own.
+pub fn name_now<'a>(
+    names: &'a [u8],
+    wires: &[u32],
+    rows: &[u32],
+    m: Module,
+    wire: WireNumber,
+    k: usize,
+) -> &'a [u8]
+    requires { ⌜ k < 8589934592 ⌝ }
+    ensures { λ r. ⌜ now r ≡ nameNow (now (names .entry)) (now (wires .entry)) (now (rows .entry)) (m .from) (m .renames) (m .number .0) (wire .0) k ⌝ }
+{
+    let number = m.number;
+    let mut i = m.renames;
+    while 0 < i {
+        let last = i - 1;
+        let row = m.from as usize + last as usize;
+        if renames(rows, row, number.0, wire.0) {
+            return bytes_at(names, rows, row, 1);
+        }
+        i = last;
+    }
+    bytes_at(names, wires, k, 1)
+}
+
+// A token behind a space.
+fn put_token(out: &mut [u8], at: usize, s: &[u8]) -> usize
+    requires { ⌜ at ≤ 32769 ⌝ }
+    ensures { λ r. ⌜ Written at (32 ∷ now (s .entry)) (now (out .entry)) (now (out .exit)) r ⌝ }
+{
+    let space = put_byte(out, at, b' ');
+    put_bytes(out, space, s)
+}
+
+fn put_number(out: &mut [u8], at: usize, n: u32) -> usize
+    requires { ⌜ at ≤ 32769 ⌝ }
+    ensures { λ r. ⌜ Written at (32 ∷ decimalText n) (now (out .entry)) (now (out .exit)) r ⌝ }
+{
+    let space = put_byte(out, at, b' ');
+    put_decimal(out, space, n)
+}
+
+fn put_signed(out: &mut [u8], at: usize, word: u32) -> usize
+    requires { ⌜ at ≤ 32769 ⌝ }
+    ensures { λ r. ⌜ Written at (32 ∷ integerText (signedOf word)) (now (out .entry)) (now (out .exit)) r ⌝ }
+{
+    let space = put_byte(out, at, b' ');
+    put_integer(out, space, word)
+}
+
+fn put_constant(
+    strings: &[u8],
+    bits: &[u32],
+    rows: &[u32],
+    row: usize,
+    c: usize,
+    out: &mut [u8],
+    at: usize,
+) -> usize
+    requires { ⌜ (at ≤ 32769) × (row < 8589934592) × (c < 6) × (length (now bits) ≤ 16384) ⌝ }
+    ensures { λ r. ⌜ Written at (spread (literal (literalOf (constantAt (now (strings .entry)) (now (bits .entry)) (now (rows .entry)) row c)) ∷ [])) (now (out .entry)) (now (out .exit)) r ⌝ }
+{
+    let space = put_byte(out, at, b' ');
+    let kind = column(rows, row, c);
+    if kind == 1 {
+        return put_value(out, space, words_at(bits, rows, row, c + 1));
+    }
+    if kind == 2 {
+        return put_integer(out, space, column(rows, row, c + 1));
+    }
+    put_string(out, space, bytes_at(strings, rows, row, c + 1))
+}
+
+// Whether a bit and the bit above it, by their codes, stand in one run: two constant bits, or a bit of a wire and the next.
+fn joins(low: u32, high: u32) -> bool
+    ensures { λ r. ⌜ r ≡ joint low high ⌝ }
+{
+    if low < 6 {
+        return high < 6;
+    }
+    if high < 6 {
+        return false;
+    }
+    if (low - 6) / 2048 != (high - 6) / 2048 {
+        return false;
+    }
+    (low - 6) % 2048 + 1 == (high - 6) % 2048
+}
+
+// Where the run starts whose highest bit is the one below i.
+fn run_low(s: &[u32], i: usize) -> usize
+    requires { ⌜ (0 < i) × (i ≤ length (now s)) ⌝ }
+    requires { ⌜ Apart (now s) i ⌝ }
+    ensures { λ r. ⌜ Lowest (now (s .entry)) i r ⌝ }
+{
+    let mut j = i - 1;
+    while 0 < j {
+        if !joins(s[j - 1], s[j]) {
+            return j;
+        }
+        j -= 1;
+    }
+    j
+}
+
+// `[i]` or `[h:l]`.
+fn put_bounds(out: &mut [u8], at: usize, low: u32, count: u32) -> usize
+    requires { ⌜ (at ≤ 32769) × (low < 2048) × (0 < count) × (count ≤ 16384) ⌝ }
+    ensures { λ r. ⌜ Written at (spread (mark 91 ∷ numberToken (pos (low + count - 1)) ∷ lowTokens (cond (eqb count 1) none (some (pos low))) ++ mark 93 ∷ [])) (now (out .entry)) (now (out .exit)) r ⌝ }
+{
+    let open = put_bytes(out, at, b" [");
+    let high = put_decimal(out, open, low + count - 1);
+    if count == 1 {
+        return put_byte(out, high, b']');
+    }
+    let colon = put_byte(out, high, b':');
+    let end = put_decimal(out, colon, low);
+    put_byte(out, end, b']')
+}
+
+// So many bits of a wire from a bit up. (A number past the module's wires counts as that of the last one.)
+fn put_cut(
+    names: &[u8],
+    wires: &[u32],
+    rows: &[u32],
+    m: Module,
+    wire: u32,
+    low: u32,
+    count: u32,
+    out: &mut [u8],
+    at: usize,
+) -> usize
+    requires { ⌜ (at ≤ 32769) × (low < 2048) × (0 < count) × (count ≤ 16384) ⌝ }
+    ensures { λ r. ⌜ Written at (spread (sigTokens (cut (drop (m .wires - (wire + 1)) (wiresIn (now (names .entry)) (now (wires .entry)) (now (rows .entry)) m)) low count))) (now (out .entry)) (now (out .exit)) r ⌝ }
+{
+    let many = m.wires;
+    if many == 0 {
+        return put_bytes(out, at, b" { }");
+    }
+    let n = if wire < many { wire } else { many - 1 };
+    let row = m.first as usize + n as usize;
+    let end = put_token(out, at, name_now(names, wires, rows, m, WireNumber(n), row));
+    if count == column(wires, row, 3) {
+        return end;
+    }
+    put_bounds(out, end, low, count)
+}
+
+// The run of the bits from j up to i.
+fn put_run(
+    names: &[u8],
+    wires: &[u32],
+    rows: &[u32],
+    m: Module,
+    s: &[u32],
+    j: usize,
+    i: usize,
+    out: &mut [u8],
+    at: usize,
+) -> usize
+    requires { ⌜ (at ≤ 32769) × (j < i) × (i ≤ length (now s)) × (length (now s) ≤ 16384) ⌝ }
+    ensures { λ r. ⌜ Written at (spread (sigTokens (runSig (wiresIn (now (names .entry)) (now (wires .entry)) (now (rows .entry)) m) (firstRun (drop j (now (s .entry))) (i - j))))) (now (out .entry)) (now (out .exit)) r ⌝ }
+{
+    let code = s[j];
+    if code < 6 {
+        let space = put_byte(out, at, b' ');
+        return put_value(out, space, &s[j..i]);
+    }
+    let c = code - 6;
+    put_cut(
+        names,
+        wires,
+        rows,
+        m,
+        c / 2048,
+        c % 2048,
+        (i - j) as u32,
+        out,
+        at,
+    )
+}
+
+// The runs of a signal, the highest first.
+fn put_runs(
+    names: &[u8],
+    wires: &[u32],
+    rows: &[u32],
+    m: Module,
+    s: &[u32],
+    out: &mut [u8],
+    at: usize,
+) -> usize
+    requires { ⌜ (at ≤ 32769) × (length (now s) ≤ 16384) ⌝ }
+    ensures { λ r. ⌜ Written at (runsText (wiresIn (now (names .entry)) (now (wires .entry)) (now (rows .entry)) m) (now (s .entry))) (now (out .entry)) (now (out .exit)) r ⌝ }
+{
+    let mut end = at;
+    let mut i = s.len();
+    while 0 < i {
+        let j = run_low(s, i);
+        end = put_run(names, wires, rows, m, s, j, i, out, end);
+        i = j;
+    }
+    end
+}
+
+// One run stands bare, none or several in `{ }`.
+fn put_signal(
+    names: &[u8],
+    wires: &[u32],
+    rows: &[u32],
+    m: Module,
+    s: &[u32],
+    out: &mut [u8],
+    at: usize,
+) -> usize
+    requires { ⌜ (at ≤ 32769) × (length (now s) ≤ 16384) ⌝ }
+    ensures { λ r. ⌜ Written at (spread (sigTokens (sig (wiresIn (now (names .entry)) (now (wires .entry)) (now (rows .entry)) m) (bitsOf (now (s .entry)))))) (now (out .entry)) (now (out .exit)) r ⌝ }
+{
+    let n = s.len();
+    if n == 0 {
+        return put_bytes(out, at, b" { }");
+    }
+    if run_low(s, n) == 0 {
+        return put_run(names, wires, rows, m, s, 0, n, out, at);
+    }
+    let open = put_bytes(out, at, b" {");
+    let end = put_runs(names, wires, rows, m, s, out, open);
+    put_bytes(out, end, b" }")
+}
+
+// Options, with defaults left out.
+fn put_width(out: &mut [u8], at: usize, n: u32) -> usize
+    requires { ⌜ at ≤ 32769 ⌝ }
+    ensures { λ r. ⌜ Written at (spread (optionTokens (unless (eqb n 1) (setting "width" (pos n))))) (now (out .entry)) (now (out .exit)) r ⌝ }
+{
+    if n == 1 {
+        return at;
+    }
+    let end = put_bytes(out, at, b" width");
+    put_number(out, end, n)
+}
+
+fn put_size(out: &mut [u8], at: usize, n: u32) -> usize
+    requires { ⌜ at ≤ 32769 ⌝ }
+    ensures { λ r. ⌜ Written at (spread (optionTokens (unless (eqb n 0) (setting "size" (pos n))))) (now (out .entry)) (now (out .exit)) r ⌝ }
+{
+    if n == 0 {
+        return at;
+    }
+    let end = put_bytes(out, at, b" size");
+    put_number(out, end, n)
+}
+
+fn put_offset(out: &mut [u8], at: usize, word: u32) -> usize
+    requires { ⌜ at ≤ 32769 ⌝ }
+    ensures { λ r. ⌜ Written at (spread (optionTokens (unless (inRange 0 0 (signedOf word)) (setting "offset" (signedOf word))))) (now (out .entry)) (now (out .exit)) r ⌝ }
+{
+    if word == 0 {
+        return at;
+    }
+    let end = put_bytes(out, at, b" offset");
+    put_signed(out, end, word)
+}
+
+fn put_flag(out: &mut [u8], at: usize, set: bool, w: &[u8]) -> usize
+    requires { ⌜ at ≤ 32769 ⌝ }
+    ensures { λ r. ⌜ Written at (spread (optionTokens (unless (not set) (now (w .entry), none)))) (now (out .entry)) (now (out .exit)) r ⌝ }
+{
+    if set {
+        return put_token(out, at, w);
+    }
+    at
+}
+
+// The port of a direction's code, 1 to 3; any other is none.
+fn put_port(out: &mut [u8], at: usize, direction: u32, n: u32) -> usize
+    requires { ⌜ at ≤ 32769 ⌝ }
+    ensures { λ r. ⌜ Written at (spread (optionTokens (portOptions (portOf direction n)))) (now (out .entry)) (now (out .exit)) r ⌝ }
+{
+    if direction == 1 {
+        let end = put_bytes(out, at, b" input");
+        return put_number(out, end, n);
+    }
+    if direction == 2 {
+        let end = put_bytes(out, at, b" output");
+        return put_number(out, end, n);
+    }
+    if direction == 3 {
+        let end = put_bytes(out, at, b" inout");
+        return put_number(out, end, n);
+    }
+    at
+}
+
+fn put_wire_options(wires: &[u32], row: usize, out: &mut [u8], at: usize) -> usize
+    requires { ⌜ (at ≤ 32769) × (row < 8589934592) ⌝ }
+    ensures { λ r. ⌜ Written at (spread (optionTokens (wireOptions (wireOf (now (wires .entry)) row)))) (now (out .entry)) (now (out .exit)) r ⌝ }
+{
+    let flags = column(wires, row, 5);
+    let width = put_width(out, at, column(wires, row, 3));
+    let offset = put_offset(out, width, column(wires, row, 4));
+    let upto = put_flag(out, offset, flags % 2 == 1, b"upto");
+    let port = put_port(out, upto, flags / 4, column(wires, row, 6));
+    put_flag(out, port, flags / 2 % 2 == 1, b"signed")
+}
+
+fn put_memory_options(rows: &[u32], row: usize, out: &mut [u8], at: usize) -> usize
+    requires { ⌜ (at ≤ 32769) × (row < 8589934592) ⌝ }
+    ensures { λ r. ⌜ Written at (spread (optionTokens (memoryOptions (memoryAt (now (rows .entry)) row)))) (now (out .entry)) (now (out .exit)) r ⌝ }
+{
+    let width = put_width(out, at, column(rows, row, 3));
+    let size = put_size(out, width, column(rows, row, 4));
+    put_offset(out, size, column(rows, row, 5))
+}
+
+fn put_sort(rows: &[u32], row: usize, c: usize, out: &mut [u8], at: usize) -> usize
+    requires { ⌜ (at ≤ 32769) × (row < 8589934592) × (c < 8) ⌝ }
+    ensures { λ r. ⌜ Written at (spread (sortTokens (sortAt (now (rows .entry)) row c))) (now (out .entry)) (now (out .exit)) r ⌝ }
+{
+    let sort = column(rows, row, c);
+    if sort == 0 {
+        return at;
+    }
+    if sort == 1 {
+        return put_bytes(out, at, b" signed");
+    }
+    put_bytes(out, at, b" real")
+}
+
+fn put_autoidx(rows: &[u32], row: usize, out: &mut [u8], at: usize) -> usize
+    requires { ⌜ (at ≤ 32769) × (row < 8589934592) ⌝ }
+    ensures { λ r. ⌜ Written at (spaced (shapeTokens (autoidx-stmt (signedOf (column (now (rows .entry)) row 1))))) (now (out .entry)) (now (out .exit)) r ⌝ }
+{
+    let end = put_bytes(out, at, b"autoidx");
+    put_signed(out, end, column(rows, row, 1))
+}
+
+fn put_attribute(
+    names: &[u8],
+    strings: &[u8],
+    bits: &[u32],
+    rows: &[u32],
+    row: usize,
+    out: &mut [u8],
+    at: usize,
+) -> usize
+    requires { ⌜ (at ≤ 32769) × (row < 8589934592) × (length (now bits) ≤ 16384) ⌝ }
+    ensures { λ r. ⌜ Written at (spaced (shapeTokens (attr-stmt (nameFrom (now (names .entry)) (now (rows .entry)) row 1) (literalOf (constantAt (now (strings .entry)) (now (bits .entry)) (now (rows .entry)) row 3))))) (now (out .entry)) (now (out .exit)) r ⌝ }
+{
+    let first = put_bytes(out, at, b"attribute");
+    let end = put_token(out, first, bytes_at(names, rows, row, 1));
+    put_constant(strings, bits, rows, row, 3, out, end)
+}
+
+fn put_module(names: &[u8], rows: &[u32], row: usize, out: &mut [u8], at: usize) -> usize
+    requires { ⌜ (at ≤ 32769) × (row < 8589934592) ⌝ }
+    ensures { λ r. ⌜ Written at (spaced (shapeTokens (module-stmt (nameFrom (now (names .entry)) (now (rows .entry)) row 1)))) (now (out .entry)) (now (out .exit)) r ⌝ }
+{
+    let first = put_bytes(out, at, b"module");
+    put_token(out, first, bytes_at(names, rows, row, 1))
+}
+
+fn put_parameter(
+    names: &[u8],
+    strings: &[u8],
+    bits: &[u32],
+    rows: &[u32],
+    row: usize,
+    out: &mut [u8],
+    at: usize,
+) -> usize
+    requires { ⌜ (at ≤ 32769) × (row < 8589934592) × (length (now bits) ≤ 16384) ⌝ }
+    ensures { λ r. ⌜ Written at (spaced (shapeTokens (param-stmt (nameFrom (now (names .entry)) (now (rows .entry)) row 1) (Option·map literalOf (optionalAt (now (strings .entry)) (now (bits .entry)) (now (rows .entry)) row 3))))) (now (out .entry)) (now (out .exit)) r ⌝ }
+{
+    let first = put_bytes(out, at, b"parameter");
+    let end = put_token(out, first, bytes_at(names, rows, row, 1));
+    if column(rows, row, 3) == 0 {
+        return end;
+    }
+    put_constant(strings, bits, rows, row, 3, out, end)
+}
+
+fn put_memory(names: &[u8], rows: &[u32], row: usize, out: &mut [u8], at: usize) -> usize
+    requires { ⌜ (at ≤ 32769) × (row < 8589934592) ⌝ }
+    ensures { λ r. ⌜ Written at (spaced (shapeTokens (memory-stmt (memoryOptions (memoryAt (now (rows .entry)) row)) (nameFrom (now (names .entry)) (now (rows .entry)) row 1)))) (now (out .entry)) (now (out .exit)) r ⌝ }
+{
+    let first = put_bytes(out, at, b"memory");
+    let end = put_memory_options(rows, row, out, first);
+    put_token(out, end, bytes_at(names, rows, row, 1))
+}
+
+fn put_cell(names: &[u8], rows: &[u32], row: usize, out: &mut [u8], at: usize) -> usize
+    requires { ⌜ (at ≤ 32769) × (row < 8589934592) ⌝ }
+    ensures { λ r. ⌜ Written at (spaced (shapeTokens (cell-stmt (nameFrom (now (names .entry)) (now (rows .entry)) row 1) (nameFrom (now (names .entry)) (now (rows .entry)) row 3)))) (now (out .entry)) (now (out .exit)) r ⌝ }
+{
+    let first = put_bytes(out, at, b"cell");
+    let end = put_token(out, first, bytes_at(names, rows, row, 1));
+    put_token(out, end, bytes_at(names, rows, row, 3))
+}
+
+fn put_cell_parameter(
+    names: &[u8],
+    strings: &[u8],
+    bits: &[u32],
+    rows: &[u32],
+    row: usize,
+    out: &mut [u8],
+    at: usize,
+) -> usize
+    requires { ⌜ (at ≤ 32769) × (row < 8589934592) × (length (now bits) ≤ 16384) ⌝ }
+    ensures { λ r. ⌜ Written at (spaced (shapeTokens (cell-param-stmt (sortAt (now (rows .entry)) row 6) (nameFrom (now (names .entry)) (now (rows .entry)) row 1) (literalOf (constantAt (now (strings .entry)) (now (bits .entry)) (now (rows .entry)) row 3))))) (now (out .entry)) (now (out .exit)) r ⌝ }
+{
+    let first = put_bytes(out, at, b"parameter");
+    let sort = put_sort(rows, row, 6, out, first);
+    let end = put_token(out, sort, bytes_at(names, rows, row, 1));
+    put_constant(strings, bits, rows, row, 3, out, end)
+}
+
+// Where the wire's own row is gives its number in the module.
+fn put_wire(
+    names: &[u8],
+    wires: &[u32],
+    rows: &[u32],
+    m: Module,
+    row: usize,
+    out: &mut [u8],
+    at: usize,
+) -> usize
+    requires { ⌜ (at ≤ 32769) × (row < 8589934592) ⌝ }
+    ensures { λ r. ⌜ Written at (spaced (shapeTokens (wire-stmt (wireOptions (wireOf (now (wires .entry)) (column (now (rows .entry)) row 3))) (ownNow (now (names .entry)) (now (wires .entry)) (now (rows .entry)) m (column (now (rows .entry)) row 3))))) (now (out .entry)) (now (out .exit)) r ⌝ }
+{
+    let k = column(rows, row, 3);
+    let n = if m.first < k { k - m.first } else { 0 };
+    let first = put_bytes(out, at, b"wire");
+    let end = put_wire_options(wires, k as usize, out, first);
+    put_token(
+        out,
+        end,
+        name_now(names, wires, rows, m, WireNumber(n), k as usize),
+    )
+}
+
+fn put_cell_connection(
+    names: &[u8],
+    bits: &[u32],
+    wires: &[u32],
+    rows: &[u32],
+    m: Module,
+    row: usize,
+    out: &mut [u8],
+    at: usize,
+) -> usize
+    requires { ⌜ (at ≤ 32769) × (row < 8589934592) × (length (now bits) ≤ 16384) ⌝ }
+    ensures { λ r. ⌜ Written at (spaced (shapeTokens (cell-conn-stmt (nameFrom (now (names .entry)) (now (rows .entry)) row 1) (sig (wiresIn (now (names .entry)) (now (wires .entry)) (now (rows .entry)) m) (signalAt (now (bits .entry)) (now (rows .entry)) row 3))))) (now (out .entry)) (now (out .exit)) r ⌝ }
+{
+    let first = put_bytes(out, at, b"connect");
+    let end = put_token(out, first, bytes_at(names, rows, row, 1));
+    put_signal(
+        names,
+        wires,
+        rows,
+        m,
+        words_at(bits, rows, row, 3),
+        out,
+        end,
+    )
+}
+
+fn put_connection(
+    names: &[u8],
+    bits: &[u32],
+    wires: &[u32],
+    rows: &[u32],
+    m: Module,
+    row: usize,
+    out: &mut [u8],
+    at: usize,
+) -> usize
+    requires { ⌜ (at ≤ 32769) × (row < 8589934592) × (length (now bits) ≤ 16384) ⌝ }
+    ensures { λ r. ⌜ Written at (spaced (shapeTokens (conn-stmt (sig (wiresIn (now (names .entry)) (now (wires .entry)) (now (rows .entry)) m) (signalAt (now (bits .entry)) (now (rows .entry)) row 1)) (sig (wiresIn (now (names .entry)) (now (wires .entry)) (now (rows .entry)) m) (signalAt (now (bits .entry)) (now (rows .entry)) row 3))))) (now (out .entry)) (now (out .exit)) r ⌝ }
+{
+    let first = put_bytes(out, at, b"connect");
+    let end = put_signal(
+        names,
+        wires,
+        rows,
+        m,
+        words_at(bits, rows, row, 1),
+        out,
+        first,
+    );
+    put_signal(
+        names,
+        wires,
+        rows,
+        m,
+        words_at(bits, rows, row, 3),
+        out,
+        end,
+    )
+}
+
+// A statement that names no wire of the module, by its kind.
+fn put_plain(
+    names: &[u8],
+    strings: &[u8],
+    bits: &[u32],
+    rows: &[u32],
+    row: usize,
+    kind: u32,
+    out: &mut [u8],
+    at: usize,
+) -> usize
+    requires { ⌜ (at ≤ 32769) × (row < 8589934592) × (length (now bits) ≤ 16384) ⌝ }
+    ensures { λ r. ⌜ PlainIs (now (names .entry)) (now (strings .entry)) (now (bits .entry)) (now (rows .entry)) row kind at (now (out .entry)) (now (out .exit)) r ⌝ }
+{
+    if kind == 1 {
+        return put_autoidx(rows, row, out, at);
+    }
+    if kind == 2 {
+        return put_attribute(names, strings, bits, rows, row, out, at);
+    }
+    if kind == 3 {
+        return put_module(names, rows, row, out, at);
+    }
+    if kind == 4 {
+        return put_parameter(names, strings, bits, rows, row, out, at);
+    }
+    if kind == 6 {
+        return put_memory(names, rows, row, out, at);
+    }
+    if kind == 7 {
+        return put_cell(names, rows, row, out, at);
+    }
+    if kind == 8 {
+        return put_cell_parameter(names, strings, bits, rows, row, out, at);
+    }
+    if kind == 12 {
+        return put_bytes(out, at, b"end");
+    }
+    at
+}
+
+fn put_statement(
+    names: &[u8],
+    strings: &[u8],
+    bits: &[u32],
+    wires: &[u32],
+    rows: &[u32],
+    m: Module,
+    row: usize,
+    out: &mut [u8],
+    at: usize,
+) -> usize
+    requires { ⌜ (at ≤ 32769) × (row < 8589934592) × (length (now bits) ≤ 16384) ⌝ }
+    ensures { λ r. ⌜ Written at (bodyText (wiresIn (now (names .entry)) (now (wires .entry)) (now (rows .entry)) m) (statementNow (now (names .entry)) (now (strings .entry)) (now (bits .entry)) (now (wires .entry)) (now (rows .entry)) m row)) (now (out .entry)) (now (out .exit)) r ⌝ }
+{
+    let kind = column(rows, row, 0);
+    if kind == 5 {
+        return put_wire(names, wires, rows, m, row, out, at);
+    }
+    if kind == 9 {
+        return put_cell_connection(names, bits, wires, rows, m, row, out, at);
+    }
+    if kind == 10 {
+        return put_connection(names, bits, wires, rows, m, row, out, at);
+    }
+    put_plain(names, strings, bits, rows, row, kind, out, at)
+}
+
+// The line of the statement in row k, two spaces a level before it and a line end behind it.
+pub fn put_line(
+    names: &[u8],
+    strings: &[u8],
+    bits: &[u32],
+    wires: &[u32],
+    rows: &[u32],
+    m: Module,
+    k: u32,
+    level: usize,
+    out: &mut [u8],
+    at: usize,
+) -> usize
+    requires { ⌜ (at ≤ 32769) × (level ≤ 2) × (length (now bits) ≤ 16384) ⌝ }
+    ensures { λ r. ⌜ Written at (lineOf level (wiresIn (now (names .entry)) (now (wires .entry)) (now (rows .entry)) m) (statementNow (now (names .entry)) (now (strings .entry)) (now (bits .entry)) (now (wires .entry)) (now (rows .entry)) m k)) (now (out .entry)) (now (out .exit)) r ⌝ }
+{
+    let body = put_spaces(out, at, 2 * level);
+    let end = put_statement(names, strings, bits, wires, rows, m, k as usize, out, body);
+    put_byte(out, end, 10)
+}

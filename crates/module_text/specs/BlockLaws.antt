@@ -1,0 +1,261 @@
+-- The written text of a design is that of its blocks.
+-- Assumes nothing.
+use Prim.Native.Nat.{ℕ}
+use mathlib.Core.Path.{_≡_, refl, sym, ap, ap₂, _∙_}
+use mathlib.Core.Bool.{cond}
+use mathlib.Core.Option.{Option}
+use mathlib.Core.List.{List, [], _∷_, _++_, map, flatMap, zip, reverse, reverseAux, Option·toList, append-assoc}
+use lib.IntN.{ℤ}
+use Rattle.rules.specs.Tokens.{Name}
+use Rattle.rules.specs.Statements.{Sort, Constant, Signal, Wire, Memory, Statement, autoidx-stmt, attr-stmt, module-stmt, param-stmt, wire-stmt, memory-stmt, cell-stmt, cell-param-stmt, cell-conn-stmt, conn-stmt, end-stmt, aModule, aCell, anEnd, is, contents, statementsOpen}
+use Rattle.rules.specs.Shapes.{Scope, top, inModule, inCell}
+use Rattle.rules.specs.Signals.{Wires}
+use Rattle.rules.specs.Judgement.{Past, until, outer, scope, ofModule, wires}
+use Rattle.rules.specs.Design.{Setting, Object, Cell, Module, Design, objects, cellLines, moduleLines, flatten}
+use Rattle.rules.specs.Text.{written, level, indent, lineText, textFrom, text}
+use Rattle.scanner.specs.Laws.{by-test}
+use Rattle.module_text.specs.Blocks.{lineOf, plainLine, attributeLines, attributesText, wireText, memoryText, cellText, moduleWires, bodyText, moduleText, designText}
+
+-- ---- what a line sees of the past is its scope and the wires of its module
+
+unfoldable pub scopeAfter : Scope → Statement → Scope
+scopeAfter p s = cond (is aModule s) inModule (cond (is aCell s) inCell (cond (is anEnd s) (outer p) p))
+
+unfoldable wiresAfter : Wires → Statement → Wires
+wiresAfter ws s = cond (is aModule s) [] (zip (contents s .names) (contents s .wires) ++ ws)
+
+unfoldable textIn : Scope → Wires → List Statement → List ℕ
+textIn p ws [] = []
+textIn p ws (s ∷ more) = lineOf (indent p s) ws s ++ textIn (scopeAfter p s) (wiresAfter ws s) more
+
+unfoldable lineOpen : Unit {0}
+unfolding scopeAfter wiresAfter textIn level indent lineOf plainLine written outer zip statementsOpen
+lineOpen = tt
+
+wires-after : (s : Statement) (ss : Past) → wires (s ∷ ss) ≡ wiresAfter (wires ss) s
+unfolding wires ofModule until flatMap wiresAfter
+wires-after s ss = by-test (is aModule s) (λ e. rw e) (λ e. rw e)
+
+pub scope-after : (s : Statement) (ss : Past) → scope (s ∷ ss) ≡ scopeAfter (scope ss) s
+unfolding scope scopeAfter
+scope-after s ss = refl
+
+text-in : (ss : Past) (more : List Statement) → textFrom ss more ≡ textIn (scope ss) (wires ss) more
+unfolding textFrom textIn lineText lineOf
+text-in ss [] = refl
+text-in ss (s ∷ more) =
+    sym (append-assoc (lineText ss s) (10 ∷ []) (textFrom (s ∷ ss) more))
+    ∙ ap (λ (l : List ℕ). lineOf (indent (scope ss) s) (wires ss) s ++ l)
+    (text-in (s ∷ ss) more ∙ ap₂ (λ (p : Scope) (ws : Wires). textIn p ws more) (scope-after s ss) (wires-after s ss))
+
+-- ---- statements behind which stand others
+
+module _ {A : Type 0} (p : Scope) (ws : Wires) where
+  -- a line each
+  text-map : (f : A → Statement) (g : A → List ℕ) → ((x : A) (more : List Statement) → textIn p ws (f x ∷ more) ≡ g x ++ textIn p ws more) → (xs : List A) (more : List Statement) → textIn p ws (map f xs ++ more) ≡ flatMap g xs ++ textIn p ws more
+  unfolding flatMap
+  text-map f g h [] more = refl
+  text-map f g h (x ∷ xs) more =
+      h x (map f xs ++ more)
+      ∙ ap (λ (l : List ℕ). g x ++ l) (text-map f g h xs more)
+      ∙ sym (append-assoc (g x) (flatMap g xs) (textIn p ws more))
+
+  -- some lines each
+  text-flat : (f : A → List Statement) (g : A → List ℕ) → ((x : A) (more : List Statement) → textIn p ws (f x ++ more) ≡ g x ++ textIn p ws more) → (xs : List A) (more : List Statement) → textIn p ws (flatMap f xs ++ more) ≡ flatMap g xs ++ textIn p ws more
+  unfolding flatMap
+  text-flat f g h [] more = refl
+  text-flat f g h (x ∷ xs) more =
+      ap (textIn p ws) (append-assoc (f x) (flatMap f xs) more)
+      ∙ h x (flatMap f xs ++ more)
+      ∙ ap (λ (l : List ℕ). g x ++ l) (text-flat f g h xs more)
+      ∙ sym (append-assoc (g x) (flatMap g xs) (textIn p ws more))
+
+-- one line: no wire is asked for but by signals, and no scope or wires change but by a module, a cell, an `end` and a wire
+module _ (ws : Wires) (more : List Statement) where
+  autoidx-line : (i : ℤ) → textIn top ws (autoidx-stmt i ∷ more) ≡ plainLine 0 (autoidx-stmt i) ++ textIn top ws more
+  unfolding lineOpen
+  autoidx-line i = refl
+
+  attr-line : (p : Scope) (a : Setting) → textIn p ws (attr-stmt (a .0) (a .1) ∷ more) ≡ plainLine (level p) (attr-stmt (a .0) (a .1)) ++ textIn p ws more
+  unfolding lineOpen
+  attr-line p a = refl
+
+  module-line : (p : Scope) (n : Name) → textIn p ws (module-stmt n ∷ more) ≡ plainLine (level p) (module-stmt n) ++ textIn inModule [] more
+  unfolding lineOpen
+  module-line p n = refl
+
+  param-line : (q : Name × Option Constant) → textIn inModule ws (param-stmt (q .0) (q .1) ∷ more) ≡ plainLine 1 (param-stmt (q .0) (q .1)) ++ textIn inModule ws more
+  unfolding lineOpen
+  param-line q = refl
+
+  wire-line : (w : Wire) (n : Name) → textIn inModule ws (wire-stmt w n ∷ more) ≡ plainLine 1 (wire-stmt w n) ++ textIn inModule ((n, w) ∷ ws) more
+  unfolding lineOpen
+  wire-line w n = refl
+
+  memory-line : (m : Memory) (n : Name) → textIn inModule ws (memory-stmt m n ∷ more) ≡ plainLine 1 (memory-stmt m n) ++ textIn inModule ws more
+  unfolding lineOpen
+  memory-line m n = refl
+
+  cell-line : (t n : Name) → textIn inModule ws (cell-stmt t n ∷ more) ≡ plainLine 1 (cell-stmt t n) ++ textIn inCell ws more
+  unfolding lineOpen
+  cell-line t n = refl
+
+  cell-param-line : (q : Sort × Setting) → textIn inCell ws (cell-param-stmt (q .0) (q .1 .0) (q .1 .1) ∷ more) ≡ plainLine 2 (cell-param-stmt (q .0) (q .1 .0) (q .1 .1)) ++ textIn inCell ws more
+  unfolding lineOpen
+  cell-param-line q = refl
+
+  cell-conn-line : (k : Name × Signal) → textIn inCell ws (cell-conn-stmt (k .0) (k .1) ∷ more) ≡ lineOf 2 ws (cell-conn-stmt (k .0) (k .1)) ++ textIn inCell ws more
+  unfolding lineOpen
+  cell-conn-line k = refl
+
+  conn-line : (k : Signal × Signal) → textIn inModule ws (conn-stmt (k .0) (k .1) ∷ more) ≡ lineOf 1 ws (conn-stmt (k .0) (k .1)) ++ textIn inModule ws more
+  unfolding lineOpen
+  conn-line k = refl
+
+  cell-end-line : textIn inCell ws (end-stmt ∷ more) ≡ plainLine 1 end-stmt ++ textIn inModule ws more
+  unfolding lineOpen
+  cell-end-line = refl
+
+  module-end-line : textIn inModule ws (end-stmt ∷ more) ≡ plainLine 0 end-stmt ++ textIn top ws more
+  unfolding lineOpen
+  module-end-line = refl
+
+-- ---- blocks
+
+text-attributes : (p : Scope) (ws : Wires) (at : List Setting) (more : List Statement) → textIn p ws (attributeLines at ++ more) ≡ attributesText (level p) at ++ textIn p ws more
+unfolding attributesText
+text-attributes p ws at more =
+    text-map p ws (λ (a : Setting). attr-stmt (a .0) (a .1)) (λ a. plainLine (level p) (attr-stmt (a .0) (a .1))) (λ a more. attr-line ws more p a) at more
+
+-- an object whose lines lead from a scope and wires to others
+text-object : (p q : Scope) (ws vs : Wires) (at : List Setting) (ls : List Statement) (t : List ℕ) → ((more : List Statement) → textIn p ws (ls ++ more) ≡ t ++ textIn q vs more) → (more : List Statement) → textIn p ws (attributeLines at ++ ls ++ more) ≡ attributesText (level p) at ++ t ++ textIn q vs more
+text-object p q ws vs at ls t h more =
+    ap (textIn p ws) (append-assoc (attributeLines at) ls more)
+    ∙ text-attributes p ws at (ls ++ more)
+    ∙ ap (λ (l : List ℕ). attributesText (level p) at ++ l) (h more)
+    ∙ sym (append-assoc (attributesText (level p) at) t (textIn q vs more))
+
+-- wires are declared one after another
+text-wires : (os : List (Object Wire)) (ws : Wires) (more : List Statement) → textIn inModule ws (objects (λ w n. wire-stmt w n ∷ []) os ++ more) ≡ flatMap wireText os ++ textIn inModule (reverseAux (map (λ o. (o .name, o .body)) os) ws) more
+unfolding objects flatMap wireText level
+text-wires [] ws more = refl
+text-wires (o ∷ os) ws more =
+    let rest : List Statement = objects (λ w n. wire-stmt w n ∷ []) os in
+    let vs : Wires = (o .name, o .body) ∷ ws in
+    ap (textIn inModule ws) (append-assoc (attributeLines (o .attributes) ++ wire-stmt (o .body) (o .name) ∷ []) rest more)
+    ∙ text-object inModule inModule ws vs (o .attributes) (wire-stmt (o .body) (o .name) ∷ []) (plainLine 1 (wire-stmt (o .body) (o .name)))
+    (λ more. wire-line ws more (o .body) (o .name)) (rest ++ more)
+    ∙ ap (λ (l : List ℕ). wireText o ++ l) (text-wires os vs more)
+    ∙ sym (append-assoc (wireText o) (flatMap wireText os) (textIn inModule (reverseAux (map (λ o. (o .name, o .body)) os) vs) more))
+
+text-memories : (ws : Wires) (os : List (Object Memory)) (more : List Statement) → textIn inModule ws (objects (λ y n. memory-stmt y n ∷ []) os ++ more) ≡ flatMap memoryText os ++ textIn inModule ws more
+unfolding objects memoryText level
+text-memories ws os more =
+    text-flat inModule ws (λ (o : Object Memory). attributeLines (o .attributes) ++ memory-stmt (o .body) (o .name) ∷ []) memoryText
+    (λ o more. text-object inModule inModule ws ws (o .attributes) (memory-stmt (o .body) (o .name) ∷ []) (plainLine 1 (memory-stmt (o .body) (o .name)))
+    (λ more. memory-line ws more (o .body) (o .name)) more)
+    os more
+
+abbrev cellParamLines : List (Sort × Setting) → List Statement
+cellParamLines ps = map (λ p. cell-param-stmt (p .0) (p .1 .0) (p .1 .1)) ps
+
+abbrev cellConnLines : List (Name × Signal) → List Statement
+cellConnLines ks = map (λ k. cell-conn-stmt (k .0) (k .1)) ks
+
+text-cell-params : (ws : Wires) (ps : List (Sort × Setting)) (more : List Statement) → textIn inCell ws (cellParamLines ps ++ more) ≡ flatMap (λ p. plainLine 2 (cell-param-stmt (p .0) (p .1 .0) (p .1 .1))) ps ++ textIn inCell ws more
+text-cell-params ws ps more =
+    text-map inCell ws (λ (p : Sort × Setting). cell-param-stmt (p .0) (p .1 .0) (p .1 .1)) (λ p. plainLine 2 (cell-param-stmt (p .0) (p .1 .0) (p .1 .1))) (λ p more. cell-param-line ws more p) ps more
+
+text-cell-conns : (ws : Wires) (ks : List (Name × Signal)) (more : List Statement) → textIn inCell ws (cellConnLines ks ++ more) ≡ flatMap (λ k. lineOf 2 ws (cell-conn-stmt (k .0) (k .1))) ks ++ textIn inCell ws more
+text-cell-conns ws ks more =
+    text-map inCell ws (λ (k : Name × Signal). cell-conn-stmt (k .0) (k .1)) (λ k. lineOf 2 ws (cell-conn-stmt (k .0) (k .1))) (λ k more. cell-conn-line ws more k) ks more
+
+text-cell : (ws : Wires) (o : Object Cell) (more : List Statement) → textIn inModule ws (attributeLines (o .attributes) ++ cellLines (o .body) (o .name) ++ more) ≡ cellText ws o ++ textIn inModule ws more
+unfolding cellText cellLines level
+text-cell ws o more =
+    let ps : List Statement = cellParamLines (o .body .parameters) in
+    let ks : List Statement = cellConnLines (o .body .connections) in
+    ap (textIn inModule ws) (simp append-assoc)
+    ∙ text-attributes inModule ws (o .attributes) (cell-stmt (o .body .type) (o .name) ∷ (ps ++ (ks ++ (end-stmt ∷ more))))
+    ∙ ap (λ (l : List ℕ). attributesText 1 (o .attributes) ++ l)
+    (cell-line ws (ps ++ (ks ++ (end-stmt ∷ more))) (o .body .type) (o .name)
+    ∙ ap (λ (l : List ℕ). plainLine 1 (cell-stmt (o .body .type) (o .name)) ++ l)
+    (text-cell-params ws (o .body .parameters) (ks ++ (end-stmt ∷ more))
+    ∙ ap (λ (l : List ℕ). flatMap (λ p. plainLine 2 (cell-param-stmt (p .0) (p .1 .0) (p .1 .1))) (o .body .parameters) ++ l)
+    (text-cell-conns ws (o .body .connections) (end-stmt ∷ more)
+    ∙ ap (λ (l : List ℕ). flatMap (λ k. lineOf 2 ws (cell-conn-stmt (k .0) (k .1))) (o .body .connections) ++ l) (cell-end-line ws more))))
+    ∙ simp append-assoc
+
+text-cells : (ws : Wires) (os : List (Object Cell)) (more : List Statement) → textIn inModule ws (objects cellLines os ++ more) ≡ flatMap (cellText ws) os ++ textIn inModule ws more
+unfolding objects
+text-cells ws os more =
+    text-flat inModule ws (λ (o : Object Cell). attributeLines (o .attributes) ++ cellLines (o .body) (o .name)) (cellText ws) (text-cell ws) os more
+
+abbrev paramLines : List (Name × Option Constant) → List Statement
+paramLines ps = map (λ p. param-stmt (p .0) (p .1)) ps
+
+abbrev connLines : List (Signal × Signal) → List Statement
+connLines ks = map (λ k. conn-stmt (k .0) (k .1)) ks
+
+text-params : (ws : Wires) (ps : List (Name × Option Constant)) (more : List Statement) → textIn inModule ws (paramLines ps ++ more) ≡ flatMap (λ p. plainLine 1 (param-stmt (p .0) (p .1))) ps ++ textIn inModule ws more
+text-params ws ps more =
+    text-map inModule ws (λ (p : Name × Option Constant). param-stmt (p .0) (p .1)) (λ p. plainLine 1 (param-stmt (p .0) (p .1))) (λ p more. param-line ws more p) ps more
+
+text-conns : (ws : Wires) (ks : List (Signal × Signal)) (more : List Statement) → textIn inModule ws (connLines ks ++ more) ≡ flatMap (λ k. lineOf 1 ws (conn-stmt (k .0) (k .1))) ks ++ textIn inModule ws more
+text-conns ws ks more =
+    text-map inModule ws (λ (k : Signal × Signal). conn-stmt (k .0) (k .1)) (λ k. lineOf 1 ws (conn-stmt (k .0) (k .1))) (λ k more. conn-line ws more k) ks more
+
+abbrev wireLines : List (Object Wire) → List Statement
+wireLines os = objects (λ w n. wire-stmt w n ∷ []) os
+
+abbrev memoryLines : List (Object Memory) → List Statement
+memoryLines os = objects (λ y n. memory-stmt y n ∷ []) os
+
+-- the lines of a module behind its own
+text-body : (m : Module) (more : List Statement) → textIn inModule [] (paramLines (m .parameters) ++ (wireLines (m .wires) ++ (memoryLines (m .memories) ++ (objects cellLines (m .cells) ++ (connLines (m .connections) ++ more))))) ≡ bodyText (moduleWires m) m ++ textIn inModule (moduleWires m) more
+unfolding bodyText moduleWires
+text-body m more =
+    let ws : Wires = reverse (map (λ o. (o .name, o .body)) (m .wires)) in
+    let ks : List Statement = connLines (m .connections) ++ more in
+    let cs : List Statement = objects cellLines (m .cells) ++ ks in
+    let ms : List Statement = memoryLines (m .memories) ++ cs in
+    text-params [] (m .parameters) (wireLines (m .wires) ++ ms)
+    ∙ ap (λ (l : List ℕ). flatMap (λ p. plainLine 1 (param-stmt (p .0) (p .1))) (m .parameters) ++ l)
+    (text-wires (m .wires) [] ms
+    ∙ ap (λ (l : List ℕ). flatMap wireText (m .wires) ++ l)
+    (text-memories ws (m .memories) cs
+    ∙ ap (λ (l : List ℕ). flatMap memoryText (m .memories) ++ l)
+    (text-cells ws (m .cells) ks
+    ∙ ap (λ (l : List ℕ). flatMap (cellText ws) (m .cells) ++ l) (text-conns ws (m .connections) more))))
+    ∙ simp append-assoc
+
+-- a module's text, whatever wires were seen before it; the wires that are seen behind it
+text-module : (ws : Wires) (o : Object Module) (more : List Statement) → textIn top ws (attributeLines (o .attributes) ++ moduleLines (o .body) (o .name) ++ more) ≡ moduleText o ++ textIn top (moduleWires (o .body)) more
+unfolding moduleText moduleLines level
+text-module ws o more =
+    let m : Module = o .body in
+    let b : List Statement = paramLines (m .parameters) ++ (wireLines (m .wires) ++ (memoryLines (m .memories) ++ (objects cellLines (m .cells) ++ (connLines (m .connections) ++ (end-stmt ∷ more))))) in
+    ap (textIn top ws) (simp append-assoc)
+    ∙ text-attributes top ws (o .attributes) (module-stmt (o .name) ∷ b)
+    ∙ ap (λ (l : List ℕ). attributesText 0 (o .attributes) ++ l)
+    (module-line ws b top (o .name)
+    ∙ ap (λ (l : List ℕ). plainLine 0 (module-stmt (o .name)) ++ l)
+    (text-body m (end-stmt ∷ more)
+    ∙ ap (λ (l : List ℕ). bodyText (moduleWires m) m ++ l) (module-end-line (moduleWires m) more)))
+    ∙ simp append-assoc
+
+text-objects : (ws : Wires) (os : List (Object Module)) → textIn top ws (objects moduleLines os) ≡ flatMap moduleText os
+unfolding objects flatMap textIn
+text-objects ws [] = refl
+text-objects ws (o ∷ os) = text-module ws o (objects moduleLines os) ∙ ap (λ (l : List ℕ). moduleText o ++ l) (text-objects (moduleWires (o .body)) os)
+
+text-autoidx : (is′ : List ℤ) (more : List Statement) → textIn top [] (map autoidx-stmt is′ ++ more) ≡ flatMap (λ i. plainLine 0 (autoidx-stmt i)) is′ ++ textIn top [] more
+text-autoidx is′ more = text-map top [] autoidx-stmt (λ i. plainLine 0 (autoidx-stmt i)) (λ i more. autoidx-line [] more i) is′ more
+
+-- the written text of any design
+pub text-modules : (d : Design) → text d ≡ designText d
+unfolding text flatten designText scope wires ofModule until flatMap
+text-modules d =
+    text-in [] (flatten d)
+    ∙ text-autoidx (Option·toList (d .autoidx)) (objects moduleLines (d .modules))
+    ∙ ap (λ (l : List ℕ). flatMap (λ i. plainLine 0 (autoidx-stmt i)) (Option·toList (d .autoidx)) ++ l) (text-objects [] (d .modules))

@@ -1,0 +1,9 @@
+pub mod Blocks
+pub mod BlockLaws
+pub mod LineLaws
+pub mod Passes
+pub mod StatementLaws
+pub mod PassLaws
+pub mod StepLaws
+pub mod WireLaws
+pub mod StandLaws

@@ -1,0 +1,234 @@
+-- The design of an admitted file is fine.
+-- Assumes nothing.
+use mathlib.Core.Path.{_≡_, refl, sym, ap, _∙_}
+use mathlib.Core.List.{List, [], _∷_, _++_, map, flatMap, reverse, reverseAux, reverseAux-append, reverse-reverse, append-assoc, Option·toList}
+use mathlib.Core.Bool.{Bool, true, not}
+use native.Mathlib.Omega.{arith}
+use Rattle.rules.specs.Bytes.{all}
+use Rattle.rules.specs.Tokens.{Name}
+use Rattle.rules.specs.Statements.{Statement, autoidx-stmt, module-stmt, param-stmt, wire-stmt, memory-stmt, cell-stmt, conn-stmt, end-stmt, statementsOpen}
+use Rattle.rules.specs.Judgement.{Past, wires}
+use Rattle.rules.specs.Design.{Setting, Object, design, flatten}
+use Rattle.admitted.specs.Admitted.{admits, admitted, closes}
+use Rattle.order.specs.Nesting.{Entry, param-entry, wire-entry, memory-entry, cell-entry, connection-entry, File, settings, lineIn, linesOf, linesOfModule, linesOfFile, wiresOf, memoriesOf, cellsOf, bodyOf, moduleIn, designOf}
+use Rattle.order.specs.DesignLaws.{all-flatMap, design-lines}
+use Rattle.order.specs.Fine.{Differ, Each, settingNames, wiresIn, FineCell, FineModule, fineAlone, FineDesign}
+use Rattle.order.specs.Tally.{Through, through-before, held-once, held-behind, part-once, notAttribute, nameTally, moduleNames, objectNames, attributeNames, parameterNames, cellParameterNames, cellPortNames, portTally, module-names-lawful, object-names-lawful, attribute-names-lawful, parameter-names-lawful, cell-parameter-names-lawful, cell-port-names-lawful, port-lawful}
+use Rattle.order.specs.Sums.{sum-reverse, all-fewer, sizes-fewer}
+use Rattle.order.specs.BodySums.{body-end, canonical-sum, object-sum, parameter-sum, port-sum, file-names-sum, cell-parameter-sum, cell-port-sum, attribute-sum}
+use Rattle.order.specs.Apart.{sees, Apart, admits-apart, through-admits, through-each, admitted-apart}
+use Rattle.order.specs.Walks.{Clean, clean-behind, opening-clean, settings-stay, each-map, each-together, all-true, is-module, is-cell, noModule, body-stays, cell-stays, entry-inside, object-ends, parameter-ends, port-ends, object-end, parameter-end, port-end, cell-parameter-ends, cell-port-ends}
+use Rattle.order.specs.Seen.{body-wires, seen-sound, body-sound}
+use Rattle.order.specs.Parse.{parsed}
+
+-- a test that admission includes
+module _ (f : Past → Statement → Bool) (h : (p : Past) (s : Statement) → Apart p s → f p s ≡ true) where
+  includes : (p : Past) → Through admits p → Through f p
+  includes p t = through-each admits f (λ q s e. h q s (admits-apart q s e)) p t
+
+-- lines that are admitted behind some statements, where no attribute waits
+record Placed (l : List Statement) : Type 0 where
+  past : Past
+  clean : Clean past
+  admits : Through admits (reverseAux l past)
+
+clean-last : (l : List Statement) (s : Statement) (p : Past) → notAttribute s ≡ true → Clean (reverseAux (l ++ s ∷ []) p)
+clean-last l s p e = rw (reverseAux-append l) (clean-behind s (reverseAux l p) e)
+
+-- one after another
+module _ {A : Type 0} (g : A → List Statement) (ends : (x : A) (p : Past) → Clean (reverseAux (g x) p)) where
+  all-placed : (xs : List A) (p : Past) → Clean p → Through admits (reverseAux (flatMap g xs) p) → Each (λ x. Placed (g x)) xs
+  unfolding flatMap
+  all-placed [] p c h = tt
+  all-placed (x ∷ xs) p c h =
+      let k : Through admits (reverseAux (flatMap g xs) (reverseAux (g x) p)) = rw reverseAux-append at h in
+      (record { past = p; clean = c; admits = through-before admits (flatMap g xs) (reverseAux (g x) p) k }, all-placed xs (reverseAux (g x) p) (ends x p) k)
+
+entry-clean : (e : Entry) (p : Past) → Clean (reverseAux (linesOf e) p)
+unfolding linesOf statementsOpen
+entry-clean (param-entry n c) p = clean-last [] (param-stmt n c) p refl
+entry-clean (wire-entry o) p = clean-last (settings (o .attributes)) (wire-stmt (o .body) (o .name)) p refl
+entry-clean (memory-entry o) p = clean-last (settings (o .attributes)) (memory-stmt (o .body) (o .name)) p refl
+entry-clean (cell-entry at t n es) p = rw (← append-assoc (settings at) (cell-stmt t n ∷ map lineIn es)) (clean-last (settings at ++ cell-stmt t n ∷ map lineIn es) end-stmt p refl)
+entry-clean (connection-entry x y) p = clean-last [] (conn-stmt x y) p refl
+
+module-clean : (o : Object (List Entry)) (p : Past) → Clean (reverseAux (linesOfModule o) p)
+unfolding linesOfModule statementsOpen
+module-clean o p =
+    let l : List Statement = module-stmt (o .name) ∷ flatMap linesOf (o .body) in
+    rw (← append-assoc (settings (o .attributes)) l) (clean-last (settings (o .attributes) ++ l) end-stmt p refl)
+
+-- attributes of an object
+settings-differ : (at : List Setting) (l : List Statement) → (t : Placed (settings at ++ l)) → Differ (settingNames at)
+settings-differ at l t n =
+    let p = t .past in
+    let k : Through admits (reverseAux l (reverseAux (settings at) p)) = rw reverseAux-append at (t .admits) in
+    let h = includes (attributeNames .new) (λ q s a. a .attribute-names) (reverseAux (settings at) p) (through-before admits l (reverseAux (settings at) p) k) in
+    omega (
+      arith,
+      held-once attributeNames attribute-names-lawful (reverseAux (settings at) p) h n,
+      held-behind attributeNames attribute-names-lawful (settings at) p (settings-stay at) n,
+      attribute-sum n at,
+      t .clean n,
+    )
+
+entry-wires : (e : Entry) → Placed (linesOf e) → Each (λ w. Differ (settingNames (w .attributes))) (wiresOf e)
+unfolding linesOf wiresOf
+entry-wires (param-entry n c) t = tt
+entry-wires (wire-entry o) t = (settings-differ (o .attributes) _ t, tt)
+entry-wires (memory-entry o) t = tt
+entry-wires (cell-entry at y n es) t = tt
+entry-wires (connection-entry x y) t = tt
+
+entry-memories : (e : Entry) → Placed (linesOf e) → Each (λ y. Differ (settingNames (y .attributes))) (memoriesOf e)
+unfolding linesOf memoriesOf
+entry-memories (param-entry n c) t = tt
+entry-memories (wire-entry o) t = tt
+entry-memories (memory-entry o) t = (settings-differ (o .attributes) _ t, tt)
+entry-memories (cell-entry at y n es) t = tt
+entry-memories (connection-entry x y) t = tt
+
+entry-cells : (e : Entry) → Placed (linesOf e) → Each FineCell (cellsOf e)
+unfolding linesOf cellsOf
+entry-cells (param-entry n c) t = tt
+entry-cells (wire-entry o) t = tt
+entry-cells (memory-entry o) t = tt
+entry-cells (cell-entry at y n es) t =
+    let r = reverseAux (settings at) (t .past) in
+    let l : List Statement = map lineIn es ++ end-stmt ∷ [] in
+    let k : Through admits (reverseAux l (cell-stmt y n ∷ r)) = rw reverseAux-append at (t .admits) in
+    let a = includes (cellParameterNames .new) (λ q s a. a .cell-parameter-names) (reverseAux l (cell-stmt y n ∷ r)) k in
+    let b = includes (cellPortNames .new) (λ q s a. a .cell-port-names) (reverseAux l (cell-stmt y n ∷ r)) k in (
+      record {
+        attributes = settings-differ at _ t;
+        parameters =
+            λ i.
+            omega (
+              arith,
+              part-once cellParameterNames cell-parameter-names-lawful (cell-stmt y n) l r (cell-parameter-ends (cell-stmt y n) ∙ is-cell y n) (cell-stays cellParameterNames cell-parameter-ends es) a i,
+              cell-parameter-sum i es,
+            );
+        ports =
+            λ i.
+            omega (
+              arith,
+              part-once cellPortNames cell-port-names-lawful (cell-stmt y n) l r (cell-port-ends (cell-stmt y n) ∙ is-cell y n) (cell-stays cellPortNames cell-port-ends es) b i,
+              cell-port-sum i es,
+            );
+      },
+      tt,
+    )
+entry-cells (connection-entry x y) t = tt
+
+-- all entries of a module
+module _ (es : List Entry) (placed : Each (λ e. Placed (linesOf e)) es) where
+  entries-wires : Each (λ w. Differ (settingNames (w .attributes))) (flatMap wiresOf es)
+  entries-wires = each-together _ wiresOf es (each-map _ _ entry-wires es placed)
+
+  entries-memories : Each (λ y. Differ (settingNames (y .attributes))) (flatMap memoriesOf es)
+  entries-memories = each-together _ memoriesOf es (each-map _ _ entry-memories es placed)
+
+  entries-cells : Each FineCell (flatMap cellsOf es)
+  entries-cells = each-together _ cellsOf es (each-map _ _ entry-cells es placed)
+
+clean-module : (n : Name) (p : Past) → Clean (module-stmt n ∷ p)
+unfolding statementsOpen
+clean-module n p = clean-behind (module-stmt n) p refl
+
+-- a module
+module-fine : (o : Object (List Entry)) → Placed (linesOfModule o) → FineModule (moduleIn o)
+unfolding linesOfModule moduleIn bodyOf
+module-fine o t =
+    let es = o .body in
+    let m = module-stmt (o .name) in
+    let r = reverseAux (settings (o .attributes)) (t .past) in
+    let l : List Statement = flatMap linesOf es ++ end-stmt ∷ [] in
+    let whole : Through admits (reverseAux l (m ∷ r)) = rw reverseAux-append at (t .admits) in
+    let ended : Through admits (end-stmt ∷ reverseAux (flatMap linesOf es) (m ∷ r)) = rw reverseAux-append at whole in
+    let body : Through admits (reverseAux (flatMap linesOf es) (m ∷ r)) = ended .1 in
+    let a = includes (objectNames .new) (λ q s a. a .object-names) (reverseAux l (m ∷ r)) whole in
+    let b = includes (parameterNames .new) (λ q s a. a .parameter-names) (reverseAux l (m ∷ r)) whole in
+    let c = includes (portTally .new) (λ q s a. a .ports) (reverseAux l (m ∷ r)) whole in
+    let placed = all-placed linesOf entry-clean es (m ∷ r) (clean-module (o .name) r) body in
+    record {
+      attributes = settings-differ (o .attributes) _ t;
+      names =
+          λ i.
+          omega (
+            arith,
+            part-once objectNames object-names-lawful m l r (object-ends m ∙ is-module (o .name)) (body-stays objectNames object-ends es) a i,
+            body-end (objectNames .one i) es (object-end i),
+            object-sum i (bodyOf es),
+          );
+      parameters =
+          λ i.
+          omega (
+            arith,
+            part-once parameterNames parameter-names-lawful m l r (parameter-ends m ∙ is-module (o .name)) (body-stays parameterNames parameter-ends es) b i,
+            body-end (parameterNames .one i) es (parameter-end i),
+            parameter-sum i (bodyOf es),
+          );
+      port-numbers =
+          λ i.
+          omega (
+            arith,
+            part-once portTally port-lawful m l r (port-ends m ∙ is-module (o .name)) (body-stays portTally port-ends es) c i,
+            body-end (portTally .one i) es (port-end i),
+            port-sum i (bodyOf es),
+          );
+      wires = entries-wires es placed;
+      memories = entries-memories es placed;
+      cells = entries-cells es placed;
+      signals =
+          body-sound (wiresIn (bodyOf es)) es
+          (seen-sound (wiresIn (bodyOf es)) (flatMap linesOf es) (m ∷ r) (sym (body-wires (o .name) es r)) (all-flatMap noModule linesOf entry-inside es)
+          (includes sees (λ q s a. a .signals) (reverseAux (flatMap linesOf es) (m ∷ r)) body));
+    }
+
+-- THE FILE
+modules-fine : (os : List (Object (List Entry))) → Each (λ o. Placed (linesOfModule o)) os → Each FineModule (map moduleIn os)
+modules-fine [] e = tt
+modules-fine (o ∷ os) e = (module-fine o (e .0), modules-fine os (e .1))
+
+map-names : (os : List (Object (List Entry))) → map (λ o. o .name) (map moduleIn os) ≡ map (λ o. o .name) os
+unfolding moduleIn
+map-names [] = refl
+map-names (o ∷ os) = ap (λ (l : List Name). o .name ∷ l) (map-names os)
+
+never-ends : (l : List Statement) → all (λ s. not (moduleNames .ends s)) l ≡ true
+unfolding nameTally
+never-ends l = all-true l
+
+file-through :
+    (x : File) → admitted (reverse (linesOfFile x)) ≡ true →
+    Through admits (reverseAux (flatMap linesOfModule (x .modules)) (reverseAux (map autoidx-stmt (Option·toList (x .autoidx))) []))
+unfolding linesOfFile
+file-through x e = rw (← reverseAux-append (map autoidx-stmt (Option·toList (x .autoidx)))) (through-admits (reverse (linesOfFile x)) e)
+
+pub lines-fine : (x : File) → admitted (reverse (linesOfFile x)) ≡ true → FineDesign (designOf x)
+unfolding designOf
+lines-fine x e =
+    let a = admitted-apart (reverse (linesOfFile x)) e in
+    let t : Through admits (reverseAux (flatMap linesOfModule (x .modules)) (reverseAux (map autoidx-stmt (Option·toList (x .autoidx))) [])) = file-through x e in
+    record {
+      modules = modules-fine (x .modules) (all-placed linesOfModule module-clean (x .modules) _ (opening-clean (x .autoidx)) t);
+      names =
+          rw (map-names (x .modules))
+          (λ n.
+          omega (
+            arith,
+            held-once moduleNames module-names-lawful (reverse (linesOfFile x)) (a .module-names) n,
+            held-behind moduleNames module-names-lawful (linesOfFile x) [] (never-ends (linesOfFile x)) n,
+            module-names-lawful .none n,
+            file-names-sum n x,
+          ));
+      statements = all-fewer (flatten (designOf x)) (reverse (linesOfFile x)) (λ f. omega (arith, canonical-sum f x, sum-reverse f (linesOfFile x))) fineAlone (a .alone);
+      sizes = sizes-fewer (flatten (designOf x)) (reverse (linesOfFile x)) (λ f. omega (arith, canonical-sum f x, sum-reverse f (linesOfFile x))) (a .room);
+    }
+
+pub admitted-fine : (ss : List Statement) → admitted (reverse ss) ≡ true → closes (reverse ss) ≡ true → FineDesign (design ss)
+admitted-fine ss e c =
+    let y = parsed (reverse ss) (admitted-apart (reverse ss) e .standing) c in
+    let q : ss ≡ linesOfFile (y .file) = sym (reverse-reverse ss) ∙ y .lines in
+    let h : admitted (reverse (linesOfFile (y .file))) ≡ true = rw q at e in
+    rw (q, design-lines (y .file)) (lines-fine (y .file) h)

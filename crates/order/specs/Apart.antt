@@ -1,0 +1,238 @@
+-- The tests of a statement after those before it, one by one.
+-- Assumes nothing.
+use Prim.Native.Nat.{ℕ, _-_}
+use mathlib.Core.Path.{_≡_, refl, ap}
+use mathlib.Core.List.{List, [], _∷_}
+use mathlib.Core.Bool.{Bool, true, false, not, _&&_, _||_}
+use native.Mathlib.Omega.{arith}
+use borrow.Author.Tests.{not-true}
+use lib.Dec.{leb, eqb}
+use lib.IntN.{pos, _+ℤ_}
+use Rattle.rules.specs.Bytes.{any, all, same, within, legal}
+use Rattle.rules.specs.Tokens.{Name}
+use Rattle.rules.specs.Numbers.{int32}
+use Rattle.rules.specs.Signals.{Wires}
+use Rattle.rules.specs.Statements.{Statement, Wire, contents, ownName}
+use Rattle.rules.specs.Judgement.{Past, sum, wires, among, Space, namesIn, nameSpaces, portNumbers, takesName, sizes, exceedsSize}
+use Rattle.scanner.specs.Laws.{and-true-left, and-true-right}
+use Rattle.admitted.specs.Admitted.{stands, fineConstant, newPorts, fineWire, fineMemory, fineSignal, sameLength, fineParts, admits, admitted}
+use Rattle.admitted.specs.AdmitLaws.{fine-parts, admits-all}
+use Rattle.order.specs.Fine.{Each, fineAlone}
+use Rattle.order.specs.Tally.{Through, nameTally, or-false-left, or-false-right, moduleNames, objectNames, attributeNames, parameterNames, cellParameterNames, cellPortNames, portTally}
+use Rattle.order.specs.Sums.{sizes-fewer}
+
+-- each wire bit of its signals inside its wire
+unfoldable pub sees : Past → Statement → Bool
+sees p s = all (fineSignal (wires p)) (contents s .signals)
+
+pub record Apart (p : Past) (s : Statement) : Type 0 where
+  pub standing : stands p s ≡ true
+  pub alone : fineAlone s ≡ true
+  pub ports : portTally .new p s ≡ true
+  pub signals : sees p s ≡ true
+  pub module-names : moduleNames .new p s ≡ true
+  pub object-names : objectNames .new p s ≡ true
+  pub attribute-names : attributeNames .new p s ≡ true
+  pub parameter-names : parameterNames .new p s ≡ true
+  pub cell-parameter-names : cellParameterNames .new p s ≡ true
+  pub cell-port-names : cellPortNames .new p s ≡ true
+  pub room : exceedsSize (s ∷ p) ≡ false
+
+-- a wire's own rules, and its port number
+ownWire : Wire → Bool
+ownWire w =
+    leb (w .width) 2048
+    && int32 (w .offset)
+    && (eqb (w .width) 0 || int32 (w .offset +ℤ pos (w .width - 1)))
+    && all (within 1 1023) (portNumbers w)
+
+all-new : (ns : List ℕ) → all (λ n. not (any {A = Name × Wire} (λ v. any (eqb n) (portNumbers (v .1))) [])) ns ≡ true
+unfolding all any
+all-new [] = refl
+all-new (n ∷ ns) = all-new ns
+
+wire-own : (w : Wire) → fineWire [] w ≡ true → ownWire w ≡ true
+unfolding fineWire ownWire
+wire-own w e = and-true-left (ownWire w) (newPorts [] w) e
+
+own-wire : (w : Wire) → ownWire w ≡ true → fineWire [] w ≡ true
+unfolding fineWire ownWire newPorts
+own-wire w e = rw (e, all-new (portNumbers w))
+
+module _ (ws : Wires) where
+  own-wires : (vs : List Wire) → all (fineWire ws) vs ≡ true → all (fineWire []) vs ≡ true
+  unfolding all fineWire ownWire
+  own-wires [] e = refl
+  own-wires (w ∷ vs) e =
+      rw (own-wire w (and-true-left (ownWire w) (newPorts ws w) (and-true-left (ownWire w && newPorts ws w) _ e))) (own-wires vs (and-true-right (fineWire ws w) _ e))
+
+  new-wires : (vs : List Wire) → all (fineWire ws) vs ≡ true → all (newPorts ws) vs ≡ true
+  unfolding all fineWire ownWire
+  new-wires [] e = refl
+  new-wires (w ∷ vs) e =
+      rw (and-true-right (ownWire w) (newPorts ws w) (and-true-left (ownWire w && newPorts ws w) _ e)) (new-wires vs (and-true-right (fineWire ws w) _ e))
+
+  both-wires : (vs : List Wire) → all (fineWire []) vs ≡ true → all (newPorts ws) vs ≡ true → all (fineWire ws) vs ≡ true
+  unfolding all fineWire ownWire
+  both-wires [] e f = refl
+  both-wires (w ∷ vs) e f =
+      rw (wire-own w (and-true-left (fineWire [] w) _ e), and-true-left (newPorts ws w) _ f)
+      (both-wires vs (and-true-right (fineWire [] w) _ e) (and-true-right (newPorts ws w) _ f))
+
+-- NAMES: a test that fails in each name space
+any-none : {A : Type 0} (f : A → Bool) (xs : List A) → any f xs ≡ false → Each (λ x. f x ≡ false) xs
+unfolding any
+any-none f [] e = tt
+any-none f (x ∷ xs) e = (or-false-left (f x) _ e, any-none f xs (or-false-right (f x) _ e))
+
+none-any : {A : Type 0} (f : A → Bool) (xs : List A) → Each (λ x. f x ≡ false) xs → any f xs ≡ false
+unfolding any
+none-any f [] e = refl
+none-any f (x ∷ xs) e = rw (e .0) (none-any f xs (e .1))
+
+module _ (p : Past) (s : Statement) where
+  abbrev takesIn : Space → Bool
+  takesIn z = among (z .kinds) s && any (same (ownName (contents s .names))) (namesIn z p)
+
+  pub admits-apart : admits p s ≡ true → Apart p s
+  unfolding fineAlone portTally sees nameTally takesName nameSpaces
+  admits-apart e =
+      let a = admits-all p s e in
+      let f = fine-parts (wires p) s (a .parts) in
+      let n : Each (λ z. takesIn z ≡ false) nameSpaces = any-none takesIn nameSpaces (a .new-name) in
+      record {
+        standing = a .standing;
+        alone = rw (f .names, f .integers, f .constants, own-wires (wires p) (contents s .wires) (f .wires), f .memories, f .same-length);
+        ports = new-wires (wires p) (contents s .wires) (f .wires);
+        signals = f .signals;
+        module-names = ap not (n .0);
+        object-names = ap not (n .1 .0);
+        attribute-names = ap not (n .1 .1 .0);
+        parameter-names = ap not (n .1 .1 .1 .0);
+        cell-parameter-names = ap not (n .1 .1 .1 .1 .0);
+        cell-port-names = ap not (n .1 .1 .1 .1 .1 .0);
+        room = a .room;
+      }
+
+  pub apart-admits : Apart p s → admits p s ≡ true
+  unfolding admits fineParts fineAlone portTally sees nameTally takesName nameSpaces
+  apart-admits a =
+      let names : Bool = all legal (contents s .names) in
+      let integers : Bool = all int32 (contents s .integers) in
+      let constants : Bool = all fineConstant (contents s .constants) in
+      let own : Bool = all (fineWire []) (contents s .wires) in
+      let memories : Bool = all fineMemory (contents s .memories) in
+      let widths : Bool = sameLength (contents s .signals) in
+      let e₅ = and-true-left (names && integers && constants && own && memories) widths (a .alone) in
+      let e₄ = and-true-left (names && integers && constants && own) memories e₅ in
+      let e₃ = and-true-left (names && integers && constants) own e₄ in
+      let e₂ = and-true-left (names && integers) constants e₃ in
+      let n : any takesIn nameSpaces ≡ false =
+      none-any takesIn nameSpaces (
+        not-true _ (a .module-names),
+        (
+          not-true _ (a .object-names),
+          (
+            not-true _ (a .attribute-names),
+            (not-true _ (a .parameter-names), (not-true _ (a .cell-parameter-names), (not-true _ (a .cell-port-names), tt))),
+          ),
+        ),
+      ) in
+      rw (
+        a .standing,
+        and-true-left names integers e₂,
+        and-true-right names integers e₂,
+        and-true-right (names && integers) constants e₃,
+        both-wires (wires p) (contents s .wires) (and-true-right (names && integers && constants) own e₄) (a .ports),
+        and-true-right (names && integers && constants && own) memories e₅,
+        a .signals,
+        and-true-right (names && integers && constants && own && memories) widths (a .alone),
+        n,
+        a .room,
+      )
+
+-- all statements so far
+pub through-admits : (p : Past) → admitted p ≡ true → Through admits p
+unfolding admitted
+through-admits [] e = tt
+through-admits (s ∷ p) e = (and-true-right (admitted p) _ e, through-admits p (and-true-left (admitted p) _ e))
+
+pub through-each : (f g : Past → Statement → Bool) → ((p : Past) (s : Statement) → f p s ≡ true → g p s ≡ true) → (p : Past) → Through f p → Through g p
+through-each f g h [] t = tt
+through-each f g h (s ∷ p) t = (h p s (t .0), through-each f g h p (t .1))
+
+pub record ApartAll (p : Past) : Type 0 where
+  pub standing : Through stands p
+  pub alone : all fineAlone p ≡ true
+  pub ports : Through (portTally .new) p
+  pub signals : Through sees p
+  pub module-names : Through (moduleNames .new) p
+  pub object-names : Through (objectNames .new) p
+  pub attribute-names : Through (attributeNames .new) p
+  pub parameter-names : Through (parameterNames .new) p
+  pub cell-parameter-names : Through (cellParameterNames .new) p
+  pub cell-port-names : Through (cellPortNames .new) p
+  pub room : exceedsSize p ≡ false
+
+all-alone : (p : Past) → admitted p ≡ true → all fineAlone p ≡ true
+unfolding all admitted
+all-alone [] e = refl
+all-alone (s ∷ p) e = rw (admits-apart p s (and-true-right (admitted p) _ e) .alone) (all-alone p (and-true-left (admitted p) _ e))
+
+all-room : (p : Past) → admitted p ≡ true → exceedsSize p ≡ false
+unfolding any sum sizes exceedsSize admitted
+all-room [] e = refl
+all-room (s ∷ p) e = admits-apart p s (and-true-right (admitted p) _ e) .room
+
+pub admitted-apart : (p : Past) → admitted p ≡ true → ApartAll p
+admitted-apart p e =
+    let t = through-admits p e in
+    record {
+      standing = through-each admits stands (λ q s h. admits-apart q s h .standing) p t;
+      alone = all-alone p e;
+      ports = through-each admits (portTally .new) (λ q s h. admits-apart q s h .ports) p t;
+      signals = through-each admits sees (λ q s h. admits-apart q s h .signals) p t;
+      module-names = through-each admits (moduleNames .new) (λ q s h. admits-apart q s h .module-names) p t;
+      object-names = through-each admits (objectNames .new) (λ q s h. admits-apart q s h .object-names) p t;
+      attribute-names = through-each admits (attributeNames .new) (λ q s h. admits-apart q s h .attribute-names) p t;
+      parameter-names = through-each admits (parameterNames .new) (λ q s h. admits-apart q s h .parameter-names) p t;
+      cell-parameter-names = through-each admits (cellParameterNames .new) (λ q s h. admits-apart q s h .cell-parameter-names) p t;
+      cell-port-names = through-each admits (cellPortNames .new) (λ q s h. admits-apart q s h .cell-port-names) p t;
+      room = all-room p e;
+    }
+
+pub apart-admitted : (p : Past) → ApartAll p → admitted p ≡ true
+unfolding all admitted sum
+apart-admitted [] a = refl
+apart-admitted (s ∷ p) a =
+    let before =
+    apart-admitted p
+    (record {
+      standing = a .standing .1;
+      alone = and-true-right (fineAlone s) _ (a .alone);
+      ports = a .ports .1;
+      signals = a .signals .1;
+      module-names = a .module-names .1;
+      object-names = a .object-names .1;
+      attribute-names = a .attribute-names .1;
+      parameter-names = a .parameter-names .1;
+      cell-parameter-names = a .cell-parameter-names .1;
+      cell-port-names = a .cell-port-names .1;
+      room = sizes-fewer p (s ∷ p) (λ f. omega arith) (a .room);
+    }) in
+    let last =
+    apart-admits p s
+    (record {
+      standing = a .standing .0;
+      alone = and-true-left (fineAlone s) _ (a .alone);
+      ports = a .ports .0;
+      signals = a .signals .0;
+      module-names = a .module-names .0;
+      object-names = a .object-names .0;
+      attribute-names = a .attribute-names .0;
+      parameter-names = a .parameter-names .0;
+      cell-parameter-names = a .cell-parameter-names .0;
+      cell-port-names = a .cell-port-names .0;
+      room = a .room;
+    }) in
+    rw (before, last)

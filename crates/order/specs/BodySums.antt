@@ -1,0 +1,284 @@
+-- Sums over the statements of a file are sums over its design, whatever the order.
+-- Assumes nothing.
+use Prim.Native.Nat.{ℕ, _+_}
+use mathlib.Core.Path.{_≡_, refl, sym, ap, _∙_}
+use mathlib.Core.List.{List, [], _∷_, _++_, map, flatMap, Option·toList}
+use mathlib.Core.Option.{Option, none, some}
+use mathlib.Core.Bool.{cond}
+use native.Mathlib.Omega.{arith}
+use lib.Dec.{eqb}
+use lib.IntN.{ℤ}
+use Rattle.rules.specs.Bytes.{same, any}
+use Rattle.rules.specs.Tokens.{Name}
+use Rattle.rules.specs.Statements.{Sort, Constant, Signal, Wire, Memory, Statement, autoidx-stmt, attr-stmt, module-stmt, param-stmt, wire-stmt, memory-stmt, cell-stmt, cell-param-stmt, cell-conn-stmt, conn-stmt, end-stmt, statementsOpen}
+use Rattle.rules.specs.Judgement.{sum, among, space, portNumbers}
+use Rattle.rules.specs.Design.{Setting, Object, object, Cell, Module, flatten}
+use Rattle.rules.specs.Session.{names}
+use Rattle.order.specs.Nesting.{CellEntry, parameter-entry, port-entry, Entry, param-entry, wire-entry, memory-entry, cell-entry, connection-entry, File, settings, lineIn, linesOf, linesOfModule, linesOfFile, parameterOf, portOf, bodyOf, moduleIn, designOf, entries, fileOf, nestingOpen}
+use Rattle.order.specs.DesignLaws.{body-entries, flatten-file}
+use Rattle.order.specs.Fine.{times, settingNames, portsIn}
+use Rattle.order.specs.Tally.{nameTally, moduleNames, objectNames, attributeNames, parameterNames, cellParameterNames, cellPortNames, portTally}
+use Rattle.order.specs.Sums.{sum-append, sum-map, sum-same, times-append}
+
+-- a cell; a module's entries
+module _ (f : Statement → ℕ) where
+  unfoldable pub cellSum : Object Cell → ℕ
+  cellSum c =
+      sum f (settings (c .attributes))
+      + f (cell-stmt (c .body .type) (c .name))
+      + sum (λ p. f (cell-param-stmt (p .0) (p .1 .0) (p .1 .1))) (c .body .parameters)
+      + sum (λ k. f (cell-conn-stmt (k .0) (k .1))) (c .body .connections)
+      + f end-stmt
+
+  unfoldable pub bodySum : Module → ℕ
+  bodySum m =
+      sum (λ p. f (param-stmt (p .0) (p .1))) (m .parameters)
+      + sum (λ w. sum f (settings (w .attributes)) + f (wire-stmt (w .body) (w .name))) (m .wires)
+      + sum (λ y. sum f (settings (y .attributes)) + f (memory-stmt (y .body) (y .name))) (m .memories)
+      + sum cellSum (m .cells)
+      + sum (λ k. f (conn-stmt (k .0) (k .1))) (m .connections)
+
+  cell-sum :
+      (es : List CellEntry) →
+      sum f (map lineIn es)
+      ≡ sum (λ p. f (cell-param-stmt (p .0) (p .1 .0) (p .1 .1))) (flatMap parameterOf es) + sum (λ k. f (cell-conn-stmt (k .0) (k .1))) (flatMap portOf es)
+  unfolding nestingOpen sum
+  cell-sum [] = refl
+  cell-sum (parameter-entry o a ∷ es) = omega (arith, cell-sum es)
+  cell-sum (port-entry n x ∷ es) = omega (arith, cell-sum es)
+
+  entry-sum : (e : Entry) (es : List Entry) → bodySum (bodyOf (e ∷ es)) ≡ sum f (linesOf e) + bodySum (bodyOf es)
+  unfolding nestingOpen sum bodySum cellSum
+  entry-sum (param-entry n c) es = omega arith
+  entry-sum (wire-entry o) es = omega (arith, sum-append f (settings (o .attributes)) (wire-stmt (o .body) (o .name) ∷ []))
+  entry-sum (memory-entry o) es = omega (arith, sum-append f (settings (o .attributes)) (memory-stmt (o .body) (o .name) ∷ []))
+  entry-sum (cell-entry at t n cs) es =
+      omega (
+        arith,
+        sum-append f (settings at) (cell-stmt t n ∷ map lineIn cs ++ end-stmt ∷ []),
+        sum-append f (map lineIn cs) (end-stmt ∷ []),
+        cell-sum cs,
+      )
+  entry-sum (connection-entry x y) es = omega arith
+
+  pub body-sum : (es : List Entry) → sum f (flatMap linesOf es) ≡ bodySum (bodyOf es)
+  unfolding flatMap sum bodySum bodyOf
+  body-sum [] = refl
+  body-sum (e ∷ es) = sum-append f (linesOf e) (flatMap linesOf es) ∙ ap (λ (n : ℕ). sum f (linesOf e) + n) (body-sum es) ∙ sym (entry-sum e es)
+
+  pub body-end : (es : List Entry) → f end-stmt ≡ 0 → sum f (flatMap linesOf es ++ end-stmt ∷ []) ≡ bodySum (bodyOf es)
+  unfolding sum
+  body-end es e = omega (arith, sum-append f (flatMap linesOf es) (end-stmt ∷ []), body-sum es)
+
+  pub module-sum :
+      (o : Object (List Entry)) →
+      sum f (linesOfModule o) ≡ sum f (settings (o .attributes)) + f (module-stmt (o .name)) + bodySum (bodyOf (o .body)) + f end-stmt
+  unfolding linesOfModule sum
+  module-sum o =
+      omega (
+        arith,
+        sum-append f (settings (o .attributes)) (module-stmt (o .name) ∷ flatMap linesOf (o .body) ++ end-stmt ∷ []),
+        sum-append f (flatMap linesOf (o .body)) (end-stmt ∷ []),
+        body-sum (o .body),
+      )
+
+  -- in canonical order the same
+  canonical-module : (o : Object (List Entry)) → sum f (linesOfModule (object (o .attributes) (o .name) (entries (bodyOf (o .body))))) ≡ sum f (linesOfModule o)
+  canonical-module o =
+      module-sum (object (o .attributes) (o .name) (entries (bodyOf (o .body))))
+      ∙ ap (λ (m : Module). sum f (settings (o .attributes)) + f (module-stmt (o .name)) + bodySum m + f end-stmt) (body-entries (bodyOf (o .body)))
+      ∙ sym (module-sum o)
+
+  canonical-modules :
+      (os : List (Object (List Entry))) →
+      sum f (flatMap linesOfModule (map (λ o. object (o .attributes) (o .name) (entries (o .body))) (map moduleIn os))) ≡ sum f (flatMap linesOfModule os)
+  unfolding flatMap moduleIn
+  canonical-modules [] = refl
+  canonical-modules (o ∷ os) =
+      let b : List (Object (List Entry)) = map (λ o. object (o .attributes) (o .name) (entries (o .body))) (map moduleIn os) in
+      omega (
+        arith,
+        sum-append f (linesOfModule (object (o .attributes) (o .name) (entries (bodyOf (o .body))))) (flatMap linesOfModule b),
+        sum-append f (linesOfModule o) (flatMap linesOfModule os),
+        canonical-module o,
+        canonical-modules os,
+      )
+
+  pub canonical-sum : (x : File) → sum f (flatten (designOf x)) ≡ sum f (linesOfFile x)
+  unfolding designOf fileOf linesOfFile
+  canonical-sum x =
+      let i : List Statement = map autoidx-stmt (Option·toList (x .autoidx)) in
+      ap (sum f) (flatten-file (designOf x))
+      ∙ sum-append f i (flatMap linesOfModule (map (λ o. object (o .attributes) (o .name) (entries (o .body))) (map moduleIn (x .modules))))
+      ∙ ap (λ (n : ℕ). sum f i + n) (canonical-modules (x .modules))
+      ∙ sym (sum-append f i (flatMap linesOfModule (x .modules)))
+
+-- SUMS THAT LEAVE OUT attributes, what is inside cells, and ends
+pub sum-zero : {A : Type 0} (f : A → ℕ) → ((x : A) → f x ≡ 0) → (xs : List A) → sum f xs ≡ 0
+unfolding sum
+sum-zero f h [] = refl
+sum-zero f h (x ∷ xs) = omega (arith, h x, sum-zero f h xs)
+
+pub record Sparse (f : Statement → ℕ) : Type 0 where
+  pub attribute : (n : Name) (c : Constant) → f (attr-stmt n c) ≡ 0
+  pub parameter : (o : Sort) (n : Name) (c : Constant) → f (cell-param-stmt o n c) ≡ 0
+  pub port : (n : Name) (x : Signal) → f (cell-conn-stmt n x) ≡ 0
+  pub end : f end-stmt ≡ 0
+
+module _ (f : Statement → ℕ) (z : Sparse f) where
+  pub settings-zero : (at : List Setting) → sum f (settings at) ≡ 0
+  settings-zero at = sum-map f (λ a. attr-stmt (a .0) (a .1)) at ∙ sum-zero _ (λ a. z .attribute (a .0) (a .1)) at
+
+  cell-zero : (c : Object Cell) → cellSum f c ≡ f (cell-stmt (c .body .type) (c .name))
+  unfolding cellSum
+  cell-zero c =
+      let p = sum-zero (λ (p : Sort × Setting). f (cell-param-stmt (p .0) (p .1 .0) (p .1 .1))) (λ p. z .parameter (p .0) (p .1 .0) (p .1 .1)) (c .body .parameters) in
+      let k = sum-zero (λ (k : Name × Signal). f (cell-conn-stmt (k .0) (k .1))) (λ k. z .port (k .0) (k .1)) (c .body .connections) in
+      omega (arith, settings-zero (c .attributes), z .end)
+
+  pub sparse-sum :
+      (m : Module) →
+      bodySum f m
+      ≡ sum (λ p. f (param-stmt (p .0) (p .1))) (m .parameters)
+      + sum (λ w. f (wire-stmt (w .body) (w .name))) (m .wires)
+      + sum (λ y. f (memory-stmt (y .body) (y .name))) (m .memories)
+      + sum (λ c. f (cell-stmt (c .body .type) (c .name))) (m .cells)
+      + sum (λ k. f (conn-stmt (k .0) (k .1))) (m .connections)
+  unfolding bodySum
+  sparse-sum m =
+      omega (
+        arith,
+        sum-same (λ (w : Object Wire). sum f (settings (w .attributes)) + f (wire-stmt (w .body) (w .name))) (λ w. f (wire-stmt (w .body) (w .name)))
+            (λ w. omega (arith, settings-zero (w .attributes))) (m .wires),
+        sum-same (λ (y : Object Memory). sum f (settings (y .attributes)) + f (memory-stmt (y .body) (y .name))) (λ y. f (memory-stmt (y .body) (y .name)))
+            (λ y. omega (arith, settings-zero (y .attributes))) (m .memories),
+        sum-same (cellSum f) (λ c. f (cell-stmt (c .body .type) (c .name))) cell-zero (m .cells),
+      )
+
+-- THE TALLIES
+times-map : {A : Type 0} (n : Name) (g : A → Name) (xs : List A) → times (same n) (map g xs) ≡ sum (λ x. cond (same n (g x)) 1 0) xs
+unfolding times
+times-map n g xs = sum-map (λ m. cond (same n m) 1 0) g xs
+
+object-sparse : (n : Name) → Sparse (objectNames .one n)
+unfolding nameTally space among any statementsOpen
+object-sparse n = record { attribute = λ m c. refl; parameter = λ o m c. refl; port = λ m x. refl; end = refl }
+
+pub object-sum : (n : Name) (m : Module) → bodySum (objectNames .one n) m ≡ times (same n) (names m)
+unfolding nameTally space among any names statementsOpen
+object-sum n m =
+    let f : Statement → ℕ = objectNames .one n in
+    let p : sum (λ p. f (param-stmt (p .0) (p .1))) (m .parameters) ≡ 0 = sum-zero _ (λ p. refl) (m .parameters) in
+    let w : sum (λ w. f (wire-stmt (w .body) (w .name))) (m .wires) ≡ times (same n) (map (λ o. o .name) (m .wires)) = sym (times-map n (λ o. o .name) (m .wires)) in
+    let y : sum (λ y. f (memory-stmt (y .body) (y .name))) (m .memories) ≡ times (same n) (map (λ o. o .name) (m .memories)) = sym (times-map n (λ o. o .name) (m .memories)) in
+    let c : sum (λ c. f (cell-stmt (c .body .type) (c .name))) (m .cells) ≡ times (same n) (map (λ o. o .name) (m .cells)) = sym (times-map n (λ o. o .name) (m .cells)) in
+    let k : sum (λ k. f (conn-stmt (k .0) (k .1))) (m .connections) ≡ 0 = sum-zero _ (λ k. refl) (m .connections) in
+    let ab = times-append (same n) (map (λ o. o .name) (m .wires) ++ map (λ o. o .name) (m .memories)) (map (λ o. o .name) (m .cells)) in
+    let aa = times-append (same n) (map (λ o. o .name) (m .wires)) (map (λ o. o .name) (m .memories)) in
+    omega (arith, sparse-sum f (object-sparse n) m)
+
+parameter-sparse : (n : Name) → Sparse (parameterNames .one n)
+unfolding nameTally space among any statementsOpen
+parameter-sparse n = record { attribute = λ m c. refl; parameter = λ o m c. refl; port = λ m x. refl; end = refl }
+
+pub parameter-sum : (n : Name) (m : Module) → bodySum (parameterNames .one n) m ≡ times (same n) (map (λ p. p .0) (m .parameters))
+unfolding nameTally space among any statementsOpen
+parameter-sum n m =
+    let f : Statement → ℕ = parameterNames .one n in
+    let p : sum (λ p. f (param-stmt (p .0) (p .1))) (m .parameters) ≡ times (same n) (map (λ p. p .0) (m .parameters)) = sym (times-map n (λ p. p .0) (m .parameters)) in
+    let w : sum (λ w. f (wire-stmt (w .body) (w .name))) (m .wires) ≡ 0 = sum-zero _ (λ w. refl) (m .wires) in
+    let y : sum (λ y. f (memory-stmt (y .body) (y .name))) (m .memories) ≡ 0 = sum-zero _ (λ y. refl) (m .memories) in
+    let c : sum (λ c. f (cell-stmt (c .body .type) (c .name))) (m .cells) ≡ 0 = sum-zero _ (λ c. refl) (m .cells) in
+    let k : sum (λ k. f (conn-stmt (k .0) (k .1))) (m .connections) ≡ 0 = sum-zero _ (λ k. refl) (m .connections) in
+    omega (arith, sparse-sum f (parameter-sparse n) m)
+
+module-sparse : (n : Name) → Sparse (moduleNames .one n)
+unfolding nameTally space among any statementsOpen
+module-sparse n = record { attribute = λ m c. refl; parameter = λ o m c. refl; port = λ m x. refl; end = refl }
+
+module-zero : (n : Name) (m : Module) → bodySum (moduleNames .one n) m ≡ 0
+unfolding nameTally space among any statementsOpen
+module-zero n m =
+    let f : Statement → ℕ = moduleNames .one n in
+    let p : sum (λ p. f (param-stmt (p .0) (p .1))) (m .parameters) ≡ 0 = sum-zero _ (λ p. refl) (m .parameters) in
+    let w : sum (λ w. f (wire-stmt (w .body) (w .name))) (m .wires) ≡ 0 = sum-zero _ (λ w. refl) (m .wires) in
+    let y : sum (λ y. f (memory-stmt (y .body) (y .name))) (m .memories) ≡ 0 = sum-zero _ (λ y. refl) (m .memories) in
+    let c : sum (λ c. f (cell-stmt (c .body .type) (c .name))) (m .cells) ≡ 0 = sum-zero _ (λ c. refl) (m .cells) in
+    let k : sum (λ k. f (conn-stmt (k .0) (k .1))) (m .connections) ≡ 0 = sum-zero _ (λ k. refl) (m .connections) in
+    omega (arith, sparse-sum f (module-sparse n) m)
+
+module-one : (n m : Name) → moduleNames .one n (module-stmt m) ≡ cond (same n m) 1 0
+unfolding nameTally space among any statementsOpen
+module-one n m = refl
+
+modules-sum : (n : Name) (os : List (Object (List Entry))) → sum (moduleNames .one n) (flatMap linesOfModule os) ≡ times (same n) (map (λ o. o .name) os)
+unfolding flatMap times sum
+modules-sum n [] = refl
+modules-sum n (o ∷ os) =
+    omega (
+      arith,
+      sum-append (moduleNames .one n) (linesOfModule o) (flatMap linesOfModule os),
+      module-sum (moduleNames .one n) o,
+      settings-zero (moduleNames .one n) (module-sparse n) (o .attributes),
+      module-one n (o .name),
+      module-zero n (bodyOf (o .body)),
+      module-sparse n .end,
+      modules-sum n os,
+    )
+
+autoidx-zero : (n : Name) (o : Option ℤ) → sum (moduleNames .one n) (map autoidx-stmt (Option·toList o)) ≡ 0
+unfolding nameTally space among any sum Option·toList statementsOpen
+autoidx-zero n none = refl
+autoidx-zero n (some i) = refl
+
+pub file-names-sum : (n : Name) (x : File) → sum (moduleNames .one n) (linesOfFile x) ≡ times (same n) (map (λ o. o .name) (x .modules))
+unfolding linesOfFile
+file-names-sum n x =
+    omega (
+      arith,
+      sum-append (moduleNames .one n) (map autoidx-stmt (Option·toList (x .autoidx))) (flatMap linesOfModule (x .modules)),
+      autoidx-zero n (x .autoidx),
+      modules-sum n (x .modules),
+    )
+
+port-sparse : (n : ℕ) → Sparse (portTally .one n)
+unfolding portTally sum statementsOpen
+port-sparse n = record { attribute = λ m c. refl; parameter = λ o m c. refl; port = λ m x. refl; end = refl }
+
+port-wires :
+    (n : ℕ) (ws : List (Object Wire)) → sum (λ w. portTally .one n (wire-stmt (w .body) (w .name))) ws ≡ times (eqb n) (flatMap (λ w. portNumbers (w .body)) ws)
+unfolding portTally times sum flatMap statementsOpen
+port-wires n [] = refl
+port-wires n (w ∷ ws) = omega (arith, sum-append (λ m. cond (eqb n m) 1 0) (portNumbers (w .body)) (flatMap (λ w. portNumbers (w .body)) ws), port-wires n ws)
+
+pub port-sum : (n : ℕ) (m : Module) → bodySum (portTally .one n) m ≡ times (eqb n) (portsIn m)
+unfolding portTally sum portsIn statementsOpen
+port-sum n m =
+    let f : Statement → ℕ = portTally .one n in
+    let p : sum (λ p. f (param-stmt (p .0) (p .1))) (m .parameters) ≡ 0 = sum-zero _ (λ p. refl) (m .parameters) in
+    let w : sum (λ w. f (wire-stmt (w .body) (w .name))) (m .wires) ≡ times (eqb n) (flatMap (λ w. portNumbers (w .body)) (m .wires)) = port-wires n (m .wires) in
+    let y : sum (λ y. f (memory-stmt (y .body) (y .name))) (m .memories) ≡ 0 = sum-zero _ (λ y. refl) (m .memories) in
+    let c : sum (λ c. f (cell-stmt (c .body .type) (c .name))) (m .cells) ≡ 0 = sum-zero _ (λ c. refl) (m .cells) in
+    let k : sum (λ k. f (conn-stmt (k .0) (k .1))) (m .connections) ≡ 0 = sum-zero _ (λ k. refl) (m .connections) in
+    omega (arith, sparse-sum f (port-sparse n) m)
+
+-- inside a cell, and on an object
+pub cell-parameter-sum :
+    (n : Name) (es : List CellEntry) →
+    sum (cellParameterNames .one n) (map lineIn es ++ end-stmt ∷ []) ≡ times (same n) (map (λ p. p .1 .0) (flatMap parameterOf es))
+unfolding nameTally space among any times sum nestingOpen statementsOpen
+cell-parameter-sum n [] = refl
+cell-parameter-sum n (parameter-entry o a ∷ es) = omega (arith, cell-parameter-sum n es)
+cell-parameter-sum n (port-entry m x ∷ es) = omega (arith, cell-parameter-sum n es)
+
+pub cell-port-sum :
+    (n : Name) (es : List CellEntry) → sum (cellPortNames .one n) (map lineIn es ++ end-stmt ∷ []) ≡ times (same n) (map (λ k. k .0) (flatMap portOf es))
+unfolding nameTally space among any times sum nestingOpen statementsOpen
+cell-port-sum n [] = refl
+cell-port-sum n (parameter-entry o a ∷ es) = omega (arith, cell-port-sum n es)
+cell-port-sum n (port-entry m x ∷ es) = omega (arith, cell-port-sum n es)
+
+pub attribute-sum : (n : Name) (at : List Setting) → sum (attributeNames .one n) (settings at) ≡ times (same n) (settingNames at)
+unfolding nameTally space among any times sum statementsOpen
+attribute-sum n [] = refl
+attribute-sum n (a ∷ at) = omega (arith, attribute-sum n at)

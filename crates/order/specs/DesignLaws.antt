@@ -1,0 +1,515 @@
+-- The design of a file is found kind by kind; so a design is that of its own statements in canonical order.
+-- Assumes nothing.
+use mathlib.Core.Path.{_≡_, refl, sym, ap, ap₂, _∙_}
+use mathlib.Core.List.{List, [], _∷_, _++_, map, flatMap, zip, zipWith, head?, Option·toList, append-assoc, append-nil, map-append, map-map}
+use mathlib.Core.Option.{Option, none, some}
+use mathlib.Core.Bool.{Bool, true, false, not}
+use lib.IntN.{ℤ}
+use borrow.Author.Tests.{not-true}
+use Rattle.rules.specs.Tokens.{Name}
+use Rattle.rules.specs.Statements.{Constant, Signal, Statement, autoidx-stmt, module-stmt, param-stmt, wire-stmt, memory-stmt, cell-stmt, cell-param-stmt, cell-conn-stmt, conn-stmt, end-stmt, anAttribute, aModule, aCell, is, contents, statementsOpen}
+use Rattle.rules.specs.Bytes.{all}
+use Rattle.rules.specs.Judgement.{until}
+use Rattle.rules.specs.Design.{Setting, Object, object, Cell, Module, Design, Item, settingIn, items, blocks, objectsIn, parameterIn, portIn, pair, connectionIn, cellParameterIn, each, cellOf, moduleOf, design, flatten, objects, cellLines, moduleLines, designOpen}
+use Rattle.scanner.specs.Laws.{and-true-left, and-true-right}
+use Rattle.order.specs.Nesting.{CellEntry, parameter-entry, port-entry, Entry, param-entry, wire-entry, memory-entry, cell-entry, connection-entry, File, settings, lineIn, linesOf, linesOfModule, linesOfFile, parameterOf, portOf, parametersOf, wiresOf, memoriesOf, cellsOf, connectionsOf, bodyOf, moduleIn, designOf, cellEntries, entries, fileOf, nestingOpen}
+
+-- lists
+module _ {A B : Type 0} (f : A → List B) where
+  pub flatMap-append : (xs ys : List A) → flatMap f (xs ++ ys) ≡ flatMap f xs ++ flatMap f ys
+  unfolding flatMap
+  flatMap-append [] ys = refl
+  flatMap-append (x ∷ xs) ys = ap (λ (l : List B). f x ++ l) (flatMap-append xs ys) ∙ sym (append-assoc (f x) (flatMap f xs) (flatMap f ys))
+
+  pub flatMap-map : {C : Type 0} (g : C → A) (xs : List C) → flatMap f (map g xs) ≡ flatMap (λ x. f (g x)) xs
+  unfolding flatMap
+  flatMap-map g [] = refl
+  flatMap-map g (x ∷ xs) = ap (λ (l : List B). f (g x) ++ l) (flatMap-map g xs)
+
+  pub flatMap-flatMap : {C : Type 0} (g : C → List A) (xs : List C) → flatMap f (flatMap g xs) ≡ flatMap (λ x. flatMap f (g x)) xs
+  unfolding flatMap
+  flatMap-flatMap g [] = refl
+  flatMap-flatMap g (x ∷ xs) = flatMap-append (g x) (flatMap g xs) ∙ ap (λ (l : List B). flatMap f (g x) ++ l) (flatMap-flatMap g xs)
+
+  pub flatMap-none : ((x : A) → f x ≡ []) → (xs : List A) → flatMap f xs ≡ []
+  unfolding flatMap
+  flatMap-none h [] = refl
+  flatMap-none h (x ∷ xs) = rw (h x) (flatMap-none h xs)
+
+  pub flatMap-same : (g : A → List B) → ((x : A) → f x ≡ g x) → (xs : List A) → flatMap f xs ≡ flatMap g xs
+  unfolding flatMap
+  flatMap-same g h [] = refl
+  flatMap-same g h (x ∷ xs) = ap₂ (λ (a b : List B). a ++ b) (h x) (flatMap-same g h xs)
+
+-- each element by itself
+pub flatMap-one : {A B : Type 0} (f : A → List B) (g : A → B) → ((x : A) → f x ≡ g x ∷ []) → (xs : List A) → flatMap f xs ≡ map g xs
+unfolding flatMap
+flatMap-one f g h [] = refl
+flatMap-one f g h (x ∷ xs) = rw (h x) (ap (λ (l : List _). g x ∷ l) (flatMap-one f g h xs))
+
+pub all-append : {A : Type 0} (f : A → Bool) (xs ys : List A) → all f xs ≡ true → all f ys ≡ true → all f (xs ++ ys) ≡ true
+unfolding all
+all-append f [] ys h k = k
+all-append f (x ∷ xs) ys h k = rw (and-true-left (f x) _ h) (all-append f xs ys (and-true-right (f x) _ h) k)
+
+pub all-flatMap : {A B : Type 0} (f : B → Bool) (g : A → List B) → ((x : A) → all f (g x) ≡ true) → (xs : List A) → all f (flatMap g xs) ≡ true
+unfolding all flatMap
+all-flatMap f g h [] = refl
+all-flatMap f g h (x ∷ xs) = all-append f (g x) (flatMap g xs) (h x) (all-flatMap f g h xs)
+
+-- THE ITEMS OF A FILE
+abbrev plain : Statement → Item
+plain s = record { attributes = []; statement = s }
+
+abbrev with-settings : List Setting → Statement → Item
+with-settings at s = record { attributes = at; statement = s }
+
+items-settings : (at bt : List Setting) (ss : List Statement) → items at (settings bt ++ ss) ≡ items (at ++ bt) ss
+unfolding designOpen statementsOpen
+items-settings at [] ss = rw append-nil
+items-settings at (a ∷ bt) ss = items-settings (at ++ a ∷ []) bt ss ∙ ap (λ (l : List Setting). items l ss) (append-assoc at (a ∷ []) bt)
+
+items-next : (at : List Setting) (s : Statement) (ss : List Statement) → is anAttribute s ≡ false → items at (s ∷ ss) ≡ with-settings at s ∷ items [] ss
+unfolding items
+items-next at s ss e = rw e
+
+items-object :
+    (at : List Setting) (s : Statement) (ss : List Statement) → is anAttribute s ≡ false → items [] (settings at ++ s ∷ ss) ≡ with-settings at s ∷ items [] ss
+items-object at s ss e = items-settings [] at (s ∷ ss) ∙ items-next at s ss e
+
+unfoldable itemsOf : Entry → List Item
+itemsOf (param-entry n c) = plain (param-stmt n c) ∷ []
+itemsOf (wire-entry o) = with-settings (o .attributes) (wire-stmt (o .body) (o .name)) ∷ []
+itemsOf (memory-entry o) = with-settings (o .attributes) (memory-stmt (o .body) (o .name)) ∷ []
+itemsOf (cell-entry at t n es) = with-settings at (cell-stmt t n) ∷ map (λ e. plain (lineIn e)) es ++ plain end-stmt ∷ []
+itemsOf (connection-entry x y) = plain (conn-stmt x y) ∷ []
+
+items-cell : (es : List CellEntry) (ss : List Statement) → items [] (map lineIn es ++ ss) ≡ map (λ e. plain (lineIn e)) es ++ items [] ss
+unfolding nestingOpen designOpen statementsOpen
+items-cell [] ss = refl
+items-cell (parameter-entry o a ∷ es) ss = ap (λ (l : List Item). plain (cell-param-stmt o (a .0) (a .1)) ∷ l) (items-cell es ss)
+items-cell (port-entry n x ∷ es) ss = ap (λ (l : List Item). plain (cell-conn-stmt n x) ∷ l) (items-cell es ss)
+
+items-entry : (e : Entry) (ss : List Statement) → items [] (linesOf e ++ ss) ≡ itemsOf e ++ items [] ss
+unfolding nestingOpen itemsOf statementsOpen
+items-entry (param-entry n c) ss = items-next [] (param-stmt n c) ss refl
+items-entry (wire-entry o) ss = rw append-assoc (items-object (o .attributes) (wire-stmt (o .body) (o .name)) ss refl)
+items-entry (memory-entry o) ss = rw append-assoc (items-object (o .attributes) (memory-stmt (o .body) (o .name)) ss refl)
+items-entry (cell-entry at t n es) ss =
+    let inside : List Item = map (λ e. plain (lineIn e)) es in
+    rw append-assoc
+    (items-object at (cell-stmt t n) ((map lineIn es ++ end-stmt ∷ []) ++ ss) refl
+    ∙ ap (λ (l : List Item). with-settings at (cell-stmt t n) ∷ l)
+    (ap (items []) (append-assoc (map lineIn es) (end-stmt ∷ []) ss)
+    ∙ items-cell es (end-stmt ∷ ss)
+    ∙ ap (λ (l : List Item). inside ++ l) (items-next [] end-stmt ss refl)
+    ∙ sym (append-assoc inside (plain end-stmt ∷ []) (items [] ss))))
+items-entry (connection-entry x y) ss = items-next [] (conn-stmt x y) ss refl
+
+items-entries : (es : List Entry) (ss : List Statement) → items [] (flatMap linesOf es ++ ss) ≡ flatMap itemsOf es ++ items [] ss
+unfolding flatMap
+items-entries [] ss = refl
+items-entries (e ∷ es) ss =
+    ap (items []) (append-assoc (linesOf e) (flatMap linesOf es) ss)
+    ∙ items-entry e (flatMap linesOf es ++ ss)
+    ∙ ap (λ (l : List Item). itemsOf e ++ l) (items-entries es ss)
+    ∙ sym (append-assoc (itemsOf e) (flatMap itemsOf es) (items [] ss))
+
+-- of a module: its line, its entries, its end
+unfoldable inModule : List Entry → List Item
+inModule es = flatMap itemsOf es ++ plain end-stmt ∷ []
+
+unfoldable moduleItems : Object (List Entry) → List Item
+moduleItems o = with-settings (o .attributes) (module-stmt (o .name)) ∷ inModule (o .body)
+
+items-module : (o : Object (List Entry)) (ss : List Statement) → items [] (linesOfModule o ++ ss) ≡ moduleItems o ++ items [] ss
+unfolding linesOfModule inModule moduleItems statementsOpen
+items-module o ss =
+    let ls : List Statement = flatMap linesOf (o .body) in
+    rw append-assoc
+    (items-object (o .attributes) (module-stmt (o .name)) ((ls ++ end-stmt ∷ []) ++ ss) refl
+    ∙ ap (λ (l : List Item). with-settings (o .attributes) (module-stmt (o .name)) ∷ l)
+    (ap (items []) (append-assoc ls (end-stmt ∷ []) ss)
+    ∙ items-entries (o .body) (end-stmt ∷ ss)
+    ∙ ap (λ (l : List Item). flatMap itemsOf (o .body) ++ l) (items-next [] end-stmt ss refl)
+    ∙ sym (append-assoc (flatMap itemsOf (o .body)) (plain end-stmt ∷ []) (items [] ss))))
+
+items-modules : (os : List (Object (List Entry))) → items [] (flatMap linesOfModule os) ≡ flatMap moduleItems os
+unfolding flatMap items
+items-modules [] = refl
+items-modules (o ∷ os) = items-module o (flatMap linesOfModule os) ∙ ap (λ (l : List Item). moduleItems o ++ l) (items-modules os)
+
+-- BLOCKS
+module _ (opens : Statement → Bool) where
+  abbrev closed : Item → Bool
+  closed i = not (opens (i .statement))
+
+  blocks-none : (is′ js : List Item) → all closed is′ ≡ true → blocks opens (is′ ++ js) ≡ blocks opens js
+  unfolding blocks all
+  blocks-none [] js e = refl
+  blocks-none (i ∷ is′) js e =
+      rw (not-true (opens (i .statement)) (and-true-left _ _ e)) (blocks-none is′ js (and-true-right (closed i) _ e))
+
+  until-none : (is′ js : List Item) → all closed is′ ≡ true → until (λ j. opens (j .statement)) (is′ ++ js) ≡ is′ ++ until (λ j. opens (j .statement)) js
+  unfolding until all
+  until-none [] js e = refl
+  until-none (i ∷ is′) js e =
+      rw (not-true (opens (i .statement)) (and-true-left _ _ e)) (ap (λ (l : List Item). i ∷ l) (until-none is′ js (and-true-right (closed i) _ e)))
+
+-- no entry opens a module
+cell-in-module : (es : List CellEntry) → all (closed (is aModule)) (map (λ e. plain (lineIn e)) es) ≡ true
+unfolding all lineIn statementsOpen
+cell-in-module [] = refl
+cell-in-module (parameter-entry o a ∷ es) = cell-in-module es
+cell-in-module (port-entry n x ∷ es) = cell-in-module es
+
+entry-in-module : (e : Entry) → all (closed (is aModule)) (itemsOf e) ≡ true
+unfolding all itemsOf statementsOpen
+entry-in-module (param-entry n c) = refl
+entry-in-module (wire-entry o) = refl
+entry-in-module (memory-entry o) = refl
+entry-in-module (cell-entry at t n es) = all-append _ (map (λ e. plain (lineIn e)) es) _ (cell-in-module es) refl
+entry-in-module (connection-entry x y) = refl
+
+all-in-module : (es : List Entry) → all (closed (is aModule)) (inModule es) ≡ true
+unfolding all inModule statementsOpen
+all-in-module es = all-append _ (flatMap itemsOf es) _ (all-flatMap _ itemsOf entry-in-module es) refl
+
+until-modules : (os : List (Object (List Entry))) → until (λ j. is aModule (j .statement)) (flatMap moduleItems os) ≡ []
+unfolding until flatMap moduleItems statementsOpen
+until-modules [] = refl
+until-modules (o ∷ os) = refl
+
+abbrev blockOf : Object (List Entry) → Item × List Item
+blockOf o = (with-settings (o .attributes) (module-stmt (o .name)), inModule (o .body))
+
+blocks-modules : (os : List (Object (List Entry))) → blocks (is aModule) (flatMap moduleItems os) ≡ map blockOf os
+unfolding blocks flatMap moduleItems statementsOpen
+blocks-modules [] = refl
+blocks-modules (o ∷ os) =
+    let h = all-in-module (o .body) in
+    let u = until-none (is aModule) (inModule (o .body)) (flatMap moduleItems os) h in
+    let b = blocks-none (is aModule) (inModule (o .body)) (flatMap moduleItems os) h in
+    rw (u, until-modules os, append-nil, b) (ap (λ (l : List (Item × List Item)). blockOf o ∷ l) (blocks-modules os))
+
+-- EACH KIND
+module _ {A : Type 0} (f : Item → List A) (g : Entry → List A) where
+  in-module : ((e : Entry) → flatMap f (itemsOf e) ≡ g e) → f (plain end-stmt) ≡ [] → (es : List Entry) → flatMap f (inModule es) ≡ flatMap g es
+  unfolding inModule flatMap
+  in-module h e es =
+      flatMap-append f (flatMap itemsOf es) (plain end-stmt ∷ [])
+      ∙ rw (e, append-nil) (flatMap-flatMap f itemsOf es ∙ flatMap-same (λ x. flatMap f (itemsOf x)) g h es)
+
+each-append : {A : Type 0} (f : Statement → List A) (is′ js : List Item) → each f (is′ ++ js) ≡ each f is′ ++ each f js
+unfolding each
+each-append f is′ js = flatMap-append (λ i. f (i .statement)) is′ js
+
+-- in a cell
+module _ {A : Type 0} (f : Statement → List A) (g : CellEntry → List A) where
+  in-cell : ((e : CellEntry) → f (lineIn e) ≡ g e) → (es : List CellEntry) → each f (map (λ e. plain (lineIn e)) es) ≡ flatMap g es
+  unfolding each
+  in-cell h es = flatMap-map (λ i. f (i .statement)) (λ e. plain (lineIn e)) es ∙ flatMap-same (λ e. f (lineIn e)) g h es
+
+  in-cell-end :
+      ((e : CellEntry) → f (lineIn e) ≡ g e) → f end-stmt ≡ [] → (es : List CellEntry) →
+      each f (map (λ e. plain (lineIn e)) es ++ plain end-stmt ∷ []) ≡ flatMap g es
+  unfolding each flatMap
+  in-cell-end h e es =
+      flatMap-append (λ i. f (i .statement)) (map (λ e. plain (lineIn e)) es) (plain end-stmt ∷ []) ∙ rw (e, append-nil) (in-cell h es)
+
+none-in-cell :
+    {A : Type 0} (f : Item → List A) → ((e : CellEntry) → f (plain (lineIn e)) ≡ []) → f (plain end-stmt) ≡ [] → (es : List CellEntry) →
+    flatMap f (map (λ e. plain (lineIn e)) es ++ plain end-stmt ∷ []) ≡ []
+unfolding flatMap
+none-in-cell f h e [] = rw e
+none-in-cell f h e (x ∷ es) = rw (h x) (none-in-cell f h e es)
+
+parameters-in : (e : Entry) → flatMap (λ i. parameterIn (i .statement)) (itemsOf e) ≡ parametersOf e
+unfolding nestingOpen itemsOf designOpen statementsOpen
+parameters-in (param-entry n none) = refl
+parameters-in (param-entry n (some c)) = refl
+parameters-in (wire-entry o) = refl
+parameters-in (memory-entry o) = refl
+parameters-in (cell-entry at t n es) = none-in-cell (λ i. parameterIn (i .statement)) (elim [ parameter-entry o a ↦ refl | port-entry m x ↦ refl ]) refl es
+parameters-in (connection-entry x y) = refl
+
+wires-in : (e : Entry) → flatMap (objectsIn (λ c. c .wires)) (itemsOf e) ≡ wiresOf e
+unfolding nestingOpen itemsOf designOpen statementsOpen
+wires-in (param-entry n none) = refl
+wires-in (param-entry n (some c)) = refl
+wires-in (wire-entry o) = refl
+wires-in (memory-entry o) = refl
+wires-in (cell-entry at t n es) = none-in-cell (objectsIn (λ c. c .wires)) (elim [ parameter-entry o a ↦ refl | port-entry m x ↦ refl ]) refl es
+wires-in (connection-entry x y) = refl
+
+memories-in : (e : Entry) → flatMap (objectsIn (λ c. c .memories)) (itemsOf e) ≡ memoriesOf e
+unfolding nestingOpen itemsOf designOpen statementsOpen
+memories-in (param-entry n none) = refl
+memories-in (param-entry n (some c)) = refl
+memories-in (wire-entry o) = refl
+memories-in (memory-entry o) = refl
+memories-in (cell-entry at t n es) = none-in-cell (objectsIn (λ c. c .memories)) (elim [ parameter-entry o a ↦ refl | port-entry m x ↦ refl ]) refl es
+memories-in (connection-entry x y) = refl
+
+connections-in : (e : Entry) → flatMap (λ i. connectionIn (i .statement)) (itemsOf e) ≡ connectionsOf e
+unfolding nestingOpen itemsOf designOpen statementsOpen
+connections-in (param-entry n none) = refl
+connections-in (param-entry n (some c)) = refl
+connections-in (wire-entry o) = refl
+connections-in (memory-entry o) = refl
+connections-in (cell-entry at t n es) = none-in-cell (λ i. connectionIn (i .statement)) (elim [ parameter-entry o a ↦ refl | port-entry m x ↦ refl ]) refl es
+connections-in (connection-entry x y) = refl
+
+-- CELLS: behind a cell's end, up to the next cell, nothing is a cell's
+unfoldable outside : {A : Type 0} → (Statement → List A) → Entry → Type 0
+outside f (param-entry n c) = f (param-stmt n c) ≡ []
+outside f (wire-entry o) = f (wire-stmt (o .body) (o .name)) ≡ []
+outside f (memory-entry o) = f (memory-stmt (o .body) (o .name)) ≡ []
+outside f (cell-entry at t n es) = Unit {0}
+outside f (connection-entry x y) = f (conn-stmt x y) ≡ []
+
+module _ {A : Type 0} (f : Statement → List A) (out : (e : Entry) → outside f e) (ends : f end-stmt ≡ []) where
+  none-outside : (es : List Entry) → each f (until (λ j. is aCell (j .statement)) (inModule es)) ≡ []
+  unfolding outside each inModule itemsOf until flatMap statementsOpen
+  none-outside [] = rw ends
+  none-outside (param-entry n c ∷ es) = rw (out (param-entry n c)) (none-outside es)
+  none-outside (wire-entry o ∷ es) = rw (out (wire-entry o)) (none-outside es)
+  none-outside (memory-entry o ∷ es) = rw (out (memory-entry o)) (none-outside es)
+  none-outside (cell-entry at t n cs ∷ es) = refl
+  none-outside (connection-entry x y ∷ es) = rw (out (connection-entry x y)) (none-outside es)
+
+outside-parameter : (e : Entry) → outside cellParameterIn e
+unfolding outside designOpen statementsOpen
+outside-parameter (param-entry n none) = refl
+outside-parameter (param-entry n (some c)) = refl
+outside-parameter (wire-entry o) = refl
+outside-parameter (memory-entry o) = refl
+outside-parameter (cell-entry at t n es) = tt
+outside-parameter (connection-entry x y) = refl
+
+outside-port : (e : Entry) → outside portIn e
+unfolding outside designOpen statementsOpen
+outside-port (param-entry n c) = refl
+outside-port (wire-entry o) = refl
+outside-port (memory-entry o) = refl
+outside-port (cell-entry at t n es) = tt
+outside-port (connection-entry x y) = refl
+
+cell-in-cell : (es : List CellEntry) → all (closed (is aCell)) (map (λ e. plain (lineIn e)) es ++ plain end-stmt ∷ []) ≡ true
+unfolding all lineIn statementsOpen
+cell-in-cell [] = refl
+cell-in-cell (parameter-entry o a ∷ es) = cell-in-cell es
+cell-in-cell (port-entry n x ∷ es) = cell-in-cell es
+
+abbrev cellAt : List Setting → Name → Name → List CellEntry → Object Cell
+cellAt at t n cs = object at n (record { type = t; parameters = flatMap parameterOf cs; connections = flatMap portOf cs })
+
+-- what a cell's block has of a kind
+block-has :
+    {A : Type 0} (f : Statement → List A) (g : CellEntry → List A) → ((e : CellEntry) → f (lineIn e) ≡ g e) → f end-stmt ≡ [] → ((e : Entry) → outside f e) →
+    (cs : List CellEntry) (es : List Entry) →
+    each f ((map (λ e. plain (lineIn e)) cs ++ plain end-stmt ∷ []) ++ until (λ j. is aCell (j .statement)) (inModule es)) ≡ flatMap g cs
+block-has f g h e out cs es =
+    each-append f (map (λ e. plain (lineIn e)) cs ++ plain end-stmt ∷ []) (until (λ j. is aCell (j .statement)) (inModule es))
+    ∙ rw (none-outside f out e es, append-nil) (in-cell-end f g h e cs)
+
+cell-block :
+    (at : List Setting) (t n : Name) (cs : List CellEntry) (es : List Entry) →
+    cellOf (with-settings at (cell-stmt t n), (map (λ e. plain (lineIn e)) cs ++ plain end-stmt ∷ []) ++ until (λ j. is aCell (j .statement)) (inModule es)) ≡ cellAt at t n cs ∷ []
+unfolding lineIn parameterOf portOf cellParameterIn settingIn portIn cellOf pair zip zipWith statementsOpen
+cell-block at t n cs es =
+    rw (
+      block-has cellParameterIn parameterOf (elim [ parameter-entry o a ↦ refl | port-entry m x ↦ refl ]) refl outside-parameter cs es,
+      block-has portIn portOf (elim [ parameter-entry o a ↦ refl | port-entry m x ↦ refl ]) refl outside-port cs es,
+    )
+
+cells-in : (es : List Entry) → flatMap cellOf (blocks (is aCell) (inModule es)) ≡ flatMap cellsOf es
+unfolding inModule itemsOf blocks flatMap cellsOf statementsOpen
+cells-in [] = refl
+cells-in (param-entry n c ∷ es) = cells-in es
+cells-in (wire-entry o ∷ es) = cells-in es
+cells-in (memory-entry o ∷ es) = cells-in es
+cells-in (cell-entry at t n cs ∷ es) =
+    let inside : List Item = map (λ e. plain (lineIn e)) cs ++ plain end-stmt ∷ [] in
+    let h = cell-in-cell cs in
+    let a = append-assoc inside (flatMap itemsOf es) (plain end-stmt ∷ []) in
+    let u = until-none (is aCell) inside (flatMap itemsOf es ++ plain end-stmt ∷ []) h in
+    let b = blocks-none (is aCell) inside (flatMap itemsOf es ++ plain end-stmt ∷ []) h in
+    rw (a, u, b, cell-block at t n cs es) (ap (λ (l : List (Object Cell)). cellAt at t n cs ∷ l) (cells-in es))
+cells-in (connection-entry x y ∷ es) = cells-in es
+
+-- A MODULE, A FILE
+end-parameter : parameterIn end-stmt ≡ []
+unfolding designOpen statementsOpen
+end-parameter = refl
+
+end-wire : objectsIn (λ c. c .wires) (plain end-stmt) ≡ []
+unfolding designOpen statementsOpen
+end-wire = refl
+
+end-memory : objectsIn (λ c. c .memories) (plain end-stmt) ≡ []
+unfolding designOpen statementsOpen
+end-memory = refl
+
+end-connection : connectionIn end-stmt ≡ []
+unfolding designOpen statementsOpen
+end-connection = refl
+
+module-block : (o : Object (List Entry)) → moduleOf (blockOf o) ≡ moduleIn o
+unfolding moduleOf each moduleIn bodyOf statementsOpen
+module-block o =
+    let es = o .body in
+    rw (
+      in-module (λ i. parameterIn (i .statement)) parametersOf parameters-in end-parameter es,
+      in-module (objectsIn (λ c. c .wires)) wiresOf wires-in end-wire es,
+      in-module (objectsIn (λ c. c .memories)) memoriesOf memories-in end-memory es,
+      cells-in es,
+      in-module (λ i. connectionIn (i .statement)) connectionsOf connections-in end-connection es,
+    )
+
+module-blocks : (os : List (Object (List Entry))) → map moduleOf (map blockOf os) ≡ map moduleIn os
+module-blocks [] = refl
+module-blocks (o ∷ os) = ap₂ _∷_ (module-block o) (module-blocks os)
+
+-- no module has an `autoidx` line
+abbrev integersIn : List Statement → List ℤ
+integersIn ss = flatMap (λ s. contents s .integers) ss
+
+settings-integers : (at : List Setting) → integersIn (settings at) ≡ []
+unfolding flatMap statementsOpen
+settings-integers [] = refl
+settings-integers (a ∷ at) = settings-integers at
+
+cell-integers : (es : List CellEntry) → integersIn (map lineIn es ++ end-stmt ∷ []) ≡ []
+unfolding flatMap lineIn statementsOpen
+cell-integers [] = refl
+cell-integers (parameter-entry o a ∷ es) = cell-integers es
+cell-integers (port-entry n x ∷ es) = cell-integers es
+
+after-settings : (at : List Setting) (ss : List Statement) → integersIn (settings at ++ ss) ≡ integersIn ss
+after-settings at ss = flatMap-append (λ s. contents s .integers) (settings at) ss ∙ rw (settings-integers at)
+
+entry-integers : (e : Entry) → integersIn (linesOf e) ≡ []
+unfolding flatMap linesOf statementsOpen
+entry-integers (param-entry n c) = refl
+entry-integers (wire-entry o) = after-settings (o .attributes) _
+entry-integers (memory-entry o) = after-settings (o .attributes) _
+entry-integers (cell-entry at t n es) = after-settings at _ ∙ cell-integers es
+entry-integers (connection-entry x y) = refl
+
+module-integers : (o : Object (List Entry)) → integersIn (linesOfModule o) ≡ []
+unfolding flatMap linesOfModule statementsOpen
+module-integers o =
+    after-settings (o .attributes) _
+    ∙ flatMap-append (λ s. contents s .integers) (flatMap linesOf (o .body)) (end-stmt ∷ [])
+    ∙ rw (flatMap-flatMap (λ s. contents s .integers) linesOf (o .body), flatMap-none (λ e. integersIn (linesOf e)) entry-integers (o .body))
+
+file-integers : (os : List (Object (List Entry))) → integersIn (flatMap linesOfModule os) ≡ []
+file-integers os = flatMap-flatMap (λ s. contents s .integers) linesOfModule os ∙ flatMap-none (λ o. integersIn (linesOfModule o)) module-integers os
+
+modules-lines : (os : List (Object (List Entry))) → map moduleOf (blocks (is aModule) (items [] (flatMap linesOfModule os))) ≡ map moduleIn os
+modules-lines os = ap (map moduleOf) (ap (blocks (is aModule)) (items-modules os) ∙ blocks-modules os) ∙ module-blocks os
+
+abbrev designBy : Option ℤ → List (Object Module) → Design
+designBy a os = record { autoidx = a; modules = os }
+
+lines-by :
+    (a : Option ℤ) (os : List (Object (List Entry))) →
+    design (linesOfFile (record { autoidx = a; modules = os })) ≡ designOf (record { autoidx = a; modules = os })
+unfolding design linesOfFile designOf flatMap items blocks Option·toList statementsOpen
+lines-by none os = ap₂ designBy (ap head? (file-integers os)) (modules-lines os)
+lines-by (some i) os = ap (designBy (some i)) (modules-lines os)
+
+pub design-lines : (f : File) → design (linesOfFile f) ≡ designOf f
+design-lines f = lines-by (f .autoidx) (f .modules)
+
+-- THE CANONICAL ORDER
+alone : {A : Type 0} (xs : List A) → flatMap (λ x. x ∷ []) xs ≡ xs
+unfolding flatMap
+alone [] = refl
+alone (x ∷ xs) = ap (λ (l : List _). x ∷ l) (alone xs)
+
+flatMap-self : {A : Type 0} (f : A → List A) → ((x : A) → f x ≡ x ∷ []) → (xs : List A) → flatMap f xs ≡ xs
+unfolding flatMap
+flatMap-self f h [] = refl
+flatMap-self f h (x ∷ xs) = rw (h x) (ap (λ (l : List _). x ∷ l) (flatMap-self f h xs))
+
+abbrev pub cellEntry : Object Cell → Entry
+cellEntry c = cell-entry (c .attributes) (c .body .type) (c .name) (cellEntries (c .body))
+
+module _ {A : Type 0} (f : Entry → List A) (m : Module) where
+  kinds-apart :
+      flatMap f (entries m)
+      ≡ flatMap (λ p. f (param-entry (p .0) (p .1))) (m .parameters)
+      ++ flatMap (λ w. f (wire-entry w)) (m .wires)
+      ++ flatMap (λ y. f (memory-entry y)) (m .memories)
+      ++ flatMap (λ c. f (cellEntry c)) (m .cells)
+      ++ flatMap (λ k. f (connection-entry (k .0) (k .1))) (m .connections)
+  unfolding entries
+  kinds-apart = simp (flatMap-append, flatMap-map)
+
+none-of : {A B : Type 0} (xs : List A) → flatMap {B = B} (λ (x : A). []) xs ≡ []
+none-of xs = flatMap-none (λ x. []) (λ x. refl) xs
+
+parameters-apart : (m : Module) → flatMap parametersOf (entries m) ≡ m .parameters
+unfolding parametersOf
+parameters-apart m = kinds-apart parametersOf m ∙ simp (none-of, append-nil, alone (m .parameters))
+
+wires-apart : (m : Module) → flatMap wiresOf (entries m) ≡ m .wires
+unfolding wiresOf
+wires-apart m = kinds-apart wiresOf m ∙ simp (none-of, append-nil, alone (m .wires))
+
+memories-apart : (m : Module) → flatMap memoriesOf (entries m) ≡ m .memories
+unfolding memoriesOf
+memories-apart m = kinds-apart memoriesOf m ∙ simp (none-of, append-nil, alone (m .memories))
+
+connections-apart : (m : Module) → flatMap connectionsOf (entries m) ≡ m .connections
+unfolding connectionsOf
+connections-apart m = kinds-apart connectionsOf m ∙ simp (none-of, alone (m .connections))
+
+cell-apart : (c : Object Cell) → cellsOf (cellEntry c) ≡ c ∷ []
+unfolding cellsOf cellEntries parameterOf portOf
+cell-apart c = simp (flatMap-append, flatMap-map, none-of, append-nil, alone (c .body .parameters), alone (c .body .connections))
+
+cells-apart : (m : Module) → flatMap cellsOf (entries m) ≡ m .cells
+unfolding cellsOf
+cells-apart m = kinds-apart cellsOf m ∙ simp (none-of, append-nil) (flatMap-self (λ c. cellsOf (cellEntry c)) cell-apart (m .cells))
+
+pub body-entries : (m : Module) → bodyOf (entries m) ≡ m
+unfolding bodyOf
+body-entries m = rw (parameters-apart m, wires-apart m, memories-apart m, cells-apart m, connections-apart m)
+
+modules-file : (os : List (Object Module)) → map moduleIn (map (λ o. object (o .attributes) (o .name) (entries (o .body))) os) ≡ os
+unfolding moduleIn
+modules-file [] = refl
+modules-file (o ∷ os) = ap₂ _∷_ (ap (object (o .attributes) (o .name)) (body-entries (o .body))) (modules-file os)
+
+pub design-file : (d : Design) → designOf (fileOf d) ≡ d
+unfolding designOf fileOf
+design-file d = ap (designBy (d .autoidx)) (modules-file (d .modules))
+
+-- and its lines are those of the canonical order
+cell-lines : (c : Cell) (n : Name) → cellLines c n ≡ cell-stmt (c .type) n ∷ map lineIn (cellEntries c) ++ end-stmt ∷ []
+unfolding cellLines cellEntries lineIn
+cell-lines c n = simp (map-append, map-map)
+
+pub module-lines : (m : Module) (n : Name) → moduleLines m n ≡ module-stmt n ∷ flatMap linesOf (entries m) ++ end-stmt ∷ []
+unfolding moduleLines objects linesOf
+module-lines m n =
+    let p = flatMap-one {B = Statement} (λ (p : Name × Option Constant). param-stmt (p .0) (p .1) ∷ []) (λ p. param-stmt (p .0) (p .1)) (λ p. refl) (m .parameters) in
+    let k = flatMap-one {B = Statement} (λ (k : Signal × Signal). conn-stmt (k .0) (k .1) ∷ []) (λ k. conn-stmt (k .0) (k .1)) (λ k. refl) (m .connections) in
+    let c =
+    flatMap-same (λ (o : Object Cell). linesOf (cellEntry o)) (λ o. settings (o .attributes) ++ cellLines (o .body) (o .name))
+    (λ o. ap (λ (l : List Statement). settings (o .attributes) ++ l) (sym (cell-lines (o .body) (o .name)))) (m .cells) in
+    rw (kinds-apart linesOf m, p, k, c)
+
+pub flatten-file : (d : Design) → flatten d ≡ linesOfFile (fileOf d)
+unfolding flatten objects linesOfFile fileOf linesOfModule
+flatten-file d =
+    let m =
+    flatMap-same (λ (o : Object Module). settings (o .attributes) ++ moduleLines (o .body) (o .name)) (λ o. linesOfModule (object (o .attributes) (o .name) (entries (o .body))))
+    (λ o. ap (λ (l : List Statement). settings (o .attributes) ++ l) (module-lines (o .body) (o .name))) (d .modules) in
+    rw (flatMap-map linesOfModule (λ (o : Object Module). object (o .attributes) (o .name) (entries (o .body)))) (ap (λ (l : List Statement). map autoidx-stmt (Option·toList (d .autoidx)) ++ l) m)
+
+pub design-flatten : (d : Design) → design (flatten d) ≡ d
+design-flatten d = ap design (flatten-file d) ∙ design-lines (fileOf d) ∙ design-file d

@@ -1,0 +1,77 @@
+-- A design that some file holds, told of the design itself, whatever the order in a file.
+use Prim.Native.Nat.{ℕ, _≤_}
+use mathlib.Core.Path.{_≡_}
+use mathlib.Core.List.{List, [], _∷_, _++_, map, flatMap, reverse}
+use mathlib.Core.Bool.{Bool, true, false, cond, _&&_}
+use lib.Dec.{eqb}
+use Rattle.rules.specs.Bytes.{same, all, legal}
+use Rattle.rules.specs.Tokens.{Name}
+use Rattle.rules.specs.Statements.{Signal, Statement, contents}
+use Rattle.rules.specs.Numbers.{int32}
+use Rattle.rules.specs.Signals.{Wires}
+use Rattle.rules.specs.Judgement.{sum, portNumbers, exceedsSize}
+use Rattle.rules.specs.Design.{Setting, Object, Cell, Module, Design, flatten}
+use Rattle.rules.specs.Session.{names}
+use Rattle.admitted.specs.Admitted.{fineConstant, fineWire, fineMemory, fineSignal, sameLength}
+
+-- how many pass a test
+unfoldable pub times : {A : Type 0} → (A → Bool) → List A → ℕ
+times f xs = sum (λ x. cond (f x) 1 0) xs
+
+-- names that differ: each stands there at most once
+abbrev pub Differ : List Name → Type 0
+Differ ns = (n : Name) → times (same n) ns ≤ 1
+
+-- what holds of each element
+abbrev pub Each : {A : Type 0} → (A → Type 0) → List A → Type 0
+Each P [] = Unit {0}
+Each P (x ∷ xs) = P x × Each P xs
+
+abbrev pub settingNames : List Setting → List Name
+settingNames at = map (λ a. a .0) at
+
+-- a module's wires as a line behind them sees them, the last one first; all its signals
+unfoldable pub wiresIn : Module → Wires
+wiresIn m = reverse (map (λ o. (o .name, o .body)) (m .wires))
+
+unfoldable pub signalsIn : Module → List Signal
+signalsIn m = flatMap (λ c. map (λ k. k .1) (c .body .connections)) (m .cells) ++ flatMap (λ k. k .0 ∷ k .1 ∷ []) (m .connections)
+
+-- the port numbers of its wires
+unfoldable pub portsIn : Module → List ℕ
+portsIn m = flatMap (λ w. portNumbers (w .body)) (m .wires)
+
+-- Parameter names in one cell differ, and so do port names
+pub record FineCell (c : Object Cell) : Type 0 where
+  pub attributes : Differ (settingNames (c .attributes))
+  pub parameters : Differ (map (λ p. p .1 .0) (c .body .parameters))
+  pub ports : Differ (map (λ k. k .0) (c .body .connections))
+
+-- Attribute names on one object, parameter names and port numbers in a module differ, and wires, memories and cells share one name space;
+-- the bits of each signal lie in wires of the module
+pub record FineModule (o : Object Module) : Type 0 where
+  pub attributes : Differ (settingNames (o .attributes))
+  pub names : Differ (names (o .body))
+  pub parameters : Differ (map (λ p. p .0) (o .body .parameters))
+  pub port-numbers : (n : ℕ) → times (eqb n) (portsIn (o .body)) ≤ 1
+  pub wires : Each (λ w. Differ (settingNames (w .attributes))) (o .body .wires)
+  pub memories : Each (λ y. Differ (settingNames (y .attributes))) (o .body .memories)
+  pub cells : Each FineCell (o .body .cells)
+  pub signals : all (fineSignal (wiresIn (o .body))) (signalsIn (o .body)) ≡ true
+
+-- what a statement's names, numbers and constants keep by themselves; both sides of a connection have equal width
+unfoldable pub fineAlone : Statement → Bool
+fineAlone s =
+    all legal (contents s .names)
+    && all int32 (contents s .integers)
+    && all fineConstant (contents s .constants)
+    && all (fineWire []) (contents s .wires)
+    && all fineMemory (contents s .memories)
+    && sameLength (contents s .signals)
+
+-- Module names differ; no size is exceeded
+pub record FineDesign (d : Design) : Type 0 where
+  pub modules : Each FineModule (d .modules)
+  pub names : Differ (map (λ o. o .name) (d .modules))
+  pub statements : all fineAlone (flatten d) ≡ true
+  pub sizes : exceedsSize (flatten d) ≡ false

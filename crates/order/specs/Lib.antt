@@ -1,0 +1,15 @@
+pub mod Nesting
+pub mod DesignLaws
+pub mod Fine
+pub mod Tally
+pub mod Sums
+pub mod Apart
+pub mod BodySums
+pub mod Walks
+pub mod Places
+pub mod Seen
+pub mod FineAdmitted
+pub mod Parse
+pub mod AdmittedFine
+pub mod RenamedFine
+pub mod Canonical

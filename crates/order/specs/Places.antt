@@ -1,0 +1,186 @@
+-- Each statement of a file stands where it may, and the file may end behind the last one.
+-- Assumes nothing.
+use mathlib.Core.Path.{_≡_, refl, _∙_}
+use mathlib.Core.List.{List, [], _∷_, _++_, map, flatMap, reverse, reverseAux, reverseAux-append, Option·toList}
+use mathlib.Core.Option.{Option, none, some}
+use mathlib.Core.Bool.{Bool, true, false}
+use Prim.Native.Nat.{ℕ}
+use native.Mathlib.Omega.{arith}
+use lib.IntN.{ℤ}
+use Rattle.rules.specs.Bytes.{any}
+use Rattle.rules.specs.Tokens.{Name}
+use Rattle.rules.specs.Statements.{Constant, Signal, Wire, Memory, Statement, anAttribute, is, autoidx-stmt, attr-stmt, module-stmt, param-stmt, wire-stmt, memory-stmt, cell-stmt, cell-param-stmt, cell-conn-stmt, conn-stmt, end-stmt, statementsOpen}
+use Rattle.rules.specs.Shapes.{Scope, top, inModule, inCell}
+use Rattle.rules.specs.Judgement.{Past, outer, scope, context, among}
+use Rattle.rules.specs.Reading.{isTop}
+use Rattle.rules.specs.Design.{Setting, Object}
+use Rattle.admitted.specs.Admitted.{kinds, stands, closes}
+use Rattle.order.specs.Nesting.{CellEntry, parameter-entry, port-entry, Entry, param-entry, wire-entry, memory-entry, cell-entry, connection-entry, File, settings, lineIn, linesOf, linesOfModule, linesOfFile}
+use Rattle.order.specs.Fine.{Each}
+use Rattle.order.specs.Tally.{Through}
+use Rattle.order.specs.Walks.{behind-each}
+
+pub context-scope : (p : Past) → context p .scope ≡ scope p
+unfolding context scope
+context-scope [] = refl
+context-scope (s ∷ p) = refl
+
+-- statements that stand, and the next one's place: its scope, and that no attribute waits
+pub record At (z : Scope) (p : Past) : Type 0 where
+  pub standing : Through stands p
+  pub scope : scope p ≡ z
+
+pub record Ready (z : Scope) (p : Past) : Type 0 where
+  pub at : At z p
+  pub free : context p .attributed ≡ false
+
+abbrev fits : Scope → Bool → Bool → Statement → Bool
+fits z first attributed s = among (kinds z first attributed) s
+
+stands-in : (z : Scope) (p : Past) (s : Statement) → scope p ≡ z → ((first attributed : Bool) → fits z first attributed s ≡ true) → stands p s ≡ true
+unfolding stands
+stands-in z p s e h = rw (context-scope p, e) (h (context p .first) (context p .attributed))
+
+stands-free :
+    (z : Scope) (p : Past) (s : Statement) → scope p ≡ z → context p .attributed ≡ false → ((first : Bool) → fits z first false s ≡ true) → stands p s ≡ true
+unfolding stands
+stands-free z p s e f h = rw (context-scope p, e, f) (h (context p .first))
+
+-- attributes wait for an object
+attribute-at : (z : Scope) → (z ≡ inCell → ⊥) → (n : Name) (c : Constant) (first attributed : Bool) → fits z first attributed (attr-stmt n c) ≡ true
+unfolding kinds among any statementsOpen
+attribute-at top h n c true a = refl
+attribute-at top h n c false a = refl
+attribute-at inModule h n c f true = refl
+attribute-at inModule h n c f false = refl
+attribute-at inCell h n c f a = absurd (h refl)
+
+scope-attribute : (n : Name) (c : Constant) (p : Past) → scope (attr-stmt n c ∷ p) ≡ scope p
+unfolding scope statementsOpen
+scope-attribute n c p = refl
+
+settings-at : (z : Scope) → (z ≡ inCell → ⊥) → (at : List Setting) (p : Past) → At z p → At z (reverseAux (settings at) p)
+settings-at z h [] p a = a
+settings-at z h (b ∷ at) p a =
+    settings-at z h at (attr-stmt (b .0) (b .1) ∷ p)
+    (record {
+      standing = (stands-in z p (attr-stmt (b .0) (b .1)) (a .scope) (attribute-at z h (b .0) (b .1)), a .standing);
+      scope = scope-attribute (b .0) (b .1) p ∙ a .scope;
+    })
+
+-- a statement that is no attribute, where any may stand or where no attribute waits
+next :
+    {z y : Scope} {p : Past} (s : Statement) → At z p → ((first attributed : Bool) → fits z first attributed s ≡ true) → (scope p ≡ z → scope (s ∷ p) ≡ y) →
+    is anAttribute s ≡ false → Ready y (s ∷ p)
+unfolding context
+next {z} {y} {p} s a h k e = record { at = record { standing = (stands-in z p s (a .scope) h, a .standing); scope = k (a .scope) }; free = e }
+
+next-free :
+    {z y : Scope} {p : Past} (s : Statement) → Ready z p → ((first : Bool) → fits z first false s ≡ true) → (scope p ≡ z → scope (s ∷ p) ≡ y) →
+    is anAttribute s ≡ false → Ready y (s ∷ p)
+unfolding context
+next-free {z} {y} {p} s a h k e =
+    record { at = record { standing = (stands-free z p s (a .at .scope) (a .free) h, a .at .standing); scope = k (a .at .scope) }; free = e }
+
+ready-parameter : (n : Name) (c : Option Constant) (p : Past) → Ready inModule p → Ready inModule (param-stmt n c ∷ p)
+unfolding scope kinds among any statementsOpen
+ready-parameter n c p a = next-free (param-stmt n c) a (λ f. refl) (λ e. e) refl
+
+ready-connection : (x y : Signal) (p : Past) → Ready inModule p → Ready inModule (conn-stmt x y ∷ p)
+unfolding scope kinds among any statementsOpen
+ready-connection x y p a = next-free (conn-stmt x y) a (λ f. refl) (λ e. e) refl
+
+wire-fits : (w : Wire) (n : Name) (f a : Bool) → fits inModule f a (wire-stmt w n) ≡ true
+unfolding kinds among any statementsOpen
+wire-fits w n f true = refl
+wire-fits w n f false = refl
+
+memory-fits : (m : Memory) (n : Name) (f a : Bool) → fits inModule f a (memory-stmt m n) ≡ true
+unfolding kinds among any statementsOpen
+memory-fits w n f true = refl
+memory-fits w n f false = refl
+
+cell-fits : (t n : Name) (f a : Bool) → fits inModule f a (cell-stmt t n) ≡ true
+unfolding kinds among any statementsOpen
+cell-fits t n f true = refl
+cell-fits t n f false = refl
+
+module-fits : (n : Name) (f a : Bool) → fits top f a (module-stmt n) ≡ true
+unfolding kinds among any statementsOpen
+module-fits n true a = refl
+module-fits n false a = refl
+
+ready-wire : (w : Wire) (n : Name) (p : Past) → At inModule p → Ready inModule (wire-stmt w n ∷ p)
+unfolding scope statementsOpen
+ready-wire w n p a = next (wire-stmt w n) a (wire-fits w n) (λ e. e) refl
+
+ready-memory : (m : Memory) (n : Name) (p : Past) → At inModule p → Ready inModule (memory-stmt m n ∷ p)
+unfolding scope statementsOpen
+ready-memory m n p a = next (memory-stmt m n) a (memory-fits m n) (λ e. e) refl
+
+ready-cell : (t n : Name) (p : Past) → At inModule p → Ready inCell (cell-stmt t n ∷ p)
+unfolding scope statementsOpen
+ready-cell t n p a = next (cell-stmt t n) a (cell-fits t n) (λ e. refl) refl
+
+ready-module : (n : Name) (p : Past) → At top p → Ready inModule (module-stmt n ∷ p)
+unfolding scope statementsOpen
+ready-module n p a = next (module-stmt n) a (module-fits n) (λ e. refl) refl
+
+ready-end : (p : Past) → Ready inModule p → Ready top (end-stmt ∷ p)
+unfolding scope outer kinds among any statementsOpen
+ready-end p a = next-free end-stmt a (λ f. refl) (λ e. rw e) refl
+
+cell-lines : (es : List CellEntry) (p : Past) → Ready inCell p → Ready inModule (reverseAux (map lineIn es ++ end-stmt ∷ []) p)
+unfolding scope outer kinds among any lineIn statementsOpen
+cell-lines [] p a = next-free end-stmt a (λ f. refl) (λ e. rw e) refl
+cell-lines (parameter-entry o b ∷ es) p a = cell-lines es (cell-param-stmt o (b .0) (b .1) ∷ p) (next-free (cell-param-stmt o (b .0) (b .1)) a (λ f. refl) (λ e. e) refl)
+cell-lines (port-entry n x ∷ es) p a = cell-lines es (cell-conn-stmt n x ∷ p) (next-free (cell-conn-stmt n x) a (λ f. refl) (λ e. e) refl)
+
+in-module : inModule ≡ inCell → ⊥
+in-module e = let z : _≡_ {A = ℕ} 0 1 = cc in omega arith
+
+at-top : top ≡ inCell → ⊥
+at-top e = let z : _≡_ {A = ℕ} 0 1 = cc in omega arith
+
+entry-ready : (e : Entry) (p : Past) → Unit {0} → Ready inModule p → Ready inModule (reverseAux (linesOf e) p)
+unfolding linesOf
+entry-ready (param-entry n c) p u a = ready-parameter n c p a
+entry-ready (wire-entry o) p u a =
+    rw (reverseAux-append (settings (o .attributes))) (ready-wire (o .body) (o .name) _ (settings-at inModule in-module (o .attributes) p (a .at)))
+entry-ready (memory-entry o) p u a =
+    rw (reverseAux-append (settings (o .attributes))) (ready-memory (o .body) (o .name) _ (settings-at inModule in-module (o .attributes) p (a .at)))
+entry-ready (cell-entry at t n es) p u a =
+    rw (reverseAux-append (settings at)) (cell-lines es (cell-stmt t n ∷ reverseAux (settings at) p) (ready-cell t n _ (settings-at inModule in-module at p (a .at))))
+entry-ready (connection-entry x y) p u a = ready-connection x y p a
+
+each-any : {A : Type 0} (xs : List A) → Each (λ x. Unit {0}) xs
+each-any [] = tt
+each-any (x ∷ xs) = (tt, each-any xs)
+
+module-ready : (o : Object (List Entry)) (p : Past) → Unit {0} → Ready top p → Ready top (reverseAux (linesOfModule o) p)
+unfolding linesOfModule
+module-ready o p u a =
+    let r = reverseAux (settings (o .attributes)) p in
+    let m = module-stmt (o .name) in
+    let front = ready-module (o .name) r (settings-at top at-top (o .attributes) p (a .at)) in
+    let body = behind-each linesOf (λ e. Unit {0}) (Ready inModule) entry-ready (o .body) (m ∷ r) (each-any (o .body)) front in
+    rw (reverseAux-append (settings (o .attributes)), reverseAux-append (flatMap linesOf (o .body))) (ready-end (reverseAux (flatMap linesOf (o .body)) (m ∷ r)) body)
+
+start-ready : Ready top []
+unfolding scope context
+start-ready = record { at = record { standing = tt; scope = refl }; free = refl }
+
+autoidx-ready : (o : Option ℤ) → Ready top (reverseAux (map autoidx-stmt (Option·toList o)) [])
+unfolding scope context stands kinds among any Option·toList statementsOpen
+autoidx-ready none = start-ready
+autoidx-ready (some i) = record { at = record { standing = (refl, tt); scope = refl }; free = refl }
+
+pub file-ready : (x : File) → Ready top (reverse (linesOfFile x))
+unfolding linesOfFile
+file-ready x =
+    rw (reverseAux-append (map autoidx-stmt (Option·toList (x .autoidx))))
+    (behind-each linesOfModule (λ o. Unit {0}) (Ready top) module-ready (x .modules) _ (each-any (x .modules)) (autoidx-ready (x .autoidx)))
+
+pub ready-closes : (p : Past) → Ready top p → closes p ≡ true
+unfolding closes isTop
+ready-closes p a = rw (context-scope p, a .at .scope, a .free)

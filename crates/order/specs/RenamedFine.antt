@@ -1,0 +1,314 @@
+-- An accepted rename leaves a fine design fine; so do all that stand.
+-- Assumes nothing.
+use Prim.Native.Nat.{ℕ, zero, suc, _+_, _≤_}
+use mathlib.Core.Path.{_≡_, refl, sym, ap, _∙_}
+use mathlib.Core.List.{List, [], _∷_, _++_, map, flatMap, reverse-reverse, Option·toList}
+use mathlib.Core.Option.{some, Option·elim}
+use mathlib.Core.Bool.{Bool, true, false, not, cond, _&&_, _||_, false≢true}
+use native.Mathlib.Nat.{le-trans}
+use native.Mathlib.Omega.{arith}
+use borrow.Author.Tests.{not-false, ltb-false}
+use lib.Dec.{leb, ltb}
+use lib.ListN.{length, getElem?}
+use Rattle.rules.specs.Bytes.{same, any, all, legal}
+use Rattle.rules.specs.Tokens.{Name}
+use Rattle.rules.specs.Statements.{Signal, Bit, digit, bit, Wire, Statement, Kind, aModule, aParameter, aWire, aMemory, aCell, aCellParameter, aCellConnection, aConnection, anAttribute, autoidx-stmt, module-stmt, wire-stmt, end-stmt, statementsOpen}
+use Rattle.rules.specs.Judgement.{sum, among, count, signalSize, valueSize, stringSize, nameSize, exceedsSize, lowest, Verdict, accepted, verdict, portNumbers}
+use Rattle.rules.specs.Design.{Object, object, Module, Design, flatten}
+use Rattle.rules.specs.Session.{Rename, change, renameWire, renamed, now, roomUsed, names, taken, renameCall}
+use Rattle.admitted.specs.Admitted.{fineBit, fineSignal}
+use Rattle.scanner.specs.Laws.{by-test, same-eq}
+use Rattle.past.specs.Sizes.{sizesBy, sumsOf}
+use Rattle.past.proofs.SizeLaws.{within-past, limits-within, exceeds-sums}
+use Rattle.admitted.specs.Holds.{Allowed, no-renames, one-rename}
+use Rattle.order.specs.Nesting.{settings, linesOfModule, linesOfFile, entries, fileOf}
+use Rattle.order.specs.DesignLaws.{flatMap-map, body-entries, flatten-file}
+use Rattle.order.specs.Fine.{times, Differ, Each, wiresIn, signalsIn, portsIn, FineModule, fineAlone, FineDesign}
+use Rattle.order.specs.Tally.{times-none, or-false-right}
+use Rattle.order.specs.Sums.{sum-append, sum-map, sum-flatMap, sum-same, fails, all-none, none-all}
+use Rattle.order.specs.Walks.{all-same}
+use Rattle.order.specs.BodySums.{bodySum, module-sum}
+
+-- ONE ELEMENT CHANGED
+module _ {A : Type 0} (h : A → A) where
+  -- a sum grows by at most what one element grows by
+  sum-change : (g : A → ℕ) (c : ℕ) → ((x : A) → g (h x) ≤ g x + c) → (i : ℕ) (xs : List A) → sum g (change h i xs) ≤ sum g xs + c
+  unfolding sum change
+  sum-change g c k i [] = omega arith
+  sum-change g c k zero (x ∷ xs) = omega (arith, k x)
+  sum-change g c k (suc i) (x ∷ xs) = omega (arith, sum-change g c k i xs)
+
+  map-change : {B : Type 0} (g : A → B) → ((x : A) → g (h x) ≡ g x) → (i : ℕ) (xs : List A) → map g (change h i xs) ≡ map g xs
+  unfolding change
+  map-change g k i [] = refl
+  map-change g k zero (x ∷ xs) = ap (λ (y : _). y ∷ map g xs) (k x)
+  map-change g k (suc i) (x ∷ xs) = ap (λ (l : List _). g x ∷ l) (map-change g k i xs)
+
+  each-change : (P : A → Type 0) (i : ℕ) (xs : List A) → ((x : A) → getElem? xs i ≡ some x → P x → P (h x)) → Each P xs → Each P (change h i xs)
+  unfolding change
+  each-change P i [] k e = tt
+  each-change P zero (x ∷ xs) k e = (k x refl (e .0), e .1)
+  each-change P (suc i) (x ∷ xs) k e = (e .0, each-change P i xs k (e .1))
+
+-- SUMS OVER A DESIGN, module by module
+module _ (f : Statement → ℕ) where
+  unfoldable moduleSum : Object Module → ℕ
+  moduleSum o = sum f (settings (o .attributes)) + f (module-stmt (o .name)) + bodySum f (o .body) + f end-stmt
+
+  file-sum : (o : Object Module) → sum f (linesOfModule (object (o .attributes) (o .name) (entries (o .body)))) ≡ moduleSum o
+  unfolding moduleSum
+  file-sum o =
+      module-sum f (object (o .attributes) (o .name) (entries (o .body)))
+      ∙ ap (λ (m : Module). sum f (settings (o .attributes)) + f (module-stmt (o .name)) + bodySum f m + f end-stmt) (body-entries (o .body))
+
+  flatten-sum : (d : Design) → sum f (flatten d) ≡ sum f (map autoidx-stmt (Option·toList (d .autoidx))) + sum moduleSum (d .modules)
+  unfolding linesOfFile fileOf
+  flatten-sum d =
+      ap (sum f) (flatten-file d)
+      ∙ sum-append f (map autoidx-stmt (Option·toList (d .autoidx))) _
+      ∙ ap (λ (n : ℕ). sum f (map autoidx-stmt (Option·toList (d .autoidx))) + n)
+      (ap (sum f) (flatMap-map linesOfModule (λ o. object (o .attributes) (o .name) (entries (o .body))) (d .modules))
+      ∙ sum-flatMap f (λ o. linesOfModule (object (o .attributes) (o .name) (entries (o .body)))) (d .modules)
+      ∙ sum-same _ moduleSum file-sum (d .modules))
+
+  module _ (r : Rename) (c : ℕ) (k : (w : Wire) (n : Name) → f (wire-stmt w (r .newName)) ≤ f (wire-stmt w n) + c) where
+    body-renamed : (m : Module) → bodySum f (renameWire r m) ≤ bodySum f m + c
+    unfolding bodySum renameWire
+    body-renamed m =
+        let w =
+        sum-change (λ (w : Object Wire). object (w .attributes) (r .newName) (w .body)) (λ w. sum f (settings (w .attributes)) + f (wire-stmt (w .body) (w .name))) c
+        (λ w. omega (arith, k (w .body) (w .name))) (r .wireNumber) (m .wires) in
+        omega arith
+
+    -- a sum over a renamed design
+    pub renamed-sum : (d : Design) → sum f (flatten (renamed r d)) ≤ sum f (flatten d) + c
+    unfolding renamed moduleSum
+    renamed-sum d =
+        let w =
+        sum-change (λ (m : Object Module). object (m .attributes) (m .name) (renameWire r (m .body))) moduleSum c
+        (λ m. omega (arith, body-renamed (m .body))) (r .moduleNumber) (d .modules) in
+        omega (arith, flatten-sum d, flatten-sum (renamed r d))
+
+-- STATEMENTS AND SIZES: only a name is another
+count-same : (ks : List Kind) (w : Wire) (n m : Name) → count ks (wire-stmt w n) ≡ count ks (wire-stmt w m)
+unfolding count among statementsOpen
+count-same ks w n m = refl
+
+signals-same : (w : Wire) (n m : Name) → signalSize (wire-stmt w n) ≡ signalSize (wire-stmt w m)
+unfolding signalSize statementsOpen
+signals-same w n m = refl
+
+values-same : (w : Wire) (n m : Name) → valueSize (wire-stmt w n) ≡ valueSize (wire-stmt w m)
+unfolding valueSize statementsOpen
+values-same w n m = refl
+
+strings-same : (w : Wire) (n m : Name) → stringSize (wire-stmt w n) ≡ stringSize (wire-stmt w m)
+unfolding stringSize statementsOpen
+strings-same w n m = refl
+
+module _ (r : Rename) (d : Design) where
+  alone-renamed : legal (r .newName) ≡ true → (w : Wire) (n : Name) → fineAlone (wire-stmt w n) ≡ true → fineAlone (wire-stmt w (r .newName)) ≡ true
+  unfolding fineAlone all statementsOpen
+  alone-renamed l w n e = rw l (by-test (legal n) (λ q. rw q at e) (λ q. absurd (false≢true (rw q at e))))
+
+  fails-renamed : legal (r .newName) ≡ true → (w : Wire) (n : Name) → fails fineAlone (wire-stmt w (r .newName)) ≤ fails fineAlone (wire-stmt w n) + 0
+  unfolding fails
+  fails-renamed l w n =
+      by-test (fineAlone (wire-stmt w n))
+      (λ e. rw (e, alone-renamed l w n e) (omega arith))
+      (λ e. rw e (by-test (fineAlone (wire-stmt w (r .newName))) (λ q. rw q (omega arith)) (λ q. rw q (omega arith))))
+
+  statements-renamed : legal (r .newName) ≡ true → all fineAlone (flatten d) ≡ true → all fineAlone (flatten (renamed r d)) ≡ true
+  statements-renamed l e =
+      none-all fineAlone (flatten (renamed r d))
+      (omega (arith, all-none fineAlone (flatten d) e, renamed-sum (fails fineAlone) r 0 (fails-renamed l) d))
+
+  -- a size that no name counts in
+  same-size : (f : Statement → ℕ) → ((w : Wire) (n m : Name) → f (wire-stmt w n) ≡ f (wire-stmt w m)) → sum f (flatten (renamed r d)) ≤ sum f (flatten d)
+  same-size f h = omega (arith, renamed-sum f r 0 (λ w n. omega (arith, h w (r .newName) n)) d)
+
+  pub names-renamed : sum nameSize (flatten (renamed r d)) ≤ sum nameSize (flatten d) + length (r .newName)
+  unfolding nameSize sum statementsOpen
+  names-renamed = renamed-sum nameSize r (length (r .newName)) (λ w n. omega arith) d
+
+  sizes-renamed : sum nameSize (flatten (renamed r d)) ≤ 16384 → exceedsSize (flatten d) ≡ false → exceedsSize (flatten (renamed r d)) ≡ false
+  unfolding sumsOf sizesBy
+  sizes-renamed h e =
+      let b = within-past (flatten d) e in
+      sym (exceeds-sums (flatten (renamed r d)))
+      ∙ limits-within (sumsOf (flatten (renamed r d)))
+      (record {
+        modules = le-trans (same-size (count (aModule ∷ [])) (count-same (aModule ∷ []))) (b .modules);
+        wires = le-trans (same-size (count (aWire ∷ [])) (count-same (aWire ∷ []))) (b .wires);
+        memories = le-trans (same-size (count (aMemory ∷ [])) (count-same (aMemory ∷ []))) (b .memories);
+        cells = le-trans (same-size (count (aCell ∷ [])) (count-same (aCell ∷ []))) (b .cells);
+        parameters = le-trans (same-size (count (aParameter ∷ aCellParameter ∷ [])) (count-same (aParameter ∷ aCellParameter ∷ []))) (b .parameters);
+        attributes = le-trans (same-size (count (anAttribute ∷ [])) (count-same (anAttribute ∷ []))) (b .attributes);
+        ports = le-trans (same-size (count (aCellConnection ∷ [])) (count-same (aCellConnection ∷ []))) (b .ports);
+        connections = le-trans (same-size (count (aConnection ∷ [])) (count-same (aConnection ∷ []))) (b .connections);
+        signal-bits = le-trans (same-size signalSize signals-same) (b .signal-bits);
+        value-bits = le-trans (same-size valueSize values-same) (b .value-bits);
+        string-bytes = le-trans (same-size stringSize strings-same) (b .string-bytes);
+        name-bytes = h;
+      })
+
+-- NAMES AND WIRES OF A MODULE
+abbrev renameTo : Name → Object Wire → Object Wire
+renameTo n w = object (w .attributes) n (w .body)
+
+module _ (r : Rename) (m : Module) where
+  names-times : (n : Name) → times (same n) (names (renameWire r m)) ≤ times (same n) (names m) + cond (same n (r .newName)) 1 0
+  unfolding names renameWire times
+  names-times n =
+      let f : Name → ℕ = λ x. cond (same n x) 1 0 in
+      let ws = m .wires in
+      let vs = change (renameTo (r .newName)) (r .wireNumber) (m .wires) in
+      let ys : List Name = map (λ o. o .name) (m .memories) in
+      let cs : List Name = map (λ o. o .name) (m .cells) in
+      omega (
+        arith,
+        sum-append f (map (λ o. o .name) vs ++ ys) cs,
+        sum-append f (map (λ o. o .name) vs) ys,
+        sum-append f (map (λ o. o .name) ws ++ ys) cs,
+        sum-append f (map (λ o. o .name) ws) ys,
+        sum-map f (λ (o : Object Wire). o .name) vs,
+        sum-map f (λ (o : Object Wire). o .name) ws,
+        sum-change (renameTo (r .newName)) (λ w. f (w .name)) (f (r .newName)) (λ w. omega arith) (r .wireNumber) ws,
+      )
+
+  pub names-differ : any (same (r .newName)) (names m) ≡ false → Differ (names m) → Differ (names (renameWire r m))
+  names-differ t d n =
+      by-test (same n (r .newName))
+      (λ q.
+      let z : times (same n) (names m) ≡ 0 = rw (same-eq n (r .newName) q) (times-none (same (r .newName)) (names m) t) in
+      let k : times (same n) (names (renameWire r m)) ≤ times (same n) (names m) + 1 = rw q at (names-times n) in
+      omega arith)
+      (λ q. let k : times (same n) (names (renameWire r m)) ≤ times (same n) (names m) + 0 = rw q at (names-times n) in omega (arith, d n))
+
+  bodies-same : map (λ w. w .body) (renameWire r m .wires) ≡ map (λ w. w .body) (m .wires)
+  unfolding renameWire
+  bodies-same = map-change (renameTo (r .newName)) (λ w. w .body) (λ w. refl) (r .wireNumber) (m .wires)
+
+  ports-same : portsIn (renameWire r m) ≡ portsIn m
+  unfolding portsIn
+  ports-same =
+      sym (flatMap-map portNumbers (λ (w : Object Wire). w .body) (renameWire r m .wires))
+      ∙ ap (flatMap portNumbers) bodies-same
+      ∙ flatMap-map portNumbers (λ (w : Object Wire). w .body) (m .wires)
+
+-- a bit asks only for the width of its wire
+unfoldable bitIn : List Wire → Bit → Bool
+bitIn ws (digit d) = true
+bitIn ws (bit w i) = Option·elim (getElem? ws w) false (λ v. ltb i (v .width))
+
+get-map :
+    {A B : Type 0} (P : B → Bool) (g : A → B) (xs : List A) (n : ℕ) →
+    Option·elim (getElem? xs n) false (λ x. P (g x)) ≡ Option·elim (getElem? (map g xs) n) false P
+unfolding Option·elim
+get-map P g [] n = refl
+get-map P g (x ∷ xs) zero = refl
+get-map P g (x ∷ xs) (suc n) = get-map P g xs n
+
+bit-in : (m : Module) (b : Bit) → fineBit (wiresIn m) b ≡ bitIn (map (λ w. w .body) (m .wires)) b
+unfolding fineBit wiresIn bitIn
+bit-in m (digit d) = refl
+bit-in m (bit w i) =
+    rw reverse-reverse
+    (sym (get-map (λ (v : Name × Wire). ltb i (v .1 .width)) (λ (o : Object Wire). (o .name, o .body)) (m .wires) w) ∙ get-map (λ (v : Wire). ltb i (v .width)) (λ (o : Object Wire). o .body) (m .wires) w)
+
+signal-renamed : (r : Rename) (m : Module) (x : Signal) → fineSignal (wiresIn (renameWire r m)) x ≡ fineSignal (wiresIn m) x
+unfolding fineSignal
+signal-renamed r m x =
+    ap (λ (b : Bool). leb (length x) 2048 && b)
+    (all-same _ _ (λ b. bit-in (renameWire r m) b ∙ ap (λ (ws : List Wire). bitIn ws b) (bodies-same r m) ∙ sym (bit-in m b)) x)
+
+module-renamed :
+    (r : Rename) (o : Object Module) → any (same (r .newName)) (names (o .body)) ≡ false → FineModule o →
+    FineModule (object (o .attributes) (o .name) (renameWire r (o .body)))
+unfolding renameWire signalsIn
+module-renamed r o t f =
+    record {
+      attributes = f .attributes;
+      names = names-differ r (o .body) t (f .names);
+      parameters = f .parameters;
+      port-numbers = λ n. rw (ports-same r (o .body)) (f .port-numbers n);
+      wires = each-change (renameTo (r .newName)) _ (r .wireNumber) (o .body .wires) (λ w q p. p) (f .wires);
+      memories = f .memories;
+      cells = f .cells;
+      signals = all-same _ _ (signal-renamed r (o .body)) (signalsIn (o .body)) ∙ f .signals;
+    }
+
+-- A DESIGN
+taken-none :
+    (r : Rename) (d : Design) (o : Object Module) → getElem? (d .modules) (r .moduleNumber) ≡ some o → taken d (r .moduleNumber) (r .newName) ≡ false →
+    any (same (r .newName)) (names (o .body)) ≡ false
+unfolding taken Option·elim
+taken-none r d o q t = rw q at t
+
+pub fine-step :
+    (r : Rename) (d : Design) → FineDesign d → legal (r .newName) ≡ true → taken d (r .moduleNumber) (r .newName) ≡ false → sum nameSize (flatten (renamed r d)) ≤ 16384 →
+    FineDesign (renamed r d)
+unfolding renamed
+fine-step r d f l t h =
+    record {
+      modules = each-change _ FineModule (r .moduleNumber) (d .modules) (λ o q g. module-renamed r o (taken-none r d o q t) g) (f .modules);
+      names = rw (map-change (λ (m : Object Module). object (m .attributes) (m .name) (renameWire r (m .body))) (λ o. o .name) (λ o. refl) (r .moduleNumber) (d .modules)) (f .names);
+      statements = statements-renamed r d l (f .statements);
+      sizes = sizes-renamed r d h (f .sizes);
+    }
+
+-- NAMES NOW ARE AT MOST THE ROOM USED
+pub room-now : (d : Design) (rs : List Rename) → sum nameSize (flatten (now d rs)) ≤ roomUsed d rs
+unfolding now roomUsed sum
+room-now d [] = omega arith
+room-now d (r ∷ rs) = omega (arith, room-now (renamed r d) rs, names-renamed r d)
+
+pub now-more : (d : Design) (rs : List Rename) (r : Rename) → now d (rs ++ r ∷ []) ≡ renamed r (now d rs)
+unfolding now
+now-more d [] r = refl
+now-more d (q ∷ rs) r = now-more (renamed q d) rs r
+
+room-more : (d : Design) (rs : List Rename) (r : Rename) → roomUsed d (rs ++ r ∷ []) ≡ roomUsed d rs + length (r .newName)
+unfolding roomUsed sum
+room-more d rs r = omega (arith, sum-append (λ (q : Rename). length (q .newName)) rs (r ∷ []))
+
+-- WHAT AN ACCEPTED RENAME KEEPS
+next-test :
+    {A : Type 0} (a b : A) (n : ℕ) (t : Bool) (ts : List (ℕ × Bool)) → verdict a (lowest ((n, t) ∷ ts)) ≡ Verdict.accepted b →
+    (t ≡ false) × (verdict a (lowest ts) ≡ Verdict.accepted b)
+unfolding lowest verdict
+next-test a b n true ts e = (cc, cc)
+next-test a b n false ts e = (refl, e)
+
+pub record Kept (d : Design) (rs : List Rename) (r : Rename) : Type 0 where
+  pub legal : legal (r .newName) ≡ true
+  pub free : taken (now d rs) (r .moduleNumber) (r .newName) ≡ false
+  pub room : roomUsed d rs + length (r .newName) ≤ 16384
+
+pub accepted-keeps : (d : Design) (rs qs : List Rename) (r : Rename) → renameCall d rs r ≡ Verdict.accepted qs → Kept d rs r
+unfolding renameCall
+accepted-keeps d rs qs r e =
+    let a : List Rename = rs ++ r ∷ [] in
+    let e₄ = next-test a qs 4 (not (legal (r .newName))) _ e in
+    let e₆ = next-test a qs 6 _ _ (e₄ .1) in
+    let e₈ = next-test a qs 8 _ _ (e₆ .1) in
+    let e₉ = next-test a qs 9 (taken (now d rs) (r .moduleNumber) (r .newName)) _ (e₈ .1) in
+    let e₁₁ = next-test a qs 11 (leb 64 (length rs) || ltb 16384 (roomUsed d rs + length (r .newName))) [] (e₉ .1) in
+    record {
+      legal = not-false (legal (r .newName)) (e₄ .0);
+      free = e₉ .0;
+      room = ltb-false 16384 (roomUsed d rs + length (r .newName)) (or-false-right (leb 64 (length rs)) _ (e₁₁ .0));
+    }
+
+module _ (d : Design) (rs : List Rename) (r : Rename) where
+  pub fine-renamed : FineDesign (now d rs) → renameCall d rs r ≡ Verdict.accepted (rs ++ r ∷ []) → FineDesign (renamed r (now d rs))
+  fine-renamed f e =
+      let k = accepted-keeps d rs (rs ++ r ∷ []) r e in
+      let b : sum nameSize (flatten (renamed r (now d rs))) ≤ roomUsed d (rs ++ r ∷ []) = rw (now-more d rs r) at (room-now d (rs ++ r ∷ [])) in
+      fine-step r (now d rs) f (k .legal) (k .free) (omega (arith, room-more d rs r))
+
+-- with renames each of which was accepted after those before it
+pub fine-now : {d : Design} {qs : List Rename} → FineDesign d → Allowed d qs → FineDesign (now d qs)
+unfolding now
+fine-now f no-renames = f
+fine-now {d} f (one-rename rs r h e q) = rw (q, now-more d rs r) (fine-renamed d rs r (fine-now f h) e)

@@ -1,0 +1,291 @@
+-- The wires that a line sees, and the signals whose bits lie in them.
+-- Assumes nothing.
+use Prim.Native.Nat.{ℕ, zero, suc, _+_}
+use mathlib.Core.Path.{_≡_, refl, sym, ap, _∙_}
+use mathlib.Core.List.{List, [], _∷_, _++_, map, flatMap, reverse, reverseAux, reverseAux-append, reverse-append, map-append, append-assoc}
+use mathlib.Core.Option.{Option, Option·elim}
+use mathlib.Core.Bool.{Bool, true, false, not, _&&_}
+use native.Mathlib.Omega.{arith}
+use borrow.Author.Tests.{not-true}
+use lib.Dec.{leb, ltb}
+use lib.ListN.{length, getElem?}
+use Rattle.rules.specs.Bytes.{any, all}
+use Rattle.rules.specs.Tokens.{Name}
+use Rattle.rules.specs.Statements.{Constant, Signal, Bit, digit, bit, Wire, Statement, module-stmt, param-stmt, wire-stmt, memory-stmt, cell-param-stmt, cell-conn-stmt, conn-stmt, end-stmt, aModule, aWire, is, contents, statementsOpen}
+use Rattle.rules.specs.Signals.{Wires}
+use Rattle.rules.specs.Judgement.{Past, sum, wires}
+use Rattle.rules.specs.Design.{Setting, Object, object, Cell, Module}
+use Rattle.admitted.specs.Admitted.{fineBit, fineSignal}
+use Rattle.scanner.specs.Laws.{and-true-left, and-true-right}
+use Rattle.order.specs.Nesting.{CellEntry, parameter-entry, port-entry, Entry, param-entry, wire-entry, memory-entry, cell-entry, connection-entry, settings, lineIn, linesOf, wiresOf, bodyOf, linesOfModule, cellEntries, entries}
+use Rattle.order.specs.DesignLaws.{flatMap-append, flatMap-map, all-append, all-flatMap, cellEntry, body-entries}
+use Rattle.order.specs.Fine.{wiresIn, signalsIn}
+use Rattle.order.specs.Tally.{Through, through-before, by-wire, wires-none, wires-one, wires-reset}
+use Rattle.order.specs.Apart.{sees}
+use Rattle.order.specs.Sums.{sum-append, sum-map, sum-flatMap, sum-same, fails, all-none, none-all}
+use Rattle.order.specs.BodySums.{cellSum, bodySum, body-sum, sum-zero}
+use Rattle.order.specs.Walks.{noModule, settings-pass}
+
+-- THE WIRES BEHIND SOME LINES
+abbrev pub seen : Object Wire → Name × Wire
+seen o = (o .name, o .body)
+
+unfoldable pub quiet : Statement → Bool
+quiet s = not (is aModule s) && not (is aWire s)
+
+quiet-step : (s : Statement) (p : Past) → quiet s ≡ true → wires (s ∷ p) ≡ wires p
+unfolding quiet statementsOpen
+quiet-step s p =
+    by-wire (λ s. quiet s ≡ true → wires (s ∷ p) ≡ wires p) (λ w n e. cc)
+    (λ s q e. wires-none s p (not-true _ (and-true-left (not (is aModule s)) _ e)) q) s
+
+pub wires-still : (l : List Statement) (p : Past) → all quiet l ≡ true → wires (reverseAux l p) ≡ wires p
+unfolding all
+wires-still [] p e = refl
+wires-still (s ∷ l) p e = wires-still l (s ∷ p) (and-true-right (quiet s) _ e) ∙ quiet-step s p (and-true-left (quiet s) _ e)
+
+settings-quiet : (at : List Setting) → all quiet (settings at) ≡ true
+unfolding quiet statementsOpen
+settings-quiet at = settings-pass quiet (λ n c. refl) at
+
+cell-quiet : (es : List CellEntry) → all quiet (map lineIn es ++ end-stmt ∷ []) ≡ true
+unfolding all quiet lineIn statementsOpen
+cell-quiet [] = refl
+cell-quiet (parameter-entry o a ∷ es) = cell-quiet es
+cell-quiet (port-entry n x ∷ es) = cell-quiet es
+
+entry-wires : (e : Entry) (p : Past) → wires (reverseAux (linesOf e) p) ≡ reverseAux (map seen (wiresOf e)) (wires p)
+unfolding linesOf wiresOf all quiet statementsOpen
+entry-wires (param-entry n c) p = wires-still (param-stmt n c ∷ []) p refl
+entry-wires (wire-entry o) p =
+    rw (reverseAux-append (settings (o .attributes)))
+    (wires-one (o .body) (o .name) (reverseAux (settings (o .attributes)) p) ∙ ap (λ (l : Wires). (o .name, o .body) ∷ l) (wires-still (settings (o .attributes)) p (settings-quiet (o .attributes))))
+entry-wires (memory-entry o) p =
+    wires-still (linesOf (memory-entry o)) p (all-append quiet (settings (o .attributes)) _ (settings-quiet (o .attributes)) refl)
+entry-wires (cell-entry at t n es) p = wires-still (linesOf (cell-entry at t n es)) p (all-append quiet (settings at) _ (settings-quiet at) (cell-quiet es))
+entry-wires (connection-entry x y) p = wires-still (conn-stmt x y ∷ []) p refl
+
+pub entries-wires : (es : List Entry) (p : Past) → wires (reverseAux (flatMap linesOf es) p) ≡ reverseAux (map seen (flatMap wiresOf es)) (wires p)
+unfolding flatMap
+entries-wires [] p = refl
+entries-wires (e ∷ es) p =
+    ap wires (reverseAux-append (linesOf e) (flatMap linesOf es) p)
+    ∙ entries-wires es (reverseAux (linesOf e) p)
+    ∙ ap (reverseAux (map seen (flatMap wiresOf es))) (entry-wires e p)
+    ∙ sym (reverseAux-append (map seen (wiresOf e)) (map seen (flatMap wiresOf es)) (wires p))
+    ∙ ap (λ (l : Wires). reverseAux l (wires p)) (sym (map-append seen (wiresOf e) (flatMap wiresOf es)))
+
+-- those of a whole module
+pub body-wires : (n : Name) (es : List Entry) (p : Past) → wires (reverseAux (flatMap linesOf es) (module-stmt n ∷ p)) ≡ wiresIn (bodyOf es)
+unfolding wiresIn bodyOf statementsOpen
+body-wires n es p = entries-wires es (module-stmt n ∷ p) ∙ ap (reverseAux (map seen (flatMap wiresOf es))) (wires-reset (module-stmt n) p refl)
+
+-- A BIT OF A WIRE IS THAT OF THE SAME WIRE among more
+get-more :
+    {A : Type 0} (P : A → Bool) (xs ys : List A) (n : ℕ) → Option·elim (getElem? xs n) false P ≡ true → Option·elim (getElem? (xs ++ ys) n) false P ≡ true
+unfolding Option·elim
+get-more P [] ys n e = cc
+get-more P (x ∷ xs) ys zero e = e
+get-more P (x ∷ xs) ys (suc n) e = get-more P xs ys n e
+
+bit-more : (later ws : Wires) (b : Bit) → fineBit ws b ≡ true → fineBit (later ++ ws) b ≡ true
+unfolding fineBit
+bit-more later ws (digit d) e = refl
+bit-more later ws (bit w i) e = rw (reverse-append later ws) (get-more (λ v. ltb i (v .1 .width)) (reverse ws) (reverse later) w e)
+
+bits-more : (later ws : Wires) (bs : Signal) → all (fineBit ws) bs ≡ true → all (fineBit (later ++ ws)) bs ≡ true
+unfolding all
+bits-more later ws [] e = refl
+bits-more later ws (b ∷ bs) e = rw (bit-more later ws b (and-true-left (fineBit ws b) _ e)) (bits-more later ws bs (and-true-right (fineBit ws b) _ e))
+
+signals-more : (later ws : Wires) (xs : List Signal) → all (fineSignal ws) xs ≡ true → all (fineSignal (later ++ ws)) xs ≡ true
+unfolding all fineSignal
+signals-more later ws [] e = refl
+signals-more later ws (x ∷ xs) e =
+    let h = and-true-left (fineSignal ws x) _ e in
+    rw (and-true-left (leb (length x) 2048) _ h, bits-more later ws x (and-true-right (leb (length x) 2048) _ h)) (signals-more later ws xs (and-true-right (fineSignal ws x) _ e))
+
+-- the wires behind lines of a module are those before them and more
+pub record Grown (ws vs : Wires) : Type 0 where
+  pub later : Wires
+  pub are : vs ≡ later ++ ws
+
+step-grown : (s : Statement) (p : Past) → noModule s ≡ true → Grown (wires p) (wires (s ∷ p))
+step-grown s p =
+    by-wire (λ s. noModule s ≡ true → Grown (wires p) (wires (s ∷ p)))
+    (λ w n e. record { later = (n, w) ∷ []; are = wires-one w n p })
+    (λ s q e. record { later = []; are = wires-none s p (not-true (is aModule s) e) q }) s
+
+grown : (l : List Statement) (p : Past) → all noModule l ≡ true → Grown (wires p) (wires (reverseAux l p))
+unfolding all
+grown [] p e = record { later = []; are = refl }
+grown (s ∷ l) p e =
+    let a = step-grown s p (and-true-left (noModule s) _ e) in
+    let b = grown l (s ∷ p) (and-true-right (noModule s) _ e) in
+    record { later = b .later ++ a .later; are = b .are ∙ ap (λ (ws : Wires). b .later ++ ws) (a .are) ∙ sym (append-assoc (b .later) (a .later) (wires p)) }
+
+-- SIGNALS IN THE WIRES ws
+unfoldable pub sound : Wires → Statement → Bool
+sound ws s = all (fineSignal ws) (contents s .signals)
+
+pub seen-sound :
+    (ws : Wires) (l : List Statement) (p : Past) → ws ≡ wires (reverseAux l p) → all noModule l ≡ true → Through sees (reverseAux l p) → all (sound ws) l ≡ true
+unfolding all sees sound
+seen-sound ws [] p q e h = refl
+seen-sound ws (s ∷ l) p q e h =
+    let g = grown (s ∷ l) p e in
+    let k = signals-more (g .later) (wires p) (contents s .signals) (through-before sees l (s ∷ p) h .0) in
+    let r : all (fineSignal ws) (contents s .signals) ≡ true = rw (q, g .are) k in
+    rw r (seen-sound ws l (s ∷ p) q (and-true-right (noModule s) _ e) h)
+
+pub sound-sees :
+    (ws : Wires) (l : List Statement) (p : Past) → wires p ≡ ws → all quiet l ≡ true → all (sound ws) l ≡ true → Through sees p → Through sees (reverseAux l p)
+unfolding all sees sound
+sound-sees ws [] p q e k h = h
+sound-sees ws (s ∷ l) p q e k h =
+    sound-sees ws l (s ∷ p) (quiet-step s p (and-true-left (quiet s) _ e) ∙ q) (and-true-right (quiet s) _ e) (and-true-right (sound ws s) _ k)
+    (rw q (and-true-left (sound ws s) _ k), h)
+
+-- of a module's lines those of its signals
+unfoldable signalsBy : (Signal → ℕ) → Statement → ℕ
+signalsBy h s = sum h (contents s .signals)
+
+module _ (h : Signal → ℕ) where
+  by-zero : (at : List Setting) → sum (signalsBy h) (settings at) ≡ 0
+  unfolding signalsBy sum statementsOpen
+  by-zero [] = refl
+  by-zero (a ∷ at) = omega (arith, by-zero at)
+
+  by-cell : (c : Object Cell) → cellSum (signalsBy h) c ≡ sum h (map (λ k. k .1) (c .body .connections))
+  unfolding cellSum signalsBy sum statementsOpen
+  by-cell c =
+      let p : sum (λ p. signalsBy h (cell-param-stmt (p .0) (p .1 .0) (p .1 .1))) (c .body .parameters) ≡ 0 = sum-zero _ (λ p. refl) (c .body .parameters) in
+      let k : sum (λ k. signalsBy h (cell-conn-stmt (k .0) (k .1))) (c .body .connections) ≡ sum (λ k. h (k .1)) (c .body .connections) = sum-same _ _ (λ k. omega arith) (c .body .connections) in
+      omega (arith, by-zero (c .attributes), sum-map h (λ (k : Name × Signal). k .1) (c .body .connections))
+
+  signal-sum : (m : Module) → bodySum (signalsBy h) m ≡ sum h (signalsIn m)
+  unfolding bodySum signalsIn signalsBy sum statementsOpen
+  signal-sum m =
+      let f : Statement → ℕ = signalsBy h in
+      let p : sum (λ p. f (param-stmt (p .0) (p .1))) (m .parameters) ≡ 0 = sum-zero _ (λ p. refl) (m .parameters) in
+      let w : sum (λ w. sum f (settings (w .attributes)) + f (wire-stmt (w .body) (w .name))) (m .wires) ≡ 0 = sum-zero _ (λ w. omega (arith, by-zero (w .attributes))) (m .wires) in
+      let y : sum (λ y. sum f (settings (y .attributes)) + f (memory-stmt (y .body) (y .name))) (m .memories) ≡ 0 = sum-zero _ (λ y. omega (arith, by-zero (y .attributes))) (m .memories) in
+      let c = sum-same (cellSum f) (λ c. sum h (map (λ k. k .1) (c .body .connections))) by-cell (m .cells) in
+      let cs = sum-flatMap h (λ (c : Object Cell). map (λ k. k .1) (c .body .connections)) (m .cells) in
+      let ks = sum-flatMap h (λ (k : Signal × Signal). k .0 ∷ k .1 ∷ []) (m .connections) in
+      omega (arith, sum-append h (flatMap (λ (c : Object Cell). map (λ k. k .1) (c .body .connections)) (m .cells)) (flatMap (λ k. k .0 ∷ k .1 ∷ []) (m .connections)))
+
+module _ (ws : Wires) where
+  sound-none : (l : List Statement) → all (sound ws) l ≡ true → sum (signalsBy (fails (fineSignal ws))) l ≡ 0
+  unfolding all sound sum signalsBy
+  sound-none [] e = refl
+  sound-none (s ∷ l) e = omega (arith, all-none (fineSignal ws) (contents s .signals) (and-true-left (sound ws s) _ e), sound-none l (and-true-right (sound ws s) _ e))
+
+  none-sound : (l : List Statement) → sum (signalsBy (fails (fineSignal ws))) l ≡ 0 → all (sound ws) l ≡ true
+  unfolding all sound sum signalsBy
+  none-sound [] e = refl
+  none-sound (s ∷ l) e = rw (none-all (fineSignal ws) (contents s .signals) (omega arith)) (none-sound l (omega arith))
+
+  pub body-sound : (es : List Entry) → all (sound ws) (flatMap linesOf es) ≡ true → all (fineSignal ws) (signalsIn (bodyOf es)) ≡ true
+  body-sound es e =
+      none-all (fineSignal ws) (signalsIn (bodyOf es))
+      (omega (arith, sound-none (flatMap linesOf es) e, body-sum (signalsBy (fails (fineSignal ws))) es, signal-sum (fails (fineSignal ws)) (bodyOf es)))
+
+  pub sound-body : (es : List Entry) → all (fineSignal ws) (signalsIn (bodyOf es)) ≡ true → all (sound ws) (flatMap linesOf es) ≡ true
+  sound-body es e =
+      none-sound (flatMap linesOf es)
+      (omega (arith, all-none (fineSignal ws) (signalsIn (bodyOf es)) e, body-sum (signalsBy (fails (fineSignal ws))) es, signal-sum (fails (fineSignal ws)) (bodyOf es)))
+
+-- IN CANONICAL ORDER all wires of a module stand before its signals
+unfoldable mute : Statement → Bool
+mute s = not (any (λ x. true) (contents s .signals))
+
+by-none : (f : Signal → Bool) (xs : List Signal) → not (any (λ x. true) xs) ≡ true → all f xs ≡ true
+unfolding any all
+by-none f [] e = refl
+by-none f (x ∷ xs) e = cc
+
+all-back : {A : Type 0} (f : A → Bool) (xs ys : List A) → all f (xs ++ ys) ≡ true → all f ys ≡ true
+unfolding all
+all-back f [] ys e = e
+all-back f (x ∷ xs) ys e = all-back f xs ys (and-true-right (f x) _ e)
+
+mute-sees : (s : Statement) (p : Past) → mute s ≡ true → sees p s ≡ true
+unfolding mute sees
+mute-sees s p e = by-none (fineSignal (wires p)) (contents s .signals) e
+
+mute-through : (l : List Statement) (p : Past) → all mute l ≡ true → Through sees p → Through sees (reverseAux l p)
+unfolding all
+mute-through [] p e h = h
+mute-through (s ∷ l) p e h = mute-through l (s ∷ p) (and-true-right (mute s) _ e) (mute-sees s p (and-true-left (mute s) _ e), h)
+
+settings-mute : (at : List Setting) → all mute (settings at) ≡ true
+unfolding mute any statementsOpen
+settings-mute at = settings-pass mute (λ n c. refl) at
+
+-- lines of entries of one kind
+module _ (f : Statement → Bool) {A : Type 0} (g : A → Entry) where
+  all-kind : ((x : A) → all f (linesOf (g x)) ≡ true) → (xs : List A) → all f (flatMap linesOf (map g xs)) ≡ true
+  all-kind h xs = rw (flatMap-map linesOf g xs) (all-flatMap f (λ x. linesOf (g x)) h xs)
+
+module _ (m : Module) where
+  abbrev declares : List Entry
+  declares = map (λ p. param-entry (p .0) (p .1)) (m .parameters) ++ map wire-entry (m .wires) ++ map memory-entry (m .memories)
+
+  abbrev connects : List Entry
+  connects = map cellEntry (m .cells) ++ map (λ k. connection-entry (k .0) (k .1)) (m .connections)
+
+  entries-apart : flatMap linesOf (entries m) ≡ flatMap linesOf declares ++ flatMap linesOf connects
+  unfolding entries
+  entries-apart =
+      ap (flatMap linesOf) (append-assoc declares (map cellEntry (m .cells)) (map (λ k. connection-entry (k .0) (k .1)) (m .connections)))
+      ∙ flatMap-append linesOf declares connects
+
+  declares-mute : all mute (flatMap linesOf declares) ≡ true
+  unfolding linesOf all mute any statementsOpen
+  declares-mute =
+      let p = all-kind mute (λ (p : Name × Option Constant). param-entry (p .0) (p .1)) (λ p. refl) (m .parameters) in
+      let w = all-kind mute wire-entry (λ w. all-append mute (settings (w .attributes)) _ (settings-mute (w .attributes)) refl) (m .wires) in
+      let y = all-kind mute memory-entry (λ y. all-append mute (settings (y .attributes)) _ (settings-mute (y .attributes)) refl) (m .memories) in
+      let ps : List Entry = map (λ p. param-entry (p .0) (p .1)) (m .parameters) in
+      let vs : List Entry = map wire-entry (m .wires) in
+      let ys : List Entry = map memory-entry (m .memories) in
+      rw (flatMap-append linesOf (ps ++ vs) ys, flatMap-append linesOf ps vs)
+      (all-append mute (flatMap linesOf ps ++ flatMap linesOf vs) (flatMap linesOf ys) (all-append mute (flatMap linesOf ps) (flatMap linesOf vs) p w) y)
+
+  connects-quiet : all quiet (flatMap linesOf connects) ≡ true
+  unfolding linesOf all quiet statementsOpen
+  connects-quiet =
+      let c = all-kind quiet cellEntry (λ c. all-append quiet (settings (c .attributes)) _ (settings-quiet (c .attributes)) (cell-quiet (cellEntries (c .body)))) (m .cells) in
+      let k = all-kind quiet (λ (k : Signal × Signal). connection-entry (k .0) (k .1)) (λ k. refl) (m .connections) in
+      rw (flatMap-append linesOf (map cellEntry (m .cells)))
+      (all-append quiet (flatMap linesOf (map cellEntry (m .cells))) (flatMap linesOf (map (λ k. connection-entry (k .0) (k .1)) (m .connections))) c k)
+
+  body-sees :
+      (n : Name) (p : Past) → all (fineSignal (wiresIn m)) (signalsIn m) ≡ true → Through sees (module-stmt n ∷ p) →
+      Through sees (reverseAux (flatMap linesOf (entries m)) (module-stmt n ∷ p))
+  body-sees n p e h =
+      let r = reverseAux (flatMap linesOf declares) (module-stmt n ∷ p) in
+      let b : all (fineSignal (wiresIn m)) (signalsIn (bodyOf (entries m))) ≡ true = rw (body-entries m) e in
+      let s : all (sound (wiresIn m)) (flatMap linesOf declares ++ flatMap linesOf connects) ≡ true = rw entries-apart at (sound-body (wiresIn m) (entries m) b) in
+      let w : wires r ≡ wiresIn m =
+      sym (wires-still (flatMap linesOf connects) r connects-quiet)
+      ∙ ap wires (sym (reverseAux-append (flatMap linesOf declares) (flatMap linesOf connects) (module-stmt n ∷ p)))
+      ∙ ap (λ (l : List Statement). wires (reverseAux l (module-stmt n ∷ p))) (sym entries-apart)
+      ∙ body-wires n (entries m) p
+      ∙ ap wiresIn (body-entries m) in
+      rw (entries-apart, reverseAux-append (flatMap linesOf declares))
+      (sound-sees (wiresIn m) (flatMap linesOf connects) r w connects-quiet (all-back (sound (wiresIn m)) (flatMap linesOf declares) _ s)
+      (mute-through (flatMap linesOf declares) (module-stmt n ∷ p) declares-mute h))
+
+pub module-sees :
+    (o : Object Module) (p : Past) → all (fineSignal (wiresIn (o .body))) (signalsIn (o .body)) ≡ true → Through sees p →
+    Through sees (reverseAux (linesOfModule (object (o .attributes) (o .name) (entries (o .body)))) p)
+unfolding linesOfModule mute any statementsOpen
+module-sees o p e h =
+    let r = reverseAux (settings (o .attributes)) p in
+    let m = module-stmt (o .name) in
+    let front : Through sees (m ∷ r) = (mute-sees m r refl, mute-through (settings (o .attributes)) p (settings-mute (o .attributes)) h) in
+    let body = body-sees (o .body) (o .name) r e front in
+    rw (reverseAux-append (settings (o .attributes)), reverseAux-append (flatMap linesOf (entries (o .body))))
+    (mute-sees end-stmt (reverseAux (flatMap linesOf (entries (o .body))) (m ∷ r)) refl, body)
