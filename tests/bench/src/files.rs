@@ -57,12 +57,17 @@ pub fn of_size(size: usize) -> Vec<u8> {
     file.into_bytes()
 }
 
-/// 512 wires in one module; half of them are connected to the last one.
+/// A module that starts with so many wires.
+fn wires(count: usize) -> String {
+    let wires = (0..count).map(|number| format!("  wire \\w{number:03}\n"));
+    std::iter::once("module \\m\n".to_string())
+        .chain(wires)
+        .collect()
+}
+
+/// 512 wires in one module, each connected to the last one.
 pub fn wires_in_one_module() -> Vec<u8> {
-    let mut file = String::from("module \\m\n");
-    for number in 0..512 {
-        file += &format!("  wire \\w{number:03}\n");
-    }
+    let mut file = wires(512);
     for number in 0..512 {
         file += &format!("  connect \\w511 \\w{number:03}\n");
     }
@@ -70,12 +75,30 @@ pub fn wires_in_one_module() -> Vec<u8> {
     file.into_bytes()
 }
 
+/// 4,096 references to the last of 512 wires.
+pub fn references() -> Vec<u8> {
+    let mut file = wires(512);
+    for _ in 0..64 {
+        let members = " \\w511".repeat(32);
+        file += &format!("  connect {{{members} }} {{{members} }}\n");
+    }
+    file += "end\n";
+    file.into_bytes()
+}
+
+/// 1,024 attributes of one wire.
+pub fn attributes() -> Vec<u8> {
+    let attributes = (0..1_024).map(|number| format!("  attribute \\a{number:04} 1\n"));
+    let mut file: String = std::iter::once("module \\m\n".to_string())
+        .chain(attributes)
+        .collect();
+    file += "  wire \\w\nend\n";
+    file.into_bytes()
+}
+
 /// 256 cells of four connections each, to the last of 128 wires.
 pub fn cell_connections() -> Vec<u8> {
-    let mut file = String::from("module \\m\n");
-    for number in 0..128 {
-        file += &format!("  wire \\w{number:03}\n");
-    }
+    let mut file = wires(128);
     for number in 0..256 {
         file += &format!("  cell $c $c{number:03}\n");
         for port in ["\\A", "\\B", "\\C", "\\Y"] {
@@ -98,7 +121,13 @@ mod tests {
             assert_eq!(file.len(), 1_024 * size);
             assert!(reference::read(&file).is_ok(), "{size} KB");
         }
-        assert!(reference::read(&wires_in_one_module()).is_ok());
-        assert!(reference::read(&cell_connections()).is_ok());
+        for file in [
+            wires_in_one_module(),
+            references(),
+            attributes(),
+            cell_connections(),
+        ] {
+            assert!(reference::read(&file).is_ok());
+        }
     }
 }

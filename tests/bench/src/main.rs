@@ -8,6 +8,9 @@ use std::hint::black_box;
 use std::time::{Duration, Instant};
 
 const RUNS: usize = 300;
+/// The room for a line's tokens and signals (crates/reader).
+const OWN_WORDS: usize = 131_072 + 36_864;
+const HEAD: &str = "file                     bytes   whole us   lines us  reference us  whole/ref  lines/ref  growth of bytes, lines, reference";
 
 /// The shortest of the runs.
 fn shortest(mut run: impl FnMut()) -> Duration {
@@ -51,31 +54,26 @@ fn main() {
     let tables = Tables::zeroed();
     let bytes = tables.names.len() + tables.strings.len();
     let words = tables.bits.len() + tables.wires.len() + tables.rows.len();
+    println!("A read clears the tables lent, {bytes} bytes and {words} words, and {OWN_WORDS} words of its own.");
     println!(
-        "every read clears the tables lent ({bytes} bytes, {words} words) and room for tokens"
-    );
-    println!(
-        "an empty file: {:.1} us, which is taken off in the column 'lines'",
+        "With an empty file that is {:.1} us, which the columns 'lines' leave out.",
         micros(empty.library)
     );
-    let mut files = [1, 4, 16, 32].map(|size| (format!("{size} KB"), files::of_size(1_024 * size)));
-    println!("file                    bytes    whole us    lines us  reference us  whole/ref  lines/ref  growth of bytes, lines, reference");
+    println!("{HEAD}");
     let mut before = None;
-    for (name, file) in &mut files {
-        before = Some(print(name, file, &empty, before));
+    for size in [1, 4, 16, 32] {
+        let file = files::of_size(1_024 * size);
+        before = Some(print(&format!("{size} KB"), &file, &empty, before));
     }
-    print(
-        "512 wires, 512 connects",
-        &files::wires_in_one_module(),
-        &empty,
-        None,
-    );
-    print(
-        "1,024 cell connections",
-        &files::cell_connections(),
-        &empty,
-        None,
-    );
+    let full = [
+        ("512 wires, 512 connects", files::wires_in_one_module()),
+        ("512 wires, 4,096 uses", files::references()),
+        ("1,024 attributes", files::attributes()),
+        ("1,024 cell connections", files::cell_connections()),
+    ];
+    for (name, file) in full {
+        print(name, &file, &empty, None);
+    }
 }
 
 /// One line of the table; the sizes and times for the next one's growth.
@@ -84,7 +82,7 @@ fn print(name: &str, file: &[u8], empty: &Times, before: Option<[f64; 3]>) -> [f
     let (whole, reference) = (micros(taken.library), micros(taken.reference));
     let lines = whole - micros(empty.library);
     print!(
-        "{name:<24}{:>5} {whole:>11.1} {lines:>11.1} {reference:>13.1} {:>10.2} {:>10.2}",
+        "{name:<24}{:>6} {whole:>10.1} {lines:>10.1} {reference:>13.1} {:>10.2} {:>10.2}",
         file.len(),
         whole / reference,
         lines / reference
