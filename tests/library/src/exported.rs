@@ -28,7 +28,7 @@ extern "C" {
     ) -> Answer;
 }
 
-/// Reads a file into the tables and the card, whatever their lengths.
+/// Reads a file into the tables and the card, whatever their lengths. It takes about 700 KB of stack.
 pub fn read(file: &[u8], tables: &mut Tables, card: &mut Card) -> Answer {
     // SAFETY: each pointer comes with its length, no two overlap, and the call has no `requires`.
     unsafe {
