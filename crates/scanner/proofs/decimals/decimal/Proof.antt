@@ -7,8 +7,8 @@ use borrow.Author.Needs.{needs}
 use Rattle.rules.specs.Tokens.{number, decimal}
 use Rattle.scanner.specs.Numbers.{capped}
 use Rattle.scanner.proofs.NumberLaws.{capped-le, number-more, number-end}
-use Rattle.scanner.proofs.numbers.decimal.Statement.{statement}
-use Rattle.scanner.proofs.numbers.decimal.Tie as tie
+use Rattle.scanner.proofs.decimals.decimal.Statement.{statement}
+use Rattle.scanner.proofs.decimals.decimal.Tie as tie
 
 abbrev Inv-loop : tie.InvT-loop
 Inv-loop ds n₀ i₀ n i = (n ≤ 2147483649) × (capped (decimal ds) ≡ capped (number 10 n (drop i ds)))

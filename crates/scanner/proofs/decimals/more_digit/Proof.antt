@@ -4,8 +4,8 @@ use mathlib.Core.Logic.{⊎-elim}
 use borrow.Author.Needs.{needs}
 use native.Mathlib.Omega.{arith}
 use Rattle.scanner.specs.Numbers.{capped}
-use Rattle.scanner.proofs.numbers.more_digit.Statement.{statement}
-use Rattle.scanner.proofs.numbers.more_digit.Tie as tie
+use Rattle.scanner.proofs.decimals.more_digit.Statement.{statement}
+use Rattle.scanner.proofs.decimals.more_digit.Tie as tie
 
 returns : tie.Need-returns
 unfolding capped
