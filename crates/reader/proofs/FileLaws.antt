@@ -8,7 +8,7 @@ use native.Mathlib.Omega.{arith}
 use lib.Dec.{ltb, eqb}
 use lib.ListN.{length, take, drop, drop-of-length-le, replicate}
 use lib.Seq.{length-take-le}
-use borrow.Author.Tests.{ltb-false, lt-ltb, le-ltb, eqb-true}
+use borrow.Author.Tests.{eq-eqb, ltb-false, lt-ltb, le-ltb, eqb-true}
 use Rattle.rules.specs.Lines as rules
 use Rattle.rules.specs.Lines.{linesFrom, lines, place}
 use Rattle.rules.specs.Tokens.{tokensFrom}
@@ -53,10 +53,11 @@ pub place-end : (f : List ℕ) (l : Line) → place (lineOf f l) ≡ endOf (inCl
 unfolding place lineOf endOf
 place-end f l = let q : l .end - 0 ≡ l .end = omega arith in rw (q, class-blank)
 
-pub place-small : (f : List ℕ) (l : Line) → l .start ≤ l .end → l .end ≤ length f → length f ≤ 32768 → endOf (inClass 3 3) (take (l .end - 0) (drop 0 f)) (l .start) ≤ 32768
-place-small f l low high file =
+pub end-small :
+    (f : List ℕ) (l : Line) (lo hi r : ℕ) → r ≡ endOf (inClass lo hi) (take (l .end - 0) (drop 0 f)) (l .start) → l .start ≤ l .end → l .end ≤ length f → length f ≤ 32768 → r ≤ 32768
+end-small f l lo hi r e low high file =
     let q : length (take (l .end - 0) f) ≡ l .end - 0 = length-take-le (l .end - 0) f (omega arith) in
-    omega (arith, endOf-high (inClass 3 3) (take (l .end - 0) f) (l .start) (omega arith))
+    omega (arith, endOf-high (inClass lo hi) (take (l .end - 0) f) (l .start) (omega arith))
 
 -- behind the last byte stands a line without a token
 end-line : (size at : ℕ) (ss : Past) → readLines size (linesFrom at []) ss ≡ finish size ss
@@ -276,24 +277,35 @@ read-any f h = rw (le-ltb _ _ h)
 
 -- ---- lengths
 
-pub right-sized : (n s b w r : List ℕ) → rightSizes (length n) (length s) (length b) (length w) (length r) ≡ true → Sized (tabled n s b w r)
+sizes-exact : (n s b w r : ℕ) → rightSizes n s b w r ≡ true → (n ≡ 16384) × (s ≡ 8192) × (b ≡ 16384) × (w ≡ 8 * 512) × (r ≡ 8 * 4769)
 unfolding rightSizes
-right-sized n s b w r e =
-    let en : Bool = eqb (length n) 16384 in
-    let es : Bool = eqb (length s) 8192 in
-    let eb : Bool = eqb (length b) 16384 in
-    let ew : Bool = eqb (length w) (8 * 512) in
-    let er : Bool = eqb (length r) (8 * 4769) in
+sizes-exact n s b w r e =
+    let en : Bool = eqb n 16384 in
+    let es : Bool = eqb s 8192 in
+    let eb : Bool = eqb b 16384 in
+    let ew : Bool = eqb w (8 * 512) in
+    let er : Bool = eqb r (8 * 4769) in
     let e₃ = and-true-left (en && es && eb && ew) er e in
     let e₂ = and-true-left (en && es && eb) ew e₃ in
-    let e₁ = and-true-left (en && es) eb e₂ in
-    record {
-      names = eqb-true _ _ (and-true-left en es e₁);
-      strings = eqb-true _ _ (and-true-right en es e₁);
-      bits = eqb-true _ _ (and-true-right (en && es) eb e₂);
-      wires = eqb-true _ _ (and-true-right (en && es && eb) ew e₃);
-      rows = eqb-true _ _ (and-true-right (en && es && eb && ew) er e);
-    }
+    let e₁ = and-true-left (en && es) eb e₂ in (
+      eqb-true _ _ (and-true-left en es e₁),
+      eqb-true _ _ (and-true-right en es e₁),
+      eqb-true _ _ (and-true-right (en && es) eb e₂),
+      eqb-true _ _ (and-true-right (en && es && eb) ew e₃),
+      eqb-true _ _ (and-true-right (en && es && eb && ew) er e),
+    )
+
+pub right-sized : (n s b w r : List ℕ) → rightSizes (length n) (length s) (length b) (length w) (length r) ≡ true → Sized (tabled n s b w r)
+right-sized n s b w r e =
+    let h = sizes-exact (length n) (length s) (length b) (length w) (length r) e in
+    record { names = h .0; strings = h .1; bits = h .2; wires = h .3; rows = h .4 }
+
+pub wrong-sizes : (n s b w r : ℕ) → ((n ≡ 16384) × (s ≡ 8192) × (b ≡ 16384) × (w ≡ 8 * 512) × (r ≡ 8 * 4769) → ⊥) → false ≡ rightSizes n s b w r
+wrong-sizes n s b w r h = by-test (rightSizes n s b w r) (λ e. absurd (h (sizes-exact n s b w r e))) (λ e. sym e)
+
+pub last-size : (n s b w r : ℕ) → n ≡ 16384 → s ≡ 8192 → b ≡ 16384 → w ≡ 8 * 512 → eqb r (8 * 4769) ≡ rightSizes n s b w r
+unfolding rightSizes
+last-size n s b w r en es eb ew = rw (eq-eqb _ _ en, eq-eqb _ _ es, eq-eqb _ _ eb, eq-eqb _ _ ew)
 
 module _ (f n s b w r : List ℕ) (k m : ℕ) (t : Bool) (e : t ≡ rightSizes (length n) (length s) (length b) (length w) (length r)) where
   pub into-right : t ≡ true → (x : Result) → x ≡ leaves (read f) → x ≡ readInto f (lent n s b w r k m)

@@ -4,7 +4,7 @@ use native.Mathlib.Omega.{arith}
 use denote.Ref.{now}
 use Rattle.reader.specs.Steps.{refusalOf}
 use Rattle.reader.specs.declared.Answer.the-variants.{Refused}
-use Rattle.reader.proofs.FileLaws.{place-end, place-small}
+use Rattle.reader.proofs.FileLaws.{place-end, end-small}
 use borrow.Author.Needs.{needs}
 use Rattle.reader.proofs.refusal.Statement.{statement}
 use Rattle.reader.proofs.refusal.Tie as tie
@@ -28,7 +28,7 @@ run-end-requires : tie.Need-run-end-requires
 run-end-requires c κs = tt
 
 cast-t12 : tie.Need-cast-t12
-cast-t12 c = omega (arith, c .run-end .ensures, place-small (now (c .before .before .before .before .before .before .args .f)) (c .before .before .before .before .before .before .args .line) (c .before .before .before .before .before .before .pre .2) (c .before .before .before .before .before .before .pre .0) (c .before .before .before .before .before .before .pre .1))
+cast-t12 c = omega (arith, end-small (now (c .before .before .before .before .before .before .args .f)) (c .before .before .before .before .before .before .args .line) _ _ _ (c .run-end .ensures) (c .before .before .before .before .before .before .pre .2) (c .before .before .before .before .before .before .pre .0) (c .before .before .before .before .before .before .pre .1))
 
 returns : tie.Need-returns
 unfolding refusalOf

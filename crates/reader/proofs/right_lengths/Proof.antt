@@ -1,27 +1,22 @@
-use borrow.Author.Tests.{eq-eqb, ne-eqb}
-use Rattle.reader.specs.Read.{rightSizes}
+use native.Mathlib.Omega.{arith}
+use Rattle.reader.proofs.FileLaws.{wrong-sizes, last-size}
 use Rattle.reader.proofs.right_lengths.Statement.{statement}
 use Rattle.reader.proofs.right_lengths.Tie as tie
 
 returns : tie.Need-returns
-unfolding rightSizes
-returns c = rw (ne-eqb _ _ (c .if1 .taken))
+returns c = wrong-sizes _ _ _ _ _ (λ h. omega arith)
 
 returns-2 : tie.Need-returns-2
-unfolding rightSizes
-returns-2 c = rw (eq-eqb _ _ (c .before .if1 .left), ne-eqb _ _ (c .if2 .taken))
+returns-2 c = wrong-sizes _ _ _ _ _ (λ h. omega arith)
 
 returns-3 : tie.Need-returns-3
-unfolding rightSizes
-returns-3 c = rw (eq-eqb _ _ (c .before .before .if1 .left), eq-eqb _ _ (c .before .if2 .left), ne-eqb _ _ (c .if3 .taken))
+returns-3 c = wrong-sizes _ _ _ _ _ (λ h. omega arith)
 
 returns-4 : tie.Need-returns-4
-unfolding rightSizes
-returns-4 c = rw (eq-eqb _ _ (c .before .before .before .if1 .left), eq-eqb _ _ (c .before .before .if2 .left), eq-eqb _ _ (c .before .if3 .left), ne-eqb _ _ (c .if4 .taken))
+returns-4 c = wrong-sizes _ _ _ _ _ (λ h. omega arith)
 
 returns-5 : tie.Need-returns-5
-unfolding rightSizes
-returns-5 c = rw (eq-eqb _ _ (c .before .before .before .if1 .left), eq-eqb _ _ (c .before .before .if2 .left), eq-eqb _ _ (c .before .if3 .left), eq-eqb _ _ (c .if4 .left))
+returns-5 c = last-size _ _ _ _ _ (omega arith) (omega arith) (omega arith) (omega arith)
 
 pub right-lengths-spec : {M : Type 1} → statement M
 right-lengths-spec = tie.close (tie.spec returns returns-2 returns-3 returns-4 returns-5)
