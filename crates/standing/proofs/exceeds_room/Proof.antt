@@ -1,0 +1,21 @@
+-- `exceeds_room` meets its contract.
+-- Assumes nothing.
+use borrow.Author.Needs.{needs}
+use borrow.Author.Tests.{le-leb, lt-leb}
+use Rattle.standing.specs.Judged.{exceedsRoom}
+use Rattle.standing.proofs.exceeds_room.Statement.{statement}
+use Rattle.standing.proofs.exceeds_room.Tie as tie
+
+returns : tie.Need-returns
+unfolding exceedsRoom
+returns c = rw (le-leb _ _ (c .if1 .taken))
+
+add-result : tie.Need-add-result
+add-result c = search needs
+
+returns-2 : tie.Need-returns-2
+unfolding exceedsRoom
+returns-2 c = rw (lt-leb _ _ (c .if1 .left))
+
+pub exceeds-room-spec : {M : Type 1} → statement M
+exceeds-room-spec = tie.close (tie.spec returns add-result returns-2)

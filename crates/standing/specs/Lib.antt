@@ -1,0 +1,5 @@
+pub mod Judged
+pub mod RoomLaws
+pub mod NowLaws
+pub mod TakenLaws
+pub mod JudgedLaws

@@ -1,0 +1,143 @@
+-- A module's wires, and the names that are taken in it now, by the rows of the tables.
+-- Assumes nothing.
+use Prim.Native.Nat.{ℕ, zero, suc, _+_, _≤_, _<_}
+use mathlib.Core.Path.{_≡_, refl, sym, ap, ap₂, _∙_}
+use mathlib.Core.List.{List, [], _∷_, _++_, map, map-append, reverse, reverse-cons}
+use mathlib.Core.Option.{Option, none, Option·elim}
+use mathlib.Core.Bool.{Bool, true, false, _||_, or-comm, or-false}
+use native.Mathlib.Omega.{arith}
+use lib.Dec.{eqb}
+use lib.ListN.{length, getElem?, length-map, length-reverse}
+use Rattle.rules.specs.Bytes.{same, any, all}
+use Rattle.rules.specs.Tokens.{Name}
+use Rattle.rules.specs.Statements.{Wire, aMemory, aCell, code}
+use Rattle.rules.specs.Judgement.{Past}
+use Rattle.rules.specs.Signals.{Wires}
+use Rattle.rules.specs.Design.{Object, design}
+use Rattle.rules.specs.Session.{Rename, wiresAt, wireAt, now, taken}
+use Rattle.rules.specs.Layout.{putRenames}
+use Rattle.wires.specs.Rows.{nameOf, wireOf, wiresFrom}
+use Rattle.wires.specs.RowLaws.{length-wires, wire-numbered}
+use Rattle.past.specs.Place.{wiresIn, placeOf}
+use Rattle.past.specs.Offsets.{Offsets}
+use Rattle.netlist.specs.Kinds.{isKind, ofKinds, Tests, hasName, threeKinds}
+use Rattle.netlist.specs.Laid.{roomsOf, Laid, Wired}
+use Rattle.netlist.specs.LaidLaws.{laid-renames, eights-rows, length-rows}
+use Rattle.netlist.specs.NameLaws.{ownNames}
+use Rattle.netlist.specs.WireLaws.{wired-renames}
+use Rattle.designs.specs.Modules.{statementsOf, Headed}
+use Rattle.designs.specs.ListLaws.{any-append}
+use Rattle.designs.specs.Now.{numbered, nameNow}
+use Rattle.designs.specs.NowLaws.{taken-read-now}
+use Rattle.designs.specs.Ranges.{wireRange}
+use Rattle.designs.specs.RowLaws.{taken-range}
+use Rattle.designs.specs.WireLaws.{pairs-range, design-range}
+use Rattle.line_text.specs.Now as rows
+use Rattle.standing.specs.Judged.{objectTaken, nameTaken, moduleBy}
+use Rattle.standing.specs.NowLaws.{name-now-laid}
+
+-- A WIRE BY ITS NUMBER
+abbrev pairs : List (Object Wire) → Wires
+pairs xs = map (λ o. (o .name, o .body)) xs
+
+elim-pair : {C : Type 0} (z : C) (g : Wire → C) (xs : List (Object Wire)) (i : ℕ) → Option·elim (getElem? xs i) z (λ o. g (o .body)) ≡ Option·elim (getElem? (pairs xs) i) z (λ x. g (x .1))
+unfolding Option·elim
+elim-pair z g [] i = refl
+elim-pair z g (x ∷ xs) zero = refl
+elim-pair z g (x ∷ xs) (suc i) = elim-pair z g xs i
+
+at-past : {A : Type 0} (xs : List A) (n : ℕ) → length xs ≤ n → getElem? xs n ≡ none
+at-past [] n h = refl
+at-past (x ∷ xs) zero h = absurd (omega arith)
+at-past (x ∷ xs) (suc n) h = at-past xs n (omega arith)
+
+module _ {names t : List ℕ} (m w : ℕ) (ss : Past) (headed : Headed ss) (o : Offsets ss) (l : Wired (roomsOf ss) names t) {C : Type 0} (z : C) (g : Wire → C) where
+  wire-by : let r = wireRange t (wiresIn ss) m in Option·elim (wireAt (design (reverse ss)) m w) z (λ o. g (o .body)) ≡ Option·elim (getElem? (reverse (wiresFrom names t (r .first) (r .count))) w) z (λ x. g (x .1))
+  unfolding wireAt
+  wire-by =
+      elim-pair z g (wiresAt (design (reverse ss)) m) w
+      ∙ ap (λ (xs : Wires). Option·elim (getElem? xs w) z (λ x. g (x .1))) (sym (design-range m ss headed l o))
+
+  pub wire-there : let r = wireRange t (wiresIn ss) m in w < r .count → Option·elim (wireAt (design (reverse ss)) m w) z (λ o. g (o .body)) ≡ g (wireOf t (r .first + w))
+  unfolding Option·elim
+  wire-there h =
+      let r = wireRange t (wiresIn ss) m in
+      wire-by ∙ ap (λ (x : Option (Name × Wire)). Option·elim x z (λ y. g (y .1))) (wire-numbered names t (r .first) w (r .count) h)
+
+  pub wire-missing : let r = wireRange t (wiresIn ss) m in r .count ≤ w → Option·elim (wireAt (design (reverse ss)) m w) z (λ o. g (o .body)) ≡ z
+  unfolding Option·elim
+  wire-missing h =
+      let r = wireRange t (wiresIn ss) m in
+      let xs : Wires = wiresFrom names t (r .first) (r .count) in
+      wire-by
+      ∙ ap (λ (x : Option (Name × Wire)). Option·elim x z (λ y. g (y .1)))
+      (at-past (reverse xs) w (omega (arith, length-reverse xs, length-wires names t (r .first) (r .count))))
+
+-- NAMES BY THEIR NUMBERS, from the last one on
+numbered-last : {A : Type 0} (f : ℕ → A → A) (xs : List A) (x : A) → numbered f (xs ++ x ∷ []) ≡ numbered f xs ++ f (length xs) x ∷ []
+unfolding numbered
+numbered-last f [] x = refl
+numbered-last f (y ∷ xs) x = ap (λ (l : List _). f 0 y ∷ l) (numbered-last (λ i. f (suc i)) xs x)
+
+module _ (names wires t : List ℕ) (from count m first : ℕ) (f : ℕ → Name → Name) (g : Name → Bool)
+    (h : (j k : ℕ) → rows.nameNow names wires t from count m j k ≡ f j (nameOf names wires k)) where
+  abbrev own-names : ℕ → List Name
+  own-names many = map (λ x. x .0) (reverse (wiresFrom names wires first many))
+
+  own-last : (j : ℕ) → own-names (suc j) ≡ own-names j ++ nameOf names wires (first + j) ∷ []
+  unfolding wiresFrom
+  own-last j =
+      let xs : Wires = wiresFrom names wires first j in
+      ap (map (λ x. x .0)) (reverse-cons (nameOf names wires (first + j), wireOf wires (first + j)) xs)
+      ∙ map-append (λ x. x .0) (reverse xs) ((nameOf names wires (first + j), wireOf wires (first + j)) ∷ [])
+
+  own-length : (j : ℕ) → length (own-names j) ≡ j
+  own-length j =
+      let xs : Wires = wiresFrom names wires first j in
+      length-map (reverse xs) (λ x. x .0) ∙ length-reverse xs ∙ length-wires names wires first j
+
+  any-now : (many : ℕ) → any (λ x. g (x .0)) (rows.wiresNow names wires t from count m first many) ≡ any g (numbered f (own-names many))
+  unfolding any rows.wiresNow wiresFrom numbered
+  any-now zero = refl
+  any-now (suc j) =
+      let x : Name = nameOf names wires (first + j) in
+      ap₂ _||_ (ap g (h j (first + j))) (any-now j)
+      ∙ or-comm (g (f j x)) (any g (numbered f (own-names j)))
+      ∙ sym (ap (λ (xs : List Name). any g (numbered f xs)) (own-last j)
+      ∙ ap (any g) (numbered-last f (own-names j) x)
+      ∙ any-append g (numbered f (own-names j)) (f (length (own-names j)) x ∷ [])
+      ∙ ap (λ (b : Bool). any g (numbered f (own-names j)) || b) (or-false (g (f (length (own-names j)) x)) ∙ ap (λ (i : ℕ). g (f i x)) (own-length j)))
+
+-- MEMORIES AND CELLS
+or-twice : (a b : Bool) → a || (b || b) ≡ a || (b || false)
+or-twice true b = refl
+or-twice false true = refl
+or-twice false false = refl
+
+two-kinds : Tests (isKind (threeKinds aMemory aCell aCell)) (aMemory ∷ aCell ∷ [])
+unfolding isKind ofKinds any
+two-kinds n = or-twice (eqb (code aMemory) n) (eqb (code aCell) n)
+
+two-named : all (λ k. hasName (code k)) (aMemory ∷ aCell ∷ []) ≡ true
+unfolding all any hasName ofKinds code
+two-named = refl
+
+-- THE NAME SPACE NOW
+module _ {names wires t : List ℕ} (m : ℕ) (ss : Past) (headed : Headed ss) (o : Offsets ss) (rs : List Rename)
+    (l : Laid (putRenames (roomsOf ss) rs) names t) (k : Wired (putRenames (roomsOf ss) rs) names wires) (n : Name) where
+  objects-taken : objectTaken names t (length ss) m n ≡ any (same n) (ownNames (aMemory ∷ aCell ∷ []) (statementsOf m (reverse ss)))
+  unfolding objectTaken
+  objects-taken = taken-range m ss (laid-renames (roomsOf ss) rs l) (aMemory ∷ aCell ∷ []) two-named _ two-kinds n
+
+  pub taken-laid : nameTaken names wires t (moduleBy wires (placeOf ss) (length rs) m) n ≡ taken (now (design (reverse ss)) rs) m n
+  unfolding nameTaken rows.wiresIn placeOf
+  taken-laid =
+      let r = wireRange wires (wiresIn ss) m in
+      let e : length (roomsOf ss .rows) ≡ length ss = length-rows ss in
+      let h : (j i : ℕ) → rows.nameNow names wires t (length ss) (length rs) m j i ≡ nameNow rs m j (nameOf names wires i) =
+      λ j i. ap (λ (x : ℕ). rows.nameNow names wires t x (length rs) m j i) (sym e) ∙ name-now-laid wires (roomsOf ss) (eights-rows ss) m j i rs l in
+      ap₂ _||_
+      (any-now names wires t (length ss) (length rs) m (r .first) (nameNow rs m) (same n) h (r .count)
+      ∙ ap (λ (xs : Wires). any (same n) (numbered (nameNow rs m) (map (λ x. x .0) xs))) (pairs-range m ss headed (wired-renames (roomsOf ss) rs k) o))
+      objects-taken
+      ∙ sym (taken-read-now (reverse ss) rs m n)

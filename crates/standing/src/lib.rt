@@ -1,0 +1,135 @@
+// Whether a rename may stand behind the renames that stand already, by the tables that hold the design with them.
+// All of it is total: a word past a table's end counts as 0, and a span past its end is cut.
+use designs::module_rows;
+use designs::module_wires;
+use line_text::Module;
+use line_text::name_now;
+use netlist::rows::Kinds;
+use netlist::rows::name_taken;
+use numbers::kinds::ModuleNumber;
+use numbers::kinds::WireNumber;
+use past::place::Place;
+use scanner::names::legal;
+use scanner::names::same_bytes;
+use tables::word;
+ghost use mathlib.Core.Path.{_≡_};
+ghost use Prim.Native.Nat.{_<_, _≤_};
+ghost use Rattle.rules.specs.Bytes.{same, any};
+ghost use Rattle.rules.specs.Session.{isPort};
+ghost use Rattle.wires.specs.Rows.{wireOf};
+ghost use Rattle.line_text.specs.Now.{wiresIn};
+ghost use Rattle.standing.specs.Judged.{objectTaken, nameTaken, exceedsRoom, JudgedIs};
+
+// Whether the wire in a row is a port.
+fn is_port(wires: &[u32], row: usize) -> bool
+    requires { ⌜ row < 8589934592 ⌝ }
+    ensures { λ r. ⌜ r ≡ isPort (wireOf (now (wires .entry)) row) ⌝ }
+{
+    let direction = word(wires, 8 * row + 5) / 4;
+    if direction == 0 {
+        return false;
+    }
+    direction <= 3
+}
+
+// Whether a wire of the module has this name now.
+fn wire_name_taken(names: &[u8], wires: &[u32], rows: &[u32], m: Module, name: &[u8]) -> bool
+    ensures { λ r. ⌜ r ≡ any (λ x. same (now (name .entry)) (x .0)) (wiresIn (now (names .entry)) (now (wires .entry)) (now (rows .entry)) m) ⌝ }
+{
+    let first = m.first as usize;
+    let mut k = m.wires;
+    while 0 < k {
+        let last = k - 1;
+        let own = name_now(
+            names,
+            wires,
+            rows,
+            m,
+            WireNumber(last),
+            first + last as usize,
+        );
+        if same_bytes(name, own) {
+            return true;
+        }
+        k = last;
+    }
+    false
+}
+
+// Whether a memory or a cell of the module has this name; their kinds are 6 and 7.
+fn object_name_taken(names: &[u8], rows: &[u32], total: u32, m: ModuleNumber, name: &[u8]) -> bool
+    ensures { λ r. ⌜ r ≡ objectTaken (now (names .entry)) (now (rows .entry)) total (m .0) (now (name .entry)) ⌝ }
+{
+    let r = module_rows(rows, total, m);
+    name_taken(
+        names,
+        rows,
+        r.first,
+        r.count,
+        Kinds { a: 6, b: 7, c: 7 },
+        name,
+    )
+}
+
+// Whether the module's name space has this name now.
+fn is_taken(names: &[u8], wires: &[u32], rows: &[u32], m: Module, name: &[u8]) -> bool
+    ensures { λ r. ⌜ r ≡ nameTaken (now (names .entry)) (now (wires .entry)) (now (rows .entry)) m (now (name .entry)) ⌝ }
+{
+    if wire_name_taken(names, wires, rows, m, name) {
+        return true;
+    }
+    let number = m.number;
+    object_name_taken(names, rows, m.from, number, name)
+}
+
+// 64 renames stand, or the names pass 16,384 bytes.
+fn exceeds_room(standing: u32, room: u32, size: usize) -> bool
+    requires { ⌜ size ≤ 255 ⌝ }
+    ensures { λ r. ⌜ r ≡ exceedsRoom standing room size ⌝ }
+{
+    if 64 <= standing {
+        return true;
+    }
+    16384 < room as usize + size
+}
+
+// The number of a rename's refusal, 0 if there is none: the lowest of 4, 6, 8, 9 and 11.
+pub fn judge_rename(
+    names: &[u8],
+    wires: &[u32],
+    rows: &[u32],
+    place: Place,
+    standing: u32,
+    room: u32,
+    m: ModuleNumber,
+    w: WireNumber,
+    new: &[u8],
+) -> u32
+    ensures { λ r. ⌜ JudgedIs (now (names .entry)) (now (wires .entry)) (now (rows .entry)) place standing room (m .0) (w .0) (now (new .entry)) r ⌝ }
+{
+    if !legal(new) {
+        return 4;
+    }
+    let own = module_wires(wires, place.wires, m);
+    let wire = w.0;
+    if own.count <= wire {
+        return 8;
+    }
+    if is_port(wires, own.first as usize + wire as usize) {
+        return 6;
+    }
+    let module = Module {
+        number: m,
+        first: own.first,
+        wires: own.count,
+        from: place.rows,
+        renames: standing,
+    };
+    if is_taken(names, wires, rows, module, new) {
+        return 9;
+    }
+    if exceeds_room(standing, room, new.len()) {
+        return 11;
+    }
+    0
+}
