@@ -9,3 +9,5 @@ pub mod NameLaws
 pub mod Spaces
 pub mod SpaceLaws
 pub mod WireLaws
+pub mod Found
+pub mod FoundLaws

@@ -1,2 +1,3 @@
 // The statements of a design in the table of rows.
 pub mod rows;
+pub mod spaces;

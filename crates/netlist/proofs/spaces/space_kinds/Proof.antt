@@ -1,0 +1,20 @@
+-- By the kind.
+use borrow.Author.Tests.{lt-ltb, le-ltb}
+use Rattle.netlist.specs.Found.{kindsFrom}
+use Rattle.netlist.proofs.spaces.space_kinds.Statement.{statement}
+use Rattle.netlist.proofs.spaces.space_kinds.Tie as tie
+
+returns : tie.Need-returns
+unfolding kindsFrom
+returns c = rw (lt-ltb _ _ (c .if1 .taken))
+
+returns-2 : tie.Need-returns-2
+unfolding kindsFrom
+returns-2 c = rw (le-ltb _ _ (c .before .if1 .left), lt-ltb _ _ (c .if2 .taken))
+
+returns-3 : tie.Need-returns-3
+unfolding kindsFrom
+returns-3 c = rw (le-ltb _ _ (c .before .if1 .left), le-ltb _ _ (c .if2 .left))
+
+pub space-kinds-spec : {M : Type 1} → statement M
+space-kinds-spec = tie.close (tie.spec returns returns-2 returns-3)

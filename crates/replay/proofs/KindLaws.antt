@@ -1,0 +1,236 @@
+-- Each kind of statement: where its row and its parts stand, and where not.
+-- Assumes nothing.
+use Prim.Native.Nat.{ℕ, _+_, _*_, _≤_, _<_}
+use mathlib.Core.Path.{_≡_, refl, sym, ap, ap₂, _∙_, subst}
+use mathlib.Core.List.{List, [], _∷_, _++_, map, flatMap, zip, zipWith, append-nil, Option·toList}
+use mathlib.Core.Option.{none, some, Option·elim}
+use mathlib.Core.Bool.{Bool, true, false, cond, _&&_, and-true}
+use native.Mathlib.Omega.{arith}
+use lib.Dec.{eqb, leb}
+use lib.ListN.{length, take, drop, getD, length-map, length-append}
+use borrow.Author.Tests.{eq-eqb, ne-eqb, eqb-true, le-leb, lt-leb}
+use Rattle.rules.specs.Bytes.{same, all, within, legal}
+use Rattle.rules.specs.Tokens.{Name}
+use Rattle.rules.specs.Statements.{Sort, plain, signed, real, Statement, Constant, value, integer, string, digitsOf, bytesOf, Wire, Memory, Signal, contents, holds, code, autoidx-stmt, attr-stmt, module-stmt, param-stmt, wire-stmt, memory-stmt, cell-stmt, cell-param-stmt, cell-conn-stmt, conn-stmt, proc-stmt, end-stmt}
+use Rattle.rules.specs.Signals.{Wires}
+use Rattle.rules.specs.Numbers.{int32}
+use Rattle.rules.specs.Judgement.{sum, signalSize, valueSize, stringSize, nameSize}
+use Rattle.rules.specs.Layout.{Used, padded, row, digitCode, bitCode, nameBytes, stringBytes, bitCodes, wireRow, wireRows, constantColumns, sortCode, columns, statementRow}
+use Rattle.admitted.specs.Admitted.{fineConstant, fineWire, fineMemory, fineSignal, sameLength, fineParts}
+use Rattle.tables.specs.Row.{words}
+use Rattle.tables.specs.Flat.{flat}
+use Rattle.tables.specs.declared.Row.{Row}
+use Rattle.numbers.specs.Signed.{signedOf}
+use Rattle.numbers.specs.SignedLaws.{word-signed, signed-int32}
+use Rattle.scanner.specs.Laws.{by-test, and-true-left, and-true-right}
+use Rattle.wires.specs.Rows.{wireOf}
+use Rattle.replay.specs.Parts.{span, whole, nameStands, signalOf, signalStands}
+use Rattle.replay.specs.Reads.{Tables, tabled, Has, constantOf, optionalOf, sortOf, memoryOf, statementBy, statementOf, Reads, Counts, Tells, TellsNamed, TellsValued, TellsAutoidx, TellsEnd, TellsMemory, TellsCell, TellsParameter, TellsCellParameter}
+use Rattle.replay.specs.declared.statements.Found.{Found}
+use Rattle.replay.proofs.Spans.{whole-long, long-whole, has-none, has-span, spans}
+use Rattle.replay.proofs.CodeLaws.{never, codes-back, length-signal, signal-fine, signal-whole, signal-long, columns-read}
+use Rattle.replay.proofs.ReadLaws.{Parts, settled, name-legal, name-long, name-not}
+
+-- ---- a statement without parts
+
+module _ (u : Used) (r x : Row) (f : Found) (ef : f ≡ cond (same (words r) (words x)) (Found.Statement 0 0 0 0) Found.Nothing) where
+  pub tells-autoidx : words x ≡ row (1 ∷ r .a ∷ []) → r .a < 4294967296 → TellsAutoidx u r f
+  unfolding statementRow columns code contents holds fineParts all sameLength nameBytes stringBytes bitCodes wireRows flatMap zip zipWith signalSize valueSize stringSize nameSize sum
+  tells-autoidx ex h t ws =
+      settled r x (ex ∙ ap (λ (n : ℕ). row (1 ∷ n ∷ [])) (sym (word-signed (r .a) h)))
+      (record {
+        names = has-none (t .names) (u .names);
+        strings = has-none (t .strings) (u .strings);
+        bits = has-none (t .bits) (u .bits);
+        wires = has-none (t .wires) (8 * u .wires);
+        fine = rw (signed-int32 (r .a));
+      })
+      (record { signals = refl; values = refl; strings = refl; names = refl })
+      f ef
+
+  pub tells-end : words x ≡ row (12 ∷ []) → TellsEnd u r f
+  unfolding statementRow columns code contents holds fineParts all sameLength nameBytes stringBytes bitCodes wireRows flatMap zip zipWith signalSize valueSize stringSize nameSize sum
+  tells-end ex t ws =
+      settled r x ex
+      (record {
+        names = has-none (t .names) (u .names);
+        strings = has-none (t .strings) (u .strings);
+        bits = has-none (t .bits) (u .bits);
+        wires = has-none (t .wires) (8 * u .wires);
+        fine = refl;
+      })
+      (record { signals = refl; values = refl; strings = refl; names = refl })
+      f ef
+
+-- ---- a memory
+
+memory-fine : (ws : Wires) (m : Memory) (n : Name) → fineParts ws (memory-stmt m n) ≡ legal n && fineMemory m
+unfolding fineParts contents holds all sameLength
+memory-fine ws m n = simp and-true
+
+module _ (names : List ℕ) (u : Used) (r : Row) where
+  memory-facts :
+      {strings bits wires : List ℕ} {ws : Wires} → Reads (tabled names strings bits wires) u ws r (memory-stmt (memoryOf r) (span names (u .names) (r .b))) →
+      legal (span names (u .names) (r .b)) && fineMemory (memoryOf r) ≡ true
+  memory-facts d = sym (memory-fine _ _ _) ∙ d .fine
+
+  pub memory-name : nameStands names (u .names) (r .b) ≡ false → TellsMemory names u r Found.Nothing
+  unfolding Tells statementRow columns code contents holds words row padded
+  memory-name h strings bits wires ws d =
+      name-not names (u .names) (r .b) h (ap (λ (l : List ℕ). getD l 2 0) (d .row)) (and-true-left _ _ (memory-facts d))
+
+  pub memory-width : within 1 2048 (r .c) ≡ false → TellsMemory names u r Found.Nothing
+  unfolding Tells fineMemory memoryOf
+  memory-width h strings bits wires ws d =
+      never (within 1 2048 (r .c)) (and-true-left _ _ (and-true-left _ _ (and-true-right (legal (span names (u .names) (r .b))) _ (memory-facts d)))) h
+
+  pub memory-size : leb (r .d) 2147483647 ≡ false → TellsMemory names u r Found.Nothing
+  unfolding Tells fineMemory memoryOf
+  memory-size h strings bits wires ws d =
+      never (leb (r .d) 2147483647) (and-true-right (within 1 2048 (r .c)) _ (and-true-left _ _ (and-true-right (legal (span names (u .names) (r .b))) _ (memory-facts d)))) h
+
+  pub memory-settled :
+      nameStands names (u .names) (r .b) ≡ true → within 1 2048 (r .c) ≡ true → leb (r .d) 2147483647 ≡ true → r .e < 4294967296 →
+      (x : Row) → words x ≡ row (6 ∷ u .names ∷ r .b ∷ r .c ∷ r .d ∷ r .e ∷ []) → (f : Found) →
+      f ≡ cond (same (words r) (words x)) (Found.Statement 0 0 0 (r .b)) Found.Nothing → TellsMemory names u r f
+  unfolding statementRow columns code contents holds fineMemory memoryOf nameBytes stringBytes bitCodes wireRows flatMap zip zipWith signalSize valueSize stringSize nameSize sum
+  memory-settled h w z o x ex f ef strings bits wires ws =
+      let l : r .b ≡ length (span names (u .names) (r .b)) = name-long names (u .names) (r .b) h in
+      settled r x
+      (ex ∙ ap₂ (λ (n m : ℕ). row (6 ∷ u .names ∷ n ∷ r .c ∷ r .d ∷ m ∷ [])) l (sym (word-signed (r .e) o)))
+      (record {
+        names = rw append-nil (has-span names (u .names) (r .b));
+        strings = has-none strings (u .strings);
+        bits = has-none bits (u .bits);
+        wires = has-none wires (8 * u .wires);
+        fine = memory-fine ws (memoryOf r) (span names (u .names) (r .b)) ∙ rw (name-legal names (u .names) (r .b) h, w, z, signed-int32 (r .e));
+      })
+      (record { signals = refl; values = refl; strings = refl; names = omega arith })
+      f ef
+
+-- ---- a cell
+
+cell-fine : (ws : Wires) (m n : Name) → fineParts ws (cell-stmt m n) ≡ legal m && legal n
+unfolding fineParts contents holds all sameLength
+cell-fine ws m n = simp and-true
+
+module _ (names : List ℕ) (u : Used) (r : Row) where
+  cell-facts :
+      {strings bits wires : List ℕ} {ws : Wires} → Reads (tabled names strings bits wires) u ws r (cell-stmt (span names (u .names) (r .b)) (span names (u .names + r .b) (r .d))) →
+      legal (span names (u .names) (r .b)) && legal (span names (u .names + r .b) (r .d)) ≡ true
+  cell-facts d = sym (cell-fine _ _ _) ∙ d .fine
+
+  pub cell-type : nameStands names (u .names) (r .b) ≡ false → TellsCell names u r Found.Nothing
+  unfolding Tells statementRow columns code contents holds words row padded
+  cell-type h strings bits wires ws d =
+      name-not names (u .names) (r .b) h (ap (λ (l : List ℕ). getD l 2 0) (d .row)) (and-true-left _ _ (cell-facts d))
+
+  pub cell-name : nameStands names (u .names + r .b) (r .d) ≡ false → TellsCell names u r Found.Nothing
+  unfolding Tells statementRow columns code contents holds words row padded
+  cell-name h strings bits wires ws d =
+      name-not names (u .names + r .b) (r .d) h (ap (λ (l : List ℕ). getD l 4 0) (d .row)) (and-true-right (legal (span names (u .names) (r .b))) _ (cell-facts d))
+
+  pub cell-settled :
+      nameStands names (u .names) (r .b) ≡ true → nameStands names (u .names + r .b) (r .d) ≡ true →
+      (x : Row) → words x ≡ row (7 ∷ u .names ∷ r .b ∷ (u .names + r .b) ∷ r .d ∷ []) → (f : Found) →
+      f ≡ cond (same (words r) (words x)) (Found.Statement 0 0 0 (r .b + r .d)) Found.Nothing → TellsCell names u r f
+  unfolding statementRow columns code contents holds nameBytes stringBytes bitCodes wireRows flatMap zip zipWith signalSize valueSize stringSize nameSize sum
+  cell-settled h k x ex f ef strings bits wires ws =
+      let l : r .b ≡ length (span names (u .names) (r .b)) = name-long names (u .names) (r .b) h in
+      let m : r .d ≡ length (span names (u .names + r .b) (r .d)) = name-long names (u .names + r .b) (r .d) k in
+      settled r x
+      (ex ∙ ap₂ (λ (n m : ℕ). row (7 ∷ u .names ∷ n ∷ (u .names + n) ∷ m ∷ [])) l m)
+      (record {
+        names = rw (append-nil, spans) (has-span names (u .names) (r .b + r .d));
+        strings = has-none strings (u .strings);
+        bits = has-none bits (u .bits);
+        wires = has-none wires (8 * u .wires);
+        fine = cell-fine ws (span names (u .names) (r .b)) (span names (u .names + r .b) (r .d)) ∙ rw (name-legal names (u .names) (r .b) h, name-legal names (u .names + r .b) (r .d) k);
+      })
+      (record { signals = refl; values = refl; strings = refl; names = omega arith })
+      f ef
+
+-- ---- parameters
+
+pub row-zero : (u : Used) (c : Constant) (kind a b : ℕ) → row (kind ∷ a ∷ b ∷ constantColumns u c) ≡ row (kind ∷ a ∷ b ∷ constantColumns u c ++ 0 ∷ [])
+unfolding row padded constantColumns
+row-zero u (value ds) kind a b = refl
+row-zero u (integer i) kind a b = refl
+row-zero u (string s) kind a b = refl
+
+pub sort-read : (u : Used) (c : Constant) (r : Row) (kind a n sort : ℕ) → words r ≡ row (kind ∷ a ∷ n ∷ constantColumns u c ++ sort ∷ []) → r .f ≡ sort
+unfolding constantColumns words row padded
+sort-read u (value ds) r kind a n sort e = ap (λ (l : List ℕ). getD l 6 0) e
+sort-read u (integer i) r kind a n sort e = ap (λ (l : List ℕ). getD l 6 0) e
+sort-read u (string s) r kind a n sort e = ap (λ (l : List ℕ). getD l 6 0) e
+
+sort-few : (o : Sort) → sortCode o ≤ 2
+unfolding sortCode
+sort-few plain = omega arith
+sort-few signed = omega arith
+sort-few real = omega arith
+
+sort-code : (n : ℕ) → n ≤ 2 → sortCode (sortOf n) ≡ n
+unfolding sortCode sortOf
+sort-code n h =
+    by-test (eqb n 0) (λ e. rw e (sym (eqb-true n 0 e)))
+    (λ e. rw e (by-test (eqb n 1) (λ q. rw q (sym (eqb-true n 1 q))) (λ q. rw q (two n h e q))))
+  where
+    two : (n : ℕ) → n ≤ 2 → eqb n 0 ≡ false → eqb n 1 ≡ false → 2 ≡ n
+    two n h e q = omega (arith, below n 0 e, below n 1 q)
+      where
+        below : (n k : ℕ) → eqb n k ≡ false → n ≡ k → ⊥
+        below n k e q = never (eqb n k) (eq-eqb n k q) e
+
+module _ (names strings bits : List ℕ) (u : Used) (r : Row) (f : Found) where
+  pub attribute-told :
+      TellsValued names strings bits u r 2 0 f → (wires : List ℕ) (ws : Wires) →
+      Tells (tabled names strings bits wires) u ws r (attr-stmt (span names (u .names) (r .b)) (constantOf strings bits u (r .c) (r .d) (r .e))) f
+  unfolding statementRow columns code contents holds
+  attribute-told h wires ws = h wires ws _ _ _ refl (row-zero u (constantOf strings bits u (r .c) (r .d) (r .e)) 2 (u .names) (length (span names (u .names) (r .b))))
+
+  pub parameter-none : r .c ≡ 0 → TellsNamed names u r 4 f → TellsParameter names strings bits u r f
+  unfolding optionalOf statementRow columns code contents holds Option·toList Option·elim
+  parameter-none e h wires ws = rw (eq-eqb (r .c) 0 e) (h strings bits wires ws _ _ refl refl)
+
+  pub parameter-some : (r .c ≡ 0 → ⊥) → TellsValued names strings bits u r 4 0 f → TellsParameter names strings bits u r f
+  unfolding optionalOf statementRow columns code contents holds Option·toList Option·elim
+  parameter-some e h wires ws =
+      rw (ne-eqb (r .c) 0 e)
+      (h wires ws _ _ _ refl (row-zero u (constantOf strings bits u (r .c) (r .d) (r .e)) 4 (u .names) (length (span names (u .names) (r .b)))))
+
+  pub cell-parameter-told : r .f ≤ 2 → TellsValued names strings bits u r 8 (r .f) f → TellsCellParameter names strings bits u r f
+  unfolding statementRow columns code contents holds
+  cell-parameter-told e h wires ws = h wires ws _ _ _ refl (rw (sort-code (r .f) e))
+
+pub cell-parameter-not : (names strings bits : List ℕ) (u : Used) (r : Row) → 2 < r .f → TellsCellParameter names strings bits u r Found.Nothing
+unfolding Tells statementRow columns code contents holds
+cell-parameter-not names strings bits u r h wires ws d =
+    let e : r .f ≡ sortCode (sortOf (r .f)) = sort-read u (constantOf strings bits u (r .c) (r .d) (r .e)) r 8 (u .names) (length (span names (u .names) (r .b))) (sortCode (sortOf (r .f))) (d .row) in
+    absurd (omega (arith, sort-few (sortOf (r .f))))
+
+-- ---- by the row's kind
+
+module _ (t : Tables) (u : Used) (ws : Wires) (r : Row) (f : Found) where
+  pub by-kind : (k : ℕ) → r .kind ≡ k → Tells t u ws r (statementBy t u r k) f → Tells t u ws r (statementOf t u r) f
+  unfolding statementOf
+  by-kind k e h = subst (λ (s : Statement). Tells t u ws r s f) (ap (statementBy t u r) (sym e)) h
+
+  -- a kind that no other statement has is taken for an end, which its row then is not
+  pub other-kind :
+      (r .kind ≡ 1 → ⊥) → (r .kind ≡ 2 → ⊥) → (r .kind ≡ 3 → ⊥) → (r .kind ≡ 4 → ⊥) → (r .kind ≡ 5 → ⊥) → (r .kind ≡ 6 → ⊥) → (r .kind ≡ 7 → ⊥) → (r .kind ≡ 8 → ⊥) → (r .kind ≡ 9 → ⊥) →
+      (r .kind ≡ 10 → ⊥) → (r .kind ≡ 11 → ⊥) → Tells t u ws r end-stmt f → Tells t u ws r (statementOf t u r) f
+  unfolding statementOf statementBy
+  other-kind a b c d e g h i j k l q =
+      rw (ne-eqb (r .kind) 1 a, ne-eqb (r .kind) 2 b, ne-eqb (r .kind) 3 c, ne-eqb (r .kind) 4 d, ne-eqb (r .kind) 5 e, ne-eqb (r .kind) 6 g, ne-eqb (r .kind) 7 h, ne-eqb (r .kind) 8 i, ne-eqb (r .kind) 9 j, ne-eqb (r .kind) 10 k, ne-eqb (r .kind) 11 l) q
+
+module _ (names : List ℕ) (u : Used) (r : Row) (f : Found) where
+  pub module-told :
+      TellsNamed names u r 3 f → (strings bits wires : List ℕ) (ws : Wires) → Tells (tabled names strings bits wires) u ws r (module-stmt (span names (u .names) (r .b))) f
+  unfolding statementRow columns code contents holds
+  module-told h strings bits wires ws = h strings bits wires ws _ _ refl refl
+
+  pub process-told :
+      TellsNamed names u r 11 f → (strings bits wires : List ℕ) (ws : Wires) → Tells (tabled names strings bits wires) u ws r (proc-stmt (span names (u .names) (r .b))) f
+  unfolding statementRow columns code contents holds
+  process-told h strings bits wires ws = h strings bits wires ws _ _ refl refl

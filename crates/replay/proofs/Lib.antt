@@ -1,0 +1,12 @@
+pub mod Spans
+pub mod PartLaws
+pub mod SignalLaws
+pub mod CodeLaws
+pub mod ReadLaws
+pub mod KindLaws
+pub mod WireLaws
+pub mod UniqueLaws
+pub mod BeginLaws
+pub mod TurnLaws
+pub mod PlaceLaws
+pub mod LoopLaws

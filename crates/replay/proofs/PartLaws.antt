@@ -1,0 +1,122 @@
+-- Whether a part stands in its table, by the tests in the order of the code.
+-- Assumes nothing.
+use Prim.Native.Nat.{ℕ, _+_, _≤_, _<_}
+use mathlib.Core.Path.{_≡_, refl, sym, ap, _∙_}
+use mathlib.Core.List.{List, [], _∷_}
+use mathlib.Core.Bool.{Bool, true, false, _&&_}
+use native.Mathlib.Omega.{arith}
+use lib.Dec.{leb}
+use lib.ListN.{length}
+use lib.Seq.{slice}
+use borrow.Author.Tests.{le-leb, lt-leb, leb-true, leb-false}
+use Rattle.rules.specs.Bytes.{all, within, isNameStart, isNameByte, legal}
+use Rattle.rules.specs.Signals.{Wires}
+use Rattle.admitted.specs.Admitted.{fineBit}
+use Rattle.numbers.specs.Kinds.{bitOf, bitAt}
+use Rattle.scanner.specs.Laws.{by-test, and-true-left, and-true-right}
+use Rattle.replay.specs.Parts.{span, whole, nameStands, isDigit, digitsStand, textStands, signalStands}
+use Rattle.replay.proofs.Spans.{whole-none, whole-in, whole-out, whole-long, span-none}
+
+pub positive : (n : ℕ) → (n ≡ 0 → ⊥) → 0 < n
+positive n h = omega arith
+
+-- inside the table just where the end is
+pub whole-by : (t : List ℕ) (at n : ℕ) → (n ≡ 0 → ⊥) → leb (at + n) (length t) ≡ whole t at n
+whole-by t at n h =
+    by-test (leb (at + n) (length t))
+    (λ e. e ∙ sym (whole-in t at n (leb-true (at + n) (length t) e)))
+    (λ e. let p : 0 < n = positive n h in e ∙ sym (whole-out t at n p (leb-false (at + n) (length t) e)))
+
+module _ (t : List ℕ) (at n : ℕ) {b : Bool} (w : b ≡ whole t at n) where
+  pub name-out : b ≡ false → false ≡ nameStands t at n
+  unfolding nameStands
+  name-out e = rw (← w, e)
+
+  pub name-in : b ≡ true → (m : List ℕ) → m ≡ slice at (at + n) t → {r : Bool} → r ≡ legal m → r ≡ nameStands t at n
+  unfolding nameStands span
+  name-in e m q h = rw (← w, e, ← q) h
+
+  pub digits-out : b ≡ false → false ≡ digitsStand t at n
+  unfolding digitsStand
+  digits-out e = rw (← w, e)
+
+  pub digits-wide : b ≡ true → 2048 < n → false ≡ digitsStand t at n
+  unfolding digitsStand
+  digits-wide e h = rw (← w, e, lt-leb n 2048 h)
+
+  pub digits-in : b ≡ true → n ≤ 2048 → {r : Bool} → r ≡ all isDigit (slice at (at + n) t) → r ≡ digitsStand t at n
+  unfolding digitsStand span
+  digits-in e h q = rw (← w, e, le-leb n 2048 h) q
+
+  pub text-out : b ≡ false → false ≡ textStands t at n
+  unfolding textStands
+  text-out e = rw (← w, e)
+
+  pub text-in : b ≡ true → {r : Bool} → r ≡ all (within 1 255) (slice at (at + n) t) → r ≡ textStands t at n
+  unfolding textStands span
+  text-in e q = rw (← w, e) q
+
+  module _ (ws : Wires) where
+    pub signal-out : b ≡ false → false ≡ signalStands ws t at n
+    unfolding signalStands
+    signal-out e = rw (← w, e)
+
+    pub signal-wide : b ≡ true → 2048 < n → false ≡ signalStands ws t at n
+    unfolding signalStands
+    signal-wide e h = rw (← w, e, lt-leb n 2048 h)
+
+    pub signal-in : b ≡ true → n ≤ 2048 → {r : Bool} → r ≡ all (λ c. fineBit ws (bitOf (bitAt c))) (slice at (at + n) t) → r ≡ signalStands ws t at n
+    unfolding signalStands span
+    signal-in e h q = rw (← w, e, le-leb n 2048 h) q
+
+-- a part of no values stands everywhere
+module _ (t : List ℕ) (at n : ℕ) (e : n ≡ 0) where
+  pub digits-none : true ≡ digitsStand t at n
+  unfolding digitsStand all
+  digits-none = rw (e, whole-none, span-none)
+
+  pub text-none : true ≡ textStands t at n
+  unfolding textStands all
+  text-none = rw (e, whole-none, span-none)
+
+  pub signal-none : (ws : Wires) → true ≡ signalStands ws t at n
+  unfolding signalStands all
+  signal-none ws = rw (e, whole-none, span-none)
+
+-- a byte of a string
+pub byte-zero : (b : ℕ) → b ≡ 0 → within 1 255 b ≡ false
+unfolding within
+byte-zero b e = rw e
+
+pub byte-given : (b : ℕ) → b < 256 → (b ≡ 0 → ⊥) → within 1 255 b ≡ true
+unfolding within
+byte-given b h e = rw (le-leb 1 b (omega arith), le-leb b 255 (omega arith))
+
+-- a memory's width
+pub low-width : (n : ℕ) → n ≡ 0 → within 1 2048 n ≡ false
+unfolding within
+low-width n e = rw e
+
+pub high-width : (n : ℕ) → 2048 < n → within 1 2048 n ≡ false
+unfolding within
+high-width n h = rw (le-leb 1 n (omega arith), lt-leb n 2048 h)
+
+pub fair-width : (n : ℕ) → (n ≡ 0 → ⊥) → n ≤ 2048 → within 1 2048 n ≡ true
+unfolding within
+fair-width n e h = rw (le-leb 1 n (omega arith), le-leb n 2048 h)
+
+-- names and signals are short, so that a place behind one does not wrap
+legal-few : (n : List ℕ) → legal n ≡ true → length n ≤ 255
+unfolding legal within
+legal-few [] h = omega arith
+legal-few (b ∷ bs) h =
+    let k : length bs ≤ 254 = leb-true (length bs) 254 (and-true-right (leb 1 (length bs)) _ (and-true-right (isNameStart b && all isNameByte bs) _ h)) in
+    omega arith
+
+pub name-few : (t : List ℕ) (at n : ℕ) → nameStands t at n ≡ true → n ≤ 255
+unfolding nameStands
+name-few t at n h = omega (arith, whole-long t at n (and-true-left _ _ h), legal-few (span t at n) (and-true-right (whole t at n) _ h))
+
+pub signal-few : (ws : Wires) (t : List ℕ) (at n : ℕ) → signalStands ws t at n ≡ true → n ≤ 2048
+unfolding signalStands
+signal-few ws t at n h = leb-true n 2048 (and-true-left _ _ (and-true-right (whole t at n) _ h))

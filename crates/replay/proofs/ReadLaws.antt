@@ -1,0 +1,145 @@
+-- A statement of a row: where its row is as it should be and its parts stand there.
+-- Assumes nothing.
+use Prim.Native.Nat.{ℕ, _+_, _*_, _≤_, _<_}
+use mathlib.Core.Path.{_≡_, refl, sym, ap, ap₂, _∙_}
+use mathlib.Core.List.{List, [], _∷_, _++_, map, flatMap, zip, zipWith, append-nil}
+use mathlib.Core.Bool.{Bool, true, false, cond, _&&_, and-true}
+use native.Mathlib.Omega.{arith}
+use lib.ListN.{length, take, drop, getD, length-map, length-append}
+use Rattle.rules.specs.Bytes.{same, all, legal}
+use Rattle.rules.specs.Tokens.{Name}
+use Rattle.rules.specs.Statements.{Sort, Statement, Constant, digitsOf, bytesOf, Kind, contents, holds}
+use Rattle.rules.specs.Signals.{Wires}
+use Rattle.rules.specs.Judgement.{sum, signalSize, valueSize, stringSize, nameSize}
+use Rattle.rules.specs.Layout.{Used, padded, row, digitCode, nameBytes, stringBytes, bitCodes, wireRows, constantColumns, statementRow}
+use Rattle.admitted.specs.Admitted.{fineConstant, sameLength, fineParts}
+use Rattle.tables.specs.Row.{words}
+use Rattle.tables.specs.Flat.{flat}
+use Rattle.tables.specs.declared.Row.{Row}
+use Rattle.scanner.specs.Laws.{by-test, same-refl, same-eq, and-true-left, and-true-right}
+use Rattle.replay.specs.Parts.{span, whole, nameStands}
+use Rattle.replay.specs.Reads.{Tables, tabled, Has, constantOf, ReadsConstant, TellsConstant, Reads, Counts, Tells, TellsNamed, TellsValued}
+use Rattle.replay.specs.declared.statements.Found.{Found}
+use Rattle.replay.specs.declared.statements.Held.{Held}
+use Rattle.replay.proofs.Spans.{whole-long, long-whole, has-none, has-span}
+use Rattle.replay.proofs.CodeLaws.{never, columns-read}
+
+-- the parts alone
+pub record Parts (t : Tables) (u : Used) (ws : Wires) (s : Statement) : Type 0 where
+  pub names : Has (t .names) (u .names) (nameBytes s)
+  pub strings : Has (t .strings) (u .strings) (stringBytes s)
+  pub bits : Has (t .bits) (u .bits) (bitCodes s)
+  pub wires : Has (t .wires) (8 * u .wires) (flat (wireRows u s))
+  pub fine : fineParts ws s ≡ true
+
+-- with the parts there, the row decides
+pub settled :
+    {t : Tables} {u : Used} {ws : Wires} {s : Statement} (r x : Row) {g v z n : ℕ} → words x ≡ statementRow u s → Parts t u ws s → Counts s g v z n →
+    (f : Found) → f ≡ cond (same (words r) (words x)) (Found.Statement g v z n) Found.Nothing → Tells t u ws r s f
+unfolding Tells
+settled r x ex p q f e =
+    by-test (same (words r) (words x))
+    (λ h. rw (e, h)
+    (record { names = p .names; strings = p .strings; bits = p .bits; wires = p .wires; row = same-eq (words r) (words x) h ∙ ex; fine = p .fine }, q))
+    (λ h. rw (e, h) (λ d. never (same (words r) (words x)) (ap (same (words r)) (ex ∙ sym (d .row)) ∙ same-refl (words r)) h))
+
+-- a name
+pub name-legal : (names : List ℕ) (at n : ℕ) → nameStands names at n ≡ true → legal (span names at n) ≡ true
+unfolding nameStands
+name-legal names at n h = and-true-right (whole names at n) _ h
+
+pub name-long : (names : List ℕ) (at n : ℕ) → nameStands names at n ≡ true → n ≡ length (span names at n)
+unfolding nameStands
+name-long names at n h = sym (whole-long names at n (and-true-left _ _ h))
+
+pub name-not : {P : Type 0} (names : List ℕ) (at n : ℕ) → nameStands names at n ≡ false → n ≡ length (span names at n) → legal (span names at n) ≡ true → P
+unfolding nameStands
+name-not names at n h e l = never (whole names at n && legal (span names at n)) (rw (long-whole names at n (sym e), l)) h
+
+-- ---- a name and nothing else, by the statement's contents
+
+module _ (names : List ℕ) (u : Used) (r : Row) (kind : ℕ) where
+  pub named-not : nameStands names (u .names) (r .b) ≡ false → TellsNamed names u r kind Found.Nothing
+  unfolding Tells fineParts all holds sameLength words row padded
+  named-not h strings bits wires ws s k e q d =
+      name-not names (u .names) (r .b) h (ap (λ (l : List ℕ). getD l 2 0) (d .row ∙ q)) (simp (e, and-true) at (d .fine))
+
+  pub named-settled :
+      nameStands names (u .names) (r .b) ≡ true → (x : Row) → words x ≡ row (kind ∷ u .names ∷ r .b ∷ []) → (f : Found) →
+      f ≡ cond (same (words r) (words x)) (Found.Statement 0 0 0 (r .b)) Found.Nothing → TellsNamed names u r kind f
+  unfolding fineParts all holds nameBytes stringBytes bitCodes wireRows flatMap zip zipWith sameLength signalSize valueSize stringSize nameSize sum
+  named-settled h x ex f ef strings bits wires ws s k e q =
+      let l : r .b ≡ length (span names (u .names) (r .b)) = name-long names (u .names) (r .b) h in
+      settled r x (ex ∙ ap (λ (n : ℕ). row (kind ∷ u .names ∷ n ∷ [])) l ∙ sym q)
+      (record {
+        names = rw (e, append-nil) (has-span names (u .names) (r .b));
+        strings = rw e (has-none strings (u .strings));
+        bits = rw e (has-none bits (u .bits));
+        wires = rw e (has-none wires (8 * u .wires));
+        fine = rw (e, name-legal names (u .names) (r .b) h);
+      })
+      (record { signals = rw e; values = rw e; strings = rw e; names = rw e (omega arith) })
+      f ef
+
+-- ---- a name and a constant
+
+module _ (names strings bits : List ℕ) (u : Used) (r : Row) (kind sort : ℕ) where
+  module _ (wires : List ℕ) (ws : Wires) (s : Statement) (k : Kind) (os : List Sort) (n : Name) (c : Constant) (e : contents s ≡ holds k (n ∷ []) (c ∷ []) [] [] [] [] os) where
+    valued-fine : fineParts ws s ≡ legal n && fineConstant c
+    unfolding fineParts all holds sameLength
+    valued-fine = rw e (simp and-true)
+
+    read-constant : statementRow u s ≡ row (kind ∷ u .names ∷ length n ∷ constantColumns u c ++ sort ∷ []) → Reads (tabled names strings bits wires) u ws r s → ReadsConstant strings bits u (r .c) (r .d) (r .e) c
+    unfolding holds stringBytes bitCodes flatMap
+    read-constant q d =
+        record {
+          columns = columns-read u c r kind (u .names) (length n) sort (d .row ∙ q);
+          strings-has = rw (e, append-nil) at (d .strings);
+          bits-has = rw (e, append-nil, append-nil) at (d .bits);
+          fine = and-true-right (legal n) (fineConstant c) (sym valued-fine ∙ d .fine);
+        }
+
+    valued-parts : Has names (u .names) n → legal n ≡ true → ReadsConstant strings bits u (r .c) (r .d) (r .e) c → Parts (tabled names strings bits wires) u ws s
+    unfolding holds nameBytes stringBytes bitCodes wireRows flatMap zip zipWith
+    valued-parts h l d =
+        record {
+          names = rw (e, append-nil) h;
+          strings = rw (e, append-nil) (d .strings-has);
+          bits = rw (e, append-nil, append-nil) (d .bits-has);
+          wires = rw e (has-none wires (8 * u .wires));
+          fine = valued-fine ∙ rw (l, d .fine);
+        }
+
+    valued-counts : (v z m : ℕ) → v ≡ length (digitsOf c) → z ≡ length (bytesOf c) → m ≡ length n → Counts s 0 v z m
+    unfolding holds signalSize valueSize stringSize nameSize sum
+    valued-counts v z m ev ez em = record { signals = rw e; values = rw e (omega arith); strings = rw e (omega arith); names = rw e (omega arith) }
+
+  pub valued-not : nameStands names (u .names) (r .b) ≡ false → TellsValued names strings bits u r kind sort Found.Nothing
+  unfolding Tells words row padded
+  valued-not h wires ws s k os e q d =
+      name-not names (u .names) (r .b) h (ap (λ (l : List ℕ). getD l 2 0) (d .row ∙ q))
+      (and-true-left _ _ (sym (valued-fine wires ws s k os _ _ e) ∙ d .fine))
+
+  pub valued-lacks :
+      (h : Held) → TellsConstant strings bits u (r .c) (r .d) (r .e) (constantOf strings bits u (r .c) (r .d) (r .e)) h → h ≡ Held.Nothing →
+      TellsValued names strings bits u r kind sort Found.Nothing
+  unfolding Tells TellsConstant
+  valued-lacks h d eh wires ws s k os e q w = let f = rw eh at d in f (read-constant wires ws s k os _ _ e q w)
+
+  pub valued-settled :
+      nameStands names (u .names) (r .b) ≡ true → (h : Held) (v z : ℕ) → TellsConstant strings bits u (r .c) (r .d) (r .e) (constantOf strings bits u (r .c) (r .d) (r .e)) h →
+      h ≡ Held.Constant v z → (x : Row) → words x ≡ row (kind ∷ u .names ∷ r .b ∷ r .c ∷ r .d ∷ r .e ∷ sort ∷ []) → (f : Found) →
+      f ≡ cond (same (words r) (words x)) (Found.Statement 0 v z (r .b)) Found.Nothing → TellsValued names strings bits u r kind sort f
+  unfolding TellsConstant
+  valued-settled h held v z d eh x ex f ef wires ws s k os e q =
+      let n = span names (u .names) (r .b) in
+      let c = constantOf strings bits u (r .c) (r .d) (r .e) in
+      let l : r .b ≡ length n = name-long names (u .names) (r .b) h in
+      let g = rw eh at d in
+      settled r x
+      (ex
+      ∙ ap₂ (λ (m : ℕ) (cs : List ℕ). row (kind ∷ u .names ∷ m ∷ cs ++ sort ∷ [])) l (sym (g .0 .columns))
+      ∙ sym q)
+      (valued-parts wires ws s k os n c e (has-span names (u .names) (r .b)) (name-legal names (u .names) (r .b) h) (g .0))
+      (valued-counts wires ws s k os n c e v z (r .b) (g .1) (g .2) l)
+      f ef

@@ -1,0 +1,107 @@
+-- Bits inside their wires, and wires within the rules, as the words of the table of wires tell it.
+-- Assumes nothing.
+use Prim.Native.Nat.{ℕ, zero, suc, _+_, _-_, _*_, _/_, _≤_, _<_}
+use mathlib.Core.Path.{_≡_, refl, sym, ap, _∙_}
+use mathlib.Core.List.{List, [], _∷_, map, reverse, Option·toList}
+use mathlib.Core.Option.{Option, none, some, Option·elim}
+use mathlib.Core.Bool.{Bool, true, false, not, _&&_, _||_, and-true}
+use native.Mathlib.Omega.{arith}
+use lib.IntN.{pos, _+ℤ_}
+use lib.Dec.{eqb, leb, ltb}
+use lib.ListN.{length, getD, getElem?, length-reverse}
+use borrow.Author.Tests.{le-leb, lt-leb, ne-eqb}
+use Rattle.rules.specs.Bytes.{all, any, within}
+use Rattle.rules.specs.Statements.{Wire}
+use Rattle.rules.specs.Signals.{Wires}
+use Rattle.rules.specs.Numbers.{int32}
+use Rattle.rules.specs.Judgement.{portNumbers}
+use Rattle.admitted.specs.Admitted.{fineBit, newPorts, fineWire}
+use Rattle.numbers.specs.Kinds.{bitOf, bitAt}
+use Rattle.numbers.specs.Signed.{signedOf}
+use Rattle.numbers.specs.SignedLaws.{signed-int32}
+use Rattle.numbers.specs.declared.kinds.SignalBit.{SignalBit}
+use Rattle.numbers.specs.declared.kinds.WireNumber.{WireNumber}
+use Rattle.wires.specs.Rows.{wordAt, column, portOf, wireOf, wiresFrom}
+use Rattle.wires.specs.RowLaws.{length-wires, wire-numbered}
+
+element-none : {A : Type 0} (l : List A) (i : ℕ) → length l ≤ i → getElem? l i ≡ none
+element-none [] i h = refl
+element-none (x ∷ l) zero h = absurd (omega arith)
+element-none (x ∷ l) (suc i) h = element-none l i (omega arith)
+
+-- ---- bits
+
+module _ (c : ℕ) (b : SignalBit) (e : b ≡ bitAt c) where
+  pub fits-digit : (ws : Wires) (d : ℕ) → b ≡ SignalBit.Digit d → true ≡ fineBit ws (bitOf (bitAt c))
+  unfolding fineBit bitOf
+  fits-digit ws d q = rw (← e, q)
+
+  module _ (names wires : List ℕ) (first count i : ℕ) (w : WireNumber) (q : b ≡ SignalBit.Wire w i) where
+    pub fits-past : count ≤ w .0 → false ≡ fineBit (wiresFrom names wires first count) (bitOf (bitAt c))
+    unfolding fineBit bitOf Option·elim
+    fits-past h =
+        let ws = wiresFrom names wires first count in
+        let k : length (reverse ws) ≤ w .0 = omega (arith, length-reverse ws, length-wires names wires first count) in
+        rw (← e, q, element-none (reverse ws) (w .0) k)
+
+    pub fits-inside : w .0 < count → (x : ℕ) → x ≡ getD wires (8 * (first + w .0) + 3) 0 → ltb i x ≡ fineBit (wiresFrom names wires first count) (bitOf (bitAt c))
+    unfolding fineBit bitOf Option·elim wireOf column wordAt
+    fits-inside h x r = rw (← e, q, wire-numbered names wires first (w .0) count h, ← r)
+
+-- ---- wires
+
+no-ports : (d n : ℕ) → (d ≡ 1 → ⊥) → (d ≡ 2 → ⊥) → (d ≡ 3 → ⊥) → portOf d n ≡ none
+unfolding portOf
+no-ports d n h k l = rw (ne-eqb d 1 h, ne-eqb d 2 k, ne-eqb d 3 l)
+
+one-port : (d n : ℕ) → 0 < d → d ≤ 3 → map (λ q. q .1) (Option·toList (portOf d n)) ≡ n ∷ []
+unfolding portOf Option·toList
+one-port zero n h k = absurd (omega arith)
+one-port (suc zero) n h k = refl
+one-port (suc (suc zero)) n h k = refl
+one-port (suc (suc (suc zero))) n h k = refl
+one-port (suc (suc (suc (suc d)))) n h k = absurd (omega arith)
+
+module _ (ws : Wires) (wires : List ℕ) (k width : ℕ) (ew : width ≡ getD wires (8 * k + 3) 0) where
+  pub wire-wide : 2048 < width → false ≡ fineWire ws (wireOf wires k)
+  unfolding fineWire wireOf column wordAt
+  wire-wide h = rw (← ew, lt-leb width 2048 h)
+
+  module _ (h : width ≤ 2048) (offset : ℕ) (eo : offset ≡ getD wires (8 * k + 4) 0) {b : Bool} (eb : b ≡ eqb width 0 || int32 (signedOf offset +ℤ pos (width - 1))) where
+    pub wire-far : b ≡ false → false ≡ fineWire ws (wireOf wires k)
+    unfolding fineWire wireOf column wordAt
+    wire-far q = rw (← ew, ← eo, le-leb width 2048 h, signed-int32, ← eb, q)
+
+    wire-by : b ≡ true → fineWire ws (wireOf wires k) ≡ all (within 1 1023) (portNumbers (wireOf wires k)) && newPorts ws (wireOf wires k)
+    unfolding fineWire wireOf column wordAt
+    wire-by q = rw (← ew, ← eo, le-leb width 2048 h, signed-int32, ← eb, q)
+
+    module _ (q : b ≡ true) (d : ℕ) (ed : d ≡ getD wires (8 * k + 5) 0 / 4) where
+      pub wire-plain : (d ≡ 1 → ⊥) → (d ≡ 2 → ⊥) → (d ≡ 3 → ⊥) → true ≡ fineWire ws (wireOf wires k)
+      unfolding newPorts portNumbers wireOf column wordAt all Option·toList
+      wire-plain x y z = sym (wire-by q ∙ rw (← ed, no-ports d (getD wires (8 * k + 6) 0) x y z))
+
+      module _ (l : 0 < d) (m : d ≤ 3) (port : ℕ) (ep : port ≡ getD wires (8 * k + 6) 0) where
+        ports-are : portNumbers (wireOf wires k) ≡ port ∷ []
+        unfolding portNumbers wireOf column wordAt
+        ports-are = rw (← ed, ← ep) (one-port d port l m)
+
+        ported : fineWire ws (wireOf wires k) ≡ within 1 1023 port && not (any (λ v. any (eqb port) (portNumbers (v .1))) ws)
+        unfolding newPorts all
+        ported = wire-by q ∙ rw (ports-are, and-true, and-true)
+
+        pub wire-zero : port ≡ 0 → false ≡ fineWire ws (wireOf wires k)
+        unfolding within
+        wire-zero e = sym (ported ∙ rw e)
+
+        pub wire-high : 1023 < port → false ≡ fineWire ws (wireOf wires k)
+        unfolding within
+        wire-high g = sym (ported ∙ rw (lt-leb port 1023 g) (falsely (leb 1 port) _))
+          where
+            falsely : (a x : Bool) → a && false && x ≡ false
+            falsely true x = refl
+            falsely false x = refl
+
+        pub wire-port : (port ≡ 0 → ⊥) → port ≤ 1023 → {r : Bool} → r ≡ any (λ v. any (eqb port) (portNumbers (v .1))) ws → not r ≡ fineWire ws (wireOf wires k)
+        unfolding within
+        wire-port e g z = rw z (sym (ported ∙ rw (le-leb 1 port (omega arith), le-leb port 1023 g)))

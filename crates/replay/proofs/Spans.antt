@@ -1,0 +1,112 @@
+-- Spans of a table: how long they are, tests of all their values, and what a table has from a place on.
+-- Assumes nothing.
+use Prim.Native.Nat.{ℕ, zero, suc, min, _+_, _-_, _*_, _≤_, _<_}
+use mathlib.Core.Path.{_≡_, refl, sym, ap, ap₂, _∙_}
+use mathlib.Core.List.{List, [], _∷_, _++_, append-nil}
+use mathlib.Core.Bool.{Bool, true, false, _&&_}
+use native.Mathlib.Numerals.{add-one}
+use native.Mathlib.Omega.{arith}
+use lib.Dec.{eqb}
+use lib.ListN.{length, getD, take, drop, length-append, length-take, length-drop, drop-of-length-le}
+use lib.Seq.{slice, slice-cons, take-add, take-append-seam, drop-append-seam, drop-drop}
+use borrow.Author.Tests.{eq-eqb, ne-eqb, eqb-true}
+use Rattle.rules.specs.Bytes.{all}
+use Rattle.wires.specs.RowLaws.{slice-span}
+use Rattle.replay.specs.Parts.{span, whole}
+use Rattle.replay.specs.Reads.{Has}
+
+pub span-is : (t : List ℕ) (at n : ℕ) → span t at n ≡ take n (drop at t)
+unfolding span
+span-is t at n = slice-span at n t
+
+long : (t : List ℕ) (at n : ℕ) → length (span t at n) ≡ min n (length t - at)
+long t at n = ap length (span-is t at n) ∙ length-take n (drop at t) ∙ ap (min n) (length-drop at t)
+
+module _ (t : List ℕ) (at : ℕ) where
+  pub whole-none : whole t at 0 ≡ true
+  unfolding whole
+  whole-none = let e : length (span t at 0) ≡ 0 = omega (arith, long t at 0) in eq-eqb (length (span t at 0)) 0 e
+
+  pub whole-in : (n : ℕ) → at + n ≤ length t → whole t at n ≡ true
+  unfolding whole
+  whole-in n h = let e : length (span t at n) ≡ n = omega (arith, long t at n) in eq-eqb (length (span t at n)) n e
+
+  pub whole-out : (n : ℕ) → 0 < n → length t < at + n → whole t at n ≡ false
+  unfolding whole
+  whole-out n p h = ne-eqb (length (span t at n)) n (λ e. omega (arith, long t at n, e))
+
+  pub whole-long : (n : ℕ) → whole t at n ≡ true → length (span t at n) ≡ n
+  unfolding whole
+  whole-long n e = eqb-true (length (span t at n)) n e
+
+  pub long-whole : (n : ℕ) → length (span t at n) ≡ n → whole t at n ≡ true
+  unfolding whole
+  long-whole n e = eq-eqb (length (span t at n)) n e
+
+  pub whole-inside : (n : ℕ) → whole t at n ≡ true → 0 < n → at + n ≤ length t
+  whole-inside n e p = omega (arith, long t at n, whole-long n e)
+
+  pub span-none : span t at 0 ≡ []
+  span-none = span-is t at 0
+
+-- a test of all values of a span, value by value
+module _ (f : ℕ → Bool) (l : List ℕ) (i to : ℕ) where
+  pub all-more : i < to → to ≤ length l → f (getD l i 0) ≡ true → all f (slice i to l) ≡ all f (slice (i + 1) to l)
+  unfolding all
+  all-more h k e = rw (add-one, slice-cons i to l 0 h k, e)
+
+  pub all-stop : i < to → to ≤ length l → f (getD l i 0) ≡ false → all f (slice i to l) ≡ false
+  unfolding all
+  all-stop h k e = rw (slice-cons i to l 0 h k, e)
+
+  pub all-end : to ≤ i → all f (slice i to l) ≡ true
+  unfolding all
+  all-end h = let b : length (take to l) ≤ i = omega (arith, length-take to l) in rw (drop-of-length-le (take to l) b)
+
+-- ---- what a table has
+
+module _ (t : List ℕ) (at : ℕ) where
+  pub has-none : Has t at []
+  unfolding Has
+  has-none = refl
+
+  take-taken : (n : ℕ) (l : List ℕ) → take (length (take n l)) l ≡ take n l
+  take-taken zero l = refl
+  take-taken (suc n) [] = refl
+  take-taken (suc n) (x ∷ l) = ap (λ (r : List ℕ). x ∷ r) (take-taken n l)
+
+  pub has-span : (n : ℕ) → Has t at (span t at n)
+  unfolding Has
+  has-span n = rw span-is (take-taken n (drop at t))
+
+  -- the values are those of the span of their length
+  pub span-has : (n : ℕ) (xs : List ℕ) → Has t at xs → n ≡ length xs → span t at n ≡ xs
+  unfolding Has
+  span-has n xs h e = span-is t at n ∙ rw e h
+
+  pub has-whole : (n : ℕ) (xs : List ℕ) → Has t at xs → n ≡ length xs → whole t at n ≡ true
+  has-whole n xs h e = long-whole t at n (ap length (span-has n xs h e) ∙ sym e)
+
+  -- two spans, one behind the other
+  pub spans : (m n : ℕ) → span t at m ++ span t (at + m) n ≡ span t at (m + n)
+  spans m n =
+      ap₂ (λ (x y : List ℕ). x ++ y) (span-is t at m) (span-is t (at + m) n ∙ ap (take n) (sym (drop-drop m at t)))
+      ∙ sym (take-add m n (drop at t))
+      ∙ sym (span-is t at (m + n))
+
+  pub has-first : (xs ys : List ℕ) → Has t at (xs ++ ys) → Has t at xs
+  unfolding Has
+  has-first xs ys h = sym (ap (take (length xs)) (sym h) ∙ first (length xs) (length (xs ++ ys)) (drop at t) (omega (arith, length-append xs ys))) ∙ take-append-seam xs ys
+    where
+      first : (m n : ℕ) (l : List ℕ) → m ≤ n → take m (take n l) ≡ take m l
+      first zero n l k = refl
+      first (suc m) zero l k = absurd (omega arith)
+      first (suc m) (suc n) [] k = refl
+      first (suc m) (suc n) (x ∷ l) k = ap (λ (r : List ℕ). x ∷ r) (first m n l (omega arith))
+
+  pub has-second : (xs ys : List ℕ) (i : ℕ) → i ≡ at + length xs → Has t at (xs ++ ys) → Has t i ys
+  unfolding Has
+  has-second xs ys i e h =
+      let k : length (xs ++ ys) ≡ length xs + length ys = length-append xs ys in
+      rw (e, ← drop-drop (length xs) at t)
+      (sym (ap (drop (length xs)) (sym h) ∙ ap (λ (n : ℕ). drop (length xs) (take n (drop at t))) k ∙ slice-span (length xs) (length ys) (drop at t)) ∙ drop-append-seam xs ys)

@@ -1,0 +1,323 @@
+-- One statement more behind those that the tables begin with.
+-- Assumes nothing.
+use Prim.Native.Nat.{ℕ, _+_, _-_, _*_, _≤_, _<_}
+use mathlib.Core.Path.{_≡_, refl, sym, ap, ap₂, _∙_, subst}
+use mathlib.Core.List.{List, [], _∷_, _++_}
+use mathlib.Core.Bool.{Bool, true, false, not, cond, _&&_}
+use native.Mathlib.Omega.{arith}
+use lib.Dec.{eqb, leb}
+use lib.ListN.{length, getD, take, drop}
+use borrow.Author.Tests.{le-leb, leb-true, not-true, not-false}
+use Rattle.rules.specs.Bytes.{any, same}
+use Rattle.rules.specs.Tokens.{Name}
+use Rattle.rules.specs.Statements.{Statement, contents, code, holds, ownName, is, autoidx-stmt, attr-stmt, module-stmt, param-stmt, wire-stmt, memory-stmt, cell-stmt, cell-param-stmt, cell-conn-stmt, conn-stmt, proc-stmt, end-stmt}
+use Rattle.rules.specs.Shapes.{Scope, top, inModule, inCell}
+use Rattle.rules.specs.Signals.{Wires}
+use Rattle.rules.specs.Judgement.{Past, sum, scope, context, wires, among, signalSize, valueSize, stringSize, nameSize, takesName, exceedsSize}
+use Rattle.rules.specs.Reading.{isTop}
+use Rattle.rules.specs.Layout.{Used, padded, row, used, nameBytes, columns, statementRow}
+use Rattle.admitted.specs.Admitted.{kinds, stands, fineParts, admits, admitted, closes}
+use Rattle.admitted.specs.AdmitLaws.{Admits, admits-all, admitted-offsets}
+use Rattle.tables.specs.Row.{words, rowAt}
+use Rattle.tables.specs.declared.Row.{Row}
+use Rattle.scanner.specs.Laws.{by-test, and-true-left, and-true-right}
+use Rattle.wires.specs.Rows.{wiresFrom}
+use Rattle.wires.specs.RowLaws.{RowIs, row-taken}
+use Rattle.netlist.specs.Rows.{nameAt, namesBetween}
+use Rattle.netlist.specs.Kinds.{ofKinds, hasName}
+use Rattle.netlist.specs.RowLaws.{row-own, length-statement-row}
+use Rattle.netlist.specs.Laid.{roomsOf, Laid}
+use Rattle.netlist.specs.LaidLaws.{length-rows}
+use Rattle.netlist.specs.WireLaws.{wires-laid}
+use Rattle.netlist.specs.Found.{spaceFrom, foundIn}
+use Rattle.netlist.specs.FoundLaws.{takes-found}
+use Rattle.past.specs.Place.{placeOf, scopeOf, scopeCode, contextOf, Bounds, AfterIs}
+use Rattle.past.specs.Sizes.{sizesBy, sizesOf, sumsOf, plusOf, exceeds, Within, AtMost, KindSizesAre}
+use Rattle.past.specs.declared.place.Place.{Place}
+use Rattle.past.specs.declared.sizes.Sizes.{Sizes}
+use Rattle.past.proofs.PlaceLaws.{context-is}
+use Rattle.past.proofs.SizeLaws.{sums-step, exceeds-sums, within-past, sizes-small}
+use Rattle.replay.specs.Reads.{Tables, tabled, Has, Reads, Counts, Tells, statementOf, Small}
+use Rattle.replay.specs.Begins.{Fronts}
+use Rattle.replay.specs.Turns.{usedAt, standsAt, closesAt, Ready, Reached, TurnIs, Told, Rowed, CountsAs, Counted, smallParts}
+use Rattle.replay.specs.declared.statements.Found.{Found}
+use Rattle.replay.specs.declared.turns.Turn.{Turn}
+use Rattle.replay.proofs.CodeLaws.{never}
+use Rattle.replay.proofs.UniqueLaws.{narrow, read-only}
+use Rattle.replay.proofs.BeginLaws.{Stands, fronts-stand, stand-fronts, fronts-laid, fronts-wired, stand-long, stand-reads, reads-stand, used-past, narrow-past}
+
+-- ---- the place
+
+pub stands-place : (ss : Past) (s : Statement) → stands ss s ≡ standsAt (placeOf ss) (code (contents s .kind))
+unfolding stands standsAt among ofKinds is contextOf
+stands-place ss s = rw (context-is ss)
+
+scope-of : (ss : Past) → context ss .scope ≡ scope ss
+unfolding context scope
+scope-of [] = refl
+scope-of (s ∷ ss) = refl
+
+top-code : (z : Scope) → isTop z ≡ eqb (scopeCode z) 0
+unfolding isTop scopeCode
+top-code top = refl
+top-code inModule = refl
+top-code inCell = refl
+
+pub closes-place : (ss : Past) → closes ss ≡ closesAt (placeOf ss)
+unfolding closes closesAt placeOf
+closes-place ss = rw (scope-of ss, top-code)
+
+-- ---- the name
+
+-- of a kind without a name no rows are searched
+unnamed-space : (p : Place) (s : Statement) → hasName (code (contents s .kind)) ≡ false → spaceFrom p (code (contents s .kind)) ≡ p .rows
+unfolding hasName ofKinds any code contents holds spaceFrom
+unnamed-space p (autoidx-stmt i) e = refl
+unnamed-space p (attr-stmt n c) e = never true refl e
+unnamed-space p (module-stmt n) e = never true refl e
+unnamed-space p (param-stmt n c) e = never true refl e
+unnamed-space p (wire-stmt w n) e = never true refl e
+unnamed-space p (memory-stmt m n) e = never true refl e
+unnamed-space p (cell-stmt y n) e = never true refl e
+unnamed-space p (cell-param-stmt o n c) e = never true refl e
+unnamed-space p (cell-conn-stmt n x) e = never true refl e
+unnamed-space p (conn-stmt x y) e = refl
+unnamed-space p (proc-stmt n) e = never true refl e
+unnamed-space p end-stmt e = refl
+
+no-space : (names rows : List ℕ) (p : Place) (k : ℕ) (m n : Name) → spaceFrom p k ≡ p .rows → foundIn names rows p k m ≡ foundIn names rows p k n
+unfolding foundIn namesBetween any
+no-space names rows p k m n e = let z : p .rows - p .rows ≡ 0 = omega arith in rw (e, z)
+
+module _ {names rows : List ℕ} (ss : Past) (s : Statement) where
+  pub takes-row :
+      Laid (roomsOf ss) names rows → RowIs rows (length ss) (statementRow (used (roomsOf ss)) s) → Has names (used (roomsOf ss) .names) (nameBytes s) →
+      takesName ss s ≡ foundIn names rows (placeOf ss) (code (contents s .kind)) (nameAt names rows (length ss))
+  unfolding Has
+  takes-row l h p =
+      by-test (hasName (code (contents s .kind)))
+      (λ e. takes-found ss s (contents s .kind) (nameAt names rows (length ss)) l refl (sym (row-own names rows (length ss) (used (roomsOf ss)) s h e p)))
+      (λ e. takes-found ss s (contents s .kind) (ownName (contents s .names)) l refl refl
+      ∙ no-space names rows (placeOf ss) (code (contents s .kind)) (ownName (contents s .names)) (nameAt names rows (length ss)) (unnamed-space (placeOf ss) s e))
+
+-- ---- the sizes
+
+small-of : (ss : Past) (s : Statement) → exceedsSize (s ∷ ss) ≡ false → smallParts (signalSize s) (valueSize s) (stringSize s) (nameSize s) ≡ true
+unfolding smallParts sumsOf sizesBy sum
+small-of ss s e =
+    let w = within-past (s ∷ ss) e in
+    rw (
+      le-leb (signalSize s) 8192 (omega (arith, w .signal-bits)),
+      le-leb (valueSize s) 8192 (omega (arith, w .value-bits)),
+      le-leb (stringSize s) 8192 (omega (arith, w .string-bytes)),
+      le-leb (nameSize s) 16384 (omega (arith, w .name-bytes)),
+    )
+
+parts-small : (g v x n : ℕ) → smallParts g v x n ≡ true → (g ≤ 16384) × (v ≤ 16384) × (x ≤ 16384) × (n ≤ 16384)
+unfolding smallParts
+parts-small g v x n e =
+    let a = leb-true g 8192 (and-true-left _ _ e) in
+    let e₁ = and-true-right (leb g 8192) _ e in
+    let b = leb-true v 8192 (and-true-left _ _ e₁) in
+    let e₂ = and-true-right (leb v 8192) _ e₁ in
+    let c = leb-true x 8192 (and-true-left _ _ e₂) in
+    let d = leb-true n 16384 (and-true-right (leb x 8192) _ e₂) in
+    (omega arith, omega arith, omega arith, omega arith)
+
+-- sums of two don't wrap
+pub told-small : (k g v x n : ℕ) (d : Sizes) → Told k g v x n → KindSizesAre k g v x n d → smallParts g v x n ≡ true → AtMost 2147483647 d
+told-small k g v x n d h z e =
+    let s = h .statement in
+    let c = h .counts in
+    let q = parts-small g v x n e in
+    subst (λ (y : Sizes). AtMost 2147483647 y) (z s (h .kind-is) (c .signals) (c .values) (c .strings) (c .names))
+    (sizes-small s 2147483647 (omega arith) (omega (arith, q .0, c .signals)) (omega (arith, q .1, c .values)) (omega (arith, q .2, c .strings)) (omega (arith, q .3, c .names)))
+
+module _ (names rows : List ℕ) (p : Place) (u : Sizes) (k g v x n : ℕ) (m : Name) (em : m ≡ nameAt names rows (p .rows)) {b : Bool} (eb : b ≡ foundIn names rows p k m) where
+  module _ {strings bits wires : List ℕ} (ss : Past) (s : Statement) (at : Reached (tabled names strings bits wires) rows ss p u) (w : Rowed (tabled names strings bits wires) rows ss s k g v x n) where
+    rows-are : length ss ≡ p .rows
+    unfolding placeOf
+    rows-are = ap (λ (q : Place). q .rows) (at .place)
+
+    taken-is : takesName ss s ≡ b
+    taken-is =
+        takes-row ss s (fronts-laid (at .fronts)) (w .row) (w .names)
+        ∙ ap₂ (λ (q : Place) (j : ℕ). foundIn names rows q (code (contents s .kind)) (nameAt names rows j)) (at .place) rows-are
+        ∙ ap₂ (λ (j : ℕ) (y : Name). foundIn names rows p j y) (sym (w .kind)) (sym em)
+        ∙ sym eb
+
+    sums-are : (d : Sizes) → KindSizesAre k g v x n d → sumsOf (s ∷ ss) ≡ plusOf u d
+    sums-are d z =
+        sums-step ss s ∙ ap₂ plusOf (at .sums) (z s (w .kind) (w .counts .signals) (w .counts .values) (w .counts .strings) (w .counts .names))
+
+    exceeds-are : (d : Sizes) → KindSizesAre k g v x n d → exceedsSize (s ∷ ss) ≡ exceeds (plusOf u d)
+    exceeds-are d z = sym (exceeds-sums (s ∷ ss)) ∙ ap exceeds (sums-are d z)
+
+  pub counted-taken : b ≡ true → Counted names rows p u k g v x n Turn.Nothing
+  unfolding CountsAs
+  counted-taken e strings bits wires ss s at w new room = never (takesName ss s) (taken-is ss s at w ∙ e) new
+
+  pub counted-large : smallParts g v x n ≡ false → Counted names rows p u k g v x n Turn.Nothing
+  unfolding CountsAs
+  counted-large e strings bits wires ss s at w new room =
+      let c = w .counts in
+      never (smallParts g v x n) (rw (c .signals, c .values, c .strings, c .names) (small-of ss s room)) e
+
+  module _ (d : Sizes) (z : KindSizesAre k g v x n d) (y : Sizes) (ey : y ≡ plusOf u d) {a : Bool} (ea : a ≡ not (exceeds y)) where
+    pub counted-exceeds : a ≡ false → Counted names rows p u k g v x n Turn.Nothing
+    unfolding CountsAs
+    counted-exceeds e strings bits wires ss s at w new room =
+        never (exceeds y) (not-false (exceeds y) (sym ea ∙ e)) (ap exceeds ey ∙ sym (exceeds-are ss s at w d z) ∙ room)
+
+    pub counted-next : b ≡ false → a ≡ true → (q : Place) → AfterIs p k q → Counted names rows p u k g v x n (Turn.Next q y)
+    unfolding CountsAs
+    counted-next e f q h strings bits wires ss s at w = (
+      taken-is ss s at w ∙ e,
+      exceeds-are ss s at w d z ∙ sym (ap exceeds ey) ∙ not-true (exceeds y) (sym ea ∙ f),
+      h ss s (sym (at .place)) (w .kind),
+      sums-are ss s at w d z ∙ sym ey,
+    )
+
+-- ---- the turn
+
+module _ (t : Tables) (rows : List ℕ) (p : Place) (u : Sizes) where
+  abbrev here : Wires
+  here = wiresFrom (t .names) (t .wires) (p .«wires_from») (p .wires - p .«wires_from»)
+
+  abbrev next : Row
+  next = rowAt rows (8 * p .rows)
+
+  module _ (ss : Past) (at : Reached t rows ss p u) where
+    used-is : used (roomsOf ss) ≡ usedAt p u
+    used-is = used-past ss ∙ ap₂ usedAt (at .place) (at .sums)
+
+    wires-are : wires ss ≡ here
+    wires-are =
+        sym (wires-laid (t .names) (t .wires) ss (admitted-offsets ss (at .admits)) (fronts-wired (at .fronts)))
+        ∙ ap (λ (q : Place). wiresFrom (t .names) (t .wires) (q .«wires_from») (q .wires - q .«wires_from»)) (at .place)
+
+    narrow-here : narrow here ≡ true
+    narrow-here = ap narrow (sym wires-are) ∙ narrow-past ss (at .admits)
+
+    -- a statement that can stand there is read there
+    module _ (x : Statement) (f : Fronts (roomsOf (x ∷ ss)) t rows) (h : admits ss x ≡ true) where
+      standing : Stands t rows (usedAt p u) x
+      standing = subst (λ (y : Used). Stands t rows y x) used-is (fronts-stand t rows x ss f)
+
+      read : Reads t (usedAt p u) here next x
+      read = stand-reads t rows (usedAt p u) here x standing (ap (λ (y : Wires). fineParts y x) (sym wires-are) ∙ admits-all ss x h .parts)
+
+      long : 8 * p .rows + 8 ≤ length rows
+      long = stand-long t rows (usedAt p u) here x standing
+
+      stands-there : standsAt p (code (contents x .kind)) ≡ true
+      stands-there = ap (λ (q : Place). standsAt q (code (contents x .kind))) (sym (at .place)) ∙ sym (stands-place ss x) ∙ admits-all ss x h .standing
+
+  -- the first column is the kind
+  kind-read : {ws : Wires} (x : Statement) → Reads t (usedAt p u) ws next x → next .kind ≡ code (contents x .kind)
+  unfolding words statementRow row padded rowAt
+  kind-read x d = ap (λ (l : List ℕ). getD l 0 0) (d .row)
+
+  pub turn-short : length rows < 8 * p .rows + 8 → TurnIs t rows p u Turn.Nothing
+  unfolding TurnIs
+  turn-short l ss at x f h = omega (arith, long ss at x f h)
+
+  module _ (r : Row) (er : r ≡ next) where
+    pub turn-kind : standsAt p (r .kind) ≡ false → TurnIs t rows p u Turn.Nothing
+    unfolding TurnIs
+    turn-kind e ss at x f h =
+        never (standsAt p (r .kind)) (ap (standsAt p) (ap (λ (y : Row). y .kind) er ∙ kind-read x (read ss at x f h)) ∙ stands-there ss at x f h) e
+
+    module _ (U : Used) (eU : U ≡ usedAt p u) (f : Found) (h : Tells t U (wiresFrom (t .names) (t .wires) (p .«wires_from») (U .wires - p .«wires_from»)) r (statementOf t U r) f) where
+      abbrev found : Statement
+      found = statementOf t (usedAt p u) next
+
+      told : Tells t (usedAt p u) here next found f
+      told =
+          subst (λ (y : Row). Tells t (usedAt p u) here y (statementOf t (usedAt p u) y) f) er
+          (subst (λ (w : Used). Tells t w (wiresFrom (t .names) (t .wires) (p .«wires_from») (w .wires - p .«wires_from»)) r (statementOf t w r) f) eU h)
+
+      only-found : (ss : Past) → Reached t rows ss p u → (x : Statement) → Fronts (roomsOf (x ∷ ss)) t rows → admits ss x ≡ true → found ≡ x
+      only-found ss at x fr ad = read-only t (usedAt p u) here (narrow-here ss at) next x (read ss at x fr ad)
+
+      pub turn-not : f ≡ Found.Nothing → TurnIs t rows p u Turn.Nothing
+      unfolding TurnIs Tells
+      turn-not e ss at x fr ad =
+          let n = rw e at told in
+          n (subst (λ (s : Statement). Reads t (usedAt p u) here next s) (sym (only-found ss at x fr ad)) (read ss at x fr ad))
+
+      module _ (g v z n : ℕ) (ef : f ≡ Found.Statement g v z n) where
+        reads-found : Reads t (usedAt p u) here next found
+        unfolding Tells
+        reads-found = let q = rw ef at told in q .0
+
+        counts-found : Counts found g v z n
+        unfolding Tells
+        counts-found = let q = rw ef at told in q .1
+
+        kind-found : r .kind ≡ code (contents found .kind)
+        kind-found = ap (λ (y : Row). y .kind) er ∙ kind-read found reads-found
+
+        pub turn-told : Told (r .kind) g v z n
+        turn-told = record { statement = found; kind-is = kind-found; counts = counts-found }
+
+        module _ (l : 8 * p .rows + 8 ≤ length rows) where
+          stands-found : Stands t rows (usedAt p u) found
+          stands-found = reads-stand t rows (usedAt p u) here found l reads-found
+
+          module _ (ss : Past) (at : Reached t rows ss p u) where
+            stands-past : Stands t rows (used (roomsOf ss)) found
+            stands-past = subst (λ (y : Used). Stands t rows y found) (sym (used-is ss at)) stands-found
+
+            row-past : (w : Used) → Stands t rows w found → RowIs rows (w .rows) (statementRow w found)
+            unfolding Has
+            row-past w d =
+                row-taken rows (w .rows) (statementRow w found) (ap (λ (k : ℕ). take k (drop (8 * w .rows) rows)) (sym (length-statement-row w found)) ∙ d .row)
+
+            rowed-found : Rowed t rows ss found (r .kind) g v z n
+            unfolding used
+            rowed-found =
+                record {
+                  row = subst (λ (k : ℕ). RowIs rows k (statementRow (used (roomsOf ss)) found)) (length-rows ss) (row-past (used (roomsOf ss)) stands-past);
+                  names = stands-past .names;
+                  kind = kind-found;
+                  counts = counts-found;
+                }
+
+            admits-found : standsAt p (r .kind) ≡ true → takesName ss found ≡ false → exceedsSize (found ∷ ss) ≡ false → admits ss found ≡ true
+            unfolding admits
+            admits-found e new room =
+                let a : stands ss found ≡ true = stands-place ss found ∙ ap₂ standsAt (at .place) (sym kind-found) ∙ e in
+                let b : fineParts (wires ss) found ≡ true = ap (λ (y : Wires). fineParts y found) (wires-are ss at) ∙ reads-found .fine in
+                rw (a, b, new, room)
+
+            reached-found :
+                standsAt p (r .kind) ≡ true → (q : Place) (w : Sizes) → takesName ss found ≡ false → exceedsSize (found ∷ ss) ≡ false → placeOf (found ∷ ss) ≡ q → sumsOf (found ∷ ss) ≡ w →
+                Reached t rows (found ∷ ss) q w
+            unfolding admitted
+            reached-found e q w new room ep es =
+                record {
+                  admits = rw (at .admits, admits-found e new room);
+                  fronts = stand-fronts t rows found ss (at .fronts) stands-past;
+                  place = ep;
+                  sums = es;
+                }
+
+          pub turn-counted : standsAt p (r .kind) ≡ true → (o : Turn) → CountsAs t rows p u (r .kind) g v z n o → TurnIs t rows p u o
+          unfolding TurnIs CountsAs
+          turn-counted e (Turn.Next q w) c =
+              λ ss at.
+              let k = c ss found at (rowed-found ss at) in
+              (found, reached-found ss at e q w (k .0) (k .1) (k .2) (k .3), λ x fr ad. sym (only-found ss at x fr ad))
+          turn-counted e Turn.Nothing c =
+              λ ss at x fr ad.
+              let q = sym (only-found ss at x fr ad) in
+              let a = admits-all ss x ad in
+              c ss found at (rowed-found ss at) (ap (takesName ss) (sym q) ∙ a .new-name) (ap (λ (y : Statement). exceedsSize (y ∷ ss)) (sym q) ∙ a .room)
+
+-- what is used of the tables is little, and the module's wires are the last ones
+pub small-used : (w : Used) (p : Place) (u : Sizes) → w ≡ usedAt p u → Within u → Small w
+small-used w p u e h = rw e (record { names = h .name-bytes; bits = omega (arith, h .value-bits, h .signal-bits) })
+
+pub wires-fit : (w : Used) (p : Place) (u : Sizes) → w ≡ usedAt p u → Bounds p → p .«wires_from» ≤ w .wires
+wires-fit w p u e b = rw e (b .wires-from)

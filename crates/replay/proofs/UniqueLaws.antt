@@ -1,0 +1,204 @@
+-- A row and the parts that stand there make one statement only.
+-- Assumes nothing.
+use Prim.Native.Nat.{ℕ, zero, suc, _+_, _-_, _*_, _≤_, _<_}
+use mathlib.Core.Path.{_≡_, refl, sym, ap, ap₂, _∙_}
+use mathlib.Core.List.{List, [], _∷_, _++_, map, flatMap, zip, zipWith, reverse, reverseAux, append-nil, Option·toList}
+use mathlib.Core.Option.{Option, none, some, Option·elim}
+use mathlib.Core.Bool.{Bool, true, false, cond, _&&_, and-true}
+use native.Mathlib.Omega.{arith}
+use lib.Dec.{eqb, leb, ltb}
+use lib.IntN.{ℤ}
+use lib.ListN.{length, take, drop, getD, getElem?, length-map}
+use borrow.Author.Tests.{eq-eqb, ne-eqb, leb-true, ltb-true}
+use Rattle.rules.specs.Bytes.{all, within}
+use Rattle.rules.specs.Tokens.{Name, Digit}
+use Rattle.rules.specs.Statements.{Sort, plain, signed, real, Statement, Constant, value, integer, string, digitsOf, bytesOf, Bit, digit, bit, Wire, Memory, Signal, contents, holds, code, autoidx-stmt, attr-stmt, module-stmt, param-stmt, wire-stmt, memory-stmt, cell-stmt, cell-param-stmt, cell-conn-stmt, conn-stmt, proc-stmt, end-stmt}
+use Rattle.rules.specs.Signals.{Wires}
+use Rattle.rules.specs.Numbers.{int32}
+use Rattle.rules.specs.Layout.{Used, padded, row, digitCode, bitCode, nameBytes, stringBytes, bitCodes, wireRow, wireRows, constantColumns, sortCode, columns, statementRow}
+use Rattle.admitted.specs.Admitted.{fineConstant, fineMemory, fineBit, fineSignal, fineParts}
+use Rattle.admitted.specs.AdmitLaws.{FineParts, fine-parts, fine-fits}
+use Rattle.tables.specs.Row.{words}
+use Rattle.tables.specs.Flat.{flat}
+use Rattle.tables.specs.declared.Row.{Row}
+use Rattle.numbers.specs.Kinds.{digitOf, bitOf, bitAt}
+use Rattle.numbers.specs.KindLaws.{Within, digit-back, bit-back}
+use Rattle.numbers.specs.Signed.{signedOf}
+use Rattle.numbers.specs.SignedLaws.{signed-word}
+use Rattle.scanner.specs.Laws.{by-test, and-true-left, and-true-right}
+use Rattle.wires.specs.Rows.{wireOf}
+use Rattle.wires.specs.RowLaws.{row-taken, row-wire}
+use Rattle.wires.specs.StoreLaws.{length-wire-row}
+use Rattle.replay.specs.Parts.{span, signalOf}
+use Rattle.replay.specs.Reads.{Tables, tabled, Has, constantOf, optionalOf, sortOf, memoryOf, statementBy, statementOf, ReadsConstant, Reads}
+use Rattle.replay.proofs.Spans.{span-has, has-first, has-second}
+use Rattle.replay.proofs.CodeLaws.{never, columns-read}
+use Rattle.replay.proofs.KindLaws.{row-zero, sort-read}
+
+-- ---- bits
+
+digits-of : (ds : List Digit) → map digitOf (map digitCode ds) ≡ ds
+digits-of [] = refl
+digits-of (d ∷ ds) = ap₂ (λ (x : Digit) (l : List Digit). x ∷ l) (digit-back d) (digits-of ds)
+
+-- wires that are not wider than the rules allow
+unfoldable pub narrow : Wires → Bool
+narrow ws = all (λ v. leb (v .1 .width) 2048) ws
+
+all-aux : {A : Type 0} (f : A → Bool) (xs ys : List A) → all f xs ≡ true → all f ys ≡ true → all f (reverseAux xs ys) ≡ true
+unfolding all
+all-aux f [] ys h k = k
+all-aux f (x ∷ xs) ys h k = all-aux f xs (x ∷ ys) (and-true-right (f x) _ h) (rw (and-true-left (f x) _ h) k)
+
+element-all : {A : Type 0} (f : A → Bool) (l : List A) (i : ℕ) (v : A) → all f l ≡ true → getElem? l i ≡ some v → f v ≡ true
+unfolding all
+element-all f [] i v h e = cc
+element-all f (x ∷ l) zero v h e = let q : x ≡ v = cc in rw q at (and-true-left (f x) _ h)
+element-all f (x ∷ l) (suc i) v h e = element-all f l i v (and-true-right (f x) _ h) e
+
+fine-index : (o : Option (Name × Wire)) (i : ℕ) → ((v : Name × Wire) → o ≡ some v → leb (v .1 .width) 2048 ≡ true) → Option·elim o false (λ v. ltb i (v .1 .width)) ≡ true → i < 2048
+unfolding Option·elim
+fine-index none i h e = never false e refl
+fine-index (some v) i h e = omega (arith, ltb-true i (v .1 .width) e, leb-true (v .1 .width) 2048 (h v refl))
+
+module _ (ws : Wires) (wide : narrow ws ≡ true) where
+  bit-within : (b : Bit) → fineBit ws b ≡ true → bitOf (bitAt (bitCode b)) ≡ b
+  unfolding fineBit narrow Within all
+  bit-within (digit d) h = bit-back 0 (digit d) tt
+  bit-within (bit w i) h =
+      let f : Name × Wire → Bool = λ (v : Name × Wire). leb (v .1 .width) 2048 in
+      let k : i < 2048 = fine-index (getElem? (reverse ws) w) i (λ v e. element-all f (reverse ws) w v (all-aux f ws [] wide refl) e) h in
+      bit-back (suc w) (bit w i) (omega arith, k)
+
+  signal-of : (x : Signal) → all (fineBit ws) x ≡ true → signalOf (map bitCode x) ≡ x
+  unfolding signalOf all
+  signal-of [] h = refl
+  signal-of (b ∷ x) h = ap₂ (λ (y : Bit) (l : Signal). y ∷ l) (bit-within b (and-true-left (fineBit ws b) _ h)) (signal-of x (and-true-right (fineBit ws b) _ h))
+
+  -- a signal's codes stand there
+  signal-only : (bits : List ℕ) (at n : ℕ) (x : Signal) → fineSignal ws x ≡ true → Has bits at (map bitCode x) → n ≡ length x → signalOf (span bits at n) ≡ x
+  unfolding fineSignal
+  signal-only bits at n x f h e =
+      ap signalOf (span-has bits at n (map bitCode x) h (e ∙ sym (length-map x bitCode))) ∙ signal-of x (and-true-right (leb (length x) 2048) _ f)
+
+-- ---- constants
+
+constant-only : (strings bits : List ℕ) (u : Used) (kind a b : ℕ) (c : Constant) → ReadsConstant strings bits u kind a b c → constantOf strings bits u kind a b ≡ c
+unfolding constantOf constantColumns digitsOf bytesOf fineConstant
+constant-only strings bits u kind a b (value ds) d =
+    let e : kind ≡ 1 = sym (ap (λ (l : List ℕ). getD l 0 0) (d .columns)) in
+    let l : b ≡ length (map digitCode ds) = sym (ap (λ (l : List ℕ). getD l 2 0) (d .columns)) ∙ sym (length-map ds digitCode) in
+    rw e (ap value (ap (map digitOf) (span-has bits (u .bits) b (map digitCode ds) (d .bits-has) l) ∙ digits-of ds))
+constant-only strings bits u kind a b (integer i) d =
+    let e : kind ≡ 2 = sym (ap (λ (l : List ℕ). getD l 0 0) (d .columns)) in
+    rw e (ap integer (ap signedOf (sym (ap (λ (l : List ℕ). getD l 1 0) (d .columns))) ∙ signed-word i (d .fine)))
+constant-only strings bits u kind a b (string s) d =
+    let e : kind ≡ 3 = sym (ap (λ (l : List ℕ). getD l 0 0) (d .columns)) in
+    rw e (ap string (span-has strings (u .strings) b s (d .strings-has) (sym (ap (λ (l : List ℕ). getD l 2 0) (d .columns)))))
+
+some-kind : (u : Used) (c : Constant) (kind a b : ℕ) → constantColumns u c ≡ kind ∷ a ∷ b ∷ [] → kind ≡ 0 → ⊥
+unfolding constantColumns
+some-kind u (value ds) kind a b e z = let q : 1 ≡ kind = ap (λ (l : List ℕ). getD l 0 0) e in omega arith
+some-kind u (integer i) kind a b e z = let q : 2 ≡ kind = ap (λ (l : List ℕ). getD l 0 0) e in omega arith
+some-kind u (string s) kind a b e z = let q : 3 ≡ kind = ap (λ (l : List ℕ). getD l 0 0) e in omega arith
+
+sort-of : (o : Sort) → sortOf (sortCode o) ≡ o
+unfolding sortOf sortCode
+sort-of plain = refl
+sort-of signed = refl
+sort-of real = refl
+
+-- ---- statements
+
+has-eight : (t : List ℕ) (at : ℕ) (xs : List ℕ) → length xs ≡ 8 → Has t at xs → take 8 (drop at t) ≡ xs
+unfolding Has
+has-eight t at xs e h = ap (λ (n : ℕ). take n (drop at t)) (sym e) ∙ h
+
+module _ (t : Tables) (u : Used) (ws : Wires) (wide : narrow ws ≡ true) (r : Row) where
+  -- the first name
+  one-name : (n : Name) → Has (t .names) (u .names) (n ++ []) → r .b ≡ length n → span (t .names) (u .names) (r .b) ≡ n
+  one-name n h e = span-has (t .names) (u .names) (r .b) n (rw append-nil at h) e
+
+  one-constant :
+      (c : Constant) (kind a n sort : ℕ) → words r ≡ row (kind ∷ a ∷ n ∷ constantColumns u c ++ sort ∷ []) →
+      Has (t .strings) (u .strings) (bytesOf c ++ []) → Has (t .bits) (u .bits) ((map digitCode (digitsOf c) ++ []) ++ []) → fineConstant c ≡ true →
+      ReadsConstant (t .strings) (t .bits) u (r .c) (r .d) (r .e) c
+  one-constant c kind a n sort e hs hb f =
+      record { columns = columns-read u c r kind a n sort e; strings-has = rw append-nil at hs; bits-has = rw (append-nil, append-nil) at hb; fine = f }
+
+  memory-is : (m : Memory) → r .c ≡ m .width → r .d ≡ m .size → signedOf (r .e) ≡ m .offset → memoryOf r ≡ m
+  unfolding memoryOf
+  memory-is m w z e = λ i. record { width = w i; size = z i; offset = e i }
+
+  -- by the row's kind
+  kind-of : (k : ℕ) → r .kind ≡ k → statementOf t u r ≡ statementBy t u r k
+  unfolding statementOf
+  kind-of k e = ap (statementBy t u r) e
+
+  pub read-only : (s : Statement) → Reads t u ws r s → statementOf t u r ≡ s
+  unfolding statementBy statementRow columns code contents holds words row padded nameBytes stringBytes bitCodes wireRows flatMap zip zipWith optionalOf Option·elim Option·toList all fineMemory
+  read-only (autoidx-stmt i) d =
+      let f = fine-parts ws (autoidx-stmt i) (d .fine) in
+      kind-of 1 (ap (λ (l : List ℕ). getD l 0 0) (d .row))
+      ∙ ap autoidx-stmt (ap signedOf (ap (λ (l : List ℕ). getD l 1 0) (d .row)) ∙ signed-word i (and-true-left (int32 i) true (f .integers)))
+  read-only (attr-stmt n c) d =
+      let f = fine-parts ws (attr-stmt n c) (d .fine) in
+      kind-of 2 (ap (λ (l : List ℕ). getD l 0 0) (d .row))
+      ∙ ap₂ attr-stmt (one-name n (d .names) (ap (λ (l : List ℕ). getD l 2 0) (d .row)))
+      (constant-only (t .strings) (t .bits) u (r .c) (r .d) (r .e) c
+      (one-constant c 2 (u .names) (length n) 0 (d .row ∙ row-zero u c 2 (u .names) (length n)) (d .strings) (d .bits) (and-true-left (fineConstant c) true (f .constants))))
+  read-only (module-stmt n) d =
+      kind-of 3 (ap (λ (l : List ℕ). getD l 0 0) (d .row)) ∙ ap module-stmt (one-name n (d .names) (ap (λ (l : List ℕ). getD l 2 0) (d .row)))
+  read-only (param-stmt n none) d =
+      kind-of 4 (ap (λ (l : List ℕ). getD l 0 0) (d .row))
+      ∙ ap₂ param-stmt (one-name n (d .names) (ap (λ (l : List ℕ). getD l 2 0) (d .row))) (rw (eq-eqb (r .c) 0 (ap (λ (l : List ℕ). getD l 3 0) (d .row))))
+  read-only (param-stmt n (some c)) d =
+      let f = fine-parts ws (param-stmt n (some c)) (d .fine) in
+      let q = one-constant c 4 (u .names) (length n) 0 (d .row ∙ row-zero u c 4 (u .names) (length n)) (d .strings) (d .bits) (and-true-left (fineConstant c) true (f .constants)) in
+      kind-of 4 (ap (λ (l : List ℕ). getD l 0 0) (d .row))
+      ∙ ap₂ param-stmt (one-name n (d .names) (ap (λ (l : List ℕ). getD l 2 0) (d .row)))
+      (rw (ne-eqb (r .c) 0 (some-kind u c (r .c) (r .d) (r .e) (q .columns))) (ap some (constant-only (t .strings) (t .bits) u (r .c) (r .d) (r .e) c q)))
+  read-only (wire-stmt w n) d =
+      let x : List ℕ = wireRow u (n, w) in
+      kind-of 5 (ap (λ (l : List ℕ). getD l 0 0) (d .row))
+      ∙ ap₂ wire-stmt
+      (row-wire (t .wires) (u .wires) u n w (row-taken (t .wires) (u .wires) x (has-eight (t .wires) (8 * u .wires) x (length-wire-row u (n, w)) (rw append-nil at (d .wires))))
+      (and-true-left (int32 (w .offset)) true (fine-fits ws (wire-stmt w n) (d .fine))))
+      (one-name n (d .names) (ap (λ (l : List ℕ). getD l 2 0) (d .row)))
+  read-only (memory-stmt m n) d =
+      let f = fine-parts ws (memory-stmt m n) (d .fine) in
+      let o : int32 (m .offset) ≡ true = and-true-right (within 1 2048 (m .width) && leb (m .size) 2147483647) _ (and-true-left (fineMemory m) true (f .memories)) in
+      kind-of 6 (ap (λ (l : List ℕ). getD l 0 0) (d .row))
+      ∙ ap₂ memory-stmt
+      (memory-is m (ap (λ (l : List ℕ). getD l 3 0) (d .row)) (ap (λ (l : List ℕ). getD l 4 0) (d .row)) (ap signedOf (ap (λ (l : List ℕ). getD l 5 0) (d .row)) ∙ signed-word (m .offset) o))
+      (one-name n (d .names) (ap (λ (l : List ℕ). getD l 2 0) (d .row)))
+  read-only (cell-stmt y n) d =
+      let e : r .b ≡ length y = ap (λ (l : List ℕ). getD l 2 0) (d .row) in
+      kind-of 7 (ap (λ (l : List ℕ). getD l 0 0) (d .row))
+      ∙ ap₂ cell-stmt (span-has (t .names) (u .names) (r .b) y (has-first (t .names) (u .names) y (n ++ []) (d .names)) e)
+      (span-has (t .names) (u .names + r .b) (r .d) n (rw append-nil at (has-second (t .names) (u .names) y (n ++ []) (u .names + r .b) (ap (λ (k : ℕ). u .names + k) e) (d .names)))
+      (ap (λ (l : List ℕ). getD l 4 0) (d .row)))
+  read-only (cell-param-stmt o n c) d =
+      let f = fine-parts ws (cell-param-stmt o n c) (d .fine) in
+      let x : sortOf (r .f) ≡ o = ap sortOf (sort-read u c r 8 (u .names) (length n) (sortCode o) (d .row)) ∙ sort-of o in
+      let y : span (t .names) (u .names) (r .b) ≡ n = one-name n (d .names) (ap (λ (l : List ℕ). getD l 2 0) (d .row)) in
+      let z : constantOf (t .strings) (t .bits) u (r .c) (r .d) (r .e) ≡ c =
+      constant-only (t .strings) (t .bits) u (r .c) (r .d) (r .e) c (one-constant c 8 (u .names) (length n) (sortCode o) (d .row) (d .strings) (d .bits) (and-true-left (fineConstant c) true (f .constants))) in
+      kind-of 8 (ap (λ (l : List ℕ). getD l 0 0) (d .row)) ∙ (λ i. cell-param-stmt (x i) (y i) (z i))
+  read-only (cell-conn-stmt n x) d =
+      let f = fine-parts ws (cell-conn-stmt n x) (d .fine) in
+      kind-of 9 (ap (λ (l : List ℕ). getD l 0 0) (d .row))
+      ∙ ap₂ cell-conn-stmt (one-name n (d .names) (ap (λ (l : List ℕ). getD l 2 0) (d .row)))
+      (signal-only ws wide (t .bits) (u .bits) (r .d) x (and-true-left (fineSignal ws x) true (f .signals)) (rw append-nil at (d .bits)) (ap (λ (l : List ℕ). getD l 4 0) (d .row)))
+  read-only (conn-stmt x y) d =
+      let f = fine-parts ws (conn-stmt x y) (d .fine) in
+      let e : r .b ≡ length x = ap (λ (l : List ℕ). getD l 2 0) (d .row) in
+      let k : u .bits + r .b ≡ u .bits + length (map bitCode x) = ap (λ (n : ℕ). u .bits + n) (e ∙ sym (length-map x bitCode)) in
+      kind-of 10 (ap (λ (l : List ℕ). getD l 0 0) (d .row))
+      ∙ ap₂ conn-stmt
+      (signal-only ws wide (t .bits) (u .bits) (r .b) x (and-true-left (fineSignal ws x) _ (f .signals)) (has-first (t .bits) (u .bits) (map bitCode x) (map bitCode y ++ []) (d .bits)) e)
+      (signal-only ws wide (t .bits) (u .bits + r .b) (r .d) y (and-true-left (fineSignal ws y) true (and-true-right (fineSignal ws x) _ (f .signals)))
+      (rw append-nil at (has-second (t .bits) (u .bits) (map bitCode x) (map bitCode y ++ []) (u .bits + r .b) k (d .bits))) (ap (λ (l : List ℕ). getD l 4 0) (d .row)))
+  read-only (proc-stmt n) d =
+      kind-of 11 (ap (λ (l : List ℕ). getD l 0 0) (d .row)) ∙ ap proc-stmt (one-name n (d .names) (ap (λ (l : List ℕ). getD l 2 0) (d .row)))
+  read-only end-stmt d = kind-of 12 (ap (λ (l : List ℕ). getD l 0 0) (d .row))

@@ -1,0 +1,74 @@
+use Rattle.replay.specs.Parts.{usedOf}
+use denote.Ref.{now}
+use mathlib.Core.Path.{refl, sym, _∙_}
+use native.Mathlib.Omega.{arith}
+use borrow.Author.Tests.{not-true, not-false}
+use Rattle.replay.specs.Reads.{tabled}
+use Rattle.replay.proofs.TurnLaws.{small-used, wires-fit, turn-short, turn-kind, turn-not, turn-told, turn-counted}
+use borrow.Author.Needs.{needs}
+use Rattle.replay.proofs.turns.one_more.Statement.{statement}
+use Rattle.replay.proofs.turns.one_more.Tie as tie
+
+-- The row's place, its kind, its statement, then the name and the sizes.
+-- Assumes nothing.
+
+cast-at : tie.Need-cast-at
+cast-at c = search needs
+
+mul-at : tie.Need-mul-at
+mul-at c = search needs
+
+add-if1 : tie.Need-add-if1
+add-if1 c = search needs
+
+returns : tie.Need-returns
+returns c = turn-short _ _ _ _ (c .if1 .taken)
+
+get-row-requires : tie.Need-get-row-requires
+get-row-requires c κs = search needs
+
+stands-at-requires : tie.Need-stands-at-requires
+stands-at-requires c κs = search needs
+
+returns-2 : tie.Need-returns-2
+returns-2 c = turn-kind _ _ _ _ _ (c .before .before .get-row .ensures) (sym (c .before .stands-at .ensures) ∙ not-true _ (c .if2 .taken))
+
+used-requires : tie.Need-used-requires
+used-requires c κs = c .before .before .before .before .before .before .before .before .before .before .pre .within
+
+statement-at-requires : tie.Need-statement-at-requires
+statement-at-requires c κs = (small-used (usedOf (c .used .result)) (c .before .before .before .before .before .before .before .before .before .before .before .args .p) (c .before .before .before .before .before .before .before .before .before .before .before .args .u) (c .used .ensures) (c .before .before .before .before .before .before .before .before .before .before .before .pre .within), wires-fit (usedOf (c .used .result)) (c .before .before .before .before .before .before .before .before .before .before .before .args .p) (c .before .before .before .before .before .before .before .before .before .before .before .args .u) (c .used .ensures) (c .before .before .before .before .before .before .before .before .before .before .before .pre .bounds))
+
+enum-known-f : tie.Need-enum-known-f
+enum-known-f c = search needs
+
+counted-requires : tie.Need-counted-requires
+counted-requires c κs = (c .before .before .before .before .before .before .before .before .before .before .before .before .before .before .before .pre, turn-told (tabled (now (c .before .before .before .before .before .before .before .before .before .before .before .before .before .before .before .args .names)) (now (c .before .before .before .before .before .before .before .before .before .before .before .before .before .before .before .args .strings)) (now (c .before .before .before .before .before .before .before .before .before .before .before .before .before .before .before .args .bits)) (now (c .before .before .before .before .before .before .before .before .before .before .before .before .before .before .before .args .wires))) (now (c .before .before .before .before .before .before .before .before .before .before .before .before .before .before .before .args .rows)) (c .before .before .before .before .before .before .before .before .before .before .before .before .before .before .before .args .p) (c .before .before .before .before .before .before .before .before .before .before .before .before .before .before .before .args .u) (c .before .before .before .before .before .before .before .get-row .result) (c .before .before .before .before .before .before .before .get-row .ensures) (usedOf (c .before .before .before .before .used .result)) (c .before .before .before .before .used .ensures) (c .before .before .before .statement-at .result) (c .before .before .before .statement-at .ensures) _ _ _ _ (c .before .f .given .1))
+
+enum-told : tie.Need-enum-told
+enum-told c = search needs
+
+returns-3 : tie.Need-returns-3
+returns-3 c = turn-counted _ _ _ _ _ (c .before .before .before .before .before .before .before .before .get-row .ensures) _ (c .before .before .before .before .before .used .ensures) _ (c .before .before .before .before .statement-at .ensures) _ _ _ _ (c .before .before .f .given .1) (c .before .before .before .before .before .before .before .before .before .if1 .left) (sym (c .before .before .before .before .before .before .before .stands-at .ensures) ∙ not-false _ (c .before .before .before .before .before .before .if2 .left)) _ (c .counted .ensures _ _ _)
+
+returns-4 : tie.Need-returns-4
+returns-4 c = turn-not _ _ _ _ _ (c .before .before .before .before .before .before .get-row .ensures) _ (c .before .before .before .used .ensures) _ (c .before .before .statement-at .ensures) (c .enum-told .given .1)
+
+pub one-more-spec : {M : Type 1} → statement M
+one-more-spec =
+    tie.close
+    (tie.spec
+    cast-at
+    mul-at
+    add-if1
+    returns
+    get-row-requires
+    stands-at-requires
+    returns-2
+    used-requires
+    statement-at-requires
+    enum-known-f
+    counted-requires
+    enum-told
+    returns-3
+    returns-4)

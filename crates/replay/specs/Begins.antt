@@ -1,0 +1,48 @@
+-- Statements that tables begin with, one behind another, and nothing else of the kind behind them.
+use Prim.Native.Nat.{ℕ, _*_}
+use mathlib.Core.Path.{_≡_}
+use mathlib.Core.List.{List, _++_}
+use mathlib.Core.Bool.{Bool, true, false}
+use lib.ListN.{length}
+use Rattle.rules.specs.Bytes.{within}
+use Rattle.rules.specs.Judgement.{Past}
+use Rattle.rules.specs.Layout.{Rooms}
+use Rattle.admitted.specs.Admitted.{admitted, closes}
+use Rattle.tables.specs.Flat.{flat}
+use Rattle.wires.specs.Rows.{wordAt}
+use Rattle.netlist.specs.Laid.{roomsOf}
+use Rattle.past.specs.Place.{placeOf}
+use Rattle.past.specs.Sizes.{sumsOf}
+use Rattle.replay.specs.Reads.{Tables}
+use Rattle.replay.specs.declared.Replayed.{Replayed}
+
+abbrev pub Starts : List ℕ → List ℕ → Type 0
+Starts t xs = (more : List ℕ) × (t ≡ xs ++ more)
+
+-- each table begins with what the rooms hold
+pub record Fronts (R : Rooms) (t : Tables) (rows : List ℕ) : Type 0 where
+  pub names-start : Starts (t .names) (R .names)
+  pub strings-start : Starts (t .strings) (R .strings)
+  pub bits-start : Starts (t .bits) (R .bits)
+  pub wires-start : Starts (t .wires) (flat (R .wires))
+  pub rows-start : Starts rows (flat (R .rows))
+
+-- the kinds of statements are 1 to 12
+unfoldable pub isStatement : ℕ → Bool
+isStatement k = within 1 12 k
+
+-- and the row behind the last one is no statement's
+pub record Begins (R : Rooms) (t : Tables) (rows : List ℕ) : Type 0 where
+  pub fronts : Fronts R t rows
+  pub ends : isStatement (wordAt rows (8 * length (R .rows))) ≡ false
+
+-- these statements may stand one after another, the last one ends a file, and the tables hold them
+pub record Stored (t : Tables) (rows : List ℕ) (ss : Past) : Type 0 where
+  pub admits : admitted ss ≡ true
+  pub closed : closes ss ≡ true
+  pub begins : Begins (roomsOf ss) t rows
+
+-- the answer, both ways: there are such statements, with this place and these sums behind them; or there are none
+unfoldable pub Replays : Tables → List ℕ → Replayed → Type 0
+Replays t rows (Replayed.Holding p u) = (ss : Past) × Stored t rows ss × (placeOf ss ≡ p) × (sumsOf ss ≡ u)
+Replays t rows Replayed.Damaged = (ss : Past) → Stored t rows ss → ⊥

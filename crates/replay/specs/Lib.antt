@@ -1,0 +1,5 @@
+pub mod Parts
+pub mod Reads
+pub mod Objects
+pub mod Begins
+pub mod Turns

@@ -1,0 +1,91 @@
+-- The statements replayed so far, and one more.
+use Prim.Native.Nat.{ℕ, _+_, _*_, _≤_}
+use mathlib.Core.Path.{_≡_}
+use mathlib.Core.List.{List, _∷_}
+use mathlib.Core.Bool.{Bool, true, false, not, _&&_}
+use lib.Dec.{eqb, leb}
+use lib.ListN.{length}
+use Rattle.rules.specs.Statements.{Statement, code, contents}
+use Rattle.rules.specs.Judgement.{Past, wires, signalSize, valueSize, stringSize, nameSize, takesName, exceedsSize}
+use Rattle.rules.specs.Layout as layout
+use Rattle.rules.specs.Layout.{used, statementRow, nameBytes}
+use Rattle.admitted.specs.Admitted.{kinds, admits, admitted}
+use Rattle.wires.specs.RowLaws.{RowIs}
+use Rattle.netlist.specs.Kinds.{ofKinds}
+use Rattle.netlist.specs.Laid.{roomsOf}
+use Rattle.past.specs.Place.{placeOf, scopeOf, Bounds}
+use Rattle.past.specs.Sizes.{sumsOf, Within}
+use Rattle.past.specs.declared.place.Place.{Place}
+use Rattle.past.specs.declared.sizes.Sizes.{Sizes}
+use Rattle.replay.specs.Reads.{Tables, Has, Counts}
+use Rattle.replay.specs.Begins.{Fronts, Stored}
+use Rattle.replay.specs.declared.turns.Turn.{Turn}
+
+-- how much of each table the statements so far use
+abbrev pub usedAt : Place → Sizes → layout.Used
+usedAt p u =
+    record {
+      names = u .«name_bytes»;
+      strings = u .«string_bytes»;
+      bits = u .«value_bits» + u .«signal_bits»;
+      wires = p .wires;
+      rows = p .rows;
+      modules = p .modules;
+    }
+
+-- whether a statement of this kind has a form at a place
+unfoldable pub standsAt : Place → ℕ → Bool
+standsAt p k = ofKinds (kinds (scopeOf (p .scope)) (p .first) (p .attributed)) k
+
+-- whether a file may end at a place
+unfoldable pub closesAt : Place → Bool
+closesAt p = eqb (p .scope) 0 && not (p .attributed)
+
+-- nothing exceeds its size, so that sums don't wrap
+pub record Ready (p : Place) (u : Sizes) : Type 0 where
+  pub bounds : Bounds p
+  pub few : p .rows ≤ 4705
+  pub within : Within u
+
+-- the tables begin with these statements, behind which stand this place and these sums
+pub record Reached (t : Tables) (rows : List ℕ) (ss : Past) (p : Place) (u : Sizes) : Type 0 where
+  pub admits : admitted ss ≡ true
+  pub fronts : Fronts (roomsOf ss) t rows
+  pub place : placeOf ss ≡ p
+  pub sums : sumsOf ss ≡ u
+
+-- one statement more: the place and the sums behind it; or none can stand there
+unfoldable pub TurnIs : Tables → List ℕ → Place → Sizes → Turn → Type 0
+TurnIs t rows p u (Turn.Next q v) =
+    (ss : Past) → Reached t rows ss p u →
+    (s : Statement) × Reached t rows (s ∷ ss) q v × ((x : Statement) → Fronts (roomsOf (x ∷ ss)) t rows → admits ss x ≡ true → x ≡ s)
+TurnIs t rows p u Turn.Nothing =
+    (ss : Past) → Reached t rows ss p u → (x : Statement) → Fronts (roomsOf (x ∷ ss)) t rows → admits ss x ≡ true → ⊥
+
+-- there is a statement of this kind that holds so much
+pub record Told (k g v x n : ℕ) : Type 0 where
+  pub statement : Statement
+  pub kind-is : k ≡ code (contents statement .kind)
+  pub counts : Counts statement g v x n
+
+-- a statement whose row and names stand there: whether its name is new and no size is exceeded
+pub record Rowed (t : Tables) (rows : List ℕ) (ss : Past) (s : Statement) (k g v x n : ℕ) : Type 0 where
+  pub row : RowIs rows (length ss) (statementRow (used (roomsOf ss)) s)
+  pub names : Has (t .names) (used (roomsOf ss) .names) (nameBytes s)
+  pub kind : k ≡ code (contents s .kind)
+  pub counts : Counts s g v x n
+
+unfoldable pub CountsAs : Tables → List ℕ → Place → Sizes → (k g v x n : ℕ) → Turn → Type 0
+CountsAs t rows p u k g v x n (Turn.Next q w) =
+    (ss : Past) (s : Statement) → Reached t rows ss p u → Rowed t rows ss s k g v x n →
+    (takesName ss s ≡ false) × (exceedsSize (s ∷ ss) ≡ false) × (placeOf (s ∷ ss) ≡ q) × (sumsOf (s ∷ ss) ≡ w)
+CountsAs t rows p u k g v x n Turn.Nothing =
+    (ss : Past) (s : Statement) → Reached t rows ss p u → Rowed t rows ss s k g v x n → takesName ss s ≡ false → exceedsSize (s ∷ ss) ≡ false → ⊥
+
+abbrev pub Counted : (names rows : List ℕ) → Place → Sizes → (k g v x n : ℕ) → Turn → Type 0
+Counted names rows p u k g v x n r =
+    (strings bits wires : List ℕ) → CountsAs (record { names = names; strings = strings; bits = bits; wires = wires }) rows p u k g v x n r
+
+-- no part alone exceeds its size
+unfoldable pub smallParts : (g v x n : ℕ) → Bool
+smallParts g v x n = leb g 8192 && (leb v 8192 && (leb x 8192 && leb n 16384))

@@ -1,0 +1,69 @@
+// Whether tables hold statements that may stand one after another. The statements are replayed from the first row on, whatever the tables hold:
+// each row says where its parts are, and has to be the row of the statement that they make.
+use past::place::Place;
+use past::place::start;
+use past::sizes::Sizes;
+use past::sizes::none;
+use tables::word;
+
+pub mod parts;
+pub mod signals;
+pub mod statements;
+pub mod turns;
+
+use turns::Turn;
+use turns::one_more;
+ghost use mathlib.Core.Path.{_≡_};
+ghost use Rattle.replay.specs.Reads.{tabled};
+ghost use Rattle.replay.specs.Begins.{isStatement, Replays};
+ghost use Rattle.replay.specs.Turns.{closesAt};
+
+// The place and the sums behind the statements that the tables hold.
+pub enum Replayed {
+    Holding { place: Place, sums: Sizes },
+    Damaged,
+}
+
+fn is_statement(kind: u32) -> bool
+    ensures { λ r. ⌜ r ≡ isStatement kind ⌝ }
+{
+    if kind == 0 {
+        return false;
+    }
+    kind <= 12
+}
+
+// A file may end here.
+fn is_closed(p: Place) -> bool
+    ensures { λ r. ⌜ r ≡ closesAt p ⌝ }
+{
+    if p.scope != 0 {
+        return false;
+    }
+    !p.attributed
+}
+
+pub fn replay(names: &[u8], strings: &[u8], bits: &[u32], wires: &[u32], rows: &[u32]) -> Replayed
+    ensures { λ r. ⌜ Replays (tabled (now (names .entry)) (now (strings .entry)) (now (bits .entry)) (now (wires .entry))) (now (rows .entry)) r ⌝ }
+{
+    let mut place = start();
+    let mut sums = none();
+    loop {
+        if !is_statement(word(rows, 8 * (place.rows as usize))) {
+            if is_closed(place) {
+                return Replayed::Holding { place, sums };
+            }
+            return Replayed::Damaged;
+        }
+        let t = one_more(names, strings, bits, wires, rows, place, sums);
+        match t {
+            Turn::Next { place: p, sums: u } => {
+                place = p;
+                sums = u;
+            }
+            Turn::Nothing => {
+                return Replayed::Damaged;
+            }
+        }
+    }
+}

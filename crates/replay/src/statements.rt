@@ -1,0 +1,454 @@
+// A statement that stands in the tables behind what is used of them: its row, and the parts that the row tells of.
+use crate::parts::Used;
+use crate::parts::digits_stand;
+use crate::parts::name_stands;
+use crate::parts::text_stands;
+use crate::signals::signal_stands;
+use crate::signals::wire_fits;
+use tables::Row;
+use tables::get_row;
+ghost use mathlib.Core.Path.{_≡_};
+ghost use mathlib.Core.Bool.{cond, _||_};
+ghost use lib.Dec.{eqb, leb};
+ghost use Prim.Native.Nat.{_-_, _≤_};
+ghost use Rattle.rules.specs.Bytes.{same};
+ghost use Rattle.tables.specs.Row.{words};
+ghost use Rattle.wires.specs.Rows.{wiresFrom};
+ghost use Rattle.replay.specs.Parts.{usedOf};
+ghost use Rattle.replay.specs.Reads.{tabled, constantOf, statementOf, TellsConstant, Tells, TellsNamed, TellsValued, TellsAutoidx, TellsEnd, TellsMemory, TellsCell, TellsParameter, TellsCellParameter, TellsWire, TellsCellConnection, TellsConnection, WireRowStands, Small};
+
+// What a statement holds: bits of signals and of values, bytes of strings and of names.
+pub enum Found {
+    Statement {
+        signals: u32,
+        values: u32,
+        strings: u32,
+        names: u32,
+    },
+    Nothing,
+}
+
+// What a constant holds: bits of a value, bytes of a string.
+pub enum Held {
+    Constant { values: u32, strings: u32 },
+    Nothing,
+}
+
+fn same_row(x: Row, y: Row) -> bool
+    ensures { λ r. ⌜ r ≡ same (words x) (words y) ⌝ }
+{
+    if x.kind != y.kind {
+        return false;
+    }
+    if x.a != y.a {
+        return false;
+    }
+    if x.b != y.b {
+        return false;
+    }
+    if x.c != y.c {
+        return false;
+    }
+    if x.d != y.d {
+        return false;
+    }
+    if x.e != y.e {
+        return false;
+    }
+    if x.f != y.f {
+        return false;
+    }
+    x.g == y.g
+}
+
+// A statement whose row has to be this one.
+fn settle(r: Row, x: Row, signals: u32, values: u32, strings: u32, names: u32) -> Found
+    ensures { λ f. ⌜ f ≡ cond (same (words r) (words x)) (Found.Statement signals values strings names) Found.Nothing ⌝ }
+{
+    if same_row(r, x) {
+        return Found::Statement {
+            signals,
+            values,
+            strings,
+            names,
+        };
+    }
+    Found::Nothing
+}
+
+fn value_at(strings: &[u8], bits: &[u32], u: Used, a: u32, b: u32) -> Held
+    ensures { λ r. ⌜ TellsConstant (now (strings .entry)) (now (bits .entry)) (usedOf u) 1 a b (constantOf (now (strings .entry)) (now (bits .entry)) (usedOf u) 1 a b) r ⌝ }
+{
+    if a != u.bits {
+        return Held::Nothing;
+    }
+    if !digits_stand(bits, u.bits, b) {
+        return Held::Nothing;
+    }
+    Held::Constant {
+        values: b,
+        strings: 0,
+    }
+}
+
+fn text_at(strings: &[u8], bits: &[u32], u: Used, a: u32, b: u32) -> Held
+    ensures { λ r. ⌜ TellsConstant (now (strings .entry)) (now (bits .entry)) (usedOf u) 3 a b (constantOf (now (strings .entry)) (now (bits .entry)) (usedOf u) 3 a b) r ⌝ }
+{
+    if a != u.strings {
+        return Held::Nothing;
+    }
+    if !text_stands(strings, u.strings, b) {
+        return Held::Nothing;
+    }
+    Held::Constant {
+        values: 0,
+        strings: b,
+    }
+}
+
+// A constant by its three columns.
+fn constant_at(strings: &[u8], bits: &[u32], u: Used, kind: u32, a: u32, b: u32) -> Held
+    ensures { λ r. ⌜ TellsConstant (now (strings .entry)) (now (bits .entry)) (usedOf u) kind a b (constantOf (now (strings .entry)) (now (bits .entry)) (usedOf u) kind a b) r ⌝ }
+{
+    if kind == 1 {
+        return value_at(strings, bits, u, a, b);
+    }
+    if kind == 3 {
+        return text_at(strings, bits, u, a, b);
+    }
+    if kind != 2 {
+        return Held::Nothing;
+    }
+    if b != 0 {
+        return Held::Nothing;
+    }
+    Held::Constant {
+        values: 0,
+        strings: 0,
+    }
+}
+
+// A name and nothing else.
+fn named(names: &[u8], u: Used, r: Row, kind: u32) -> Found
+    ensures { λ f. ⌜ TellsNamed (now (names .entry)) (usedOf u) r kind f ⌝ }
+{
+    if !name_stands(names, u.names, r.b) {
+        return Found::Nothing;
+    }
+    let x = Row {
+        kind,
+        a: u.names,
+        b: r.b,
+        c: 0,
+        d: 0,
+        e: 0,
+        f: 0,
+        g: 0,
+    };
+    settle(r, x, 0, 0, 0, r.b)
+}
+
+// A name and a constant.
+fn valued(
+    names: &[u8],
+    strings: &[u8],
+    bits: &[u32],
+    u: Used,
+    r: Row,
+    kind: u32,
+    sort: u32,
+) -> Found
+    ensures { λ f. ⌜ TellsValued (now (names .entry)) (now (strings .entry)) (now (bits .entry)) (usedOf u) r kind sort f ⌝ }
+{
+    if !name_stands(names, u.names, r.b) {
+        return Found::Nothing;
+    }
+    let h = constant_at(strings, bits, u, r.c, r.d, r.e);
+    match h {
+        Held::Constant {
+            values,
+            strings: bytes,
+        } => {
+            let x = Row {
+                kind,
+                a: u.names,
+                b: r.b,
+                c: r.c,
+                d: r.d,
+                e: r.e,
+                f: sort,
+                g: 0,
+            };
+            settle(r, x, 0, values, bytes, r.b)
+        }
+        Held::Nothing => Found::Nothing,
+    }
+}
+
+// A parameter of a module has a constant or none.
+fn parameter_at(names: &[u8], strings: &[u8], bits: &[u32], u: Used, r: Row) -> Found
+    ensures { λ f. ⌜ TellsParameter (now (names .entry)) (now (strings .entry)) (now (bits .entry)) (usedOf u) r f ⌝ }
+{
+    if r.c == 0 {
+        return named(names, u, r, 4);
+    }
+    valued(names, strings, bits, u, r, 4, 0)
+}
+
+fn autoidx_at(u: Used, r: Row) -> Found
+    ensures { λ f. ⌜ TellsAutoidx (usedOf u) r f ⌝ }
+{
+    let x = Row {
+        kind: 1,
+        a: r.a,
+        b: 0,
+        c: 0,
+        d: 0,
+        e: 0,
+        f: 0,
+        g: 0,
+    };
+    settle(r, x, 0, 0, 0, 0)
+}
+
+fn end_at(u: Used, r: Row) -> Found
+    ensures { λ f. ⌜ TellsEnd (usedOf u) r f ⌝ }
+{
+    let x = Row {
+        kind: 12,
+        a: 0,
+        b: 0,
+        c: 0,
+        d: 0,
+        e: 0,
+        f: 0,
+        g: 0,
+    };
+    settle(r, x, 0, 0, 0, 0)
+}
+
+fn memory_at(names: &[u8], u: Used, r: Row) -> Found
+    ensures { λ f. ⌜ TellsMemory (now (names .entry)) (usedOf u) r f ⌝ }
+{
+    if !name_stands(names, u.names, r.b) {
+        return Found::Nothing;
+    }
+    if r.c == 0 {
+        return Found::Nothing;
+    }
+    if 2048 < r.c {
+        return Found::Nothing;
+    }
+    if 2147483647 < r.d {
+        return Found::Nothing;
+    }
+    let x = Row {
+        kind: 6,
+        a: u.names,
+        b: r.b,
+        c: r.c,
+        d: r.d,
+        e: r.e,
+        f: 0,
+        g: 0,
+    };
+    settle(r, x, 0, 0, 0, r.b)
+}
+
+// A cell's type stands before its name.
+fn cell_at(names: &[u8], u: Used, r: Row) -> Found
+    requires { ⌜ Small (usedOf u) ⌝ }
+    ensures { λ f. ⌜ TellsCell (now (names .entry)) (usedOf u) r f ⌝ }
+{
+    if !name_stands(names, u.names, r.b) {
+        return Found::Nothing;
+    }
+    let second = u.names + r.b;
+    if !name_stands(names, second, r.d) {
+        return Found::Nothing;
+    }
+    let x = Row {
+        kind: 7,
+        a: u.names,
+        b: r.b,
+        c: second,
+        d: r.d,
+        e: 0,
+        f: 0,
+        g: 0,
+    };
+    settle(r, x, 0, 0, 0, r.b + r.d)
+}
+
+fn cell_parameter_at(names: &[u8], strings: &[u8], bits: &[u32], u: Used, r: Row) -> Found
+    ensures { λ f. ⌜ TellsCellParameter (now (names .entry)) (now (strings .entry)) (now (bits .entry)) (usedOf u) r f ⌝ }
+{
+    if 2 < r.f {
+        return Found::Nothing;
+    }
+    valued(names, strings, bits, u, r, 8, r.f)
+}
+
+// The module's wires before this one are those from row first on.
+fn cell_connection_at(
+    names: &[u8],
+    bits: &[u32],
+    wires: &[u32],
+    u: Used,
+    first: u32,
+    r: Row,
+) -> Found
+    requires { ⌜ first ≤ u .wires ⌝ }
+    ensures { λ f. ⌜ TellsCellConnection (now (names .entry)) (now (bits .entry)) (now (wires .entry)) (usedOf u) first r f ⌝ }
+{
+    if !name_stands(names, u.names, r.b) {
+        return Found::Nothing;
+    }
+    if !signal_stands(wires, first, u.wires - first, bits, u.bits, r.d) {
+        return Found::Nothing;
+    }
+    let x = Row {
+        kind: 9,
+        a: u.names,
+        b: r.b,
+        c: u.bits,
+        d: r.d,
+        e: 0,
+        f: 0,
+        g: 0,
+    };
+    settle(r, x, r.d, 0, 0, r.b)
+}
+
+fn connection_at(bits: &[u32], wires: &[u32], u: Used, first: u32, r: Row) -> Found
+    requires { ⌜ Small (usedOf u) ⌝ }
+    requires { ⌜ first ≤ u .wires ⌝ }
+    ensures { λ f. ⌜ TellsConnection (now (bits .entry)) (now (wires .entry)) (usedOf u) first r f ⌝ }
+{
+    let count = u.wires - first;
+    if !signal_stands(wires, first, count, bits, u.bits, r.b) {
+        return Found::Nothing;
+    }
+    let second = u.bits + r.b;
+    if !signal_stands(wires, first, count, bits, second, r.d) {
+        return Found::Nothing;
+    }
+    if r.b != r.d {
+        return Found::Nothing;
+    }
+    let x = Row {
+        kind: 10,
+        a: u.bits,
+        b: r.b,
+        c: second,
+        d: r.d,
+        e: 0,
+        f: 0,
+        g: 0,
+    };
+    settle(r, x, r.b + r.d, 0, 0, 0)
+}
+
+// A wire that is no port has no port number.
+fn port_number_stands(flags: u32, number: u32) -> bool
+    ensures { λ r. ⌜ r ≡ (leb 4 flags || eqb number 0) ⌝ }
+{
+    if 4 <= flags {
+        return true;
+    }
+    number == 0
+}
+
+// The number of the last of so many modules.
+fn last_number(count: u32) -> u32
+    ensures { λ r. ⌜ r ≡ count - 1 ⌝ }
+{
+    if count == 0 {
+        return 0;
+    }
+    count - 1
+}
+
+fn wire_row_stands(wires: &[u32], u: Used, size: u32) -> bool
+    ensures { λ r. ⌜ WireRowStands (now (wires .entry)) (usedOf u) size r ⌝ }
+{
+    let at = 8 * (u.wires as usize);
+    if wires.len() < at + 8 {
+        return false;
+    }
+    let q = get_row(wires, at);
+    if 15 < q.e {
+        return false;
+    }
+    if !port_number_stands(q.e, q.f) {
+        return false;
+    }
+    let x = Row {
+        kind: last_number(u.modules),
+        a: u.names,
+        b: size,
+        c: q.c,
+        d: q.d,
+        e: q.e,
+        f: q.f,
+        g: 0,
+    };
+    same_row(q, x)
+}
+
+fn wire_at(names: &[u8], wires: &[u32], u: Used, first: u32, r: Row) -> Found
+    requires { ⌜ first ≤ u .wires ⌝ }
+    ensures { λ f. ⌜ TellsWire (now (names .entry)) (now (wires .entry)) (usedOf u) first r f ⌝ }
+{
+    if !name_stands(names, u.names, r.b) {
+        return Found::Nothing;
+    }
+    if !wire_row_stands(wires, u, r.b) {
+        return Found::Nothing;
+    }
+    if !wire_fits(wires, first, u.wires) {
+        return Found::Nothing;
+    }
+    let x = Row {
+        kind: 5,
+        a: u.names,
+        b: r.b,
+        c: u.wires,
+        d: 0,
+        e: 0,
+        f: 0,
+        g: 0,
+    };
+    settle(r, x, 0, 0, 0, r.b)
+}
+
+// The statement of a row, by the row's kind.
+pub fn statement_at(
+    names: &[u8],
+    strings: &[u8],
+    bits: &[u32],
+    wires: &[u32],
+    u: Used,
+    first: u32,
+    r: Row,
+) -> Found
+    requires { ⌜ Small (usedOf u) ⌝ }
+    requires { ⌜ first ≤ u .wires ⌝ }
+    ensures { λ f. ⌜ Tells (tabled (now (names .entry)) (now (strings .entry)) (now (bits .entry)) (now (wires .entry))) (usedOf u) (wiresFrom (now (names .entry)) (now (wires .entry)) first (u .wires - first)) r (statementOf (tabled (now (names .entry)) (now (strings .entry)) (now (bits .entry)) (now (wires .entry))) (usedOf u) r) f ⌝ }
+{
+    let kind = r.kind;
+    match kind {
+        1 => autoidx_at(u, r),
+        2 => valued(names, strings, bits, u, r, 2, 0),
+        3 => named(names, u, r, 3),
+        4 => parameter_at(names, strings, bits, u, r),
+        5 => wire_at(names, wires, u, first, r),
+        6 => memory_at(names, u, r),
+        7 => cell_at(names, u, r),
+        8 => cell_parameter_at(names, strings, bits, u, r),
+        9 => cell_connection_at(names, bits, wires, u, first, r),
+        10 => connection_at(bits, wires, u, first, r),
+        11 => named(names, u, r, 11),
+        _ => end_at(u, r),
+    }
+}

@@ -1,0 +1,198 @@
+// One statement more behind those that stand.
+use crate::parts::Used;
+use crate::statements::Found;
+use crate::statements::statement_at;
+use netlist::rows::row_name;
+use netlist::spaces::name_found;
+use past::place::Place;
+use past::place::after;
+use past::sizes::Sizes;
+use past::sizes::kind_sizes;
+use past::sizes::plus;
+use past::sizes::within;
+use tables::get_row;
+ghost use mathlib.Core.Path.{_≡_};
+ghost use Rattle.rules.specs.Shapes.{top, inModule};
+ghost use Rattle.admitted.specs.Admitted.{kinds};
+ghost use Rattle.netlist.specs.Kinds.{ofKinds};
+ghost use Rattle.past.specs.Sizes.{Within};
+ghost use Rattle.replay.specs.Parts.{usedOf};
+ghost use Rattle.replay.specs.Reads.{tabled};
+ghost use Rattle.replay.specs.Turns.{usedAt, standsAt, Ready, Told, TurnIs, Counted, smallParts};
+ghost use Rattle.replay.specs.Objects.{objectKinds};
+
+// The place and the sums behind the statement.
+pub enum Turn {
+    Next { place: Place, sums: Sizes },
+    Nothing,
+}
+
+// Kinds that attributes may stand before.
+fn is_object(kind: u32) -> bool
+    ensures { λ r. ⌜ r ≡ ofKinds objectKinds kind ⌝ }
+{
+    if kind == 2 {
+        return true;
+    }
+    if kind == 5 {
+        return true;
+    }
+    if kind == 6 {
+        return true;
+    }
+    if kind == 7 {
+        return true;
+    }
+    false
+}
+
+fn is_module_kind(first: bool, attributed: bool, kind: u32) -> bool
+    ensures { λ r. ⌜ r ≡ ofKinds (kinds inModule first attributed) kind ⌝ }
+{
+    if attributed {
+        return is_object(kind);
+    }
+    if kind == 4 {
+        return true;
+    }
+    if kind == 10 {
+        return true;
+    }
+    if kind == 12 {
+        return true;
+    }
+    is_object(kind)
+}
+
+fn is_top_kind(first: bool, attributed: bool, kind: u32) -> bool
+    ensures { λ r. ⌜ r ≡ ofKinds (kinds top first attributed) kind ⌝ }
+{
+    if kind == 2 {
+        return true;
+    }
+    if kind == 3 {
+        return true;
+    }
+    if kind == 1 {
+        return first;
+    }
+    false
+}
+
+// Whether a line of this kind has a form at this place.
+fn stands_at(p: Place, kind: u32) -> bool
+    ensures { λ r. ⌜ r ≡ standsAt p kind ⌝ }
+{
+    if p.scope == 0 {
+        return is_top_kind(p.first, p.attributed, kind);
+    }
+    if p.scope == 1 {
+        return is_module_kind(p.first, p.attributed, kind);
+    }
+    if kind == 8 {
+        return true;
+    }
+    if kind == 9 {
+        return true;
+    }
+    if kind == 12 {
+        return true;
+    }
+    false
+}
+
+fn used(p: Place, u: Sizes) -> Used
+    requires { ⌜ Within u ⌝ }
+    ensures { λ r. ⌜ usedOf r ≡ usedAt p u ⌝ }
+{
+    Used {
+        names: u.name_bytes,
+        strings: u.string_bytes,
+        bits: u.value_bits + u.signal_bits,
+        wires: p.wires,
+        rows: p.rows,
+        modules: p.modules,
+    }
+}
+
+fn small_parts(signals: u32, values: u32, strings: u32, names: u32) -> bool
+    ensures { λ r. ⌜ r ≡ smallParts signals values strings names ⌝ }
+{
+    if 8192 < signals {
+        return false;
+    }
+    if 8192 < values {
+        return false;
+    }
+    if 8192 < strings {
+        return false;
+    }
+    names <= 16384
+}
+
+// A statement whose row stands there, with what it holds: its name is new, and no size is exceeded.
+fn counted(
+    names: &[u8],
+    rows: &[u32],
+    p: Place,
+    u: Sizes,
+    kind: u32,
+    signals: u32,
+    values: u32,
+    strings: u32,
+    bytes: u32,
+) -> Turn
+    requires { ⌜ Ready p u ⌝ }
+    requires { ⌜ Told kind signals values strings bytes ⌝ }
+    ensures { λ r. ⌜ Counted (now (names .entry)) (now (rows .entry)) p u kind signals values strings bytes r ⌝ }
+{
+    if name_found(names, rows, p, kind, row_name(names, rows, p.rows)) {
+        return Turn::Nothing;
+    }
+    if !small_parts(signals, values, strings, bytes) {
+        return Turn::Nothing;
+    }
+    let sums = plus(u, kind_sizes(kind, signals, values, strings, bytes));
+    if !within(sums) {
+        return Turn::Nothing;
+    }
+    Turn::Next {
+        place: after(p, kind),
+        sums,
+    }
+}
+
+// The statement of the row at this place.
+pub fn one_more(
+    names: &[u8],
+    strings: &[u8],
+    bits: &[u32],
+    wires: &[u32],
+    rows: &[u32],
+    p: Place,
+    u: Sizes,
+) -> Turn
+    requires { ⌜ Ready p u ⌝ }
+    ensures { λ r. ⌜ TurnIs (tabled (now (names .entry)) (now (strings .entry)) (now (bits .entry)) (now (wires .entry))) (now (rows .entry)) p u r ⌝ }
+{
+    let at = 8 * (p.rows as usize);
+    if rows.len() < at + 8 {
+        return Turn::Nothing;
+    }
+    let r = get_row(rows, at);
+    let kind = r.kind;
+    if !stands_at(p, kind) {
+        return Turn::Nothing;
+    }
+    let x = used(p, u);
+    let f = statement_at(names, strings, bits, wires, x, p.wires_from, r);
+    match f {
+        Found::Statement {
+            signals,
+            values,
+            strings: text,
+            names: bytes,
+        } => counted(names, rows, p, u, kind, signals, values, text, bytes),
+        Found::Nothing => Turn::Nothing,
+    }
+}
