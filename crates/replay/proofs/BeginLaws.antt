@@ -1,12 +1,12 @@
 -- Tables that begin with statements, and with one statement more.
 -- Assumes nothing.
-use Prim.Native.Nat.{ℕ, _+_, _-_, _*_, _≤_, _<_}
-use mathlib.Core.Path.{_≡_, refl, sym, ap, ap₂, _∙_, subst}
-use mathlib.Core.List.{List, [], _∷_, _++_, map, flatMap, zip, zipWith, append-assoc, append-nil, Option·toList}
+use Prim.Native.Nat.{ℕ, _+_, _*_, _≤_}
+use mathlib.Core.Path.{_≡_, refl, sym, ap, _∙_}
+use mathlib.Core.List.{List, [], _∷_, _++_, flatMap, zip, zipWith, append-assoc, append-nil}
 use mathlib.Core.Option.{none, some}
-use mathlib.Core.Bool.{Bool, true, false, cond, _&&_}
+use mathlib.Core.Bool.{Bool, true}
 use native.Mathlib.Omega.{arith}
-use lib.Dec.{eqb, leb}
+use lib.Dec.{leb}
 use lib.ListN.{length, take, drop, length-append, length-map, take-append-drop}
 use lib.Seq.{take-append-seam, drop-append-seam}
 use Rattle.rules.specs.Bytes.{all, any}
@@ -14,11 +14,11 @@ use Rattle.rules.specs.Tokens.{Name}
 use Rattle.rules.specs.Statements.{Statement, Wire, contents, aModule, aWire, statementsOpen, autoidx-stmt, attr-stmt, module-stmt, param-stmt, wire-stmt, memory-stmt, cell-stmt, cell-param-stmt, cell-conn-stmt, conn-stmt, proc-stmt, end-stmt, is}
 use Rattle.rules.specs.Signals.{Wires}
 use Rattle.rules.specs.Judgement.{Past, until, sum, among, count, ofModule, wires, signalSize, valueSize, stringSize, nameSize}
-use Rattle.rules.specs.Layout.{Rooms, Used, empty, used, digitCode, bitCode, nameBytes, stringBytes, bitCodes, wireRow, wireRows, statementRow, put}
+use Rattle.rules.specs.Layout.{Rooms, Used, used, nameBytes, stringBytes, bitCodes, wireRows, statementRow, put}
 use Rattle.admitted.specs.Admitted.{fineWire, fineParts, admitted}
 use Rattle.admitted.specs.AdmitLaws.{fine-parts, admitted-before, admitted-last}
-use Rattle.tables.specs.Row.{words, rowAt}
-use Rattle.tables.specs.Flat.{flat, Eights, flat-append, flat-snoc, length-flat}
+use Rattle.tables.specs.Row.{rowAt}
+use Rattle.tables.specs.Flat.{flat, flat-append, flat-snoc, length-flat}
 use Rattle.scanner.specs.Laws.{by-test, and-true-left, and-true-right}
 use Rattle.netlist.specs.RowLaws.{length-statement-row}
 use Rattle.netlist.specs.Laid.{roomsOf, Laid, Wired}

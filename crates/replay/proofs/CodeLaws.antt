@@ -1,16 +1,16 @@
 -- Digits and bits by their codes, and a constant in its columns.
 -- Assumes nothing.
-use Prim.Native.Nat.{ℕ, _+_, _≤_, _<_}
+use Prim.Native.Nat.{ℕ, _<_}
 use mathlib.Core.Path.{_≡_, refl, sym, ap, ap₂, _∙_}
 use mathlib.Core.List.{List, [], _∷_, _++_, map}
-use mathlib.Core.Bool.{Bool, true, false, cond, _&&_}
+use mathlib.Core.Bool.{Bool, true, false, _&&_}
 use native.Mathlib.Omega.{arith}
-use lib.Dec.{leb, ltb, eqb}
+use lib.Dec.{leb, ltb}
 use lib.ListN.{length, take, drop, getD, length-map}
-use borrow.Author.Tests.{le-leb, leb-true, ltb-true, lt-ltb, eq-eqb, ne-eqb}
+use borrow.Author.Tests.{ltb-true, lt-ltb, ne-eqb}
 use Rattle.rules.specs.Bytes.{all, within}
 use Rattle.rules.specs.Tokens.{Digit}
-use Rattle.rules.specs.Statements.{Constant, value, integer, string, digitsOf, bytesOf, Signal}
+use Rattle.rules.specs.Statements.{Constant, value, integer, string, digitsOf, bytesOf}
 use Rattle.rules.specs.Signals.{Wires}
 use Rattle.rules.specs.Layout.{Used, padded, row, digitCode, bitCode, constantColumns}
 use Rattle.admitted.specs.Admitted.{fineBit, fineSignal, fineConstant}
@@ -18,11 +18,10 @@ use Rattle.tables.specs.Row.{words}
 use Rattle.tables.specs.declared.Row.{Row}
 use Rattle.numbers.specs.Kinds.{digitOf, bitOf, bitAt}
 use Rattle.numbers.specs.KindLaws.{digit-code, code-digit, code-back}
-use Rattle.numbers.specs.Signed.{signedOf}
 use Rattle.numbers.specs.SignedLaws.{word-signed, signed-int32}
-use Rattle.scanner.specs.Laws.{by-test, and-true-left, and-true-right}
+use Rattle.scanner.specs.Laws.{and-true-left, and-true-right}
 use Rattle.replay.specs.Parts.{span, whole, isDigit, digitsStand, textStands, signalOf, signalStands}
-use Rattle.replay.specs.Reads.{Has, constantOf, ReadsConstant, TellsConstant}
+use Rattle.replay.specs.Reads.{constantOf, TellsConstant}
 use Rattle.replay.specs.declared.statements.Held.{Held}
 use Rattle.replay.proofs.Spans.{whole-long, long-whole, has-none, has-span, span-has, has-whole}
 

@@ -2,34 +2,30 @@
 -- Assumes nothing.
 use Prim.Native.Nat.{ℕ, _+_, _*_, _≤_, _<_}
 use mathlib.Core.Path.{_≡_, refl, sym, ap, ap₂, _∙_, subst}
-use mathlib.Core.List.{List, [], _∷_, _++_, map, flatMap, zip, zipWith, append-nil, Option·toList}
-use mathlib.Core.Option.{none, some, Option·elim}
-use mathlib.Core.Bool.{Bool, true, false, cond, _&&_, and-true}
+use mathlib.Core.List.{List, [], _∷_, _++_, flatMap, zip, zipWith, append-nil, Option·toList}
+use mathlib.Core.Option.{Option·elim}
+use mathlib.Core.Bool.{true, false, cond, _&&_, and-true}
 use native.Mathlib.Omega.{arith}
 use lib.Dec.{eqb, leb}
-use lib.ListN.{length, take, drop, getD, length-map, length-append}
-use borrow.Author.Tests.{eq-eqb, ne-eqb, eqb-true, le-leb, lt-leb}
+use lib.ListN.{length, getD}
+use borrow.Author.Tests.{eq-eqb, ne-eqb, eqb-true}
 use Rattle.rules.specs.Bytes.{same, all, within, legal}
 use Rattle.rules.specs.Tokens.{Name}
-use Rattle.rules.specs.Statements.{Sort, plain, signed, real, Statement, Constant, value, integer, string, digitsOf, bytesOf, Wire, Memory, Signal, contents, holds, code, autoidx-stmt, attr-stmt, module-stmt, param-stmt, wire-stmt, memory-stmt, cell-stmt, cell-param-stmt, cell-conn-stmt, conn-stmt, proc-stmt, end-stmt}
+use Rattle.rules.specs.Statements.{Sort, plain, signed, real, Statement, Constant, value, integer, string, Memory, contents, holds, code, attr-stmt, module-stmt, memory-stmt, cell-stmt, proc-stmt, end-stmt}
 use Rattle.rules.specs.Signals.{Wires}
-use Rattle.rules.specs.Numbers.{int32}
 use Rattle.rules.specs.Judgement.{sum, signalSize, valueSize, stringSize, nameSize}
-use Rattle.rules.specs.Layout.{Used, padded, row, digitCode, bitCode, nameBytes, stringBytes, bitCodes, wireRow, wireRows, constantColumns, sortCode, columns, statementRow}
-use Rattle.admitted.specs.Admitted.{fineConstant, fineWire, fineMemory, fineSignal, sameLength, fineParts}
+use Rattle.rules.specs.Layout.{Used, padded, row, nameBytes, stringBytes, bitCodes, wireRows, constantColumns, sortCode, columns, statementRow}
+use Rattle.admitted.specs.Admitted.{fineMemory, sameLength, fineParts}
 use Rattle.tables.specs.Row.{words}
-use Rattle.tables.specs.Flat.{flat}
 use Rattle.tables.specs.declared.Row.{Row}
-use Rattle.numbers.specs.Signed.{signedOf}
 use Rattle.numbers.specs.SignedLaws.{word-signed, signed-int32}
 use Rattle.scanner.specs.Laws.{by-test, and-true-left, and-true-right}
-use Rattle.wires.specs.Rows.{wireOf}
-use Rattle.replay.specs.Parts.{span, whole, nameStands, signalOf, signalStands}
-use Rattle.replay.specs.Reads.{Tables, tabled, Has, constantOf, optionalOf, sortOf, memoryOf, statementBy, statementOf, Reads, Counts, Tells, TellsNamed, TellsValued, TellsAutoidx, TellsEnd, TellsMemory, TellsCell, TellsParameter, TellsCellParameter}
+use Rattle.replay.specs.Parts.{span, nameStands}
+use Rattle.replay.specs.Reads.{Tables, tabled, constantOf, optionalOf, sortOf, memoryOf, statementBy, statementOf, Reads, Tells, TellsNamed, TellsValued, TellsAutoidx, TellsEnd, TellsMemory, TellsCell, TellsParameter, TellsCellParameter}
 use Rattle.replay.specs.declared.statements.Found.{Found}
-use Rattle.replay.proofs.Spans.{whole-long, long-whole, has-none, has-span, spans}
-use Rattle.replay.proofs.CodeLaws.{never, codes-back, length-signal, signal-fine, signal-whole, signal-long, columns-read}
-use Rattle.replay.proofs.ReadLaws.{Parts, settled, name-legal, name-long, name-not}
+use Rattle.replay.proofs.Spans.{has-none, has-span, spans}
+use Rattle.replay.proofs.CodeLaws.{never}
+use Rattle.replay.proofs.ReadLaws.{settled, name-legal, name-long, name-not}
 
 -- ---- a statement without parts
 

@@ -1,16 +1,16 @@
 -- The replay: every list of statements that the tables hold begins with those replayed so far.
 -- Assumes nothing.
-use Prim.Native.Nat.{ℕ, _+_, _-_, _*_, _≤_, _<_}
-use mathlib.Core.Path.{_≡_, refl, sym, ap, ap₂, _∙_, subst}
+use Prim.Native.Nat.{ℕ, _+_, _*_}
+use mathlib.Core.Path.{_≡_, refl, sym, ap, _∙_, subst}
 use mathlib.Core.List.{List, [], _∷_, _++_, append-assoc, flatMap}
 use mathlib.Core.Logic.{_⊎_, inl, inr, ⊎-elim}
-use mathlib.Core.Bool.{Bool, true, false}
+use mathlib.Core.Bool.{true, false}
 use native.Mathlib.Omega.{arith}
 use lib.ListN.{length, getD, take, drop}
 use Rattle.rules.specs.Bytes.{within}
 use Rattle.rules.specs.Statements.{Statement, Kind, anAutoidx, anAttribute, aModule, aParameter, aWire, aMemory, aCell, aCellParameter, aCellConnection, aConnection, aProcess, anEnd, code, contents}
 use Rattle.rules.specs.Judgement.{Past}
-use Rattle.rules.specs.Layout.{empty, used, statementRow}
+use Rattle.rules.specs.Layout.{used, statementRow}
 use Rattle.admitted.specs.Admitted.{admits, admitted, closes}
 use Rattle.admitted.specs.AdmitLaws.{admitted-before, admitted-few, admitted-within}
 use Rattle.scanner.specs.Laws.{and-true-right}
@@ -26,7 +26,7 @@ use Rattle.past.specs.declared.place.Place.{Place}
 use Rattle.past.specs.declared.sizes.Sizes.{Sizes}
 use Rattle.past.proofs.PlaceLaws.{bounds}
 use Rattle.replay.specs.Reads.{Tables, Has}
-use Rattle.replay.specs.Begins.{Starts, Fronts, isStatement, Begins, Stored, Replays}
+use Rattle.replay.specs.Begins.{Fronts, isStatement, Stored, Replays}
 use Rattle.replay.specs.Turns.{closesAt, Ready, Reached, TurnIs}
 use Rattle.replay.specs.declared.Replayed.{Replayed}
 use Rattle.replay.specs.declared.turns.Turn.{Turn}
@@ -152,6 +152,8 @@ module _ (t : Tables) (rows : List ℕ) (p : Place) (u : Sizes) (d : Done t rows
       },
       d .reached .place,
       d .reached .sums,
+      λ qs h.
+          ⊎-elim (λ q. q) (λ q. never (isStatement k) (sym kind-is ∙ next-kind t rows (q .1) ss (q .3)) e) (goes-on qs h),
     )
 
     pub done-open : isStatement k ≡ false → closesAt p ≡ false → Replays t rows Replayed.Damaged

@@ -1,17 +1,17 @@
 -- A statement of a row: where its row is as it should be and its parts stand there.
 -- Assumes nothing.
-use Prim.Native.Nat.{ℕ, _+_, _*_, _≤_, _<_}
-use mathlib.Core.Path.{_≡_, refl, sym, ap, ap₂, _∙_}
-use mathlib.Core.List.{List, [], _∷_, _++_, map, flatMap, zip, zipWith, append-nil}
-use mathlib.Core.Bool.{Bool, true, false, cond, _&&_, and-true}
+use Prim.Native.Nat.{ℕ, _*_}
+use mathlib.Core.Path.{_≡_, sym, ap, ap₂, _∙_}
+use mathlib.Core.List.{List, [], _∷_, _++_, flatMap, zip, zipWith, append-nil}
+use mathlib.Core.Bool.{true, false, cond, _&&_, and-true}
 use native.Mathlib.Omega.{arith}
-use lib.ListN.{length, take, drop, getD, length-map, length-append}
+use lib.ListN.{length, getD}
 use Rattle.rules.specs.Bytes.{same, all, legal}
 use Rattle.rules.specs.Tokens.{Name}
 use Rattle.rules.specs.Statements.{Sort, Statement, Constant, digitsOf, bytesOf, Kind, contents, holds}
 use Rattle.rules.specs.Signals.{Wires}
 use Rattle.rules.specs.Judgement.{sum, signalSize, valueSize, stringSize, nameSize}
-use Rattle.rules.specs.Layout.{Used, padded, row, digitCode, nameBytes, stringBytes, bitCodes, wireRows, constantColumns, statementRow}
+use Rattle.rules.specs.Layout.{Used, padded, row, nameBytes, stringBytes, bitCodes, wireRows, constantColumns, statementRow}
 use Rattle.admitted.specs.Admitted.{fineConstant, sameLength, fineParts}
 use Rattle.tables.specs.Row.{words}
 use Rattle.tables.specs.Flat.{flat}

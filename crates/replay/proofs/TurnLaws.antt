@@ -2,22 +2,22 @@
 -- Assumes nothing.
 use Prim.Native.Nat.{ℕ, _+_, _-_, _*_, _≤_, _<_}
 use mathlib.Core.Path.{_≡_, refl, sym, ap, ap₂, _∙_, subst}
-use mathlib.Core.List.{List, [], _∷_, _++_}
-use mathlib.Core.Bool.{Bool, true, false, not, cond, _&&_}
+use mathlib.Core.List.{List, [], _∷_}
+use mathlib.Core.Bool.{Bool, true, false, not}
 use native.Mathlib.Omega.{arith}
 use lib.Dec.{eqb, leb}
 use lib.ListN.{length, getD, take, drop}
 use borrow.Author.Tests.{le-leb, leb-true, not-true, not-false}
-use Rattle.rules.specs.Bytes.{any, same}
+use Rattle.rules.specs.Bytes.{any}
 use Rattle.rules.specs.Tokens.{Name}
 use Rattle.rules.specs.Statements.{Statement, contents, code, holds, ownName, is, autoidx-stmt, attr-stmt, module-stmt, param-stmt, wire-stmt, memory-stmt, cell-stmt, cell-param-stmt, cell-conn-stmt, conn-stmt, proc-stmt, end-stmt}
 use Rattle.rules.specs.Shapes.{Scope, top, inModule, inCell}
 use Rattle.rules.specs.Signals.{Wires}
 use Rattle.rules.specs.Judgement.{Past, sum, scope, context, wires, among, signalSize, valueSize, stringSize, nameSize, takesName, exceedsSize}
 use Rattle.rules.specs.Reading.{isTop}
-use Rattle.rules.specs.Layout.{Used, padded, row, used, nameBytes, columns, statementRow}
-use Rattle.admitted.specs.Admitted.{kinds, stands, fineParts, admits, admitted, closes}
-use Rattle.admitted.specs.AdmitLaws.{Admits, admits-all, admitted-offsets}
+use Rattle.rules.specs.Layout.{Used, padded, row, used, nameBytes, statementRow}
+use Rattle.admitted.specs.Admitted.{stands, fineParts, admits, admitted, closes}
+use Rattle.admitted.specs.AdmitLaws.{admits-all, admitted-offsets}
 use Rattle.tables.specs.Row.{words, rowAt}
 use Rattle.tables.specs.declared.Row.{Row}
 use Rattle.scanner.specs.Laws.{by-test, and-true-left, and-true-right}
@@ -31,15 +31,15 @@ use Rattle.netlist.specs.LaidLaws.{length-rows}
 use Rattle.netlist.specs.WireLaws.{wires-laid}
 use Rattle.netlist.specs.Found.{spaceFrom, foundIn}
 use Rattle.netlist.specs.FoundLaws.{takes-found}
-use Rattle.past.specs.Place.{placeOf, scopeOf, scopeCode, contextOf, Bounds, AfterIs}
-use Rattle.past.specs.Sizes.{sizesBy, sizesOf, sumsOf, plusOf, exceeds, Within, AtMost, KindSizesAre}
+use Rattle.past.specs.Place.{placeOf, scopeCode, contextOf, Bounds, AfterIs}
+use Rattle.past.specs.Sizes.{sizesBy, sumsOf, plusOf, exceeds, Within, AtMost, KindSizesAre}
 use Rattle.past.specs.declared.place.Place.{Place}
 use Rattle.past.specs.declared.sizes.Sizes.{Sizes}
 use Rattle.past.proofs.PlaceLaws.{context-is}
 use Rattle.past.proofs.SizeLaws.{sums-step, exceeds-sums, within-past, sizes-small}
 use Rattle.replay.specs.Reads.{Tables, tabled, Has, Reads, Counts, Tells, statementOf, Small}
 use Rattle.replay.specs.Begins.{Fronts}
-use Rattle.replay.specs.Turns.{usedAt, standsAt, closesAt, Ready, Reached, TurnIs, Told, Rowed, CountsAs, Counted, smallParts}
+use Rattle.replay.specs.Turns.{usedAt, standsAt, closesAt, Reached, TurnIs, Told, Rowed, CountsAs, Counted, smallParts}
 use Rattle.replay.specs.declared.statements.Found.{Found}
 use Rattle.replay.specs.declared.turns.Turn.{Turn}
 use Rattle.replay.proofs.CodeLaws.{never}

@@ -1,13 +1,12 @@
 -- A row and the parts that stand there make one statement only.
 -- Assumes nothing.
-use Prim.Native.Nat.{ℕ, zero, suc, _+_, _-_, _*_, _≤_, _<_}
+use Prim.Native.Nat.{ℕ, zero, suc, _+_, _*_, _<_}
 use mathlib.Core.Path.{_≡_, refl, sym, ap, ap₂, _∙_}
 use mathlib.Core.List.{List, [], _∷_, _++_, map, flatMap, zip, zipWith, reverse, reverseAux, append-nil, Option·toList}
 use mathlib.Core.Option.{Option, none, some, Option·elim}
-use mathlib.Core.Bool.{Bool, true, false, cond, _&&_, and-true}
+use mathlib.Core.Bool.{Bool, true, false, _&&_}
 use native.Mathlib.Omega.{arith}
-use lib.Dec.{eqb, leb, ltb}
-use lib.IntN.{ℤ}
+use lib.Dec.{leb, ltb}
 use lib.ListN.{length, take, drop, getD, getElem?, length-map}
 use borrow.Author.Tests.{eq-eqb, ne-eqb, leb-true, ltb-true}
 use Rattle.rules.specs.Bytes.{all, within}
@@ -16,21 +15,19 @@ use Rattle.rules.specs.Statements.{Sort, plain, signed, real, Statement, Consta
 use Rattle.rules.specs.Signals.{Wires}
 use Rattle.rules.specs.Numbers.{int32}
 use Rattle.rules.specs.Layout.{Used, padded, row, digitCode, bitCode, nameBytes, stringBytes, bitCodes, wireRow, wireRows, constantColumns, sortCode, columns, statementRow}
-use Rattle.admitted.specs.Admitted.{fineConstant, fineMemory, fineBit, fineSignal, fineParts}
-use Rattle.admitted.specs.AdmitLaws.{FineParts, fine-parts, fine-fits}
+use Rattle.admitted.specs.Admitted.{fineConstant, fineMemory, fineBit, fineSignal}
+use Rattle.admitted.specs.AdmitLaws.{fine-parts, fine-fits}
 use Rattle.tables.specs.Row.{words}
-use Rattle.tables.specs.Flat.{flat}
 use Rattle.tables.specs.declared.Row.{Row}
 use Rattle.numbers.specs.Kinds.{digitOf, bitOf, bitAt}
 use Rattle.numbers.specs.KindLaws.{Within, digit-back, bit-back}
 use Rattle.numbers.specs.Signed.{signedOf}
 use Rattle.numbers.specs.SignedLaws.{signed-word}
-use Rattle.scanner.specs.Laws.{by-test, and-true-left, and-true-right}
-use Rattle.wires.specs.Rows.{wireOf}
+use Rattle.scanner.specs.Laws.{and-true-left, and-true-right}
 use Rattle.wires.specs.RowLaws.{row-taken, row-wire}
 use Rattle.wires.specs.StoreLaws.{length-wire-row}
 use Rattle.replay.specs.Parts.{span, signalOf}
-use Rattle.replay.specs.Reads.{Tables, tabled, Has, constantOf, optionalOf, sortOf, memoryOf, statementBy, statementOf, ReadsConstant, Reads}
+use Rattle.replay.specs.Reads.{Tables, Has, constantOf, optionalOf, sortOf, memoryOf, statementBy, statementOf, ReadsConstant, Reads}
 use Rattle.replay.proofs.Spans.{span-has, has-first, has-second}
 use Rattle.replay.proofs.CodeLaws.{never, columns-read}
 use Rattle.replay.proofs.KindLaws.{row-zero, sort-read}

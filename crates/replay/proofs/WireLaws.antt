@@ -2,34 +2,33 @@
 -- Assumes nothing.
 use Prim.Native.Nat.{ℕ, zero, suc, _+_, _-_, _*_, _/_, _%_, _≤_, _<_}
 use mathlib.Core.Path.{_≡_, refl, sym, ap, ap₂, _∙_}
-use mathlib.Core.List.{List, [], _∷_, _++_, map, flatMap, zip, zipWith, append-nil}
+use mathlib.Core.List.{List, [], _∷_, flatMap, zip, zipWith, append-nil}
 use mathlib.Core.Option.{Option, none, some, Option·elim}
 use mathlib.Core.Bool.{Bool, true, false, cond, _&&_, _||_, and-true}
 use native.Mathlib.Omega.{arith}
 use lib.Dec.{eqb, leb}
-use lib.ListN.{length, take, drop, getD, length-map, length-append, length-take, length-drop}
+use lib.ListN.{length, take, drop, getD, length-take, length-drop}
 use borrow.Author.Tests.{eq-eqb, eqb-true, leb-false, lt-leb}
 use Rattle.rules.specs.Bytes.{same, all, legal}
 use Rattle.rules.specs.Tokens.{Name}
 use Rattle.rules.specs.Statements.{Statement, Wire, Direction, input, output, inout, Signal, contents, holds, code, wire-stmt, cell-conn-stmt, conn-stmt}
 use Rattle.rules.specs.Signals.{Wires, twosComplement}
 use Rattle.rules.specs.Judgement.{sum, signalSize, valueSize, stringSize, nameSize}
-use Rattle.rules.specs.Layout.{Used, padded, row, bitCode, nameBytes, stringBytes, bitCodes, directionCode, flags, wireRow, wireRows, columns, statementRow}
+use Rattle.rules.specs.Layout.{Used, padded, row, nameBytes, stringBytes, bitCodes, directionCode, flags, wireRow, wireRows, columns, statementRow}
 use Rattle.admitted.specs.Admitted.{fineWire, fineSignal, sameLength, fineParts}
 use Rattle.tables.specs.Row.{words, rowAt, words-rowAt}
-use Rattle.tables.specs.Flat.{flat}
 use Rattle.tables.specs.declared.Row.{Row}
 use Rattle.numbers.specs.Signed.{signedOf}
 use Rattle.numbers.specs.SignedLaws.{word-signed}
 use Rattle.scanner.specs.Laws.{by-test, same-refl, same-eq, and-true-left, and-true-right}
 use Rattle.wires.specs.Rows.{wordAt, column, portOf, wireOf, wiresFrom}
 use Rattle.wires.specs.StoreLaws.{length-wire-row}
-use Rattle.replay.specs.Parts.{span, whole, nameStands, signalOf, signalStands}
-use Rattle.replay.specs.Reads.{Tables, tabled, Has, Decides, Reads, Counts, Tells, TellsWire, TellsCellConnection, TellsConnection, WireRowStands}
+use Rattle.replay.specs.Parts.{span, nameStands, signalOf, signalStands}
+use Rattle.replay.specs.Reads.{tabled, Has, Decides, Reads, Tells, TellsWire, TellsCellConnection, TellsConnection, WireRowStands}
 use Rattle.replay.specs.declared.statements.Found.{Found}
 use Rattle.replay.proofs.Spans.{whole-long, has-none, has-span, spans}
 use Rattle.replay.proofs.CodeLaws.{never, codes-back, length-signal, signal-fine, signal-whole, signal-long}
-use Rattle.replay.proofs.ReadLaws.{Parts, settled, name-legal, name-long, name-not}
+use Rattle.replay.proofs.ReadLaws.{settled, name-legal, name-long, name-not}
 
 -- a signal that stands there has as many bits as its row says, and keeps the rules
 module _ (ws : Wires) (bits : List ℕ) (at n : ℕ) where

@@ -1,22 +1,17 @@
 -- The parts of statements that stand in tables: a part behind what is used of its table, as long as its row says. A span past the table's end is cut.
-use Prim.Native.Nat.{ℕ, _+_, _-_, _*_}
+use Prim.Native.Nat.{ℕ, _+_, _-_}
 use mathlib.Core.Path.{_≡_}
-use mathlib.Core.List.{List, [], _∷_, map}
-use mathlib.Core.Option.{Option, none, some}
-use mathlib.Core.Bool.{Bool, true, false, cond, _&&_}
+use mathlib.Core.List.{List, map}
+use mathlib.Core.Bool.{Bool, _&&_}
 use lib.Dec.{eqb, leb, ltb}
-use lib.ListN.{length, take, drop}
+use lib.ListN.{length}
 use lib.Seq.{slice}
 use Rattle.rules.specs.Bytes.{all, within, legal}
-use Rattle.rules.specs.Tokens.{Name}
-use Rattle.rules.specs.Statements as rules
-use Rattle.rules.specs.Statements.{Sort, Statement, Signal, Wire, autoidx-stmt, attr-stmt, module-stmt, param-stmt, wire-stmt, memory-stmt, cell-stmt, cell-param-stmt, cell-conn-stmt, conn-stmt, proc-stmt, end-stmt}
+use Rattle.rules.specs.Statements.{Signal}
 use Rattle.rules.specs.Signals.{Wires}
 use Rattle.rules.specs.Layout as layout
 use Rattle.admitted.specs.Admitted.{fineBit, fineWire}
-use Rattle.tables.specs.declared.Row.{Row}
-use Rattle.numbers.specs.Signed.{signedOf}
-use Rattle.numbers.specs.Kinds.{digitOf, bitOf, bitAt}
+use Rattle.numbers.specs.Kinds.{bitOf, bitAt}
 use Rattle.wires.specs.Rows.{wireOf, wiresFrom}
 use Rattle.replay.specs.declared.parts.Used.{Used}
 

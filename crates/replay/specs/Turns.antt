@@ -1,12 +1,12 @@
 -- The statements replayed so far, and one more.
-use Prim.Native.Nat.{ℕ, _+_, _*_, _≤_}
+use Prim.Native.Nat.{ℕ, _+_, _≤_}
 use mathlib.Core.Path.{_≡_}
 use mathlib.Core.List.{List, _∷_}
 use mathlib.Core.Bool.{Bool, true, false, not, _&&_}
 use lib.Dec.{eqb, leb}
 use lib.ListN.{length}
 use Rattle.rules.specs.Statements.{Statement, code, contents}
-use Rattle.rules.specs.Judgement.{Past, wires, signalSize, valueSize, stringSize, nameSize, takesName, exceedsSize}
+use Rattle.rules.specs.Judgement.{Past, wires, takesName, exceedsSize}
 use Rattle.rules.specs.Layout as layout
 use Rattle.rules.specs.Layout.{used, statementRow, nameBytes}
 use Rattle.admitted.specs.Admitted.{kinds, admits, admitted}
@@ -18,7 +18,7 @@ use Rattle.past.specs.Sizes.{sumsOf, Within}
 use Rattle.past.specs.declared.place.Place.{Place}
 use Rattle.past.specs.declared.sizes.Sizes.{Sizes}
 use Rattle.replay.specs.Reads.{Tables, Has, Counts}
-use Rattle.replay.specs.Begins.{Fronts, Stored}
+use Rattle.replay.specs.Begins.{Fronts}
 use Rattle.replay.specs.declared.turns.Turn.{Turn}
 
 -- how much of each table the statements so far use

@@ -6,10 +6,10 @@ use past::sizes::Sizes;
 use past::sizes::none;
 use tables::word;
 
-pub mod parts;
-pub mod signals;
-pub mod statements;
-pub mod turns;
+mod parts;
+mod signals;
+mod statements;
+mod turns;
 
 use turns::Turn;
 use turns::one_more;

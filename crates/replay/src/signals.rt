@@ -5,7 +5,6 @@ use numbers::kinds::decode;
 use numbers::signed::offset_fits;
 use tables::word;
 use wires::port_taken;
-ghost use mathlib.Core.Path.{_≡_};
 ghost use Prim.Native.Nat.{_≤_};
 ghost use lib.ListN.{length};
 ghost use lib.Seq.{slice};

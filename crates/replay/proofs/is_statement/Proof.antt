@@ -1,7 +1,6 @@
 -- By the two bounds.
 -- Assumes nothing.
 use borrow.Author.Tests.{le-leb}
-use native.Mathlib.Omega.{arith}
 use Rattle.rules.specs.Bytes.{within}
 use Rattle.replay.specs.Begins.{isStatement}
 use Rattle.replay.proofs.PartLaws.{positive}

@@ -1,13 +1,7 @@
 -- `is_whole` meets its contract.
 -- Assumes nothing.
-use mathlib.Core.Path.{sym, _∙_}
-use mathlib.Core.Bool.{Bool, true, false}
-use native.Mathlib.Omega.{arith}
-use lib.Dec.{leb}
-use lib.ListN.{length}
+use mathlib.Core.Path.{sym}
 use borrow.Author.Needs.{needs}
-use borrow.Author.Tests.{leb-true, leb-false, eqb-false}
-use Rattle.scanner.specs.Laws.{by-test}
 use Rattle.replay.proofs.Spans.{whole-none}
 use Rattle.replay.proofs.PartLaws.{whole-by}
 use Rattle.replay.proofs.parts.is_whole.Statement.{statement}

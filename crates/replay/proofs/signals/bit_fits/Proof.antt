@@ -1,6 +1,5 @@
 -- By what the code means.
 -- Assumes nothing.
-use native.Mathlib.Omega.{arith}
 use Rattle.replay.proofs.SignalLaws.{fits-digit, fits-past, fits-inside}
 use borrow.Author.Needs.{needs}
 use Rattle.replay.proofs.signals.bit_fits.Statement.{statement}

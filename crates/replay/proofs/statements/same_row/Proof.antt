@@ -1,7 +1,7 @@
 -- Column by column.
 -- Assumes nothing.
 use borrow.Author.Tests.{eq-eqb, ne-eqb}
-use mathlib.Core.Path.{refl, sym}
+use mathlib.Core.Path.{sym}
 use mathlib.Core.Bool.{and-true}
 use Rattle.rules.specs.Bytes.{same}
 use Rattle.tables.specs.Row.{words}

@@ -1,7 +1,5 @@
 -- Kind by kind.
 -- Assumes nothing.
-use mathlib.Core.Path.{sym}
-use borrow.Author.Tests.{eq-eqb, ne-eqb}
 use Rattle.replay.proofs.PlaceLaws.{top-attribute, top-module, top-autoidx, top-other}
 use Rattle.replay.proofs.turns.is_top_kind.Statement.{statement}
 use Rattle.replay.proofs.turns.is_top_kind.Tie as tie

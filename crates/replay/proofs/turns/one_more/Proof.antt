@@ -1,7 +1,6 @@
 use Rattle.replay.specs.Parts.{usedOf}
 use denote.Ref.{now}
-use mathlib.Core.Path.{refl, sym, _∙_}
-use native.Mathlib.Omega.{arith}
+use mathlib.Core.Path.{sym, _∙_}
 use borrow.Author.Tests.{not-true, not-false}
 use Rattle.replay.specs.Reads.{tabled}
 use Rattle.replay.proofs.TurnLaws.{small-used, wires-fit, turn-short, turn-kind, turn-not, turn-told, turn-counted}
