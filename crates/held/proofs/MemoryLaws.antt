@@ -1,0 +1,1 @@
+-- Each return of the judgement of a memory.
