@@ -1,9 +1,9 @@
 -- Each return of the functions that look for renames.
 -- Assumes nothing.
 use Prim.Native.Nat.{ℕ, _+_, _*_, _≤_, _<_}
-use mathlib.Core.Path.{_≡_, refl, sym, ap, ap₂, _∙_, subst}
-use mathlib.Core.List.{List, [], _∷_, _++_, reverse}
-use mathlib.Core.Bool.{Bool, true, false}
+use mathlib.Core.Path.{_≡_, sym, ap, ap₂, _∙_, subst}
+use mathlib.Core.List.{List, [], _∷_, _++_}
+use mathlib.Core.Bool.{true, false}
 use native.Mathlib.Omega.{arith}
 use lib.ListN.{length, take, drop, length-append, length-take, length-drop}
 use lib.Seq.{slice}
@@ -25,7 +25,7 @@ use Rattle.standing.specs.Judged.{Lies, JudgedIs}
 use Rattle.held.specs.declared.Renamed.{Renamed}
 use Rattle.held.specs.Renamed.{isRename, RenameIs, RenamesAre}
 use Rattle.held.specs.AllowedLaws.{allowed-next, allowed-more, number-accepted, accepted-number}
-use Rattle.held.specs.RenameLaws.{RowOf, rename-eq, rename-words, words-rename, Next, laid-next, next-laid, file-last, eights-file, length-file, file-only, file-front, file-next}
+use Rattle.held.specs.RenameLaws.{RowOf, rename-eq, rename-words, words-rename, Next, laid-next, next-laid, file-last, eights-file, length-file, file-only, file-next}
 
 -- the wires are the same behind a rename
 wired-more : {names wires rows : List ℕ} (S : Rooms) (r : Rename) → Laid (putRename S r) names rows → Wired S names wires → Wired (putRename S r) names wires

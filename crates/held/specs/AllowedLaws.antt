@@ -1,17 +1,16 @@
 -- Renames each of which was accepted after those before it: the first ones of them, and how many bytes of names they use.
 -- Assumes nothing.
-use Prim.Native.Nat.{ℕ, _+_, _≤_}
-use mathlib.Core.Path.{_≡_, refl, sym, ap, ap₂, _∙_, subst}
+use Prim.Native.Nat.{_+_, _≤_}
+use mathlib.Core.Path.{_≡_, refl, sym, ap, _∙_, subst}
 use mathlib.Core.List.{List, [], _∷_, _++_, reverse, reverse-cons, reverse-append, reverse-reverse, append-assoc, append-nil}
-use mathlib.Core.Bool.{Bool, true, false, not, _||_}
+use mathlib.Core.Bool.{Bool, true, false, _||_}
 use native.Mathlib.Omega.{arith}
-use lib.Dec.{leb, ltb}
+use lib.Dec.{leb}
 use lib.ListN.{length, length-append}
 use borrow.Author.Tests.{leb-false}
-use Rattle.rules.specs.Bytes.{legal}
 use Rattle.rules.specs.Judgement.{sum, lowest, accepted, verdict}
 use Rattle.rules.specs.Design.{Design}
-use Rattle.rules.specs.Session.{Rename, now, roomUsed, taken, renameCall, numberOf}
+use Rattle.rules.specs.Session.{Rename, roomUsed, renameCall, numberOf}
 use Rattle.admitted.specs.Holds.{Allowed, no-renames, one-rename}
 use Rattle.order.specs.Sums.{sum-append}
 use Rattle.order.specs.RenamedFine.{accepted-keeps}

@@ -2,14 +2,14 @@
 -- Assumes nothing.
 use Prim.Native.Nat.{ℕ, _+_, _-_, _*_, _≤_}
 use mathlib.Core.Path.{_≡_, refl, sym, ap, ap₂, _∙_, subst}
-use mathlib.Core.List.{List, [], _∷_, _++_, reverse, reverse-reverse}
-use mathlib.Core.Bool.{Bool, true, false, _&&_}
+use mathlib.Core.List.{List, [], _∷_, _++_, reverse}
+use mathlib.Core.Bool.{true, false}
 use native.Mathlib.Omega.{arith}
 use lib.Dec.{eqb}
-use lib.ListN.{length, take, drop, getD, replicate}
+use lib.ListN.{length, take, getD, replicate}
 use lib.Seq.{take-append-seam}
-use borrow.Author.Tests.{eq-eqb, eqb-true}
-use Rattle.rules.specs.Bytes.{all, within}
+use borrow.Author.Tests.{eqb-true}
+use Rattle.rules.specs.Bytes.{within}
 use Rattle.rules.specs.Statements.{Statement}
 use Rattle.rules.specs.Judgement.{Past}
 use Rattle.rules.specs.Design.{design}
@@ -17,7 +17,7 @@ use Rattle.rules.specs.Session.{Rename, roomUsed}
 use Rattle.rules.specs.Layout as layouts
 use Rattle.rules.specs.Layout.{Rooms, padded, used, putRename, putRenames, rooms, memory, layout}
 use Rattle.tables.specs.Row.{rowAt}
-use Rattle.tables.specs.Flat.{flat, Eights, length-flat}
+use Rattle.tables.specs.Flat.{flat, length-flat}
 use Rattle.tables.specs.Padded.{length-padded, padded-behind, padded-rest, is-padded}
 use Rattle.scanner.specs.Laws.{and-true-left, and-true-right}
 use Rattle.wires.specs.Rows.{wordAt}
@@ -27,9 +27,9 @@ use Rattle.past.specs.declared.place.Place.{Place}
 use Rattle.past.specs.declared.sizes.Sizes.{Sizes}
 use Rattle.admitted.specs.Admitted.{admitted, closes}
 use Rattle.admitted.specs.AdmitLaws.{admitted-few, admitted-within}
-use Rattle.admitted.specs.Holds.{Allowed, no-renames, Holds}
+use Rattle.admitted.specs.Holds.{Allowed, Holds}
 use Rattle.netlist.specs.Laid.{roomsOf, Laid, Wired}
-use Rattle.netlist.specs.LaidLaws.{laid-padded, laid-renames, eights-rows, length-rows}
+use Rattle.netlist.specs.LaidLaws.{laid-padded, laid-renames, eights-rows}
 use Rattle.netlist.specs.WireLaws.{wired-padded, wired-renames, eights-wires}
 use Rattle.replay.specs.Reads as tables
 use Rattle.replay.specs.Begins.{Fronts, isStatement, Stored}

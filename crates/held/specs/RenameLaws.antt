@@ -1,28 +1,24 @@
 -- One more rename behind the statements and renames that lie in the tables: what its row and its name are, and that there is one only.
 -- Assumes nothing.
-use Prim.Native.Nat.{ℕ, _+_, _*_, _≤_, _<_}
+use Prim.Native.Nat.{ℕ, _+_, _*_, _≤_}
 use mathlib.Core.Path.{_≡_, refl, sym, ap, ap₂, _∙_, subst}
-use mathlib.Core.List.{List, [], _∷_, _++_, reverse, append-assoc, append-nil}
-use mathlib.Core.Bool.{Bool, true, false, _&&_}
+use mathlib.Core.List.{List, [], _∷_, _++_, reverse, append-assoc}
+use mathlib.Core.Bool.{true}
 use native.Mathlib.Omega.{arith}
 use lib.Dec.{eqb}
-use lib.ListN.{length, take, drop, length-append, length-take, length-drop, take-append-drop}
-use lib.Seq.{slice, drop-append-seam}
+use lib.ListN.{length, take, drop, length-append, take-append-drop}
+use lib.Seq.{drop-append-seam}
 use borrow.Author.Tests.{eqb-true, eq-eqb}
 use Rattle.rules.specs.Tokens.{Name}
 use Rattle.rules.specs.Statements.{Statement}
 use Rattle.rules.specs.Session.{Rename}
 use Rattle.rules.specs.Layout.{Rooms, padded, row, renameRow, putRename, putRenames, rooms}
 use Rattle.tables.specs.Row.{words, rowAt, words-rowAt}
-use Rattle.tables.specs.Flat.{flat, Eights, eights-none, eights-more, eights-append, flat-snoc, length-flat}
+use Rattle.tables.specs.Flat.{flat, Eights, flat-snoc, length-flat}
 use Rattle.tables.specs.declared.Row.{Row}
 use Rattle.scanner.specs.Laws.{and-true-left, and-true-right}
-use Rattle.wires.specs.RowLaws.{slice-span}
-use Rattle.past.specs.Place.{placeOf}
-use Rattle.past.specs.declared.place.Place.{Place}
-use Rattle.netlist.specs.Laid.{roomsOf, Laid, Wired}
+use Rattle.netlist.specs.Laid.{roomsOf, Laid}
 use Rattle.netlist.specs.LaidLaws.{list-behind, laid-renames, eights-rows, length-rows}
-use Rattle.standing.specs.Judged.{Lies}
 use Rattle.standing.specs.RoomLaws.{put-renames-last, length-rename-row, rename-rows, eights-renames, rooms-file}
 use Rattle.held.specs.Renamed.{isRename}
 

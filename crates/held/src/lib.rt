@@ -24,7 +24,7 @@ pub enum Held {
 }
 
 // The bytes of names that are used behind the renames.
-pub enum Renamed {
+enum Renamed {
     Used(u32),
     Nothing,
 }
@@ -49,14 +49,7 @@ fn is_rename(x: Row, used: u32) -> bool
 }
 
 // One more rename, behind i of them.
-fn one_rename(
-    names: &[u8],
-    wires: &[u32],
-    rows: &[u32],
-    place: Place,
-    i: u32,
-    used: u32,
-) -> Renamed
+fn one_rename(names: &[u8], wires: &[u32], rows: &[u32], place: Place, i: u32, used: u32) -> Renamed
     requires { ⌜ length (now names) ≤ 16384 ⌝ }
     ensures { λ r. ⌜ RenameIs (now (names .entry)) (now (wires .entry)) (now (rows .entry)) place i used r ⌝ }
 {
@@ -74,7 +67,17 @@ fn one_rename(
         return Renamed::Nothing;
     }
     let new = part(names, start, end);
-    let number = judge_rename(names, wires, rows, place, i, used, ModuleNumber(x.c), WireNumber(x.d), new);
+    let number = judge_rename(
+        names,
+        wires,
+        rows,
+        place,
+        i,
+        used,
+        ModuleNumber(x.c),
+        WireNumber(x.d),
+        new,
+    );
     if number != 0 {
         return Renamed::Nothing;
     }
@@ -110,22 +113,22 @@ fn all_renames(
     Renamed::Used(room)
 }
 
-fn right_sizes(names: usize, strings: usize, bits: usize, wires: usize, rows: usize) -> bool
-    ensures { λ r. ⌜ r ≡ rightSizes names strings bits wires rows ⌝ }
+fn right_sizes(names: &[u8], strings: &[u8], bits: &[u32], wires: &[u32], rows: &[u32]) -> bool
+    ensures { λ r. ⌜ r ≡ rightSizes (length (now (names .entry))) (length (now (strings .entry))) (length (now (bits .entry))) (length (now (wires .entry))) (length (now (rows .entry))) ⌝ }
 {
-    if names != 16384 {
+    if names.len() != 16384 {
         return false;
     }
-    if strings != 8192 {
+    if strings.len() != 8192 {
         return false;
     }
-    if bits != 16384 {
+    if bits.len() != 16384 {
         return false;
     }
-    if wires != 4096 {
+    if wires.len() != 4096 {
         return false;
     }
-    rows == 38152
+    rows.len() == 38152
 }
 
 // Unused room is zero.
@@ -149,10 +152,7 @@ fn rest_is_zero(
     if !zero_bytes_from(strings, sums.string_bytes as usize) {
         return false;
     }
-    if !zero_from(
-        bits,
-        sums.value_bits as usize + sums.signal_bits as usize,
-    ) {
+    if !zero_from(bits, sums.value_bits as usize + sums.signal_bits as usize) {
         return false;
     }
     if !zero_from(wires, 8 * place.wires as usize) {
@@ -161,6 +161,7 @@ fn rest_is_zero(
     zero_from(rows, behind)
 }
 
+// Damaged is memory that no file read and no renames accepted after it leave: refusal 3.
 pub fn judge_memory(
     names: &[u8],
     strings: &[u8],
@@ -172,7 +173,7 @@ pub fn judge_memory(
 ) -> Held
     ensures { λ r. ⌜ HeldIs (tabled (now (names .entry)) (now (strings .entry)) (now (bits .entry)) (now (wires .entry)) (now (rows .entry)) renames room) r ⌝ }
 {
-    if !right_sizes(names.len(), strings.len(), bits.len(), wires.len(), rows.len()) {
+    if !right_sizes(names, strings, bits, wires, rows) {
         return Held::Damaged;
     }
     let r = replay(names, strings, bits, wires, rows);
@@ -186,7 +187,17 @@ pub fn judge_memory(
     if used != room {
         return Held::Damaged;
     }
-    if rest_is_zero(names, strings, bits, wires, rows, renames, room, place, sums) {
+    if rest_is_zero(
+        names,
+        strings,
+        bits,
+        wires,
+        rows,
+        renames,
+        room,
+        place,
+        sums,
+    ) {
         return Held::Holding { place, sums };
     }
     Held::Damaged

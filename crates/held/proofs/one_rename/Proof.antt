@@ -1,7 +1,6 @@
 -- `one_rename` meets its contract.
 -- Assumes nothing.
 use mathlib.Core.Path.{sym, _∙_}
-use native.Mathlib.Omega.{arith}
 use borrow.Author.Needs.{needs}
 use borrow.Author.Tests.{not-true, not-false}
 use Rattle.held.proofs.RenameTurns.{no-row, no-rename, no-name, rename-refused, rename-next}

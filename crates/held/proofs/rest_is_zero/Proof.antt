@@ -1,86 +1,72 @@
+-- `rest_is_zero` meets its contract, table by table.
+-- Assumes nothing.
+use borrow.Author.Tests.{not-true, not-false}
+use Rattle.held.specs.Held.{zeroFrom, restZero}
 use borrow.Author.Needs.{needs}
 use Rattle.held.proofs.rest_is_zero.Statement.{statement}
 use Rattle.held.proofs.rest_is_zero.Tie as tie
-use Rattle.held.proofs.rest_is_zero.Reads as reads
-use Rattle.held.proofs.rest_is_zero.Lts as lts
-use Rattle.tables.proofs.zero_bytes_from.Reads as zero-bytes-from-reads
-use Rattle.tables.proofs.zero_from.Reads as zero-from-reads
 
--- src/lib.rt:145:23
 cast-behind : tie.Need-cast-behind
 cast-behind c = search needs
 
--- src/lib.rt:145:23
 add-behind : tie.Need-add-behind
 add-behind c = search needs
 
--- src/lib.rt:145:18
 mul-behind : tie.Need-mul-behind
 mul-behind c = search needs
 
--- src/lib.rt:146:9
 zero-bytes-from-requires : tie.Need-zero-bytes-from-requires
 zero-bytes-from-requires c κs = search needs
 
--- src/lib.rt:147:9
 returns : tie.Need-returns
-returns c = ?
+unfolding restZero zeroFrom
+returns c = rw (← c .before .zero-bytes-from .ensures, not-true (c .before .zero-bytes-from .result) (c .if1 .taken))
 
--- src/lib.rt:149:34
 cast-zero-bytes-from : tie.Need-cast-zero-bytes-from
 cast-zero-bytes-from c = search needs
 
--- src/lib.rt:149:9
 zero-bytes-from-requires-2 : tie.Need-zero-bytes-from-requires-2
 zero-bytes-from-requires-2 c κs = search needs
 
--- src/lib.rt:150:9
 returns-2 : tie.Need-returns-2
-returns-2 c = ?
+unfolding restZero zeroFrom
+returns-2 c = rw (← c .before .before .before .before .zero-bytes-from .ensures, not-false (c .before .before .before .before .zero-bytes-from .result) (c .before .before .before .if1 .left), ← c .before .zero-bytes-from2 .ensures, not-true (c .before .zero-bytes-from2 .result) (c .if2 .taken))
 
--- src/lib.rt:154:9
 cast-zero-from : tie.Need-cast-zero-from
 cast-zero-from c = search needs
 
--- src/lib.rt:154:36
 cast-zero-from-2 : tie.Need-cast-zero-from-2
 cast-zero-from-2 c = search needs
 
--- src/lib.rt:154:9
 add-zero-from : tie.Need-add-zero-from
 add-zero-from c = search needs
 
--- src/lib.rt:152:9
 zero-from-requires : tie.Need-zero-from-requires
 zero-from-requires c κs = search needs
 
--- src/lib.rt:156:9
 returns-3 : tie.Need-returns-3
-returns-3 c = ?
+unfolding restZero zeroFrom
+returns-3 c = rw (← c .before .before .before .before .before .before .before .before .zero-bytes-from .ensures, not-false (c .before .before .before .before .before .before .before .before .zero-bytes-from .result) (c .before .before .before .before .before .before .before .if1 .left), ← c .before .before .before .before .before .zero-bytes-from2 .ensures, not-false (c .before .before .before .before .before .zero-bytes-from2 .result) (c .before .before .before .before .if2 .left), ← c .before .zero-from .ensures, not-true (c .before .zero-from .result) (c .if3 .taken))
 
--- src/lib.rt:158:30
 cast-zero-from-3 : tie.Need-cast-zero-from-3
 cast-zero-from-3 c = search needs
 
--- src/lib.rt:158:26
 mul-zero-from : tie.Need-mul-zero-from
 mul-zero-from c = search needs
 
--- src/lib.rt:158:9
 zero-from-requires-2 : tie.Need-zero-from-requires-2
 zero-from-requires-2 c κs = search needs
 
--- src/lib.rt:159:9
 returns-4 : tie.Need-returns-4
-returns-4 c = ?
+unfolding restZero zeroFrom
+returns-4 c = rw (← c .before .before .before .before .before .before .before .before .before .before .before .zero-bytes-from .ensures, not-false (c .before .before .before .before .before .before .before .before .before .before .before .zero-bytes-from .result) (c .before .before .before .before .before .before .before .before .before .before .if1 .left), ← c .before .before .before .before .before .before .before .before .zero-bytes-from2 .ensures, not-false (c .before .before .before .before .before .before .before .before .zero-bytes-from2 .result) (c .before .before .before .before .before .before .before .if2 .left), ← c .before .before .before .before .zero-from .ensures, not-false (c .before .before .before .before .zero-from .result) (c .before .before .before .if3 .left), ← c .before .zero-from2 .ensures, not-true (c .before .zero-from2 .result) (c .if4 .taken))
 
--- src/lib.rt:161:5
 zero-from-requires-3 : tie.Need-zero-from-requires-3
 zero-from-requires-3 c κs = search needs
 
--- src/lib.rt:132:1
 returns-5 : tie.Need-returns-5
-returns-5 c = ?
+unfolding restZero zeroFrom
+returns-5 c = rw (← c .before .before .before .before .before .before .before .before .before .before .before .before .zero-bytes-from .ensures, not-false (c .before .before .before .before .before .before .before .before .before .before .before .before .zero-bytes-from .result) (c .before .before .before .before .before .before .before .before .before .before .before .if1 .left), ← c .before .before .before .before .before .before .before .before .before .zero-bytes-from2 .ensures, not-false (c .before .before .before .before .before .before .before .before .before .zero-bytes-from2 .result) (c .before .before .before .before .before .before .before .before .if2 .left), ← c .before .before .before .before .before .zero-from .ensures, not-false (c .before .before .before .before .before .zero-from .result) (c .before .before .before .before .if3 .left), ← c .before .before .zero-from2 .ensures, not-false (c .before .before .zero-from2 .result) (c .before .if4 .left)) (c .zero-from3 .ensures)
 
 pub rest-is-zero-spec : {M : Type 1} → statement M
 rest-is-zero-spec =
