@@ -152,6 +152,8 @@ module _ (t : Tables) (rows : List ℕ) (p : Place) (u : Sizes) (d : Done t rows
       },
       d .reached .place,
       d .reached .sums,
+      λ qs h.
+          ⊎-elim (λ q. q) (λ q. never (isStatement k) (sym kind-is ∙ next-kind t rows (q .1) ss (q .3)) e) (goes-on qs h),
     )
 
     pub done-open : isStatement k ≡ false → closesAt p ≡ false → Replays t rows Replayed.Damaged

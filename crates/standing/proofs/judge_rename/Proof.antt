@@ -1,6 +1,7 @@
 -- `judge_rename` meets its contract: its answer is the number by the tables.
 -- Assumes nothing.
 use mathlib.Core.Path.{sym, _∙_}
+use native.Mathlib.Omega.{arith}
 use borrow.Author.Needs.{needs}
 use borrow.Author.Tests.{le-leb, lt-leb}
 use Rattle.standing.specs.Judged.{judged}
@@ -23,7 +24,7 @@ module-wires-requires c κs = search needs
 returns-2 : tie.Need-returns-2
 unfolding judged
 returns-2 c ss rs l =
-    judged-is _ _ _ _ _ _ _ _ _ ss rs l ∙ rw (← c .before .before .before .before .legal .ensures, c .before .before .before .if1 .left, ← c .before .before .module-wires .ensures, le-leb _ _ (c .if2 .taken))
+    judged-is _ _ _ _ _ _ _ _ _ ss rs l ∙ rw (← c .before .before .before .before .legal .ensures, c .before .before .before .if1 .left, ← c .before .before .module-wires .ensures, le-leb (c .before .before .module-wires .result .count) (c .before .before .before .before .before .before .before .before .before .args .w .0) (omega arith))
 
 cast-is-port : tie.Need-cast-is-port
 cast-is-port c = search needs
@@ -41,7 +42,7 @@ returns-3 : tie.Need-returns-3
 unfolding judged
 returns-3 c ss rs l =
     judged-is _ _ _ _ _ _ _ _ _ ss rs l
-    ∙ rw (← c .before .before .before .before .before .before .before .legal .ensures, c .before .before .before .before .before .before .if1 .left, ← c .before .before .before .before .before .module-wires .ensures, lt-leb _ _ (c .before .before .before .if2 .left), ← c .before .is-port .ensures, c .if3 .taken)
+    ∙ rw (← c .before .before .before .before .before .before .before .legal .ensures, c .before .before .before .before .before .before .if1 .left, ← c .before .before .before .before .before .module-wires .ensures, lt-leb (c .before .before .before .before .before .module-wires .result .count) (c .before .before .before .before .before .before .before .before .before .before .before .before .args .w .0) (omega arith), ← c .before .is-port .ensures, c .if3 .taken)
 
 is-taken-requires : tie.Need-is-taken-requires
 is-taken-requires c κs = search needs
@@ -50,7 +51,7 @@ returns-4 : tie.Need-returns-4
 unfolding judged
 returns-4 c ss rs l =
     judged-is _ _ _ _ _ _ _ _ _ ss rs l
-    ∙ rw (← c .before .before .before .before .before .before .before .before .before .legal .ensures, c .before .before .before .before .before .before .before .before .if1 .left, ← c .before .before .before .before .before .before .before .module-wires .ensures, lt-leb _ _ (c .before .before .before .before .before .if2 .left), ← c .before .before .before .is-port .ensures, c .before .before .if3 .left, ← c .before .is-taken .ensures, c .if4 .taken)
+    ∙ rw (← c .before .before .before .before .before .before .before .before .before .legal .ensures, c .before .before .before .before .before .before .before .before .if1 .left, ← c .before .before .before .before .before .before .before .module-wires .ensures, lt-leb (c .before .before .before .before .before .before .before .module-wires .result .count) (c .before .before .before .before .before .before .before .before .before .before .before .before .before .before .args .w .0) (omega arith), ← c .before .before .before .is-port .ensures, c .before .before .if3 .left, ← c .before .is-taken .ensures, c .if4 .taken)
 
 exceeds-room-requires : tie.Need-exceeds-room-requires
 exceeds-room-requires c κs = legal-short (now (c .before .before .before .before .before .before .before .before .before .before .before .before .before .before .args .new)) (sym (c .before .before .before .before .before .before .before .before .before .legal .ensures) ∙ not-false _ (c .before .before .before .before .before .before .before .before .if1 .left))
@@ -59,13 +60,13 @@ returns-5 : tie.Need-returns-5
 unfolding judged
 returns-5 c ss rs l =
     judged-is _ _ _ _ _ _ _ _ _ ss rs l
-    ∙ rw (← c .before .before .before .before .before .before .before .before .before .before .before .legal .ensures, c .before .before .before .before .before .before .before .before .before .before .if1 .left, ← c .before .before .before .before .before .before .before .before .before .module-wires .ensures, lt-leb _ _ (c .before .before .before .before .before .before .before .if2 .left), ← c .before .before .before .before .before .is-port .ensures, c .before .before .before .before .if3 .left, ← c .before .before .before .is-taken .ensures, c .before .before .if4 .left, ← c .before .exceeds-room .ensures, c .if5 .taken)
+    ∙ rw (← c .before .before .before .before .before .before .before .before .before .before .before .legal .ensures, c .before .before .before .before .before .before .before .before .before .before .if1 .left, ← c .before .before .before .before .before .before .before .before .before .module-wires .ensures, lt-leb (c .before .before .before .before .before .before .before .before .before .module-wires .result .count) (c .before .before .before .before .before .before .before .before .before .before .before .before .before .before .before .before .args .w .0) (omega arith), ← c .before .before .before .before .before .is-port .ensures, c .before .before .before .before .if3 .left, ← c .before .before .before .is-taken .ensures, c .before .before .if4 .left, ← c .before .exceeds-room .ensures, c .if5 .taken)
 
 returns-6 : tie.Need-returns-6
 unfolding judged
 returns-6 c ss rs l =
     judged-is _ _ _ _ _ _ _ _ _ ss rs l
-    ∙ rw (← c .before .before .before .before .before .before .before .before .before .before .before .legal .ensures, c .before .before .before .before .before .before .before .before .before .before .if1 .left, ← c .before .before .before .before .before .before .before .before .before .module-wires .ensures, lt-leb _ _ (c .before .before .before .before .before .before .before .if2 .left), ← c .before .before .before .before .before .is-port .ensures, c .before .before .before .before .if3 .left, ← c .before .before .before .is-taken .ensures, c .before .before .if4 .left, ← c .before .exceeds-room .ensures, c .if5 .left)
+    ∙ rw (← c .before .before .before .before .before .before .before .before .before .before .before .legal .ensures, c .before .before .before .before .before .before .before .before .before .before .if1 .left, ← c .before .before .before .before .before .before .before .before .before .module-wires .ensures, lt-leb (c .before .before .before .before .before .before .before .before .before .module-wires .result .count) (c .before .before .before .before .before .before .before .before .before .before .before .before .before .before .before .before .args .w .0) (omega arith), ← c .before .before .before .before .before .is-port .ensures, c .before .before .before .before .if3 .left, ← c .before .before .before .is-taken .ensures, c .before .before .if4 .left, ← c .before .exceeds-room .ensures, c .if5 .left)
 
 pub judge-rename-spec : {M : Type 1} → statement M
 judge-rename-spec =

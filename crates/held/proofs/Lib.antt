@@ -1,0 +1,2 @@
+pub mod RenameTurns
+pub mod MemoryLaws

@@ -1,0 +1,105 @@
+-- Each return of the judgement of a memory.
+-- Assumes nothing.
+use Prim.Native.Nat.{ℕ, _≤_}
+use mathlib.Core.Path.{_≡_, sym, ap, _∙_, subst}
+use mathlib.Core.List.{List, [], _∷_, _++_, reverse, reverse-reverse, append-nil}
+use mathlib.Core.Bool.{Bool, true, false}
+use native.Mathlib.Omega.{arith}
+use lib.Dec.{eqb}
+use lib.ListN.{length, length-append}
+use borrow.Author.Tests.{eqb-true}
+use Rattle.rules.specs.Statements.{Statement}
+use Rattle.rules.specs.Judgement.{Past}
+use Rattle.rules.specs.Session.{Rename}
+use Rattle.rules.specs.Layout.{Memory, rooms}
+use Rattle.scanner.specs.Laws.{and-true-left}
+use Rattle.past.specs.Place.{placeOf}
+use Rattle.past.specs.Sizes.{sumsOf}
+use Rattle.past.specs.declared.place.Place.{Place}
+use Rattle.past.specs.declared.sizes.Sizes.{Sizes}
+use Rattle.admitted.specs.Holds.{Holds}
+use Rattle.replay.specs.Begins.{Stored, Replays}
+use Rattle.replay.specs.declared.Replayed.{Replayed}
+use Rattle.replay.proofs.CodeLaws.{never}
+use Rattle.standing.specs.Judged.{Lies}
+use Rattle.held.specs.declared.Held.{Held}
+use Rattle.held.specs.declared.Renamed.{Renamed}
+use Rattle.held.specs.Renamed.{RenamesAre}
+use Rattle.held.specs.Held.{rightSizes, restZero, HeldIs}
+use Rattle.held.specs.RenameLaws.{file-only}
+use Rattle.held.specs.HeldLaws.{partsOf, holds-many, holds-room, holds-laid, holds-sizes, holds-rest, holds-stored, stored-lies, lies-holds}
+
+abbrev sizesFit : Memory → Bool
+sizesFit m = rightSizes (length (m .names)) (length (m .strings)) (length (m .bits)) (length (m .wires)) (length (m .rows))
+
+pub names-short : (names strings bits wires rows : ℕ) → rightSizes names strings bits wires rows ≡ true → names ≤ 16384
+unfolding rightSizes
+names-short names strings bits wires rows e = omega (arith, eqb-true names 16384 (and-true-left (eqb names 16384) _ e))
+
+none-more : {A : Type 0} (xs ys more : List A) → xs ≡ ys ++ more → length xs ≡ length ys → xs ≡ ys
+none-more xs ys [] e l = e ∙ append-nil ys
+none-more xs ys (y ∷ more) e l = absurd (omega (arith, ap length e, length-append ys (y ∷ more)))
+
+module _ (m : Memory) where
+  pub other-sizes : sizesFit m ≡ false → HeldIs m Held.Damaged
+  unfolding HeldIs
+  other-sizes e ss rs h = never (sizesFit m) (holds-sizes h) e
+
+  module _ (o : Replayed) (r : Replays (partsOf m) (m .rows) o) where
+    pub no-statements : o ≡ Replayed.Damaged → HeldIs m Held.Damaged
+    unfolding HeldIs Replays
+    no-statements e ss rs h = let f = rw e at r in f (reverse ss) (holds-stored h)
+
+    module _ (p : Place) (u : Sizes) (e : o ≡ Replayed.Holding p u) where
+      found : (ss : Past) × Stored (partsOf m) (m .rows) ss × (placeOf ss ≡ p) × (sumsOf ss ≡ u) × ((qs : Past) → Stored (partsOf m) (m .rows) qs → qs ≡ ss)
+      unfolding Replays
+      found = rw e at r
+
+      module _ {ss : List Statement} {rs : List Rename} (h : Holds m ss rs) where
+        same-past : reverse ss ≡ found .0
+        same-past = found .4 (reverse ss) (holds-stored h)
+
+        same-place : placeOf (reverse ss) ≡ p
+        same-place = ap placeOf same-past ∙ found .2
+
+        same-sums : sumsOf (reverse ss) ≡ u
+        same-sums = ap sumsOf same-past ∙ found .3
+
+        lies : Lies (m .names) (m .wires) (m .rows) p 0 (u .«name_bytes») ss []
+        lies = stored-lies m ss p u (holds-stored h) same-place same-sums
+
+      pub rest-left : restZero m p u ≡ false → HeldIs m Held.Damaged
+      unfolding HeldIs
+      rest-left z ss rs h = never (restZero m p u) (holds-rest h p u (same-place h) (same-sums h)) z
+
+      module _ (s : Renamed) (k : RenamesAre (m .names) (m .wires) (m .rows) p (m .renames) (u .«name_bytes») s) where
+        pub no-renames-there : s ≡ Renamed.Nothing → HeldIs m Held.Damaged
+        unfolding HeldIs RenamesAre
+        no-renames-there d ss rs h = let f = rw d at k in f ss (lies h) rs (h .allowed) (holds-laid h) (holds-many h)
+
+        module _ (n : ℕ) (d : s ≡ Renamed.Used n) where
+          room-is : {ss : List Statement} {rs : List Rename} → Holds m ss rs → n ≡ m .room
+          unfolding RenamesAre
+          room-is {ss} {rs} h =
+              let f = rw d at k in
+              let z = f ss (lies h) in
+              let c : length rs ≡ length (z .0) = holds-many h ∙ sym (z .1 .standing) in
+              let y = file-only ss rs (z .0) (omega arith) (holds-laid h) (z .1 .laid) in
+              let q : rs ≡ z .0 = none-more rs (z .0) (y .0) (y .1) c in
+              sym (z .1 .room) ∙ ap (λ (l : List Rename). length (rooms ss l .names)) (sym q) ∙ holds-room h
+
+          pub other-room : (n ≡ m .room → ⊥) → HeldIs m Held.Damaged
+          unfolding HeldIs
+          other-room b ss rs h = b (room-is h)
+
+          pub memory-holds : n ≡ m .room → sizesFit m ≡ true → restZero m p u ≡ true → HeldIs m (Held.Holding p u)
+          unfolding HeldIs RenamesAre
+          memory-holds b z r₀ =
+              let f = rw d at k in
+              let ss : List Statement = reverse (found .0) in
+              let w : reverse ss ≡ found .0 = reverse-reverse (found .0) in
+              let t : Stored (partsOf m) (m .rows) (reverse ss) = subst (Stored (partsOf m) (m .rows)) (sym w) (found .1) in
+              let ep : placeOf (reverse ss) ≡ p = ap placeOf w ∙ found .2 in
+              let eu : sumsOf (reverse ss) ≡ u = ap sumsOf w ∙ found .3 in
+              let x = f ss (stored-lies m ss p u t ep eu) in
+              (ss, x .0, lies-holds m ss p u t ep eu (x .0) (rw b at (x .1)) (x .2) z r₀, ep, eu)

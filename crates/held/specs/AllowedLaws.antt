@@ -1,0 +1,108 @@
+-- Renames each of which was accepted after those before it: the first ones of them, and how many bytes of names they use.
+-- Assumes nothing.
+use Prim.Native.Nat.{_+_, _≤_}
+use mathlib.Core.Path.{_≡_, refl, sym, ap, _∙_, subst}
+use mathlib.Core.List.{List, [], _∷_, _++_, reverse, reverse-cons, reverse-append, reverse-reverse, append-assoc, append-nil}
+use mathlib.Core.Bool.{Bool, true, false, _||_}
+use native.Mathlib.Omega.{arith}
+use lib.Dec.{leb}
+use lib.ListN.{length, length-append}
+use borrow.Author.Tests.{leb-false}
+use Rattle.rules.specs.Judgement.{sum, lowest, accepted, verdict}
+use Rattle.rules.specs.Design.{Design}
+use Rattle.rules.specs.Session.{Rename, roomUsed, renameCall, numberOf}
+use Rattle.admitted.specs.Holds.{Allowed, no-renames, one-rename}
+use Rattle.order.specs.Sums.{sum-append}
+use Rattle.order.specs.RenamedFine.{accepted-keeps}
+
+-- LISTS WITH A LAST ELEMENT
+last-same : {A : Type 0} (xs ys : List A) (x y : A) → xs ++ x ∷ [] ≡ ys ++ y ∷ [] → (xs ≡ ys) × (x ≡ y)
+last-same xs ys x y e =
+    let q : x ∷ reverse xs ≡ y ∷ reverse ys = sym (reverse-append xs (x ∷ [])) ∙ ap reverse e ∙ reverse-append ys (y ∷ []) in
+    let h : reverse xs ≡ reverse ys = cc in
+    (sym (reverse-reverse xs) ∙ ap reverse h ∙ reverse-reverse ys, cc)
+
+no-last : {A : Type 0} {P : Type 0} (xs : List A) (x : A) → [] ≡ xs ++ x ∷ [] → P
+no-last xs x e = absurd (omega (arith, ap length e, length-append xs (x ∷ [])))
+
+-- THE FIRST ONES of accepted renames are accepted
+module _ {d : Design} where
+  allowed-by : {qs : List Rename} → Allowed d qs → (rs : List Rename) (r : Rename) → qs ≡ rs ++ r ∷ [] → Allowed d rs × (renameCall d rs r ≡ accepted (rs ++ r ∷ []))
+  allowed-by no-renames rs r e = no-last rs r e
+  allowed-by (one-rename ps p a h q) rs r e =
+      let z = last-same ps rs p r (sym q ∙ e) in
+      (subst (Allowed d) (z .0) a, rw (z .0, z .1) at h)
+
+  pub allowed-before : (rs : List Rename) (r : Rename) → Allowed d (rs ++ r ∷ []) → Allowed d rs
+  allowed-before rs r a = allowed-by a rs r refl .0
+
+  pub allowed-last : (rs : List Rename) (r : Rename) → Allowed d (rs ++ r ∷ []) → renameCall d rs r ≡ accepted (rs ++ r ∷ [])
+  allowed-last rs r a = allowed-by a rs r refl .1
+
+  front-back : (rs ms : List Rename) → Allowed d (rs ++ reverse ms) → Allowed d rs
+  front-back rs [] a = subst (Allowed d) (append-nil rs) a
+  front-back rs (m ∷ ms) a =
+      let e : rs ++ reverse (m ∷ ms) ≡ (rs ++ reverse ms) ++ m ∷ [] =
+      ap (λ (l : List Rename). rs ++ l) (reverse-cons m ms) ∙ sym (append-assoc rs (reverse ms) (m ∷ [])) in
+      front-back rs ms (allowed-before (rs ++ reverse ms) m (subst (Allowed d) e a))
+
+  pub allowed-front : (rs more : List Rename) → Allowed d (rs ++ more) → Allowed d rs
+  allowed-front rs more a = front-back rs (reverse more) (subst (λ (l : List Rename). Allowed d (rs ++ l)) (sym (reverse-reverse more)) a)
+
+  pub allowed-next : (rs more : List Rename) (r : Rename) → Allowed d (rs ++ r ∷ more) → renameCall d rs r ≡ accepted (rs ++ r ∷ [])
+  allowed-next rs more r a =
+      let e : rs ++ r ∷ more ≡ (rs ++ r ∷ []) ++ more = sym (append-assoc rs (r ∷ []) more) in
+      allowed-last rs r (allowed-front (rs ++ r ∷ []) more (subst (Allowed d) e a))
+
+  pub allowed-more : (rs : List Rename) (r : Rename) → Allowed d rs → renameCall d rs r ≡ accepted (rs ++ r ∷ []) → Allowed d (rs ++ r ∷ [])
+  allowed-more rs r a e = one-rename rs r a e refl
+
+-- NO NUMBER where it is accepted, and the other way round
+zero-accepted :
+    (rs : List Rename) (a b c d e : Bool) →
+    numberOf (verdict rs (lowest ((4, a) ∷ (6, b) ∷ (8, c) ∷ (9, d) ∷ (11, e) ∷ []))) ≡ 0 →
+    verdict rs (lowest ((4, a) ∷ (6, b) ∷ (8, c) ∷ (9, d) ∷ (11, e) ∷ [])) ≡ accepted rs
+unfolding numberOf verdict lowest
+zero-accepted rs true b c d e h = absurd (omega arith)
+zero-accepted rs false true c d e h = absurd (omega arith)
+zero-accepted rs false false true d e h = absurd (omega arith)
+zero-accepted rs false false false true e h = absurd (omega arith)
+zero-accepted rs false false false false true h = absurd (omega arith)
+zero-accepted rs false false false false false h = refl
+
+module _ (d : Design) (rs : List Rename) (r : Rename) where
+  pub number-accepted : numberOf (renameCall d rs r) ≡ 0 → renameCall d rs r ≡ accepted (rs ++ r ∷ [])
+  unfolding renameCall
+  number-accepted h = zero-accepted (rs ++ r ∷ []) _ _ _ _ _ h
+
+  pub accepted-number : renameCall d rs r ≡ accepted (rs ++ r ∷ []) → numberOf (renameCall d rs r) ≡ 0
+  unfolding numberOf
+  accepted-number e = ap numberOf e
+
+  -- HOW MANY, and the room used
+  pub room-more : roomUsed d (rs ++ r ∷ []) ≡ roomUsed d rs + length (r .newName)
+  unfolding roomUsed sum
+  room-more = omega (arith, sum-append (λ (q : Rename). length (q .newName)) rs (r ∷ []))
+
+last-test : (rs qs : List Rename) (a b c d e f : Bool) → verdict rs (lowest ((4, a) ∷ (6, b) ∷ (8, c) ∷ (9, d) ∷ (11, e || f) ∷ [])) ≡ accepted qs → e ≡ false
+unfolding verdict lowest
+last-test rs qs true b c d e f h = cc
+last-test rs qs false true c d e f h = cc
+last-test rs qs false false true d e f h = cc
+last-test rs qs false false false true e f h = cc
+last-test rs qs false false false false true f h = cc
+last-test rs qs false false false false false f h = refl
+
+accepted-few : (d : Design) (rs qs : List Rename) (r : Rename) → renameCall d rs r ≡ accepted qs → leb 64 (length rs) ≡ false
+unfolding renameCall
+accepted-few d rs qs r e = last-test (rs ++ r ∷ []) qs _ _ _ _ (leb 64 (length rs)) _ e
+
+module _ {d : Design} where
+  pub allowed-few : {qs : List Rename} → Allowed d qs → length qs ≤ 64
+  allowed-few no-renames = omega arith
+  allowed-few (one-rename rs r a e q) =
+      rw q (omega (arith, length-append rs (r ∷ []), leb-false 64 (length rs) (accepted-few d rs (rs ++ r ∷ []) r e)))
+
+  pub allowed-room : {qs : List Rename} → roomUsed d [] ≤ 16384 → Allowed d qs → roomUsed d qs ≤ 16384
+  allowed-room h no-renames = h
+  allowed-room h (one-rename rs r a e q) = rw q (omega (arith, room-more d rs r, accepted-keeps d rs (rs ++ r ∷ []) r e .room))

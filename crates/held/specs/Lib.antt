@@ -1,0 +1,5 @@
+pub mod Renamed
+pub mod Held
+pub mod AllowedLaws
+pub mod RenameLaws
+pub mod HeldLaws

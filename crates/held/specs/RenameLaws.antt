@@ -1,0 +1,178 @@
+-- One more rename behind the statements and renames that lie in the tables: what its row and its name are, and that there is one only.
+-- Assumes nothing.
+use Prim.Native.Nat.{ℕ, _+_, _*_, _≤_}
+use mathlib.Core.Path.{_≡_, refl, sym, ap, ap₂, _∙_, subst}
+use mathlib.Core.List.{List, [], _∷_, _++_, reverse, append-assoc}
+use mathlib.Core.Bool.{true}
+use native.Mathlib.Omega.{arith}
+use lib.Dec.{eqb}
+use lib.ListN.{length, take, drop, length-append, take-append-drop}
+use lib.Seq.{drop-append-seam}
+use borrow.Author.Tests.{eqb-true, eq-eqb}
+use Rattle.rules.specs.Tokens.{Name}
+use Rattle.rules.specs.Statements.{Statement}
+use Rattle.rules.specs.Session.{Rename}
+use Rattle.rules.specs.Layout.{Rooms, padded, row, renameRow, putRename, putRenames, rooms}
+use Rattle.tables.specs.Row.{words, rowAt, words-rowAt}
+use Rattle.tables.specs.Flat.{flat, Eights, flat-snoc, length-flat}
+use Rattle.tables.specs.declared.Row.{Row}
+use Rattle.scanner.specs.Laws.{and-true-left, and-true-right}
+use Rattle.netlist.specs.Laid.{roomsOf, Laid}
+use Rattle.netlist.specs.LaidLaws.{list-behind, laid-renames, eights-rows, length-rows}
+use Rattle.standing.specs.RoomLaws.{put-renames-last, length-rename-row, rename-rows, eights-renames, rooms-file}
+use Rattle.held.specs.Renamed.{isRename}
+
+-- A TABLE THAT BEGINS with a list, and with more behind it
+front-more : (t xs ys more : List ℕ) → t ≡ xs ++ more → take (length ys) (drop (length xs) t) ≡ ys → t ≡ (xs ++ ys) ++ drop (length ys) more
+front-more t xs ys more e h =
+    let d : drop (length xs) t ≡ more = ap (drop (length xs)) e ∙ drop-append-seam xs more in
+    let k : take (length ys) more ≡ ys = ap (take (length ys)) (sym d) ∙ h in
+    e
+    ∙ ap (λ (x : List ℕ). xs ++ x) (sym (take-append-drop (length ys) more) ∙ ap (λ (x : List ℕ). x ++ drop (length ys) more) k)
+    ∙ sym (append-assoc xs ys (drop (length ys) more))
+
+-- A RENAME'S ROW
+pub rename-eq : (m m′ w w′ : ℕ) (n n′ : Name) → m ≡ m′ → w ≡ w′ → n ≡ n′ → _≡_ {A = Rename} (record { moduleNumber = m; wireNumber = w; newName = n }) (record { moduleNumber = m′; wireNumber = w′; newName = n′ })
+rename-eq m m′ w w′ n n′ em ew en = λ i. record { moduleNumber = em i; wireNumber = ew i; newName = en i }
+
+module _ (x : Row) (at : ℕ) where
+  pub rename-words : (n : Name) → isRename x at ≡ true → length n ≡ x .b → words x ≡ renameRow at (record { moduleNumber = x .c; wireNumber = x .d; newName = n })
+  unfolding isRename words renameRow row padded
+  rename-words n e l =
+      let h₁ = and-true-right (eqb (x .kind) 13) _ e in
+      let h₂ = and-true-right (eqb (x .a) at) _ h₁ in
+      let h₃ = and-true-right (eqb (x .e) 0) _ h₂ in
+      let k : x .kind ≡ 13 = eqb-true _ _ (and-true-left (eqb (x .kind) 13) _ e) in
+      let a : x .a ≡ at = eqb-true _ _ (and-true-left (eqb (x .a) at) _ h₁) in
+      let b : x .e ≡ 0 = eqb-true _ _ (and-true-left (eqb (x .e) 0) _ h₂) in
+      let c : x .f ≡ 0 = eqb-true _ _ (and-true-left (eqb (x .f) 0) _ h₃) in
+      let d : x .g ≡ 0 = eqb-true _ _ (and-true-right (eqb (x .f) 0) _ h₃) in
+      rw (k, a, b, c, d, l)
+
+  pub record RowOf (q : Rename) : Type 0 where
+    pub is : isRename x at ≡ true
+    pub long : x .b ≡ length (q .newName)
+    pub module-number : x .c ≡ q .moduleNumber
+    pub wire-number : x .d ≡ q .wireNumber
+
+  pub words-rename : (q : Rename) → words x ≡ renameRow at q → RowOf q
+  unfolding isRename words renameRow row padded
+  words-rename q e =
+      let k : x .kind ≡ 13 = cc in
+      let a : x .a ≡ at = cc in
+      let b : x .e ≡ 0 = cc in
+      let c : x .f ≡ 0 = cc in
+      let d : x .g ≡ 0 = cc in
+      record {
+        is = rw (eq-eqb (x .kind) 13 k, eq-eqb (x .a) at a, eq-eqb (x .e) 0 b, eq-eqb (x .f) 0 c, eq-eqb (x .g) 0 d);
+        long = cc;
+        module-number = cc;
+        wire-number = cc;
+      }
+
+-- WHAT IS LAID behind rooms S by one more rename
+pub record Next (names rows : List ℕ) (S : Rooms) (q : Rename) : Type 0 where
+  pub room : 8 * length (S .rows) + 8 ≤ length rows
+  pub row : words (rowAt rows (8 * length (S .rows))) ≡ renameRow (length (S .names)) q
+  pub inside : length (S .names) + length (q .newName) ≤ length names
+  pub name : take (length (q .newName)) (drop (length (S .names)) names) ≡ q .newName
+
+module _ {names rows : List ℕ} (S : Rooms) (h : Eights (S .rows)) (q : Rename) where
+  pub laid-next : Laid (putRename S q) names rows → Next names rows S q
+  unfolding putRename
+  laid-next l =
+      let z : List ℕ = renameRow (length (S .names)) q in
+      let n : length z ≡ 8 = length-rename-row (length (S .names)) q in
+      let f : length (flat (S .rows)) ≡ 8 * length (S .rows) = length-flat (S .rows) h in
+      let er : rows ≡ flat (S .rows) ++ (z ++ l .more-rows) =
+      l .rows-are ∙ ap (λ (y : List ℕ). y ++ l .more-rows) (flat-snoc (S .rows) z) ∙ append-assoc (flat (S .rows)) z (l .more-rows) in
+      let en : names ≡ S .names ++ (q .newName ++ l .more-names) = l .names-are ∙ append-assoc (S .names) (q .newName) (l .more-names) in
+      let long : 8 * length (S .rows) + 8 ≤ length rows =
+      omega (arith, ap length er, length-append (flat (S .rows)) (z ++ l .more-rows), length-append z (l .more-rows)) in
+      record {
+        room = long;
+        row =
+            words-rowAt rows (8 * length (S .rows)) long
+            ∙ ap (λ (k : ℕ). take k (drop (8 * length (S .rows)) rows)) (sym n)
+            ∙ ap (λ (k : ℕ). take (length z) (drop k rows)) (sym f)
+            ∙ list-behind rows (flat (S .rows)) z (l .more-rows) er;
+        inside = omega (arith, ap length en, length-append (S .names) (q .newName ++ l .more-names), length-append (q .newName) (l .more-names));
+        name = list-behind names (S .names) (q .newName) (l .more-names) en;
+      }
+
+  pub next-laid :
+      Laid S names rows → 8 * length (S .rows) + 8 ≤ length rows →
+      words (rowAt rows (8 * length (S .rows))) ≡ renameRow (length (S .names)) q →
+      take (length (q .newName)) (drop (length (S .names)) names) ≡ q .newName →
+      Laid (putRename S q) names rows
+  unfolding putRename
+  next-laid l long e en =
+      let z : List ℕ = renameRow (length (S .names)) q in
+      let n : length z ≡ 8 = length-rename-row (length (S .names)) q in
+      let f : length (flat (S .rows)) ≡ 8 * length (S .rows) = length-flat (S .rows) h in
+      let g : take (length z) (drop (length (flat (S .rows))) rows) ≡ z = rw (n, f) (sym (words-rowAt rows (8 * length (S .rows)) long) ∙ e) in
+      record {
+        more-names = drop (length (q .newName)) (l .more-names);
+        more-rows = drop (length z) (l .more-rows);
+        names-are = front-more names (S .names) (q .newName) (l .more-names) (l .names-are) en;
+        rows-are =
+            front-more rows (flat (S .rows)) z (l .more-rows) (l .rows-are) g
+            ∙ ap (λ (y : List ℕ). y ++ drop (length z) (l .more-rows)) (sym (flat-snoc (S .rows) z));
+      }
+
+-- THERE IS ONE ONLY
+one-only : {names rows : List ℕ} (S : Rooms) (h : Eights (S .rows)) (q r : Rename) → Laid (putRename S q) names rows → Laid (putRename S r) names rows → q ≡ r
+one-only {names} {rows} S h q r l k =
+    let x : Row = rowAt rows (8 * length (S .rows)) in
+    let a = laid-next S h q l in
+    let b = laid-next S h r k in
+    let f = words-rename x (length (S .names)) q (a .row) in
+    let g = words-rename x (length (S .names)) r (b .row) in
+    let e : length (q .newName) ≡ length (r .newName) = sym (f .long) ∙ g .long in
+    rename-eq (q .moduleNumber) (r .moduleNumber) (q .wireNumber) (r .wireNumber) (q .newName) (r .newName)
+    (sym (f .module-number) ∙ g .module-number)
+    (sym (f .wire-number) ∙ g .wire-number)
+    (sym (a .name) ∙ ap (λ (n : ℕ). take n (drop (length (S .names)) names)) e ∙ b .name)
+
+begins-only :
+    {names rows : List ℕ} (S : Rooms) → Eights (S .rows) → (qs rs : List Rename) → length rs ≤ length qs →
+    Laid (putRenames S qs) names rows → Laid (putRenames S rs) names rows → (more : List Rename) × (qs ≡ rs ++ more)
+unfolding putRenames
+begins-only S h qs [] b l k = (qs, refl)
+begins-only S h [] (r ∷ rs) b l k = absurd (omega arith)
+begins-only {names} {rows} S h (q ∷ qs) (r ∷ rs) b l k =
+    let e : q ≡ r = one-only S h q r (laid-renames (putRename S q) qs l) (laid-renames (putRename S r) rs k) in
+    let d : Laid (putRenames (putRename S r) qs) names rows = rw e at l in
+    let z = begins-only (putRename S r) (eights-renames S (r ∷ []) h) qs rs (omega arith) d k in
+    (z .0, ap₂ _∷_ e (z .1))
+
+renames-append : (R : Rooms) (rs more : List Rename) → putRenames R (rs ++ more) ≡ putRenames (putRenames R rs) more
+unfolding putRenames
+renames-append R [] more = refl
+renames-append R (r ∷ rs) more = renames-append (putRename R r) rs more
+
+-- the same of the rooms of a file
+pub file-last : (ss : List Statement) (rs : List Rename) (r : Rename) → rooms ss (rs ++ r ∷ []) ≡ putRename (rooms ss rs) r
+unfolding rooms
+file-last ss rs r = put-renames-last _ rs r
+
+pub eights-file : (ss : List Statement) (rs : List Rename) → Eights (rooms ss rs .rows)
+eights-file ss rs = rw (rooms-file ss rs) (eights-renames (roomsOf (reverse ss)) rs (eights-rows (reverse ss)))
+
+pub length-file : (ss : List Statement) (rs : List Rename) → length (rooms ss rs .rows) ≡ length (reverse ss) + length rs
+length-file ss rs = rw (rooms-file ss rs) (rename-rows (roomsOf (reverse ss)) rs ∙ ap (λ (n : ℕ). n + length rs) (length-rows (reverse ss)))
+
+module _ {names rows : List ℕ} (ss : List Statement) where
+  pub file-only :
+      (qs rs : List Rename) → length rs ≤ length qs → Laid (rooms ss qs) names rows → Laid (rooms ss rs) names rows → (more : List Rename) × (qs ≡ rs ++ more)
+  file-only qs rs b l k =
+      begins-only (roomsOf (reverse ss)) (eights-rows (reverse ss)) qs rs b (subst (λ (R : Rooms). Laid R names rows) (rooms-file ss qs) l) (subst (λ (R : Rooms). Laid R names rows) (rooms-file ss rs) k)
+
+  pub file-front : (rs more : List Rename) → Laid (rooms ss (rs ++ more)) names rows → Laid (rooms ss rs) names rows
+  unfolding rooms
+  file-front rs more l =
+      laid-renames (rooms ss rs) more (subst (λ (R : Rooms). Laid R names rows) (renames-append _ rs more) l)
+
+  pub file-next : (rs more : List Rename) (r : Rename) → Laid (rooms ss (rs ++ r ∷ more)) names rows → Laid (rooms ss (rs ++ r ∷ [])) names rows
+  file-next rs more r l =
+      file-front (rs ++ r ∷ []) more (subst (λ (l : List Rename). Laid (rooms ss l) names rows) (sym (append-assoc rs (r ∷ []) more)) l)
