@@ -1,0 +1,5 @@
+mod RenameLaws
+mod HoldLaws
+mod OpenLaws
+mod CallLaws
+mod AskLaws

@@ -1,0 +1,41 @@
+-- What opening memory tells.
+-- Assumes nothing.
+use Prim.Native.Nat.{ℕ}
+use mathlib.Core.Path.{_≡_, refl, sym, subst}
+use mathlib.Core.Bool.{Bool, true, false, not}
+use Rattle.rules.specs.Layout.{Memory}
+use Rattle.past.specs.declared.place.Place.{Place}
+use Rattle.past.specs.declared.sizes.Sizes.{Sizes}
+use Rattle.reader.specs.Read.{rightLengths}
+use Rattle.held.specs.Held.{HeldIs}
+use Rattle.held.specs.declared.Held.{Held}
+use Rattle.session.specs.Called.{Damaged}
+use Rattle.session.specs.Steps.{Holding, NotOpen, none-held, OpenedIs}
+use Rattle.session.specs.declared.Opened.{Opened}
+use Rattle.session.specs.declared.Opened.the-variants.{Open, Refused}
+
+pub not-true : (b : Bool) → not b ≡ true → b ≡ false
+not-true true e = sym e
+not-true false e = refl
+
+pub not-false : (b : Bool) → not b ≡ false → b ≡ true
+not-false true e = refl
+not-false false e = sym e
+
+module _ (m : Memory) (r : Held) (is : HeldIs m r) (e : rightLengths m ≡ true) where
+  pub held-open : (p : Place) (u : Sizes) → r ≡ Held.Holding p u → Holding m p
+  unfolding HeldIs
+  held-open p u q =
+      let h : HeldIs m (Held.Holding p u) = subst (λ (x : Held). HeldIs m x) q is in
+      record { statements = h .0; renames = h .1; lengths = e; holds = h .2; place = h .3 }
+
+  pub held-none : r ≡ Held.Damaged → NotOpen m 3
+  unfolding HeldIs
+  held-none q = none-held e (subst (λ (x : Held). HeldIs m x) q is) refl
+
+module _ (m : Memory) (r : Opened) (is : OpenedIs m r) where
+  pub opened : (p : Place) → r ≡ Open p → Holding m p
+  opened p q = subst (λ (x : Opened). OpenedIs m x) q is
+
+  pub not-opened : (n : ℕ) → r ≡ Refused n → NotOpen m n
+  not-opened n q = subst (λ (x : Opened). OpenedIs m x) q is

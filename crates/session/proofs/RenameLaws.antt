@@ -1,0 +1,134 @@
+-- Design memory with one rename more, and with the last one taken off.
+-- Assumes nothing.
+use Prim.Native.Nat.{ℕ, suc, _+_, _-_, _*_, _≤_, _<_}
+use mathlib.Core.Path.{_≡_, refl, sym, ap, _∙_}
+use mathlib.Core.List.{List, [], _∷_, _++_, dropLast}
+use mathlib.Core.Bool.{Bool, true, false, not, cond, _||_}
+use native.Mathlib.Omega.{arith}
+use lib.Dec.{leb, ltb}
+use lib.ListN.{length, replicate, length-append}
+use borrow.Author.Tests.{leb-false, ltb-false}
+use Rattle.rules.specs.Bytes.{legal}
+use Rattle.rules.specs.Statements.{Statement}
+use Rattle.rules.specs.Judgement.{Verdict, accepted, refused, lowest, verdict}
+use Rattle.rules.specs.Design.{Design}
+use Rattle.rules.specs.Session.{Rename, roomUsed, renameCall, undoCall, numberOf}
+use Rattle.rules.specs.Layout.{Rooms, empty, padded, putAll, renameRow, putRename, rooms, memory, layout}
+use Rattle.tables.specs.Store.{store}
+use Rattle.tables.specs.Padded.{store-padded, padded-unput}
+use Rattle.tables.specs.Flat.{flat, Eights, flat-snoc, length-flat, store-row}
+use Rattle.reader.specs.Read.{lent}
+use Rattle.standing.specs.RoomLaws.{put-renames-last, length-rename-row}
+use Rattle.standing.specs.JudgedLaws.{legal-short}
+
+-- WHAT AN ACCEPTED RENAME KEEPS
+pub record Passes (d : Design) (rs : List Rename) (r : Rename) : Type 0 where
+  pub is : renameCall d rs r ≡ accepted (rs ++ r ∷ [])
+  pub short : length (r .newName) ≤ 255
+  pub few : length rs < 64
+  pub room : roomUsed d rs + length (r .newName) ≤ 16384
+
+-- no test holds where the number is 0
+record NoTest {A : Type 0} (q : A) (v : Verdict A) (a e : Bool) : Type 0 where
+  is : v ≡ accepted q
+  first : a ≡ false
+  last : e ≡ false
+
+none-holds : (q : List Rename) (a b c d e : Bool) → let v = verdict q (lowest ((4, a) ∷ (6, b) ∷ (8, c) ∷ (9, d) ∷ (11, e) ∷ [])) in numberOf v ≡ 0 → NoTest q v a e
+unfolding numberOf verdict lowest
+none-holds q true b c d e h = absurd (omega arith)
+none-holds q false true c d e h = absurd (omega arith)
+none-holds q false false true d e h = absurd (omega arith)
+none-holds q false false false true e h = absurd (omega arith)
+none-holds q false false false false true h = absurd (omega arith)
+none-holds q false false false false false h = record { is = refl; first = refl; last = refl }
+
+not-false : (a : Bool) → not a ≡ false → a ≡ true
+not-false true e = refl
+not-false false e = sym e
+
+or-left : (a b : Bool) → a || b ≡ false → a ≡ false
+or-left true b e = e
+or-left false b e = refl
+
+or-right : (a b : Bool) → a || b ≡ false → b ≡ false
+or-right true b e = cc
+or-right false b e = e
+
+pub passes : (d : Design) (rs : List Rename) (r : Rename) → numberOf (renameCall d rs r) ≡ 0 → Passes d rs r
+unfolding renameCall
+passes d rs r h =
+    let full : Bool = leb 64 (length rs) in
+    let over : Bool = ltb 16384 (roomUsed d rs + length (r .newName)) in
+    let n = none-holds (rs ++ r ∷ []) (not (legal (r .newName))) _ _ _ (full || over) h in
+    record {
+      is = n .is;
+      short = legal-short (r .newName) (not-false (legal (r .newName)) (n .first));
+      few = leb-false 64 (length rs) (or-left full over (n .last));
+      room = ltb-false 16384 (roomUsed d rs + length (r .newName)) (or-right full over (n .last));
+    }
+
+pub refused-by : (v : Verdict (List Rename)) (n : ℕ) → numberOf v ≡ n → (n ≡ 0 → ⊥) → v ≡ refused n
+unfolding numberOf
+refused-by (accepted rs) n e h = absurd (h (sym e))
+refused-by (refused k) n e h = ap refused e
+
+-- the last of the list is taken off
+drop-last : {A : Type 0} (xs : List A) (x : A) → dropLast (xs ++ x ∷ []) ≡ xs
+drop-last [] x = refl
+drop-last (y ∷ []) x = refl
+drop-last (y ∷ z ∷ xs) x = ap (λ (l : List _). y ∷ l) (drop-last (z ∷ xs) x)
+
+pub undo-last : (rs : List Rename) (r : Rename) → undoCall (rs ++ r ∷ []) ≡ accepted rs
+unfolding undoCall
+undo-last [] r = refl
+undo-last (q ∷ rs) r = ap accepted (drop-last (q ∷ rs) r)
+
+-- THE LAYOUT
+lent-eq :
+    {n n′ s b w t t′ : List ℕ} {k k′ m m′ : ℕ} → n ≡ n′ → t ≡ t′ → k ≡ k′ → m ≡ m′ →
+    lent n s b w t k m ≡ lent n′ s b w t′ k′ m′
+lent-eq en et ek em = rw (en, et, ek, em)
+
+-- zeros over the last part of what is used
+unput : (n : ℕ) (xs ys l : List ℕ) (at k : ℕ) → l ≡ padded n (xs ++ ys) → at ≡ length xs → k ≡ length ys → length xs + length ys ≤ n → store l at (replicate k 0) ≡ padded n xs
+unput n xs ys l at k el ea ek h = rw (el, ea, ek) (padded-unput n xs ys h)
+
+module _ (ss : List Statement) (rs : List Rename) (r : Rename) where
+  pub rooms-last : rooms ss (rs ++ r ∷ []) ≡ putRename (rooms ss rs) r
+  unfolding rooms
+  rooms-last = put-renames-last (putAll empty ss) rs r
+
+  length-more : length (rs ++ r ∷ []) ≡ length rs + 1
+  length-more = length-append rs (r ∷ [])
+
+  module _ (h : Eights (rooms ss rs .rows)) (room : length (rooms ss rs .names) + length (r .newName) ≤ 16384) (few : 8 * length (rooms ss rs .rows) + 8 ≤ 8 * 4769) where
+    pub layout-rename :
+        let m = layout ss rs in
+        let R = rooms ss rs in
+        lent (store (m .names) (length (R .names)) (r .newName)) (m .strings) (m .bits) (m .wires) (store (m .rows) (8 * length (R .rows)) (renameRow (length (R .names)) r)) (length rs + 1) (length (R .names) + length (r .newName))
+        ≡ layout ss (rs ++ r ∷ [])
+    unfolding layout memory putRename
+    layout-rename =
+        let R : Rooms = rooms ss rs in
+        rw rooms-last
+        (lent-eq (store-padded 16384 (R .names) (r .newName) _ _ refl refl room)
+        (store-row (8 * 4769) (R .rows) (renameRow (length (R .names)) r) _ _ refl refl h (length-rename-row (length (R .names)) r) few)
+        (sym length-more)
+        (sym (length-append (R .names) (r .newName))))
+
+    pub layout-undo :
+        let m = layout ss (rs ++ r ∷ []) in
+        let R = rooms ss rs in
+        lent (store (m .names) (length (R .names)) (replicate (length (r .newName)) 0)) (m .strings) (m .bits) (m .wires) (store (m .rows) (8 * length (R .rows)) (replicate 8 0)) (length rs) (length (R .names))
+        ≡ layout ss rs
+    unfolding layout memory putRename
+    layout-undo =
+        let R : Rooms = rooms ss rs in
+        let x : List ℕ = renameRow (length (R .names)) r in
+        let e : length (flat (R .rows)) ≡ 8 * length (R .rows) = length-flat (R .rows) h in
+        let k : length x ≡ 8 = length-rename-row (length (R .names)) r in
+        rw rooms-last
+        (lent-eq (padded-unput 16384 (R .names) (r .newName) room)
+        (unput (8 * 4769) (flat (R .rows)) x (padded (8 * 4769) (flat (R .rows ++ x ∷ []))) (8 * length (R .rows)) 8 (ap (padded (8 * 4769)) (flat-snoc (R .rows) x)) (sym e) (sym k) (omega arith))
+        refl refl)

@@ -1,0 +1,368 @@
+// The calls on design memory: rename, undo, look-up and the index of a bit. They take the lent tables, and the counts of the session card by value, in any
+// state.
+use designs::module_wires;
+use held::Held;
+use held::judge_memory;
+use line_text::Module;
+use line_text::name_now;
+use numbers::kinds::ModuleNumber;
+use numbers::kinds::WireNumber;
+use past::place::Place;
+use reader::Left;
+use reader::right_lengths;
+use scanner::names::same_bytes;
+use standing::judge_rename;
+use tables::Row;
+use tables::put_bytes;
+use tables::put_row;
+use tables::word;
+use tables::zero_bytes;
+use wires::wire_index;
+ghost use mathlib.Core.Path.{_≡_};
+ghost use Prim.Native.Nat.{_+_, _-_, _*_, _≤_};
+ghost use lib.ListN.{length, replicate};
+ghost use lib.IntN.{pos};
+ghost use Rattle.rules.specs.Session.{Call, indexIn};
+ghost use Rattle.rules.specs.Layout.{renameRow};
+ghost use Rattle.numbers.specs.Signed.{verdictOf};
+ghost use Rattle.tables.specs.Store.{store};
+ghost use Rattle.wires.specs.Rows.{column, wireOf};
+ghost use Rattle.reader.specs.Read.{result, lent};
+ghost use Rattle.session.specs.Called.{CalledAs, answer, LookedUp, IndexGiven};
+ghost use Rattle.session.specs.Steps.{Holding, OpenedIs, moduleAt, searchNow};
+
+// Number 0 is none.
+pub struct Found {
+    pub number: u32,
+    pub wire: WireNumber,
+}
+
+pub struct Indexed {
+    pub number: u32,
+    pub index: i64,
+}
+
+// Memory that holds a design, whose statements end at a place; or the refusal's number.
+enum Opened {
+    Open(Place),
+    Refused(u32),
+}
+
+fn open_memory(
+    names: &[u8],
+    strings: &[u8],
+    bits: &[u32],
+    wires: &[u32],
+    rows: &[u32],
+    renames: u32,
+    room: u32,
+) -> Opened
+    ensures { λ r. ⌜ OpenedIs (lent (now (names .entry)) (now (strings .entry)) (now (bits .entry)) (now (wires .entry)) (now (rows .entry)) renames room) r ⌝ }
+{
+    if !right_lengths(
+        names.len(),
+        strings.len(),
+        bits.len(),
+        wires.len(),
+        rows.len(),
+    ) {
+        return Opened::Refused(1);
+    }
+    match judge_memory(names, strings, bits, wires, rows, renames, room) {
+        Held::Holding { place, sums: _ } => Opened::Open(place),
+        Held::Damaged => Opened::Refused(3),
+    }
+}
+
+// The new name behind the names, and the rename's row.
+fn put_rename(
+    names: &mut [u8],
+    rows: &mut [u32],
+    row: u32,
+    room: u32,
+    m: ModuleNumber,
+    w: WireNumber,
+    new: &[u8],
+)
+    requires { ⌜ (room + length (now new) ≤ length (now names)) × (8 * row + 8 ≤ length (now rows)) × (length (now new) ≤ 255) ⌝ }
+    ensures { λ _. ⌜ now (names .exit) ≡ store (now (names .entry)) room (now (new .entry)) ⌝ }
+    ensures { λ _. ⌜ now (rows .exit) ≡ store (now (rows .entry)) (8 * row) (renameRow room (record { moduleNumber = m .0; wireNumber = w .0; newName = now (new .entry) })) ⌝ }
+{
+    put_bytes(names, room as usize, new);
+    put_row(
+        rows,
+        8 * row as usize,
+        Row {
+            kind: 13,
+            a: room,
+            b: new.len() as u32,
+            c: m.0,
+            d: w.0,
+            e: 0,
+            f: 0,
+            g: 0,
+        },
+    );
+}
+
+fn rename_open(
+    names: &mut [u8],
+    strings: &[u8],
+    bits: &[u32],
+    wires: &[u32],
+    rows: &mut [u32],
+    place: Place,
+    renames: u32,
+    room: u32,
+    m: ModuleNumber,
+    w: WireNumber,
+    new: &[u8],
+) -> Left
+    requires { ⌜ Holding (lent (now names) (now strings) (now bits) (now wires) (now rows) renames room) place ⌝ }
+    ensures { λ r. ⌜ CalledAs (lent (now (names .entry)) (now (strings .entry)) (now (bits .entry)) (now (wires .entry)) (now (rows .entry)) renames room) (Call.rename (record { moduleNumber = m .0; wireNumber = w .0; newName = now (new .entry) })) (result (r .number) (r .place) (lent (now (names .exit)) (now (strings .entry)) (now (bits .entry)) (now (wires .entry)) (now (rows .exit)) (r .renames) (r .room))) ⌝ }
+{
+    let number = judge_rename(names, wires, rows, place, renames, room, m, w, new);
+    if number != 0 {
+        return Left {
+            number,
+            place: 0,
+            renames,
+            room,
+        };
+    }
+    put_rename(names, rows, place.rows + renames, room, m, w, new);
+    Left {
+        number: 0,
+        place: 0,
+        renames: renames + 1,
+        room: room + new.len() as u32,
+    }
+}
+
+pub fn rename(
+    names: &mut [u8],
+    strings: &[u8],
+    bits: &[u32],
+    wires: &[u32],
+    rows: &mut [u32],
+    renames: u32,
+    room: u32,
+    m: ModuleNumber,
+    w: WireNumber,
+    new: &[u8],
+) -> Left
+    ensures { λ r. ⌜ CalledAs (lent (now (names .entry)) (now (strings .entry)) (now (bits .entry)) (now (wires .entry)) (now (rows .entry)) renames room) (Call.rename (record { moduleNumber = m .0; wireNumber = w .0; newName = now (new .entry) })) (result (r .number) (r .place) (lent (now (names .exit)) (now (strings .entry)) (now (bits .entry)) (now (wires .entry)) (now (rows .exit)) (r .renames) (r .room))) ⌝ }
+{
+    match open_memory(names, strings, bits, wires, rows, renames, room) {
+        Opened::Open(place) => rename_open(
+            names,
+            strings,
+            bits,
+            wires,
+            rows,
+            place,
+            renames,
+            room,
+            m,
+            w,
+            new,
+        ),
+        Opened::Refused(number) => Left {
+            number,
+            place: 0,
+            renames,
+            room,
+        },
+    }
+}
+
+// Zeros over a rename's row and over its name, the last one; where the name started.
+fn take_rename(names: &mut [u8], rows: &mut [u32], row: u32, room: u32) -> u32
+    requires { ⌜ (column (now rows) row 1 ≤ room) × (room ≤ length (now names)) × (8 * row + 8 ≤ length (now rows)) ⌝ }
+    ensures { λ r. ⌜ r ≡ column (now (rows .entry)) row 1 ⌝ }
+    ensures { λ r. ⌜ now (names .exit) ≡ store (now (names .entry)) (column (now (rows .entry)) row 1) (replicate (room - column (now (rows .entry)) row 1) 0) ⌝ }
+    ensures { λ r. ⌜ now (rows .exit) ≡ store (now (rows .entry)) (8 * row) (replicate 8 0) ⌝ }
+{
+    let at = 8 * row as usize;
+    let start = word(rows, at + 1);
+    let from = start as usize;
+    let to = room as usize;
+    zero_bytes(names, from, to);
+    put_row(
+        rows,
+        at,
+        Row {
+            kind: 0,
+            a: 0,
+            b: 0,
+            c: 0,
+            d: 0,
+            e: 0,
+            f: 0,
+            g: 0,
+        },
+    );
+    start
+}
+
+fn undo_open(
+    names: &mut [u8],
+    strings: &[u8],
+    bits: &[u32],
+    wires: &[u32],
+    rows: &mut [u32],
+    place: Place,
+    renames: u32,
+    room: u32,
+) -> Left
+    requires { ⌜ Holding (lent (now names) (now strings) (now bits) (now wires) (now rows) renames room) place ⌝ }
+    ensures { λ r. ⌜ CalledAs (lent (now (names .entry)) (now (strings .entry)) (now (bits .entry)) (now (wires .entry)) (now (rows .entry)) renames room) Call.undo (result (r .number) (r .place) (lent (now (names .exit)) (now (strings .entry)) (now (bits .entry)) (now (wires .entry)) (now (rows .exit)) (r .renames) (r .room))) ⌝ }
+{
+    if renames == 0 {
+        return Left {
+            number: 13,
+            place: 0,
+            renames,
+            room,
+        };
+    }
+    let left = renames - 1;
+    let start = take_rename(names, rows, place.rows + left, room);
+    Left {
+        number: 0,
+        place: 0,
+        renames: left,
+        room: start,
+    }
+}
+
+pub fn undo(
+    names: &mut [u8],
+    strings: &[u8],
+    bits: &[u32],
+    wires: &[u32],
+    rows: &mut [u32],
+    renames: u32,
+    room: u32,
+) -> Left
+    ensures { λ r. ⌜ CalledAs (lent (now (names .entry)) (now (strings .entry)) (now (bits .entry)) (now (wires .entry)) (now (rows .entry)) renames room) Call.undo (result (r .number) (r .place) (lent (now (names .exit)) (now (strings .entry)) (now (bits .entry)) (now (wires .entry)) (now (rows .exit)) (r .renames) (r .room))) ⌝ }
+{
+    match open_memory(names, strings, bits, wires, rows, renames, room) {
+        Opened::Open(place) => {
+            undo_open(names, strings, bits, wires, rows, place, renames, room)
+        }
+        Opened::Refused(number) => Left {
+            number,
+            place: 0,
+            renames,
+            room,
+        },
+    }
+}
+
+// A module's wires and the renames that stand.
+fn module_of(wires: &[u32], place: Place, renames: u32, m: ModuleNumber) -> Module
+    ensures { λ r. ⌜ r ≡ moduleAt (now (wires .entry)) place renames (m .0) ⌝ }
+{
+    let own = module_wires(wires, place.wires, m);
+    Module {
+        number: m,
+        first: own.first,
+        wires: own.count,
+        from: place.rows,
+        renames,
+    }
+}
+
+// The first wire of a module that has this name now.
+fn find(names: &[u8], wires: &[u32], rows: &[u32], m: Module, name: &[u8]) -> Found
+    ensures { λ r. ⌜ (r .number, r .wire .0) ≡ answer 0 (searchNow (now (names .entry)) (now (wires .entry)) (now (rows .entry)) m (now (name .entry)) (m .wires) 0) ⌝ }
+{
+    let first = m.first as usize;
+    let mut k = 0;
+    while k < m.wires {
+        let own = name_now(names, wires, rows, m, WireNumber(k), first + k as usize);
+        if same_bytes(own, name) {
+            return Found {
+                number: 0,
+                wire: WireNumber(k),
+            };
+        }
+        k = k + 1;
+    }
+    Found {
+        number: 8,
+        wire: WireNumber(0),
+    }
+}
+
+pub fn look_up(
+    names: &[u8],
+    strings: &[u8],
+    bits: &[u32],
+    wires: &[u32],
+    rows: &[u32],
+    renames: u32,
+    room: u32,
+    m: ModuleNumber,
+    name: &[u8],
+) -> Found
+    ensures { λ r. ⌜ LookedUp (lent (now (names .entry)) (now (strings .entry)) (now (bits .entry)) (now (wires .entry)) (now (rows .entry)) renames room) (m .0) (now (name .entry)) r ⌝ }
+{
+    match open_memory(names, strings, bits, wires, rows, renames, room) {
+        Opened::Open(place) => find(
+            names,
+            wires,
+            rows,
+            module_of(wires, place, renames, m),
+            name,
+        ),
+        Opened::Refused(number) => Found {
+            number,
+            wire: WireNumber(0),
+        },
+    }
+}
+
+// The index of a bit of the wire in a row.
+fn row_index(wires: &[u32], row: u32, bit: u32) -> Indexed
+    ensures { λ r. ⌜ (r .number, r .index) ≡ answer (pos 0) (indexIn (wireOf (now (wires .entry)) row) bit) ⌝ }
+{
+    match wire_index(wires, row, bit) {
+        numbers::signed::Index::At(index) => Indexed { number: 0, index },
+        numbers::signed::Index::Past => Indexed {
+            number: 10,
+            index: 0,
+        },
+    }
+}
+
+pub fn index(
+    names: &[u8],
+    strings: &[u8],
+    bits: &[u32],
+    wires: &[u32],
+    rows: &[u32],
+    renames: u32,
+    room: u32,
+    m: ModuleNumber,
+    w: WireNumber,
+    bit: u32,
+) -> Indexed
+    ensures { λ r. ⌜ IndexGiven (lent (now (names .entry)) (now (strings .entry)) (now (bits .entry)) (now (wires .entry)) (now (rows .entry)) renames room) (m .0) (w .0) bit r ⌝ }
+{
+    match open_memory(names, strings, bits, wires, rows, renames, room) {
+        Opened::Open(place) => {
+            let own = module_wires(wires, place.wires, m);
+            let number = w.0;
+            if own.count <= number {
+                return Indexed {
+                    number: 8,
+                    index: 0,
+                };
+            }
+            row_index(wires, own.first + number, bit)
+        }
+        Opened::Refused(number) => Indexed { number, index: 0 },
+    }
+}
