@@ -95,6 +95,10 @@ meaning-fits ws end-stmt e = refl
 not-false : (b : Bool) → not b ≡ false → b ≡ true
 not-false b e = sym (Bool·not-not b) ∙ ap not e
 
+pub or-false-left : (a b : Bool) → a || b ≡ false → a ≡ false
+or-false-left true b e = e
+or-false-left false b e = refl
+
 pub or-false-right : (a b : Bool) → a || b ≡ false → b ≡ false
 or-false-right true b e = cc
 or-false-right false b e = e

@@ -3,7 +3,7 @@
 -- Assumes nothing.
 use Prim.Native.Nat.{_-_, _≤_}
 use mathlib.Core.Path.{_≡_, refl, sym, ap, _∙_}
-use mathlib.Core.List.{List, [], _∷_}
+use mathlib.Core.List.{List, [], _∷_, _++_}
 use mathlib.Core.Bool.{Bool, true, false, not, _&&_, _||_, Bool·not-not}
 use lib.Dec.{leb, eqb}
 use lib.IntN.{pos, _+ℤ_}
@@ -21,10 +21,15 @@ use Rattle.admitted.specs.Admitted.{stands, fineConstant, fineWire, fine
 use Rattle.admitted.specs.CountLaws.{Standing, none-stand, one-stands, rows-few}
 
 -- a test that follows from another, for all of a list
-all-implied : {A : Type 0} (f g : A → Bool) → ((x : A) → f x ≡ true → g x ≡ true) → (xs : List A) → all f xs ≡ true → all g xs ≡ true
+pub all-implied : {A : Type 0} (f g : A → Bool) → ((x : A) → f x ≡ true → g x ≡ true) → (xs : List A) → all f xs ≡ true → all g xs ≡ true
 unfolding all
 all-implied f g h [] e = refl
 all-implied f g h (x ∷ xs) e = rw (h x (and-true-left (f x) _ e)) (all-implied f g h xs (and-true-right (f x) _ e))
+
+pub all-append : {A : Type 0} (f : A → Bool) (xs ys : List A) → all f xs ≡ true → all f ys ≡ true → all f (xs ++ ys) ≡ true
+unfolding all
+all-append f [] ys h k = k
+all-append f (x ∷ xs) ys h k = rw (and-true-left (f x) _ h) (all-append f xs ys (and-true-right (f x) _ h) k)
 
 -- the parts, one by one
 pub record FineParts (ws : Wires) (s : Statement) : Type 0 where

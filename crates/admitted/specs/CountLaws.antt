@@ -83,7 +83,7 @@ record Counted (ss : Past) : Type 0 where
   firsts : number anAutoidx ss + cond (context ss .first) 1 0 ≤ 1
   ends : number anEnd ss + scopeCode (scope ss) ≡ number aModule ss + number aCell ss
 
-context-scope : (ss : Past) → context ss .scope ≡ scope ss
+pub context-scope : (ss : Past) → context ss .scope ≡ scope ss
 unfolding context scope
 context-scope [] = refl
 context-scope (s ∷ ss) = refl

@@ -116,7 +116,7 @@ verdict-is : {A : Type 0} (a b : A) → verdict a (lowest []) ≡ Verdict.accept
 unfolding lowest verdict
 verdict-is a b e = cc
 
-next-test :
+pub next-test :
     {A : Type 0} (a b : A) (n : ℕ) (t : Bool) (ts : List (ℕ × Bool)) → verdict a (lowest ((n, t) ∷ ts)) ≡ Verdict.accepted b →
     (t ≡ false) × (verdict a (lowest ts) ≡ Verdict.accepted b)
 unfolding lowest verdict

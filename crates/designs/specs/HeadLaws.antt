@@ -13,7 +13,7 @@ use Rattle.rules.specs.Judgement.{Past, outer, scope, context, among}
 use Rattle.scanner.specs.Laws.{by-test}
 use Rattle.past.specs.Place.{scopeCode}
 use Rattle.admitted.specs.Admitted.{kinds, stands}
-use Rattle.admitted.specs.CountLaws.{Standing, none-stand, one-stands}
+use Rattle.admitted.specs.CountLaws.{Standing, none-stand, one-stands, context-scope}
 use Rattle.designs.specs.Modules.{moduleCount, Headed, none-headed, one-headed}
 use Rattle.designs.specs.PastLaws.{module-counts, count-step}
 
@@ -50,11 +50,6 @@ in-module top false attributed s (neither q) e h = cc
 in-module inCell first attributed s (a-wire w n) e h = cc
 in-module inCell first attributed s (a-cell t n) e h = cc
 in-module inCell first attributed s (neither q) e h = cc
-
-context-scope : (ss : Past) → context ss .scope ≡ scope ss
-unfolding context scope
-context-scope [] = refl
-context-scope (s ∷ ss) = refl
 
 stands-inside : (ss : Past) (s : Statement) → stands ss s ≡ true → is aWire s || is aCell s ≡ true → scopeCode (scope ss) ≡ 1
 unfolding stands

@@ -19,12 +19,13 @@ use Rattle.rules.specs.Reading.{shaped}
 use Rattle.rules.specs.Text.{sig, literalOf, wireOptions, memoryOptions, written, shapeTokens}
 use Rattle.admitted.specs.Admitted.{kinds, stands, fineConstant, fineWire, fineMemory, fineSignal, sameLength, admits, admitted}
 use Rattle.scanner.specs.Laws.{and-true-left, and-true-right}
+use Rattle.admitted.specs.AdmitLaws.{all-append, all-implied, FineParts, fine-parts, Admits, admits-all}
 use Rattle.meaning.specs.Shapes.{shape-written}
 use Rattle.meaning.specs.Wires.{Sound}
 use Rattle.meaning.specs.Bits.{fill-all}
-use Rattle.meaning.specs.Parts.{goodPart, all-append, all-weaker, all-map, sig-means}
+use Rattle.meaning.specs.Parts.{goodPart, all-map, sig-means}
 use Rattle.meaning.specs.Settings.{wire-back, wire-fine, memory-back, memory-fine}
-use Rattle.meaning.specs.Kept.{Fine, Admits, admits-is, admitted-sound}
+use Rattle.meaning.specs.Kept.{admitted-sound}
 
 -- ---- what it means
 
@@ -44,7 +45,7 @@ module _ (ws : Wires) (sound : Sound ws) where
   signal-back : (g : Signal) → fineSignal ws g ≡ true → bits ws (sig ws g) ≡ g
   signal-back g h = sig-means ws sound g h .same-bits
 
-  pub meaning-written : (s : Statement) → Fine ws s → meaning ws (written ws s) ≡ s
+  pub meaning-written : (s : Statement) → FineParts ws s → meaning ws (written ws s) ≡ s
   unfolding meaning written statementsOpen all
   meaning-written (autoidx-stmt i) f = refl
   meaning-written (attr-stmt n c) f = rw (literal-back c)
@@ -152,13 +153,13 @@ module _ (ws : Wires) (sound : Sound ws) where
   unfolding goodPart
   part-narrow x h = and-true-right (goodNumbers x && declaredWire ws x && goodSlice ws x) _ h
 
-  module _ (s : Statement) (f : Fine ws s) where
+  module _ (s : Statement) (f : FineParts ws s) where
     all-good : all (goodPart ws) (allParts (written ws s)) ≡ true
     unfolding allParts asWritten
     all-good = rw (contents-written ws s) (parts-good (contents s .signals) (f .signals))
 
     each-good : (g : Sig → Bool) → ((x : Sig) → goodPart ws x ≡ true → g x ≡ true) → all g (allParts (written ws s)) ≡ true
-    each-good g e = all-weaker (goodPart ws) g (allParts (written ws s)) e all-good
+    each-good g e = all-implied (goodPart ws) g e (allParts (written ws s)) all-good
 
     pub numbers-kept : breaksNumber ws (written ws s) ≡ false
     unfolding breaksNumber asWritten
@@ -178,7 +179,7 @@ module _ (ws : Wires) (sound : Sound ws) where
 
     pub widths-kept : breaksWidth ws (written ws s) ≡ false
     unfolding breaksWidth asWritten
-    widths-kept = rw (each-good (goodSlice ws) part-slice, contents-written ws s, widths-equal (contents s .signals) (f .signals) (f .lengths))
+    widths-kept = rw (each-good (goodSlice ws) part-slice, contents-written ws s, widths-equal (contents s .signals) (f .signals) (f .same-length))
 
     pub parts-narrow : partTooWide ws (written ws s) ≡ false
     unfolding partTooWide
@@ -197,9 +198,10 @@ unfolding judge judgeIn lowest verdict
 judge-written ss s h k =
     let ws : Wires = wires ss in
     let sound : Sound ws = admitted-sound ss h in
-    let a : Admits ss s = admits-is ss s k in
-    rw (no-process ss s (a .placed), numbers-kept ws sound s (a .parts), wires-there ws sound s (a .parts), takes-written ss ws s, a .new-name, widths-kept ws sound s (a .parts), parts-narrow ws sound s (a .parts), meaning-written ws sound s (a .parts), a .sized)
+    let a : Admits ss s = admits-all ss s k in
+    let f : FineParts ws s = fine-parts ws s (a .parts) in
+    rw (no-process ss s (a .standing), numbers-kept ws sound s f, wires-there ws sound s f, takes-written ss ws s, a .new-name, widths-kept ws sound s f, parts-narrow ws sound s f, meaning-written ws sound s f, a .room)
 
 pub shaped-written : (ss : Past) (s : Statement) → admitted ss ≡ true → admits ss s ≡ true → shaped ss (shape (context ss) (shapeTokens (written (wires ss) s))) ≡ Verdict.accepted s
 unfolding shaped stands
-shaped-written ss s h k = rw (shape-written (context ss) (wires ss) s (admits-is ss s k .placed)) (judge-written ss s h k)
+shaped-written ss s h k = rw (shape-written (context ss) (wires ss) s (admits-all ss s k .standing)) (judge-written ss s h k)

@@ -19,6 +19,7 @@ use Rattle.rules.specs.Signals.{Wires, literalWidth, wireBits, inside, span, wi
 use Rattle.rules.specs.Text.{Run, digits, runs, cut, runSig, runsSig, sig}
 use Rattle.admitted.specs.Admitted.{fineSignal}
 use Rattle.scanner.specs.Laws.{by-test, by-cond, and-true-left, and-true-right}
+use Rattle.admitted.specs.AdmitLaws.{all-append}
 use Rattle.meaning.specs.Wires.{Sound, Located, located, at-past}
 use Rattle.meaning.specs.Bits.{runBits, allBits, runs-bits, widthAt, Inside, digits-in, span-in, AllInside, no-more, also, runs-inside, fill-all, length-wire, part-wire, lower-is}
 
@@ -35,16 +36,6 @@ pub record Means (ws : Wires) (s : Sig) (bs : Signal) : Type 0 where
 -- ---- tests of lists
 
 module _ {A : Type 0} (f : A → Bool) where
-  pub all-append : (xs ys : List A) → all f xs ≡ true → all f ys ≡ true → all f (xs ++ ys) ≡ true
-  unfolding all
-  all-append [] ys h k = k
-  all-append (x ∷ xs) ys h k = rw (and-true-left (f x) _ h, all-append xs ys (and-true-right (f x) _ h) k)
-
-  pub all-weaker : (g : A → Bool) (xs : List A) → ((x : A) → f x ≡ true → g x ≡ true) → all f xs ≡ true → all g xs ≡ true
-  unfolding all
-  all-weaker g [] e h = refl
-  all-weaker g (x ∷ xs) e h = rw (e x (and-true-left (f x) _ h), all-weaker g xs e (and-true-right (f x) _ h))
-
   pub all-map : {B : Type 0} (k : A → B) (g : B → Bool) (xs : List A) → ((x : A) → f x ≡ true → g (k x) ≡ true) → all f xs ≡ true → all g (map k xs) ≡ true
   unfolding all
   all-map k g [] e h = refl

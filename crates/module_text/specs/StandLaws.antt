@@ -13,7 +13,7 @@ use Rattle.rules.specs.Signals.{Wires}
 use Rattle.rules.specs.Judgement.{Past, until, only, among, outer, scope, context}
 use Rattle.scanner.specs.Laws.{by-test, by-cond, and-true-left, and-true-right}
 use Rattle.admitted.specs.Admitted.{kinds, stands}
-use Rattle.admitted.specs.CountLaws.{Standing, one-stands, among-test}
+use Rattle.admitted.specs.CountLaws.{Standing, one-stands, among-test, context-scope}
 use Rattle.module_text.specs.Blocks.{lineOf}
 use Rattle.module_text.specs.BlockLaws.{scopeAfter}
 use Rattle.module_text.specs.Passes.{linesOf, kindLines, firstLine, objectLines, cellBlock, printCell, printToEnd}
@@ -30,11 +30,6 @@ standing-past (s ∷ more) ss h = before (standing-past more (s ∷ ss) h)
   where
     before : Standing (s ∷ ss) → Standing ss
     before (one-stands e h) = h
-
-context-scope : (ss : Past) → context ss .scope ≡ scope ss
-unfolding context scope
-context-scope [] = refl
-context-scope (s ∷ ss) = refl
 
 last-stands : {s : Statement} {ss : Past} → Standing (s ∷ ss) → stands ss s ≡ true
 last-stands (one-stands e h) = e

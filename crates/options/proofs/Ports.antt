@@ -16,7 +16,7 @@ use Rattle.rules.specs.Layout.{directionCode}
 use Rattle.options.specs.Limits.{Ports, portsGood, portCode}
 use Rattle.options.proofs.Each.{never}
 
-code-range : (d : Direction) → (4 ≤ directionCode d) × (directionCode d ≤ 12)
+pub code-range : (d : Direction) → (4 ≤ directionCode d) × (directionCode d ≤ 12)
 unfolding directionCode
 code-range input = (omega arith, omega arith)
 code-range output = (omega arith, omega arith)

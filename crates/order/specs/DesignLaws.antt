@@ -12,6 +12,7 @@ use Rattle.rules.specs.Bytes.{all}
 use Rattle.rules.specs.Judgement.{until}
 use Rattle.rules.specs.Design.{Setting, Object, object, Cell, Module, Design, Item, settingIn, items, blocks, objectsIn, parameterIn, portIn, pair, connectionIn, cellParameterIn, each, cellOf, moduleOf, design, flatten, objects, cellLines, moduleLines, designOpen}
 use Rattle.scanner.specs.Laws.{and-true-left, and-true-right}
+use Rattle.admitted.specs.AdmitLaws.{all-append}
 use Rattle.order.specs.Nesting.{CellEntry, parameter-entry, port-entry, Entry, param-entry, wire-entry, memory-entry, cell-entry, connection-entry, File, settings, lineIn, linesOf, linesOfModule, linesOfFile, parameterOf, portOf, parametersOf, wiresOf, memoriesOf, cellsOf, connectionsOf, bodyOf, moduleIn, designOf, cellEntries, entries, fileOf, nestingOpen}
 
 -- lists
@@ -46,11 +47,6 @@ pub flatMap-one : {A B : Type 0} (f : A → List B) (g : A → B) → ((x : A) �
 unfolding flatMap
 flatMap-one f g h [] = refl
 flatMap-one f g h (x ∷ xs) = rw (h x) (ap (λ (l : List _). g x ∷ l) (flatMap-one f g h xs))
-
-pub all-append : {A : Type 0} (f : A → Bool) (xs ys : List A) → all f xs ≡ true → all f ys ≡ true → all f (xs ++ ys) ≡ true
-unfolding all
-all-append f [] ys h k = k
-all-append f (x ∷ xs) ys h k = rw (and-true-left (f x) _ h) (all-append f xs ys (and-true-right (f x) _ h) k)
 
 pub all-flatMap : {A B : Type 0} (f : B → Bool) (g : A → List B) → ((x : A) → all f (g x) ≡ true) → (xs : List A) → all f (flatMap g xs) ≡ true
 unfolding all flatMap

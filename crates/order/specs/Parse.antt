@@ -15,10 +15,10 @@ use Rattle.rules.specs.Reading.{isTop}
 use Rattle.rules.specs.Design.{Setting, object}
 use Rattle.admitted.specs.Admitted.{kinds, stands, closes}
 use Rattle.scanner.specs.Laws.{and-true-left, and-true-right}
+use Rattle.admitted.specs.CountLaws.{context-scope}
 use Rattle.order.specs.Nesting.{CellEntry, parameter-entry, port-entry, Entry, param-entry, wire-entry, memory-entry, cell-entry, connection-entry, File, settings, lineIn, linesOf, linesOfFile, nestingOpen}
 use Rattle.order.specs.DesignLaws.{flatMap-append}
 use Rattle.order.specs.Tally.{Through}
-use Rattle.order.specs.Places.{context-scope}
 
 -- What is read: whole modules; and if a module or a cell is open, its attributes, its name and its entries so far. Last the attributes that
 -- wait for an object

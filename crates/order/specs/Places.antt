@@ -15,15 +15,11 @@ use Rattle.rules.specs.Judgement.{Past, outer, scope, context, among}
 use Rattle.rules.specs.Reading.{isTop}
 use Rattle.rules.specs.Design.{Setting, Object}
 use Rattle.admitted.specs.Admitted.{kinds, stands, closes}
+use Rattle.admitted.specs.CountLaws.{context-scope}
 use Rattle.order.specs.Nesting.{CellEntry, parameter-entry, port-entry, Entry, param-entry, wire-entry, memory-entry, cell-entry, connection-entry, File, settings, lineIn, linesOf, linesOfModule, linesOfFile}
 use Rattle.order.specs.Fine.{Each}
 use Rattle.order.specs.Tally.{Through}
 use Rattle.order.specs.Walks.{behind-each}
-
-pub context-scope : (p : Past) → context p .scope ≡ scope p
-unfolding context scope
-context-scope [] = refl
-context-scope (s ∷ p) = refl
 
 -- statements that stand, and the next one's place: its scope, and that no attribute waits
 pub record At (z : Scope) (p : Past) : Type 0 where

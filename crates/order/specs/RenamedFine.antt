@@ -13,7 +13,7 @@ use lib.ListN.{length, getElem?}
 use Rattle.rules.specs.Bytes.{same, any, all, legal}
 use Rattle.rules.specs.Tokens.{Name}
 use Rattle.rules.specs.Statements.{Signal, Bit, digit, bit, Wire, Statement, Kind, aModule, aParameter, aWire, aMemory, aCell, aCellParameter, aCellConnection, aConnection, anAttribute, autoidx-stmt, module-stmt, wire-stmt, end-stmt, statementsOpen}
-use Rattle.rules.specs.Judgement.{sum, among, count, signalSize, valueSize, stringSize, nameSize, exceedsSize, lowest, Verdict, accepted, verdict, portNumbers}
+use Rattle.rules.specs.Judgement.{sum, among, count, signalSize, valueSize, stringSize, nameSize, exceedsSize, Verdict, accepted, portNumbers}
 use Rattle.rules.specs.Design.{Object, object, Module, Design, flatten}
 use Rattle.rules.specs.Session.{Rename, change, renameWire, renamed, now, roomUsed, names, taken, renameCall}
 use Rattle.admitted.specs.Admitted.{fineBit, fineSignal}
@@ -21,10 +21,12 @@ use Rattle.scanner.specs.Laws.{by-test, same-eq}
 use Rattle.past.specs.Sizes.{sizesBy, sumsOf}
 use Rattle.past.proofs.SizeLaws.{within-past, limits-within, exceeds-sums}
 use Rattle.admitted.specs.Holds.{Allowed, no-renames, one-rename}
+use Rattle.admitted.specs.AcceptedLaws.{or-false-right}
+use Rattle.admitted.specs.StandLaws.{next-test}
 use Rattle.order.specs.Nesting.{settings, linesOfModule, linesOfFile, entries, fileOf}
 use Rattle.order.specs.DesignLaws.{flatMap-map, body-entries, flatten-file}
 use Rattle.order.specs.Fine.{times, Differ, Each, wiresIn, signalsIn, portsIn, FineModule, fineAlone, FineDesign}
-use Rattle.order.specs.Tally.{times-none, or-false-right}
+use Rattle.order.specs.Tally.{times-none}
 use Rattle.order.specs.Sums.{sum-append, sum-map, sum-flatMap, sum-same, fails, all-none, none-all}
 use Rattle.order.specs.Walks.{all-same}
 use Rattle.order.specs.BodySums.{bodySum, module-sum}
@@ -273,13 +275,6 @@ unfolding roomUsed sum
 room-more d rs r = omega (arith, sum-append (λ (q : Rename). length (q .newName)) rs (r ∷ []))
 
 -- WHAT AN ACCEPTED RENAME KEEPS
-next-test :
-    {A : Type 0} (a b : A) (n : ℕ) (t : Bool) (ts : List (ℕ × Bool)) → verdict a (lowest ((n, t) ∷ ts)) ≡ Verdict.accepted b →
-    (t ≡ false) × (verdict a (lowest ts) ≡ Verdict.accepted b)
-unfolding lowest verdict
-next-test a b n true ts e = (cc, cc)
-next-test a b n false ts e = (refl, e)
-
 pub record Kept (d : Design) (rs : List Rename) (r : Rename) : Type 0 where
   pub legal : legal (r .newName) ≡ true
   pub free : taken (now d rs) (r .moduleNumber) (r .newName) ≡ false

@@ -17,8 +17,9 @@ use Rattle.rules.specs.Judgement.{Past, sum, wires}
 use Rattle.rules.specs.Design.{Setting, Object, object, Cell, Module}
 use Rattle.admitted.specs.Admitted.{fineBit, fineSignal}
 use Rattle.scanner.specs.Laws.{and-true-left, and-true-right}
+use Rattle.admitted.specs.AdmitLaws.{all-append}
 use Rattle.order.specs.Nesting.{CellEntry, parameter-entry, port-entry, Entry, param-entry, wire-entry, memory-entry, cell-entry, connection-entry, settings, lineIn, linesOf, wiresOf, bodyOf, linesOfModule, cellEntries, entries}
-use Rattle.order.specs.DesignLaws.{flatMap-append, flatMap-map, all-append, all-flatMap, cellEntry, body-entries}
+use Rattle.order.specs.DesignLaws.{flatMap-append, flatMap-map, all-flatMap, cellEntry, body-entries}
 use Rattle.order.specs.Fine.{wiresIn, signalsIn}
 use Rattle.order.specs.Tally.{Through, through-before, by-wire, wires-none, wires-one, wires-reset}
 use Rattle.order.specs.Apart.{sees}

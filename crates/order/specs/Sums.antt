@@ -11,8 +11,8 @@ use Rattle.rules.specs.Bytes.{any, all}
 use Rattle.rules.specs.Statements.{Statement}
 use Rattle.rules.specs.Judgement.{sum, sizes, exceedsSize}
 use Rattle.scanner.specs.Laws.{by-test, and-true-left, and-true-right}
+use Rattle.admitted.specs.AcceptedLaws.{or-false-left, or-false-right}
 use Rattle.order.specs.Fine.{times}
-use Rattle.order.specs.Tally.{or-false-left, or-false-right}
 
 module _ {A : Type 0} (f : A → ℕ) where
   pub sum-append : (xs ys : List A) → sum f (xs ++ ys) ≡ sum f xs + sum f ys

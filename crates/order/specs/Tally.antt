@@ -4,7 +4,7 @@ use Prim.Native.Nat.{ℕ, _+_, _≤_}
 use mathlib.Core.Path.{_≡_, refl}
 use mathlib.Core.List.{List, [], _∷_, map, flatMap, zip, zipWith, reverseAux, Option·toList}
 use mathlib.Core.Option.{Option, none, some}
-use mathlib.Core.Bool.{Bool, true, false, not, cond, _&&_, _||_}
+use mathlib.Core.Bool.{Bool, true, false, not, cond, _&&_}
 use native.Mathlib.Omega.{arith}
 use borrow.Author.Tests.{not-true, eqb-true, eq-eqb}
 use lib.Dec.{eqb}
@@ -15,6 +15,7 @@ use Rattle.rules.specs.Signals.{Wires}
 use Rattle.rules.specs.Judgement.{Past, sum, wires, portNumbers, among, Space, space, namesIn, only, until, ofModule, ofCell, ofObject}
 use Rattle.scanner.specs.Laws.{by-test, and-true-left, and-true-right, same-refl, same-eq}
 use Rattle.admitted.specs.Admitted.{newPorts}
+use Rattle.admitted.specs.AcceptedLaws.{or-false-left, or-false-right}
 use Rattle.order.specs.Fine.{times}
 
 -- a test of each statement after those before it
@@ -90,14 +91,6 @@ module _ {I : Type 0} (t : Tally I) (w : Lawful t) where
     part-new b h = through-behind l (o ∷ p) inside (λ i. omega (arith, b i, w .reset i o p begins)) (w .opens o p begins, h)
 
 -- COUNTING
-pub or-false-left : (a b : Bool) → a || b ≡ false → a ≡ false
-or-false-left true b e = e
-or-false-left false b e = refl
-
-pub or-false-right : (a b : Bool) → a || b ≡ false → b ≡ false
-or-false-right true b e = cc
-or-false-right false b e = e
-
 module _ {A : Type 0} (f : A → Bool) where
   pub times-none : (xs : List A) → any f xs ≡ false → times f xs ≡ 0
   unfolding times any sum

@@ -16,7 +16,7 @@ use Rattle.rules.specs.Signals.{Wires}
 use Rattle.rules.specs.Judgement.{Past, until, sum, among, count, ofModule, wires, signalSize, valueSize, stringSize, nameSize}
 use Rattle.rules.specs.Layout.{Rooms, Used, used, nameBytes, stringBytes, bitCodes, wireRows, statementRow, put}
 use Rattle.admitted.specs.Admitted.{fineWire, fineParts, admitted}
-use Rattle.admitted.specs.AdmitLaws.{fine-parts, admitted-before, admitted-last}
+use Rattle.admitted.specs.AdmitLaws.{fine-parts, admitted-before, admitted-last, all-append}
 use Rattle.tables.specs.Row.{rowAt}
 use Rattle.tables.specs.Flat.{flat, flat-append, flat-snoc, length-flat}
 use Rattle.scanner.specs.Laws.{by-test, and-true-left, and-true-right}
@@ -244,11 +244,6 @@ used-past ss =
     }
 
 -- ---- wires of statements that are admitted are narrow
-
-all-append : {A : Type 0} (f : A → Bool) (xs ys : List A) → all f xs ≡ true → all f ys ≡ true → all f (xs ++ ys) ≡ true
-unfolding all
-all-append f [] ys h k = k
-all-append f (x ∷ xs) ys h k = rw (and-true-left (f x) _ h) (all-append f xs ys (and-true-right (f x) _ h) k)
 
 fine-narrow : (ws : Wires) (w : Wire) → fineWire ws w ≡ true → leb (w .width) 2048 ≡ true
 unfolding fineWire

@@ -2,7 +2,7 @@
 -- Assumes nothing.
 use Prim.Native.Nat.{ℕ, _+_, _-_, _*_, _≤_, _<_}
 use mathlib.Core.Path.{_≡_, refl, sym, ap, ap₂, _∙_, subst}
-use mathlib.Core.List.{List, [], _∷_}
+use mathlib.Core.List.{List, _∷_}
 use mathlib.Core.Bool.{Bool, true, false, not}
 use native.Mathlib.Omega.{arith}
 use lib.Dec.{eqb, leb}
@@ -13,7 +13,7 @@ use Rattle.rules.specs.Tokens.{Name}
 use Rattle.rules.specs.Statements.{Statement, contents, code, holds, ownName, is, autoidx-stmt, attr-stmt, module-stmt, param-stmt, wire-stmt, memory-stmt, cell-stmt, cell-param-stmt, cell-conn-stmt, conn-stmt, proc-stmt, end-stmt}
 use Rattle.rules.specs.Shapes.{Scope, top, inModule, inCell}
 use Rattle.rules.specs.Signals.{Wires}
-use Rattle.rules.specs.Judgement.{Past, sum, scope, context, wires, among, signalSize, valueSize, stringSize, nameSize, takesName, exceedsSize}
+use Rattle.rules.specs.Judgement.{Past, sum, wires, among, signalSize, valueSize, stringSize, nameSize, takesName, exceedsSize}
 use Rattle.rules.specs.Reading.{isTop}
 use Rattle.rules.specs.Layout.{Used, padded, row, used, nameBytes, statementRow}
 use Rattle.admitted.specs.Admitted.{stands, fineParts, admits, admitted, closes}
@@ -37,6 +37,7 @@ use Rattle.past.specs.declared.place.Place.{Place}
 use Rattle.past.specs.declared.sizes.Sizes.{Sizes}
 use Rattle.past.proofs.PlaceLaws.{context-is}
 use Rattle.past.proofs.SizeLaws.{sums-step, exceeds-sums, within-past, sizes-small}
+use Rattle.admitted.specs.CountLaws.{context-scope}
 use Rattle.replay.specs.Reads.{Tables, tabled, Has, Reads, Counts, Tells, statementOf, Small}
 use Rattle.replay.specs.Begins.{Fronts}
 use Rattle.replay.specs.Turns.{usedAt, standsAt, closesAt, Reached, TurnIs, Told, Rowed, CountsAs, Counted, smallParts}
@@ -52,11 +53,6 @@ pub stands-place : (ss : Past) (s : Statement) → stands ss s ≡ standsAt (pla
 unfolding stands standsAt among ofKinds is contextOf
 stands-place ss s = rw (context-is ss)
 
-scope-of : (ss : Past) → context ss .scope ≡ scope ss
-unfolding context scope
-scope-of [] = refl
-scope-of (s ∷ ss) = refl
-
 top-code : (z : Scope) → isTop z ≡ eqb (scopeCode z) 0
 unfolding isTop scopeCode
 top-code top = refl
@@ -65,7 +61,7 @@ top-code inCell = refl
 
 pub closes-place : (ss : Past) → closes ss ≡ closesAt (placeOf ss)
 unfolding closes closesAt placeOf
-closes-place ss = rw (scope-of ss, top-code)
+closes-place ss = rw (context-scope ss, top-code)
 
 -- ---- the name
 

@@ -10,7 +10,7 @@ use lib.Dec.{eqb, leb, ltb}
 use borrow.Author.Tests.{lt-leb, le-leb, lt-ltb, le-ltb, ltb-true, ltb-false, ne-eqb, eqb-true, eqb-false}
 use Rattle.rules.specs.Bytes.{all}
 use Rattle.rules.specs.Statements.{Sig}
-use Rattle.rules.specs.Signals.{Wires, width, declaredWire, goodSlice, parts}
+use Rattle.rules.specs.Signals.{Wires, width, declaredWire, goodSlice}
 use Rattle.rules.specs.Numbers.{goodNumbers}
 use Rattle.rules.specs.Judgement.{lowest}
 use Rattle.scanner.specs.Laws.{by-cond, by-test}
@@ -135,7 +135,7 @@ not-and : (a b : Bool) → not (a && b) ≡ (not a || not b)
 not-and true b = refl
 not-and false b = refl
 
-all-append : (f : Sig → Bool) (xs ys : List Sig) → all f (xs ++ ys) ≡ all f xs && all f ys
+pub all-append : {A : Type 0} (f : A → Bool) (xs ys : List A) → all f (xs ++ ys) ≡ all f xs && all f ys
 unfolding all
 all-append f [] ys = refl
 all-append f (x ∷ xs) ys = by-test (f x) (λ e. rw (e, all-append f xs ys)) (λ e. rw e)

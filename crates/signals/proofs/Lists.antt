@@ -4,15 +4,15 @@ use mathlib.Core.Path.{_≡_, refl, sym, ap, ap₂, _∙_}
 use mathlib.Core.List.{List, [], _∷_, _++_, map, reverse, append-assoc, reverse-append, map-append}
 use Prim.Native.Nat.{ℕ, zero, suc, _+_, _-_, _<_, _≤_}
 use native.Mathlib.Nat.{add-zero}
-use native.Mathlib.Numerals.{add-one}
 use native.Mathlib.Omega.{arith}
 use lib.ListN.{length, take, drop, getD, set, length-append, length-drop, length-reverse, length-map, take-append-drop}
-use lib.Seq.{slice, length-take-le, length-slice, take-take, take-at, drop-at, drop-drop, take-add, take-suc, take-all, getD-take, getD-drop}
+use lib.Seq.{slice, length-take-le, length-slice, take-take, take-at, drop-at, drop-drop, take-add, take-all, getD-take, getD-drop}
 use Rattle.rules.specs.Statements.{bit, Signal}
 use Rattle.rules.specs.Signals.{wireBits}
 use Rattle.rules.specs.Layout.{bitCode}
-use Rattle.tables.specs.Store.{store, store-eq, store-behind, store-more}
+use Rattle.tables.specs.Store.{store, store-eq, store-behind}
 use Rattle.wires.specs.RowLaws.{slice-span}
+use Rattle.tables.proofs.Laws.{copied}
 use Rattle.signals.specs.Held.{codes}
 
 -- ---- parts
@@ -56,13 +56,6 @@ module _ (l : List ℕ) (at : ℕ) (vs : List ℕ) (room : at + length vs ≤ le
   store-take =
       ap (take at) (store-eq l at vs room ∙ append-assoc (take at l) vs (drop (at + length vs) l))
       ∙ take-at (take at l) (vs ++ drop (at + length vs) l) at (length-take-le at l (omega arith))
-
--- one value of s more
-copied : (d s l : List ℕ) (at j : ℕ) → l ≡ store d at (take j s) → j < length s → set l (at + j) (getD s j 0) ≡ store d at (take (j + 1) s)
-copied d s l at j e h =
-    store-more d l at (at + j) (getD s j 0) (take j s) (take (j + 1) s) e
-    (ap (λ (k : ℕ). at + k) (sym (length-take-le j s (omega arith))))
-    (rw add-one (take-suc s j 0 h))
 
 -- all values stored
 pub stored : (d l : List ℕ) (at j : ℕ) (s : List ℕ) (n : ℕ) → l ≡ store d at (take j s) → length s ≡ n → n ≤ j → l ≡ store d at s

@@ -4,7 +4,7 @@ use Prim.Native.Nat.{ℕ}
 use mathlib.Core.Path.{_≡_, refl, ap, ap₂, _∙_}
 use mathlib.Core.List.{List, _∷_}
 use mathlib.Core.Option.{Option, some}
-use mathlib.Core.Bool.{Bool, true, false, not, _&&_, _||_}
+use mathlib.Core.Bool.{Bool, true, false, not, _&&_}
 use lib.Dec.{leb, eqb}
 use borrow.Author.Tests.{not-false}
 use Rattle.rules.specs.Bytes.{same, any, all}
@@ -18,14 +18,10 @@ use Rattle.rules.specs.Reading.{shaped}
 use Rattle.scanner.specs.Laws.{and-true-left, and-true-right}
 use Rattle.admitted.specs.Admitted.{stands, fineWire, fineMemory, fineParts, admits}
 use Rattle.admitted.specs.StandLaws.{meaning-kind, judge-passed, accepted-stands}
-use Rattle.admitted.specs.AcceptedLaws.{or-false-right}
+use Rattle.admitted.specs.AcceptedLaws.{or-false-right, or-false-left}
 use Rattle.written.specs.TokenLaws.{fineToken}
 use Rattle.soundness.specs.ShapeLaws.{FineShape, FineShaped, no-shape, fine-shape, shape-fine}
 use Rattle.soundness.specs.PartLaws.{both, all-mapped, translated, contents-translated, constants-fine, wire-fine, memory-fine, narrow, signals-fine, equal-lengths}
-
-or-false-left : (a b : Bool) → a || b ≡ false → a ≡ false
-or-false-left true b e = e
-or-false-left false b e = refl
 
 -- the tests of a shape that no number refuses
 record GoodShape (ws : Wires) (sh : Shape) : Type 0 where

@@ -10,8 +10,9 @@ use lib.ListN.{length}
 use Rattle.rules.specs.Bytes.{byte, all, within, isLineEnd, isBlank, isNameStart, isLower, isDigit, isOctal, isValueDigit, isStringByte, isMark, legal, rest, bytesOpen}
 use Rattle.rules.specs.Tokens.{integer, Token, word, literal, isKeyword, Inside, plain, escape, octal, Turn, goes, ends, breaks, plainTurn, escapeTurn, onto, octalByte, octalTurn, turn, Quoted, closed, broken, quotedOnto, quotedBy, quoted, Step, token, done, wrong, parted, separate, nameStep, wordStep, integerStep, valueStep, numberStep, minusStep, stringStep, stepAt, step, Lexed, good, bad, tokensOnto, tokensBy, tokensFrom, tokens}
 use Rattle.scanner.specs.Laws.{by-cond, and-true-left}
-use Rattle.written.specs.Lists.{all-cons, all-append}
+use Rattle.written.specs.Lists.{all-cons}
 use Rattle.written.specs.TokenLaws.{fineLiteral, fineToken}
+use Rattle.admitted.specs.AdmitLaws.{all-append}
 
 -- ---- strings
 

@@ -19,7 +19,8 @@ use Rattle.rules.specs.Signals.{Wires, find, literalBits, wireBits, inside, low
 use Rattle.scanner.specs.Laws.{by-cond, and-true-left, and-true-right}
 use Rattle.literals.proofs.Laws.{literal-long}
 use Rattle.admitted.specs.Admitted.{fineBit}
-use Rattle.written.specs.Lists.{all-cons, all-first, all-later, all-split, all-append, all-drop, all-map}
+use Rattle.written.specs.Lists.{all-cons, all-first, all-later, all-split, all-drop, all-map}
+use Rattle.admitted.specs.AdmitLaws.{all-append}
 
 all-take : {A : Type 0} (f : A → Bool) (n : ℕ) (xs : List A) → all f xs ≡ true → all f (take n xs) ≡ true
 unfolding all

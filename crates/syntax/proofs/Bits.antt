@@ -18,12 +18,13 @@ use Rattle.rules.specs.Statements as rules
 use Rattle.rules.specs.Signals.{Wires, find, lower, span, literalBits, wireBits, width, bits, bitsOf, parts, partsOf}
 use Rattle.rules.specs.Judgement.{lowest}
 use Rattle.rules.specs.Layout.{bitCode}
-use Rattle.scanner.specs.Laws.{by-test, and-true-left, and-true-right}
+use Rattle.scanner.specs.Laws.{and-true-left, and-true-right}
 use Rattle.numbers.specs.Kinds.{bitOf, bitAt}
 use Rattle.numbers.specs.KindLaws.{Within, bit-back}
 use Rattle.signals.specs.Faults.{faults, fault}
 use Rattle.signals.specs.Held.{codes, Held}
 use Rattle.signals.specs.declared.Bits.{Bits}
+use Rattle.signals.proofs.FaultLaws.{all-append}
 use Rattle.syntax.specs.Statements.{signalIn}
 
 -- ---- bits that their codes give back
@@ -66,12 +67,6 @@ coded-found none h = tt
 coded-found (some w) h = coded-wire (w .0) 0 (w .1 .width) (omega arith)
 
 -- ---- the bits of a signal
-
-module _ {A : Type 0} (f : A → Bool) where
-  all-append : (xs ys : List A) → all f (xs ++ ys) ≡ all f xs && all f ys
-  unfolding all
-  all-append [] ys = refl
-  all-append (x ∷ xs) ys = by-test (f x) (λ e. rw (e, all-append xs ys)) (λ e. rw e)
 
 module _ (ws : Wires) where
   narrow : Sig → Bool

@@ -11,7 +11,7 @@ use lib.Dec.{eqb}
 use lib.IntN.{ℤ, pos}
 use Rattle.rules.specs.Bytes.{bytes, same, any, all}
 use Rattle.rules.specs.Tokens.{Name}
-use Rattle.rules.specs.Statements.{Opt, Wire, Memory, Direction, input, output, inout, wire-stmt, memory-stmt}
+use Rattle.rules.specs.Statements.{Opt, Wire, Memory, Direction, wire-stmt, memory-stmt}
 use Rattle.rules.specs.Numbers.{int32, numberOr, goodOptions, once, goodWire, goodMemory, wireOf, memoryOf}
 use Rattle.rules.specs.Signals.{Wires, twosComplement}
 use Rattle.rules.specs.Judgement.{portNumbers, newPort}
@@ -22,6 +22,7 @@ use Rattle.wires.specs.RowLaws.{row-wire}
 use Rattle.forms.specs.Forms.{nameIn}
 use Rattle.forms.specs.declared.Span.{Span}
 use Rattle.options.specs.Limits.{portNumber, WireGood, MemoryGood}
+use Rattle.options.proofs.Ports.{code-range}
 use Rattle.syntax.specs.Statements.{wireFrom, memoryFrom, Judged}
 use Rattle.syntax.specs.declared.Statement.the-variants as statement
 use Rattle.syntax.proofs.Laws.{plainOpen, bad-number, stated, number-back}
@@ -60,21 +61,15 @@ flag-small true false = omega arith
 flag-small false true = omega arith
 flag-small false false = omega arith
 
-direction-range : (d : Direction) → (4 ≤ directionCode d) × (directionCode d ≤ 12)
-unfolding directionCode
-direction-range input = (omega arith, omega arith)
-direction-range output = (omega arith, omega arith)
-direction-range inout = (omega arith, omega arith)
-
 no-port : (k : ℕ) (q : Option (Direction × ℕ)) → k + Option·elim q 0 (λ p. directionCode (p .0)) ≤ 3 → q ≡ none
 unfolding Option·elim
 no-port k none h = refl
-no-port k (some (d, n)) h = absurd (omega (arith, direction-range d .0))
+no-port k (some (d, n)) h = absurd (omega (arith, code-range d .0))
 
 port-small : (q : Option (Direction × ℕ)) → Option·elim q 0 (λ p. directionCode (p .0)) ≤ 12
 unfolding Option·elim
 port-small none = omega arith
-port-small (some (d, n)) = direction-range d .1
+port-small (some (d, n)) = code-range d .1
 
 a-port : (k : ℕ) (q : Option (Direction × ℕ)) → k ≤ 3 → 3 < k + Option·elim q 0 (λ p. directionCode (p .0)) → (d : Direction) × (q ≡ some (d, portNumber q))
 unfolding Option·elim

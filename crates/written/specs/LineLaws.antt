@@ -14,7 +14,8 @@ use Rattle.rules.specs.Tokens.{Digit, S0, S1, Sx, Sz, Sm, Sa, Literal, value, i
 use Rattle.rules.specs.Lines.{Line, longer, linesFrom}
 use Rattle.rules.specs.Text.{decimalText, integerText, digitByte, escaped, literalText, tokenText, tight, behind, spaced}
 use Rattle.scanner.specs.Laws.{by-cond}
-use Rattle.written.specs.Lists.{all-cons, all-first, all-later, all-append, all-imp, all-map, by-any, within-low}
+use Rattle.admitted.specs.AdmitLaws.{all-append, all-implied}
+use Rattle.written.specs.Lists.{all-cons, all-first, all-later, all-map, by-any, within-low}
 use Rattle.written.specs.NumberLaws.{Digits, some-digits, decimal-digits}
 use Rattle.written.specs.TokenLaws.{fineToken, legal-start, legal-bytes, keyword-lower}
 
@@ -56,7 +57,7 @@ value-digit-in Sm = refl
 value-digit-in Sa = refl
 
 digits-free : {ds : List ℕ} → Digits ds → all inLine ds ≡ true
-digits-free (some-digits {d} {ds} h a) = all-imp isDigit inLine digit-in (d ∷ ds) (all-cons isDigit d ds h a)
+digits-free (some-digits {d} {ds} h a) = all-implied isDigit inLine digit-in (d ∷ ds) (all-cons isDigit d ds h a)
 
 decimal-free : (n : ℕ) → all inLine (decimalText n) ≡ true
 decimal-free n = digits-free (decimal-digits n)
@@ -99,12 +100,12 @@ name-free : (n : List ℕ) → legal n ≡ true → all inLine n ≡ true
 unfolding all
 name-free [] f = refl
 name-free (b ∷ bs) f =
-    all-cons inLine b bs (name-start-in b (legal-start b bs f)) (all-imp isNameByte inLine name-byte-in bs (legal-bytes b bs f))
+    all-cons inLine b bs (name-start-in b (legal-start b bs f)) (all-implied isNameByte inLine name-byte-in bs (legal-bytes b bs f))
 
 token-free : (t : Token) → fineToken t ≡ true → all inLine (tokenText t) ≡ true
 unfolding tokenText fineToken all
 token-free (name n) f = name-free n f
-token-free (word w) f = all-imp isLower inLine lower-in w (keyword-lower w f)
+token-free (word w) f = all-implied isLower inLine lower-in w (keyword-lower w f)
 token-free (literal c) f = literal-free c
 token-free (mark m) f = rw (mark-in m f)
 

@@ -1,6 +1,6 @@
 -- Tests over lists, and runs.
 -- Assumes nothing.
-use mathlib.Core.Path.{_≡_, refl, _∙_}
+use mathlib.Core.Path.{_≡_, refl}
 use mathlib.Core.Bool.{Bool, true, false, _&&_, false≢true}
 use mathlib.Core.List.{List, [], _∷_, _++_, map}
 use Prim.Native.Nat.{ℕ, zero, suc, _<_, _≤_}
@@ -28,19 +28,10 @@ module _ {A : Type 0} (f : A → Bool) where
   all-split [] ys = refl
   all-split (x ∷ xs) ys = by-test (f x) (λ e. rw (e, all-split xs ys)) (λ e. rw e)
 
-  pub all-append : (xs ys : List A) → all f xs ≡ true → all f ys ≡ true → all f (xs ++ ys) ≡ true
-  all-append xs ys h k = all-split xs ys ∙ rw (h, k)
-
   pub all-drop : (n : ℕ) (xs : List A) → all f xs ≡ true → all f (drop n xs) ≡ true
   all-drop zero xs h = h
   all-drop (suc n) [] h = h
   all-drop (suc n) (x ∷ xs) h = all-drop n xs (all-later x xs h)
-
--- what passes a weaker test
-pub all-imp : {A : Type 0} (f g : A → Bool) → ((x : A) → f x ≡ true → g x ≡ true) → (xs : List A) → all f xs ≡ true → all g xs ≡ true
-unfolding all
-all-imp f g i [] h = refl
-all-imp f g i (x ∷ xs) h = all-cons g x xs (i x (all-first f x xs h)) (all-imp f g i xs (all-later f x xs h))
 
 pub all-map : {A B : Type 0} (f : B → Bool) (g : A → B) → ((x : A) → f (g x) ≡ true) → (xs : List A) → all f (map g xs) ≡ true
 unfolding all
