@@ -1,18 +1,17 @@
 -- A wire's attributes are those right before its statement.
 -- Assumes nothing.
 use Prim.Native.Nat.{ℕ, suc}
-use mathlib.Core.Path.{_≡_, refl, sym, ap, ap₂, _∙_}
-use mathlib.Core.List.{List, [], _∷_, _++_, map, flatMap, zip, zipWith, reverse, reverseAux, reverse-cons, reverseAux-eq}
-use mathlib.Core.Option.{Option, some}
-use mathlib.Core.Bool.{Bool, true, false, not, cond}
+use mathlib.Core.Path.{_≡_, refl, sym, ap, _∙_}
+use mathlib.Core.List.{List, [], _∷_, _++_, flatMap, zip, zipWith, reverse, reverse-cons, reverseAux-eq}
+use mathlib.Core.Option.{some}
+use mathlib.Core.Bool.{not, cond}
 use native.Mathlib.Omega.{arith}
-use lib.ListN.{length, getElem?, length-map, length-append, length-reverse}
+use lib.ListN.{length, getElem?, length-map, length-append}
 use Rattle.rules.specs.Tokens.{Name}
 use Rattle.rules.specs.Statements.{Statement, Wire, wire-stmt, anAttribute, aModule, contents, is, statementsOpen}
-use Rattle.rules.specs.Signals.{Wires}
-use Rattle.rules.specs.Judgement.{Past, until, sum, wires, ofModule, ofObject}
+use Rattle.rules.specs.Judgement.{Past, until, wires, ofModule, ofObject}
 use Rattle.rules.specs.Design.{Setting, Object, object, Item, settingIn, items, objectsIn, design}
-use Rattle.rules.specs.Session.{wiresAt, wireAt}
+use Rattle.rules.specs.Session.{wireAt}
 use Rattle.scanner.specs.Laws.{by-test}
 use Rattle.designs.specs.Modules.{statementsOf, wiresOf, moduleCount}
 use Rattle.designs.specs.ListLaws.{flatMap-append, flatMap-back}

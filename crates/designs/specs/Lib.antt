@@ -11,3 +11,4 @@ pub mod RowLaws
 pub mod WireLaws
 pub mod HeadLaws
 pub mod LayoutLaws
+pub mod DeclaredLaws

@@ -3,7 +3,7 @@
 use Prim.Native.Nat.{ℕ, zero, suc}
 use mathlib.Core.Path.{_≡_, refl, sym, ap, _∙_}
 use mathlib.Core.List.{List, [], _∷_, _++_, map, map-append, flatMap, reverse, reverse-cons, append-assoc, append-nil}
-use mathlib.Core.Option.{Option, Option·elim}
+use mathlib.Core.Option.{Option·elim}
 use mathlib.Core.Bool.{Bool, cond, _||_, or-assoc}
 use lib.ListN.{getD, getElem?}
 use Rattle.rules.specs.Bytes.{any}

@@ -1,9 +1,9 @@
 -- The statements of a module, from the statements so far: those since its line, as they stood at its end.
 -- Assumes nothing.
-use Prim.Native.Nat.{ℕ, zero, suc, _+_, _-_, _≤_, _<_}
-use mathlib.Core.Path.{_≡_, refl, sym, ap, ap₂, _∙_}
+use Prim.Native.Nat.{ℕ, suc, _+_, _-_, _≤_, _<_}
+use mathlib.Core.Path.{_≡_, refl, sym, ap, _∙_}
 use mathlib.Core.List.{List, [], _∷_, _++_, reverse, reverseAux, append-assoc}
-use mathlib.Core.Bool.{Bool, true, false, not, cond}
+use mathlib.Core.Bool.{true, false}
 use native.Mathlib.Omega.{arith}
 use lib.Dec.{leb}
 use lib.ListN.{length, getD}
@@ -122,3 +122,12 @@ up-to-le m ss = up-to-holds (λ qs. length qs ≤ length ss) (λ s qs h. omega a
 -- with what is behind, they are all
 pub up-to-split : (m : ℕ) (ss : Past) → (xs : Past) × (ss ≡ xs ++ upTo m ss)
 up-to-split m ss = up-to-holds (λ qs. (xs : Past) × (ss ≡ xs ++ qs)) (λ s qs p. (p .0 ++ s ∷ [], p .1 ∙ sym (append-assoc (p .0) (s ∷ []) qs))) m ss ([], refl)
+
+pub up-to-count : (m : ℕ) (ss : Past) → m < moduleCount ss → moduleCount (upTo m ss) ≡ suc m
+up-to-count m [] h = absurd (let z : moduleCount [] ≡ 0 = none-counts in omega arith)
+up-to-count m (s ∷ ss) h =
+    by-test (leb (moduleCount (s ∷ ss)) (suc m))
+    (λ e. let b : moduleCount (s ∷ ss) ≤ suc m = leb-true _ _ e in rw (up-to-all m (s ∷ ss) b) (omega arith))
+    (λ e.
+    let b : suc m < moduleCount (s ∷ ss) = omega (arith, leb-false (moduleCount (s ∷ ss)) (suc m) e) in
+    rw (up-to-back m s ss b) (up-to-count m ss (omega (arith, count-step s ss))))

@@ -1,18 +1,18 @@
 -- A module's range of rows holds its statements.
 -- Assumes nothing.
-use Prim.Native.Nat.{ℕ, zero, suc, _+_, _-_, _≤_, _<_}
-use mathlib.Core.Path.{_≡_, refl, sym, ap, ap₂, _∙_}
-use mathlib.Core.List.{List, [], _∷_, _++_, map, reverse, reverse-cons, reverse-append, reverse-reverse, append-assoc}
-use mathlib.Core.Bool.{Bool, true, false, _||_, or-assoc, or-comm}
+use Prim.Native.Nat.{ℕ, suc, _+_, _≤_, _<_}
+use mathlib.Core.Path.{_≡_, refl, sym, ap, _∙_}
+use mathlib.Core.List.{List, [], _∷_, _++_, reverse, reverse-cons, reverse-append, reverse-reverse, append-assoc}
+use mathlib.Core.Bool.{Bool, true, _||_, or-assoc, or-comm}
 use native.Mathlib.Omega.{arith}
-use lib.Dec.{eqb, leb, ltb}
-use lib.ListN.{length, take, drop, length-append, length-reverse, length-drop, length-take, take-append-drop}
-use lib.Seq.{take-append-seam, drop-append-seam, take-at, drop-at}
+use lib.Dec.{leb, ltb}
+use lib.ListN.{length, take, drop, length-reverse, length-drop, length-take, take-append-drop}
+use lib.Seq.{take-at, drop-at}
 use borrow.Author.Tests.{eq-eqb, ne-eqb, leb-true, leb-false, ltb-true, ltb-false}
 use Rattle.rules.specs.Bytes.{same, any, all}
 use Rattle.rules.specs.Tokens.{Name}
 use Rattle.rules.specs.Statements.{Statement, Kind, aModule, code, contents, is, ownName}
-use Rattle.rules.specs.Judgement.{Past, until, only, sum, among, count, ofModule}
+use Rattle.rules.specs.Judgement.{Past, only, sum, among, count, ofModule}
 use Rattle.rules.specs.Layout.{used, statementRow}
 use Rattle.wires.specs.Rows.{column}
 use Rattle.wires.specs.RowLaws.{RowIs}
@@ -31,7 +31,7 @@ use Rattle.designs.specs.Ranges.{rowsWhere, linesIn, lineOf, rowRange}
 use Rattle.designs.specs.RangeLaws.{line-le, line-all, line-back}
 
 module _ {names rows : List ℕ} where
-  laid-before : (s : Statement) (ss : Past) → Laid (roomsOf (s ∷ ss)) names rows → Laid (roomsOf ss) names rows
+  pub laid-before : (s : Statement) (ss : Past) → Laid (roomsOf (s ∷ ss)) names rows → Laid (roomsOf ss) names rows
   unfolding roomsOf
   laid-before s ss l = laid-put (roomsOf ss) s l
 

@@ -1,6 +1,6 @@
 -- A module's range in the table of wires holds its wires.
 -- Assumes nothing.
-use Prim.Native.Nat.{ℕ, zero, suc, _+_, _-_, _≤_, _<_}
+use Prim.Native.Nat.{ℕ, suc, _+_, _-_, _≤_, _<_}
 use mathlib.Core.Path.{_≡_, refl, sym, ap, ap₂, _∙_}
 use mathlib.Core.List.{List, [], _∷_, _++_, map, flatMap, zip, zipWith, reverse, reverse-append, reverse-reverse, append-assoc}
 use mathlib.Core.Bool.{Bool, true, false, cond, _&&_}
@@ -40,12 +40,12 @@ unfolding roomsOf put sum
 rooms-modules [] = refl
 rooms-modules (s ∷ ss) = omega (arith, rooms-modules ss)
 
-rooms-wires : (ss : Past) → length (roomsOf ss .wires) ≡ wiresIn ss
+pub rooms-wires : (ss : Past) → length (roomsOf ss .wires) ≡ wiresIn ss
 unfolding placeOf
 rooms-wires ss = length-wire-rows ss ∙ length-all-wires ss
 
 module _ {names t : List ℕ} where
-  wired-before : (s : Statement) (ss : Past) → Wired (roomsOf (s ∷ ss)) names t → Wired (roomsOf ss) names t
+  pub wired-before : (s : Statement) (ss : Past) → Wired (roomsOf (s ∷ ss)) names t → Wired (roomsOf ss) names t
   unfolding roomsOf
   wired-before s ss l = wired-put (roomsOf ss) s l
 
@@ -67,29 +67,29 @@ true-not-false : true ≡ false → ⊥
 true-not-false e = let z : _≡_ {A = ℕ} 0 1 = cc in omega arith
 
 -- WHAT A STATEMENT ADDS to the wires
-data Adds : Statement → Type 0 where
+pub data Adds : Statement → Type 0 where
   a-wire : (w : Wire) (n : Name) → Adds (wire-stmt w n)
-  no-wire : {s : Statement} → is aWire s ≡ false → Adds s
+  no-wire : {s : Statement} → is aWire s ≡ false → zip (contents s .names) (contents s .wires) ≡ [] → Adds s
 
-adds : (s : Statement) → Adds s
-unfolding statementsOpen
-adds (autoidx-stmt i) = no-wire refl
-adds (attr-stmt n c) = no-wire refl
-adds (module-stmt n) = no-wire refl
-adds (param-stmt n c) = no-wire refl
+pub adds : (s : Statement) → Adds s
+unfolding zip zipWith statementsOpen
+adds (autoidx-stmt i) = no-wire refl refl
+adds (attr-stmt n c) = no-wire refl refl
+adds (module-stmt n) = no-wire refl refl
+adds (param-stmt n c) = no-wire refl refl
 adds (wire-stmt w n) = a-wire w n
-adds (memory-stmt m n) = no-wire refl
-adds (cell-stmt y n) = no-wire refl
-adds (cell-param-stmt o n c) = no-wire refl
-adds (cell-conn-stmt n x) = no-wire refl
-adds (conn-stmt x y) = no-wire refl
-adds (proc-stmt n) = no-wire refl
-adds end-stmt = no-wire refl
+adds (memory-stmt m n) = no-wire refl refl
+adds (cell-stmt y n) = no-wire refl refl
+adds (cell-param-stmt o n c) = no-wire refl refl
+adds (cell-conn-stmt n x) = no-wire refl refl
+adds (conn-stmt x y) = no-wire refl refl
+adds (proc-stmt n) = no-wire refl refl
+adds end-stmt = no-wire refl refl
 
 wire-alone : (s : Statement) → Adds s → is aWire s ≡ true → is aModule s ≡ false
 unfolding statementsOpen
 wire-alone s (a-wire w n) e = refl
-wire-alone s (no-wire h) e = cc
+wire-alone s (no-wire h z) e = cc
 
 wires-more : (s : Statement) (ss : Past) → wiresIn (s ∷ ss) ≡ wiresIn ss + cond (is aWire s) 1 0
 unfolding wiresIn sum count among any
@@ -103,7 +103,7 @@ module _ {names t : List ℕ} (f : ℕ → Bool) where
   where-step s ss (a-wire w n) l =
       let e : wiresIn (wire-stmt w n ∷ ss) ≡ suc (wiresIn ss) = omega (arith, wires-more (wire-stmt w n) ss) in
       rw (e, last-module w n ss l)
-  where-step s ss (no-wire h) l =
+  where-step s ss (no-wire h z) l =
       let e : wiresIn (s ∷ ss) ≡ wiresIn ss = omega (arith, rw h at (wires-more s ss)) in
       rw (e, h) (omega arith)
 
@@ -246,3 +246,35 @@ module _ {names t : List ℕ} (m : ℕ) (ss : Past) (headed : Headed ss) (l : Wi
 
   pub design-range : Offsets ss → let r = wireRange t (wiresIn ss) m in reverse (wiresFrom names t (r .first) (r .count)) ≡ map (λ o. (o .name, o .body)) (wiresAt (design (reverse ss)) m)
   design-range o = pairs-range o ∙ sym (pairs-at (reverse ss) m)
+
+-- the wires before a module's own, as they stood in it and as they stand at the end
+count-behind : (m : ℕ) (before : Past) → m < moduleCount before → (xs : Past) → m < moduleCount (xs ++ before)
+count-behind m before h [] = h
+count-behind m before h (x ∷ xs) = omega (arith, count-behind m before h xs, count-step x (xs ++ before))
+
+headed-behind : (before xs : Past) → Headed (xs ++ before) → Headed before
+headed-behind before [] q = q
+headed-behind before (x ∷ xs) (one-headed p q) = headed-behind before xs q
+
+module _ {names t : List ℕ} (m : ℕ) (before : Past) (h : m < moduleCount before) where
+  first-behind : (xs : Past) → Wired (roomsOf (xs ++ before)) names t → rowsWhere (λ c. ltb c m) t (wiresIn (xs ++ before)) ≡ rowsWhere (λ c. ltb c m) t (wiresIn before)
+  first-behind [] l = refl
+  first-behind (x ∷ xs) l =
+      where-same (λ c. ltb c m) x (xs ++ before) l (λ w q. le-ltb (moduleCount (xs ++ before) - 1) m (omega (arith, count-behind m before h xs)))
+      ∙ first-behind xs (wired-before x (xs ++ before) l)
+
+  wired-behind : (xs : Past) → Wired (roomsOf (xs ++ before)) names t → Wired (roomsOf before) names t
+  wired-behind [] l = l
+  wired-behind (x ∷ xs) l = wired-behind xs (wired-before x (xs ++ before) l)
+
+  -- so the next wire's row is its number in the module behind the first of the range
+  pub range-number :
+      moduleCount before ≡ suc m → (xs : Past) → Headed (xs ++ before) → Wired (roomsOf (xs ++ before)) names t →
+      wiresIn before ≡ wireRange t (wiresIn (xs ++ before)) m .first + wiresIn (ofModule before)
+  unfolding wireRange
+  range-number e xs q l =
+      let b = wired-behind xs l in
+      let a : upTo m before ≡ before = up-to-all m before (omega arith) in
+      let whole : rowsWhere (λ c. ltb c (suc m)) t (wiresIn before) ≡ wiresIn before = rw a at (below-laid m before b) in
+      let own : rowsWhere (λ c. eqb c m) t (wiresIn before) ≡ wiresIn (ofModule before) = rw a at (own-laid m before (headed-behind before xs q) b h) in
+      omega (arith, where-next t m (wiresIn before), first-behind xs l)

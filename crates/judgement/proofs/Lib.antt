@@ -1,3 +1,2 @@
 pub mod PartLaws
-pub mod SpaceLaws
 pub mod Verdicts

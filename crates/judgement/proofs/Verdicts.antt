@@ -26,11 +26,11 @@ use Rattle.past.specs.declared.place.Place.{Place}
 use Rattle.past.specs.declared.sizes.Sizes.{Sizes}
 use Rattle.past.proofs.PlaceLaws.{context-is}
 use Rattle.past.proofs.SizeLaws.{sums-step, exceeds-sums}
-use Rattle.judgement.specs.Parts.{partsOf, SizesAre}
-use Rattle.judgement.specs.Spaces.{foundIn, takenIn}
+use Rattle.netlist.specs.Found.{foundIn}
+use Rattle.netlist.specs.FoundLaws.{takes-found}
+use Rattle.judgement.specs.Parts.{partsOf, takenIn, SizesAre}
 use Rattle.judgement.specs.Judged.{Stands, Accepts}
 use Rattle.judgement.proofs.PartLaws.{number-is, kind-is, own-is, late-is, no-number, no-late}
-use Rattle.judgement.proofs.SpaceLaws.{takes-found}
 
 -- a refusal of 5 to 8
 refused-early : (ss : Past) (f s : List ℕ) (o : Option Shape) (a : Statement) (n : ℕ) → Says (wires ss) f s o a → numberOf a ≡ some n → shaped ss o ≡ Verdict.refused n

@@ -1,6 +1,7 @@
 -- What the tests of a statement go by, and the sizes of a statement.
 use Prim.Native.Nat.{ℕ, _≤_}
 use mathlib.Core.Path.{_≡_}
+use mathlib.Core.Bool.{Bool}
 use mathlib.Core.List.{List, Option·toList}
 use mathlib.Core.Option.{some, Option·map}
 use lib.ListN.{length}
@@ -10,13 +11,15 @@ use Rattle.rules.specs.Signals.{kept}
 use Rattle.rules.specs.Judgement.{sum}
 use Rattle.tokens.specs.declared.Literal.{Literal}
 use Rattle.tokens.specs.declared.Literal.the-variants as literal
-use Rattle.forms.specs.Forms.{valueIn}
+use Rattle.forms.specs.Forms.{nameIn, valueIn}
 use Rattle.forms.specs.declared.Span.{Span}
 use Rattle.syntax.specs.Statements.{statementIn}
 use Rattle.syntax.specs.declared.Statement.{Statement}
 use Rattle.syntax.specs.declared.Statement.the-variants.{Autoidx, Attribute, Module, Parameter, Wire, Memory, Cell, CellParameter, CellConnection, Connection, End, NoShape, Process, BadNumber, MissingWire}
 use Rattle.past.specs.Sizes.{sizesOf}
 use Rattle.past.specs.declared.sizes.Sizes.{Sizes}
+use Rattle.past.specs.declared.place.Place.{Place}
+use Rattle.netlist.specs.Found.{foundIn}
 use Rattle.judgement.specs.declared.Parts.{Parts}
 
 -- a span of no bytes
@@ -50,6 +53,10 @@ partsOf NoShape = refusalParts 5
 partsOf Process = refusalParts 6
 partsOf BadNumber = refusalParts 7
 partsOf MissingWire = refusalParts 8
+
+-- whether the own name of an answer is found in its name space
+unfoldable pub takenIn : (f names rows : List ℕ) → Place → Statement → Bool
+takenIn f names rows p a = foundIn names rows p (partsOf a .kind) (nameIn f (partsOf a .name))
 
 -- the constant that a statement keeps, if it has one; how many digits and how many bytes it has
 unfoldable pub constantsIn : List ℕ → Literal → List rules.Constant

@@ -1,8 +1,7 @@
 // The verdict on one line after the statements so far: its statement with the sums of each size, or the lowest number that it is refused with.
 use forms::Span;
 use literals::literal_width;
-use netlist::rows::Kinds;
-use netlist::rows::name_taken;
+use netlist::spaces::name_found;
 use past::place::Place;
 use past::sizes::Sizes;
 use past::sizes::kind_sizes;
@@ -23,8 +22,7 @@ ghost use Rattle.forms.specs.Forms.{nameIn};
 ghost use Rattle.syntax.specs.Statements.{numberOf, lateOf, Sound, GoodOptional, Ready};
 ghost use Rattle.past.specs.Place.{Bounds};
 ghost use Rattle.past.specs.Sizes.{Within, AtMost};
-ghost use Rattle.judgement.specs.Parts.{namedParts, refusalParts, connectionParts, partsOf, digitsIn, bytesIn, SizesAre};
-ghost use Rattle.judgement.specs.Spaces.{spaceFrom, kindsFrom, takenIn};
+ghost use Rattle.judgement.specs.Parts.{namedParts, refusalParts, connectionParts, partsOf, digitsIn, bytesIn, SizesAre, takenIn};
 ghost use Rattle.judgement.specs.Judged.{JudgedAs, JudgesAs, Storable};
 
 // What the tests of a statement go by: the number of its refusal, or 0; its kind by its code; a cell's type, and the own name, empty where there is
@@ -183,44 +181,6 @@ fn statement_sizes(f: &[u8], statement: Statement) -> Sizes
     )
 }
 
-// The first row of the name space of a kind's names: those of modules are all rows, those without a name have none.
-fn space_from(place: Place, kind: u32) -> u32
-    ensures { λ r. ⌜ r ≡ spaceFrom place kind ⌝ }
-{
-    if kind == 2 {
-        return place.object_from;
-    }
-    if kind == 3 {
-        return 0;
-    }
-    if kind < 4 {
-        return place.rows;
-    }
-    if kind < 8 {
-        return place.module_from;
-    }
-    if kind < 10 {
-        return place.cell_from;
-    }
-    place.rows
-}
-
-// The kinds that share a kind's name space: wires, memories and cells do.
-fn space_kinds(kind: u32) -> Kinds
-    ensures { λ r. ⌜ r ≡ kindsFrom kind ⌝ }
-{
-    let shared = Kinds { a: 5, b: 6, c: 7 };
-    let own = Kinds {
-        a: kind,
-        b: kind,
-        c: kind,
-    };
-    if kind < 5 {
-        return own;
-    }
-    if kind < 8 { shared } else { own }
-}
-
 // Whether the statement's own name is taken in its name space.
 fn name_is_taken(f: &[u8], names: &[u8], rows: &[u32], place: Place, statement: Statement) -> bool
     requires { ⌜ Bounds place ⌝ }
@@ -228,13 +188,11 @@ fn name_is_taken(f: &[u8], names: &[u8], rows: &[u32], place: Place, statement: 
 {
     let parts = parts_of(statement);
     let name = parts.name;
-    let from = space_from(place, parts.kind);
-    name_taken(
+    name_found(
         names,
         rows,
-        from,
-        place.rows - from,
-        space_kinds(parts.kind),
+        place,
+        parts.kind,
         part(f, name.start, name.end),
     )
 }

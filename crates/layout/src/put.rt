@@ -4,7 +4,7 @@ use forms::Span;
 use literals::literal_width;
 use literals::put_literal;
 use numbers::signed::word_of;
-use scanner::numbers::decimal;
+use scanner::decimals::decimal;
 use scanner::parts::part;
 use strings::put_string;
 use syntax::Statement;

@@ -2,7 +2,7 @@
 use numbers::signed::bit_of;
 use numbers::signed::fits;
 use numbers::signed::word_of;
-use scanner::numbers::decimal;
+use scanner::decimals::decimal;
 use scanner::parts::part;
 use strings::put_string;
 use strings::string_size;

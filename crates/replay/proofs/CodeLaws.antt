@@ -69,14 +69,6 @@ signal-long bits at n e = long-whole bits at n (sym (e ∙ length-signal (span b
 -- ---- a constant
 
 module _ (strings bits : List ℕ) (u : Used) (a b : ℕ) where
-  value-is : constantOf strings bits u 1 a b ≡ value (map digitOf (span bits (u .bits) b))
-  unfolding constantOf
-  value-is = refl
-
-  text-is : constantOf strings bits u 3 a b ≡ string (span strings (u .strings) b)
-  unfolding constantOf
-  text-is = refl
-
   pub tells-value : a ≡ u .bits → digitsStand bits (u .bits) b ≡ true → TellsConstant strings bits u 1 a b (constantOf strings bits u 1 a b) (Held.Constant b 0)
   unfolding TellsConstant constantOf digitsStand digitsOf bytesOf constantColumns fineConstant
   tells-value ea h =

@@ -1,6 +1,5 @@
 -- `one_if_below` meets its contract.
 -- Assumes nothing.
-use mathlib.Core.Path.{refl}
 use native.Mathlib.Omega.{arith}
 use borrow.Author.Tests.{lt-ltb, le-ltb}
 use Rattle.designs.proofs.one_if_below.Statement.{statement}

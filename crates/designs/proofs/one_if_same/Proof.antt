@@ -1,6 +1,5 @@
 -- `one_if_same` meets its contract.
 -- Assumes nothing.
-use mathlib.Core.Path.{refl}
 use native.Mathlib.Omega.{arith}
 use borrow.Author.Tests.{eq-eqb, ne-eqb}
 use Rattle.designs.proofs.one_if_same.Statement.{statement}

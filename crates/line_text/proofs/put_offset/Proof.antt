@@ -2,7 +2,6 @@
 -- Assumes nothing.
 use mathlib.Core.Path.{refl}
 use Rattle.text.specs.Written.{written-none, written-most, written-then, written-as}
-use borrow.Author.Tests.{eq-eqb, ne-eqb}
 use Rattle.rules.specs.Text.{setting, unless, optionTokens, behind}
 use Rattle.rules.specs.Bytes.{bytes, within}
 use Rattle.rules.specs.Numbers.{inRange}

@@ -1,6 +1,5 @@
 -- A kind that names wires of the module, or another.
 -- Assumes nothing.
-use mathlib.Core.Path.{sym}
 use borrow.Author.Tests.{ne-eqb}
 use Rattle.text.specs.Written.{written-as}
 use Rattle.line_text.specs.Now.{wiresIn}

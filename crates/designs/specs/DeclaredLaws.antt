@@ -1,0 +1,167 @@
+-- Each wire of a module has its statement: found by module number and wire number, with the attributes before it and its row.
+-- Assumes nothing.
+use Prim.Native.Nat.{ℕ, suc, _+_, _≤_, _<_}
+use mathlib.Core.Path.{_≡_, refl, sym, ap, subst, _∙_}
+use mathlib.Core.List.{List, [], _∷_, _++_, flatMap, zip, zipWith, reverse, reverse-append, reverse-cons, append-assoc}
+use mathlib.Core.Option.{some}
+use mathlib.Core.Bool.{true, false}
+use native.Mathlib.Omega.{arith}
+use lib.Dec.{ltb}
+use lib.ListN.{length, length-reverse}
+use borrow.Author.Tests.{ltb-true, ltb-false}
+use Rattle.rules.specs.Tokens.{Name}
+use Rattle.rules.specs.Statements.{Statement, Wire, wire-stmt, aModule, contents, is, statementsOpen}
+use Rattle.rules.specs.Judgement.{Past, until, ofModule, wires}
+use Rattle.rules.specs.Design.{object, design}
+use Rattle.rules.specs.Session.{wireAt}
+use Rattle.rules.specs.Layout.{used, padded, row, columns, statementRow}
+use Rattle.scanner.specs.Laws.{by-test}
+use Rattle.past.specs.Place.{wiresIn, placeOf}
+use Rattle.past.proofs.PlaceLaws.{length-all-wires}
+use Rattle.wires.specs.Rows.{column}
+use Rattle.wires.specs.RowLaws.{RowIs}
+use Rattle.netlist.specs.Rows.{kindAt}
+use Rattle.netlist.specs.Laid.{roomsOf, Laid, Wired}
+use Rattle.netlist.specs.LaidLaws.{length-rows, eights-rows, laid-row}
+use Rattle.designs.specs.Modules.{statementsOf, wiresOf, moduleCount, upTo, Headed}
+use Rattle.designs.specs.PastLaws.{other-counts, module-first, module-more, none-counts, module-past, no-module, up-to-split, up-to-count}
+use Rattle.designs.specs.AttributeLaws.{settingsBefore, wire-in-file}
+use Rattle.designs.specs.WireLaws.{rooms-wires, Adds, a-wire, no-wire, adds, wires-back, range-number}
+use Rattle.designs.specs.RowLaws.{laid-before}
+use Rattle.designs.specs.Ranges.{wireRange}
+
+-- where wire w of module m is declared: the statements before its own and those behind it, the last one first
+pub record Declared (ss : Past) (m w : ℕ) : Type 0 where
+  pub before : Past
+  pub behind : Past
+  pub body : Wire
+  pub name : Name
+  pub all : ss ≡ behind ++ wire-stmt body name ∷ before
+  pub module-is : moduleCount before ≡ suc m
+  pub number-is : length (wires before) ≡ w
+
+-- with statements behind, it is declared where it was
+declared-more : (xs ss : Past) (m w : ℕ) → Declared ss m w → Declared (xs ++ ss) m w
+declared-more xs ss m w d =
+    record {
+      before = d .before;
+      behind = xs ++ d .behind;
+      body = d .body;
+      name = d .name;
+      all = ap (λ (l : Past). xs ++ l) (d .all) ∙ sym (append-assoc xs (d .behind) (wire-stmt (d .body) (d .name) ∷ d .before));
+      module-is = d .module-is;
+      number-is = d .number-is;
+    }
+
+-- in the module that stands open
+no-wires : (s : Statement) (ss : Past) → is aModule s ≡ true → length (wires (s ∷ ss)) ≡ 0
+unfolding wires flatMap
+no-wires s ss e = rw (module-first s ss e)
+
+same-wires : (s : Statement) (ss : Past) → is aModule s ≡ false → zip (contents s .names) (contents s .wires) ≡ [] → wires (s ∷ ss) ≡ wires ss
+unfolding wires flatMap
+same-wires s ss e h = rw (module-more s ss e, h)
+
+one-wire : (b : Wire) (n : Name) (ss : Past) → length (wires (wire-stmt b n ∷ ss)) ≡ suc (length (wires ss))
+unfolding wires flatMap ofModule until zip zipWith statementsOpen
+one-wire b n ss = refl
+
+wire-counts : (b : Wire) (n : Name) (ss : Past) → moduleCount (wire-stmt b n ∷ ss) ≡ moduleCount ss
+unfolding statementsOpen
+wire-counts b n ss = other-counts (wire-stmt b n) ss refl
+
+module _ (m w : ℕ) where
+  declared-step :
+      (s : Statement) (ss : Past) → (moduleCount ss ≡ suc m → w < length (wires ss) → Declared ss m w) → Adds s →
+      moduleCount (s ∷ ss) ≡ suc m → w < length (wires (s ∷ ss)) → Declared (s ∷ ss) m w
+  declared-step s ss earlier (a-wire b n) e h =
+      let c : moduleCount ss ≡ suc m = sym (wire-counts b n ss) ∙ e in
+      by-test (ltb w (length (wires ss)))
+      (λ q. declared-more (wire-stmt b n ∷ []) ss m w (earlier c (ltb-true w (length (wires ss)) q)))
+      (λ q.
+      let k : length (wires ss) ≡ w = omega (arith, ltb-false w (length (wires ss)) q, one-wire b n ss) in
+      record { before = ss; behind = []; body = b; name = n; all = refl; module-is = c; number-is = k })
+  declared-step s ss earlier (no-wire y z) e h =
+      by-test (is aModule s)
+      (λ q. absurd (omega (arith, no-wires s ss q)))
+      (λ q.
+      let k : length (wires (s ∷ ss)) ≡ length (wires ss) = ap length (same-wires s ss q z) in
+      declared-more (s ∷ []) ss m w (earlier (sym (other-counts s ss q) ∙ e) (omega arith)))
+
+  declared-open : (ss : Past) → moduleCount ss ≡ suc m → w < length (wires ss) → Declared ss m w
+  declared-open [] e h = absurd (let z : moduleCount [] ≡ 0 = none-counts in omega arith)
+  declared-open (s ∷ ss) e h = declared-step s ss (declared-open ss) (adds s) e h
+
+-- A WIRE OF A MODULE IS DECLARED
+module _ (ss : Past) (m w : ℕ) where
+  module-wires : m < moduleCount ss → length (wiresOf (statementsOf m (reverse ss))) ≡ length (wires (upTo m ss))
+  unfolding wires
+  module-wires b =
+      ap (λ (qs : List Statement). length (wiresOf qs)) (module-past ss m b)
+      ∙ ap length (sym (wires-back (ofModule (upTo m ss))))
+      ∙ length-reverse (wiresOf (ofModule (upTo m ss)))
+
+  no-module-wires : moduleCount ss ≤ m → length (wiresOf (statementsOf m (reverse ss))) ≡ 0
+  unfolding flatMap
+  no-module-wires b = ap (λ (qs : List Statement). length (wiresOf qs)) (no-module ss m b)
+
+  pub wire-declared : w < length (wiresOf (statementsOf m (reverse ss))) → Declared ss m w
+  wire-declared h =
+      by-test (ltb m (moduleCount ss))
+      (λ e.
+      let b : m < moduleCount ss = ltb-true m (moduleCount ss) e in
+      let x = up-to-split m ss in
+      let d : Declared (upTo m ss) m w = declared-open m w (upTo m ss) (up-to-count m ss b) (omega (arith, module-wires b)) in
+      rw (x .1) (declared-more (x .0) (upTo m ss) m w d))
+      (λ e. absurd (omega (arith, no-module-wires (ltb-false m (moduleCount ss) e))))
+
+  -- and it is the design's, with the attributes right before its statement
+  pub declared-wire : (d : Declared ss m w) → wireAt (design (reverse ss)) m w ≡ some (object (settingsBefore (d .before)) (d .name) (d .body))
+  declared-wire d =
+      let s : Statement = wire-stmt (d .body) (d .name) in
+      let e : reverse ss ≡ reverse (d .before) ++ s ∷ reverse (d .behind) =
+      ap reverse (d .all)
+      ∙ reverse-append (d .behind) (s ∷ d .before)
+      ∙ ap (λ (l : List Statement). l ++ reverse (d .behind)) (reverse-cons s (d .before))
+      ∙ append-assoc (reverse (d .before)) (s ∷ []) (reverse (d .behind)) in
+      rw (e, ← d .number-is) (wire-in-file (d .body) (d .name) (d .before) (reverse (d .behind)) m (d .module-is))
+
+-- ITS ROW in the table of wires is its number behind the first of its module's range; its statement's row says so
+wires-counted : (before : Past) → wiresIn (ofModule before) ≡ length (wires before)
+unfolding wires placeOf
+wires-counted before = sym (length-all-wires (ofModule before))
+
+module _ {names t : List ℕ} (m w : ℕ) (ss xs before : Past) (e : ss ≡ xs ++ before) where
+  wire-row : moduleCount before ≡ suc m → length (wires before) ≡ w → Headed ss → Wired (roomsOf ss) names t → wiresIn before ≡ wireRange t (wiresIn ss) m .first + w
+  wire-row c k h l =
+      rw (e, ← k, ← wires-counted before) (range-number m before (omega arith) c xs (rw e at h) (rw e at l))
+
+module _ {names rows : List ℕ} where
+  laid-behind : (xs before : Past) → Laid (roomsOf (xs ++ before)) names rows → Laid (roomsOf before) names rows
+  laid-behind [] before l = l
+  laid-behind (x ∷ xs) before l = laid-behind xs before (laid-before x (xs ++ before) l)
+
+  statement-row :
+      (b : Wire) (n : Name) (before : Past) (k : ℕ) → k ≡ length before → Laid (roomsOf (wire-stmt b n ∷ before)) names rows →
+      (kindAt rows k ≡ 5) × (column rows k 3 ≡ wiresIn before)
+  unfolding roomsOf kindAt statementRow columns row padded used statementsOpen
+  statement-row b n before k e l =
+      let q : k ≡ length (roomsOf before .rows) = e ∙ sym (length-rows before) in
+      let r : RowIs rows k (statementRow (used (roomsOf before)) (wire-stmt b n)) = rw q (laid-row (roomsOf before) (wire-stmt b n) (eights-rows before) l) in
+      (r 0 (omega arith), r 3 (omega arith) ∙ rooms-wires before)
+
+module _ (ss : Past) (m w : ℕ) (d : Declared ss m w) where
+  pub declared-number : {names t : List ℕ} → Headed ss → Wired (roomsOf ss) names t → wiresIn (d .before) ≡ wireRange t (wiresIn ss) m .first + w
+  declared-number h l =
+      wire-row m w ss (d .behind ++ wire-stmt (d .body) (d .name) ∷ []) (d .before)
+      (d .all ∙ sym (append-assoc (d .behind) (wire-stmt (d .body) (d .name) ∷ []) (d .before)))
+      (d .module-is)
+      (d .number-is)
+      h
+      l
+
+  pub declared-row : {names rows : List ℕ} → Laid (roomsOf ss) names rows → (kindAt rows (length (d .before)) ≡ 5) × (column rows (length (d .before)) 3 ≡ wiresIn (d .before))
+  declared-row {names} {rows} l =
+      let e = d .all in
+      let q : Laid (roomsOf (d .behind ++ wire-stmt (d .body) (d .name) ∷ d .before)) names rows = subst (λ (x : Past). Laid (roomsOf x) names rows) e l in
+      statement-row (d .body) (d .name) (d .before) (length (d .before)) refl (laid-behind (d .behind) (wire-stmt (d .body) (d .name) ∷ d .before) q)

@@ -1,0 +1,317 @@
+-- The lines of a file so far, where they end, and what the whole reading leaves.
+-- Assumes nothing.
+use Prim.Native.Nat.{ℕ, zero-le, _-_, _*_, _≤_, _<_}
+use mathlib.Core.Path.{_≡_, refl, sym, ap, _∙_, subst}
+use mathlib.Core.Bool.{Bool, true, false, not, cond, _&&_}
+use mathlib.Core.List.{List, [], reverse, flatMap}
+use native.Mathlib.Omega.{arith}
+use lib.Dec.{ltb, eqb}
+use lib.ListN.{length, take, drop, drop-of-length-le, replicate}
+use lib.Seq.{length-take-le}
+use borrow.Author.Tests.{eq-eqb, ltb-false, lt-ltb, le-ltb, eqb-true}
+use Rattle.rules.specs.Lines as rules
+use Rattle.rules.specs.Lines.{linesFrom, lines, place}
+use Rattle.rules.specs.Tokens.{tokensFrom}
+use Rattle.rules.specs.Tokens as tokens
+use Rattle.rules.specs.Judgement.{Past, context}
+use Rattle.rules.specs.Reading as reading
+use Rattle.rules.specs.Reading.{lexed, outcome, isTop, finish, next, readLines, readAny, read}
+use Rattle.rules.specs.Layout.{Rooms, empty, putAll, putRenames, rooms, used, memory, layout}
+use Rattle.rules.specs.Layout as layouts
+use Rattle.tables.specs.Padded.{padded-nil}
+use Rattle.scanner.specs.Class.{inClass}
+use Rattle.scanner.specs.Runs.{endOf}
+use Rattle.scanner.specs.Lines.{lineFrom}
+use Rattle.scanner.specs.Laws.{by-test, by-cond, and-true-left, and-true-right}
+use Rattle.scanner.specs.declared.lines.Line.{Line}
+use Rattle.scanner.proofs.ClassLaws.{class-blank}
+use Rattle.scanner.proofs.RunLaws.{endOf-low, endOf-high}
+use Rattle.scanner.proofs.LineLaws.{lines-from, line-low, line-high, line-next}
+use Rattle.past.specs.Place.{placeOf, scopeOf, contextOf}
+use Rattle.past.specs.Sizes.{sumsOf}
+use Rattle.past.specs.declared.place.Place.{Place}
+use Rattle.past.specs.declared.sizes.Sizes.{Sizes}
+use Rattle.past.proofs.PlaceLaws.{context-is}
+use Rattle.admitted.specs.AcceptedLaws.{none-accepted}
+use Rattle.netlist.specs.Laid.{roomsOf}
+use Rattle.netlist.specs.LaidLaws.{rooms-past}
+use Rattle.layout.specs.Put.{Tables, tablesOf}
+use Rattle.layout.specs.Stored.{tabled, Sized, usedBy}
+use Rattle.layout.proofs.PastLaws.{used-past}
+use Rattle.reader.specs.Read.{Result, result, lent, rightSizes, rightLengths, leaves, readInto}
+use Rattle.reader.specs.Steps.{lineOf, LineFits, Done, Goes, StepIs, StepAs, refusalOf, finishOf, Landed}
+use Rattle.reader.specs.declared.Step.{Step}
+use Rattle.reader.specs.declared.Step.the-variants.{Next, Stop}
+use Rattle.reader.specs.declared.Answer.{Answer}
+use Rattle.reader.specs.declared.Answer.the-variants.{Accepted, Refused}
+use Rattle.reader.proofs.StepLaws.{sized-past}
+
+-- ---- the lines
+
+-- the place of a line is where its blanks end
+pub place-end : (f : List ℕ) (l : Line) → place (lineOf f l) ≡ endOf (inClass 3 3) (take (l .end - 0) (drop 0 f)) (l .start)
+unfolding place lineOf endOf
+place-end f l = let q : l .end - 0 ≡ l .end = omega arith in rw (q, class-blank)
+
+pub end-small :
+    (f : List ℕ) (l : Line) (lo hi r : ℕ) → r ≡ endOf (inClass lo hi) (take (l .end - 0) (drop 0 f)) (l .start) → l .start ≤ l .end → l .end ≤ length f → length f ≤ 32768 → r ≤ 32768
+end-small f l lo hi r e low high file =
+    let q : length (take (l .end - 0) f) ≡ l .end - 0 = length-take-le (l .end - 0) f (omega arith) in
+    omega (arith, endOf-high (inClass lo hi) (take (l .end - 0) f) (l .start) (omega arith))
+
+-- behind the last byte stands a line without a token
+end-line : (size at : ℕ) (ss : Past) → readLines size (linesFrom at []) ss ≡ finish size ss
+unfolding readLines linesFrom outcome tokens.tokens tokensFrom lexed next
+end-line size at ss = refl
+
+module _ (f : List ℕ) (at : ℕ) (l : Line) (is : l ≡ lineFrom f at) where
+  fits : (tokens scratch : List ℕ) → at ≤ length f → length f ≤ 32768 → length tokens ≡ 131072 → length scratch ≡ 36864 → LineFits f l tokens scratch
+  unfolding lineFrom
+  fits tokens scratch h file t s =
+      subst (λ (x : Line). LineFits f x tokens scratch) (sym is)
+      (record { low = line-low f at; high = line-high f at h; file = file; tokens-long = t; scratch-long = s })
+
+  -- the next line starts behind, in the file
+  next-low : at < length f → at < lineFrom f at .next
+  unfolding lineFrom
+  next-low h =
+      let z : ℕ = endOf (inClass 1 14) f at in
+      by-cond (λ (k : ℕ). at < k) (ltb z (length f)) (λ e. omega (arith, endOf-low (inClass 1 14) f at)) (λ e. omega (arith, ltb-false z (length f) e))
+
+  on : at < length f → at < l .next
+  on h = rw is (next-low h)
+
+  inside : at ≤ length f → l .next ≤ length f
+  inside h = rw is (line-next f at h)
+
+  -- the lines behind it are those from there on
+  behind : (size : ℕ) (ss : Past) → readLines size (cond (lineFrom f at .ended) (linesFrom (lineFrom f at .next) (drop (lineFrom f at .next) f)) []) ss
+      ≡ readLines size (linesFrom (lineFrom f at .next) (drop (lineFrom f at .next) f)) ss
+  unfolding lineFrom readLines
+  behind size ss =
+      let z : ℕ = endOf (inClass 1 14) f at in
+      by-test (ltb z (length f))
+      (λ e. rw e)
+      (λ e. let h : length f ≤ z = ltb-false z (length f) e in rw (e, drop-of-length-le f h) (sym (end-line size z ss)))
+
+  lines-at : (size : ℕ) (ss : Past) → readLines size (linesFrom at (drop at f)) ss
+      ≡ next (readLines size (cond (l .ended) (linesFrom (l .next) (drop (l .next) f)) [])) ss (outcome ss (lineOf f l))
+  unfolding readLines lineOf lineFrom
+  lines-at size ss = rw is (ap (λ (ls : List rules.Line). readLines size ls ss) (lines-from f at))
+
+  pub lines-more : (size : ℕ) (ss ss′ : Past) → ((more : Past → reading.Answer) → next more ss (outcome ss (lineOf f l)) ≡ more ss′)
+      → readLines size (linesFrom at (drop at f)) ss ≡ readLines size (linesFrom (l .next) (drop (l .next) f)) ss′
+  lines-more size ss ss′ go = lines-at size ss ∙ go _ ∙ rw is (behind size ss′)
+
+  pub lines-stop : (size n : ℕ) (ss : Past) → outcome ss (lineOf f l) ≡ reading.Outcome.refused n (place (lineOf f l))
+      → readLines size (linesFrom at (drop at f)) ss ≡ reading.refused n (place (lineOf f l))
+  unfolding next
+  lines-stop size n ss e = lines-at size ss ∙ ap (next _ ss) e
+
+-- ---- the loop over the lines
+
+pub record Reached (f tokens scratch : List ℕ) (p : Place) (u : Sizes) (t : Tables) (at : ℕ) : Type 0 where
+  pub inside : at ≤ length f
+  pub file : length f ≤ 32768
+  pub tokens-long : length tokens ≡ 131072
+  pub scratch-long : length scratch ≡ 36864
+  pub past : Past
+  pub done : Done past p u t
+  pub rest : readAny f ≡ readLines (length f) (linesFrom at (drop at f)) past
+
+-- the lines before this one are read
+pub record Before (f tokens scratch : List ℕ) (p : Place) (u : Sizes) (t : Tables) (l : Line) : Type 0 where
+  pub reached : Reached f tokens scratch p u t (l .start)
+  pub is : l ≡ lineFrom f (l .start)
+
+pub before : {f tokens scratch : List ℕ} {p : Place} {u : Sizes} {t : Tables} (at : ℕ) (l : Line) → Reached f tokens scratch p u t at → l ≡ lineFrom f at → Before f tokens scratch p u t l
+unfolding lineFrom
+before {f} {tokens} {scratch} {p} {u} {t} at l r e =
+    let q : at ≡ l .start = sym (ap (λ (x : Line). x .start) e) in
+    record { reached = subst (Reached f tokens scratch p u t) q r; is = subst (λ (k : ℕ). l ≡ lineFrom f k) q e }
+
+-- fewer bytes are left behind it
+pub less :
+    {f tokens scratch : List ℕ} {p : Place} {u : Sizes} {t : Tables} {l : Line} → Before f tokens scratch p u t l → (l′ : Line) → l .start < length f → l′ ≡ lineFrom f (l .next) →
+    length f - l′ .start < length f - l .start
+unfolding lineFrom
+less {f} {l = l} b l′ h e = omega (arith, on f (l .start) l (b .is) h, ap (λ (x : Line). x .start) e)
+
+pub reached-start :
+    (f tokens scratch : List ℕ) (p : Place) (u : Sizes) (t : Tables) →
+    (length f ≤ 32768) × (length tokens ≡ 131072) × (length scratch ≡ 36864) × (t ≡ tablesOf (memory empty 0)) →
+    p ≡ placeOf [] → u ≡ sumsOf [] → Reached f tokens scratch p u t 0
+unfolding roomsOf readAny lines
+reached-start f tokens scratch p u t h ep eu =
+    record {
+      inside = zero-le;
+      file = h .0;
+      tokens-long = h .1;
+      scratch-long = h .2;
+      past = [];
+      done = record { accepted = none-accepted; place-is = sym ep; sums-are = sym eu; tables-are = h .3 };
+      rest = refl;
+    }
+
+module _ {f tokens scratch : List ℕ} {p : Place} {u : Sizes} {t : Tables} {at : ℕ} (r : Reached f tokens scratch p u t at) where
+  pub reached-fits : (l : Line) → l ≡ lineFrom f at → LineFits f l tokens scratch
+  reached-fits l is = fits f at l is tokens scratch (r .inside) (r .file) (r .tokens-long) (r .scratch-long)
+
+  module _ (l : Line) (is : l ≡ lineFrom f at) (x : Step) (t′ : Tables) (st : StepAs f l p u t t′ x) where
+    -- a turn of the loop
+    pub reached-more : (tokens′ scratch′ : List ℕ) (p′ : Place) (u′ : Sizes) → x ≡ Next p′ u′ → length tokens′ ≡ length tokens → length scratch′ ≡ length scratch →
+        Reached f tokens′ scratch′ p′ u′ t′ (l .next)
+    reached-more tokens′ scratch′ p′ u′ e kt ks =
+        let g : Goes (r .past) (lineOf f l) p′ u′ t′ = subst (StepIs (r .past) (lineOf f l) t′) e (st (r .past) (r .done)) in
+        record {
+          inside = inside f at l is (r .inside);
+          file = r .file;
+          tokens-long = kt ∙ r .tokens-long;
+          scratch-long = ks ∙ r .scratch-long;
+          past = g .past;
+          done = g .done;
+          rest = r .rest ∙ lines-more f at l is (length f) (r .past) (g .past) (g .goes);
+        }
+
+    -- it is left where a line is refused
+    pub landed-stop : (n : ℕ) (a : Answer) → x ≡ Stop n → a ≡ refusalOf f l x → Landed (readAny f) t′ a
+    unfolding refusalOf
+    landed-stop n a e ea =
+        let o : outcome (r .past) (lineOf f l) ≡ reading.Outcome.refused n (place (lineOf f l)) = subst (StepIs (r .past) (lineOf f l) t′) e (st (r .past) (r .done)) in
+        let q : readAny f ≡ reading.refused n (place (lineOf f l)) = r .rest ∙ lines-stop f at l is (length f) n (r .past) o in
+        subst (λ (g : reading.Answer). Landed g t′ a) (sym q) (ea ∙ ap (refusalOf f l) e)
+
+  -- it is left at the file's end
+  top-scope : (n : ℕ) → isTop (scopeOf n) ≡ eqb n 0
+  unfolding isTop scopeOf
+  top-scope n = by-test (eqb n 0) (λ e. rw e) (λ e. by-test (eqb n 1) (λ h. rw (e, h)) (λ h. rw (e, h)))
+
+  ends : isTop (context (r .past) .scope) && not (context (r .past) .attributed) ≡ eqb (p .scope) 0 && not (p .attributed)
+  unfolding contextOf
+  ends = rw (context-is (r .past), r .done .place-is, top-scope (p .scope))
+
+  room-used : u .«name_bytes» ≡ length (putAll empty (reverse (r .past)) .names)
+  unfolding used usedBy
+  room-used =
+      rw (rooms-past (r .past), ← r .done .sums-are) (sym (ap (λ (v : layouts.Used). v .names) (used-past (r .past))))
+
+  finish-landed : (size : ℕ) → Landed (finish size (r .past)) t (finishOf size p u)
+  unfolding finish finishOf
+  finish-landed size =
+      let b : Bool = eqb (p .scope) 0 && not (p .attributed) in
+      by-test b
+      (λ e. rw (ends, e) (ap Accepted room-used, r .done .tables-are ∙ ap (λ (R : Rooms). tablesOf (memory R 0)) (sym (rooms-past (r .past)))))
+      (λ e. rw (ends, e) refl)
+
+  pub landed-end : (a : Answer) → length f ≤ at → a ≡ finishOf (length f) p u → Landed (readAny f) t a
+  landed-end a h ea =
+      let q : readAny f ≡ finish (length f) (r .past) =
+      r .rest ∙ ap (λ (s : List ℕ). readLines (length f) (linesFrom at s) (r .past)) (drop-of-length-le f {i = at} h) ∙ end-line (length f) at (r .past) in
+      rw (q, ea) (finish-landed (length f))
+
+-- ---- the whole file
+
+pub cleared :
+    {n s b w r : List ℕ} (n₀ s₀ b₀ w₀ r₀ : List ℕ) → Sized (tabled n₀ s₀ b₀ w₀ r₀) →
+    n ≡ replicate (length n₀) 0 → s ≡ replicate (length s₀) 0 → b ≡ replicate (length b₀) 0 → w ≡ replicate (length w₀) 0 → r ≡ replicate (length r₀) 0 →
+    tabled n s b w r ≡ tablesOf (memory empty 0)
+unfolding tablesOf memory flatMap
+cleared n₀ s₀ b₀ w₀ r₀ z en es eb ew er =
+    let zeros : (k m : ℕ) → k ≡ m → replicate k 0 ≡ layouts.padded m [] = λ k m e. ap (λ (i : ℕ). replicate i 0) e ∙ sym (padded-nil m) in
+    λ i. record {
+      names = (en ∙ zeros (length n₀) 16384 (z .names)) i;
+      strings = (es ∙ zeros (length s₀) 8192 (z .strings)) i;
+      bits = (eb ∙ zeros (length b₀) 16384 (z .bits)) i;
+      wires = (ew ∙ zeros (length w₀) (8 * 512) (z .wires)) i;
+      rows = (er ∙ zeros (length r₀) (8 * 4769) (z .rows)) i;
+    }
+
+pub zero-sized : (t : Tables) → t ≡ tablesOf (memory empty 0) → Sized t
+unfolding roomsOf
+zero-sized t e = rw e (sized-past [] none-accepted)
+
+-- tables that keep their lengths
+pub still-sized :
+    {n s b w r : List ℕ} (n₀ s₀ b₀ w₀ r₀ : List ℕ) → Sized (tabled n₀ s₀ b₀ w₀ r₀) →
+    length n ≡ length n₀ → length s ≡ length s₀ → length b ≡ length b₀ → length w ≡ length w₀ → length r ≡ length r₀ → Sized (tabled n s b w r)
+still-sized n₀ s₀ b₀ w₀ r₀ z en es eb ew er =
+    record { names = en ∙ z .names; strings = es ∙ z .strings; bits = eb ∙ z .bits; wires = ew ∙ z .wires; rows = er ∙ z .rows }
+
+module _ {n s b w r : List ℕ} where
+  lent-is : (R : Rooms) (m : ℕ) → tabled n s b w r ≡ tablesOf (memory R 0) → m ≡ length (R .names) → lent n s b w r 0 m ≡ memory R 0
+  unfolding tablesOf memory
+  lent-is R m e k = λ i. record {
+    names = e i .names;
+    strings = e i .strings;
+    bits = e i .bits;
+    wires = e i .wires;
+    rows = e i .rows;
+    renames = 0;
+    room = k i;
+  }
+
+  pub left-accepted : (g : reading.Answer) (a : Answer) (m : ℕ) → Landed g (tabled n s b w r) a → a ≡ Accepted m → result 0 0 (lent n s b w r 0 m) ≡ leaves g
+  unfolding leaves layout rooms putRenames
+  left-accepted (reading.accepted ss) a m h e =
+      let k : m ≡ length (putAll empty ss .names) = cc (h .0) in ap (result 0 0) (lent-is (putAll empty ss) m (h .1) k)
+  left-accepted (reading.refused i p) a m h e = cc
+
+  -- the tables are zero on a refusal
+  left-zero : (i p : ℕ) → tabled n s b w r ≡ tablesOf (memory empty 0) → result i p (lent n s b w r 0 0) ≡ result i p (memory empty 0)
+  left-zero i p z = ap (result i p) (lent-is empty 0 z refl)
+
+  pub left-refused : (g : reading.Answer) (t : Tables) (a : Answer) (i p : ℕ) → Landed g t a → a ≡ Refused i p → tabled n s b w r ≡ tablesOf (memory empty 0)
+      → result i p (lent n s b w r 0 0) ≡ leaves g
+  unfolding leaves
+  left-refused (reading.accepted ss) t a i p h e z = cc (h .0)
+  left-refused (reading.refused j q) t a i p h e z =
+      let k : j ≡ i = cc in let o : q ≡ p = cc in rw (k, o) (left-zero i p z)
+
+  pub left-long : (f : List ℕ) → 32768 < length f → tabled n s b w r ≡ tablesOf (memory empty 0) → result 2 0 (lent n s b w r 0 0) ≡ leaves (read f)
+  unfolding leaves read
+  left-long f h z = rw (lt-ltb _ _ h) (left-zero 2 0 z)
+
+pub read-any : (f : List ℕ) → length f ≤ 32768 → read f ≡ readAny f
+unfolding read
+read-any f h = rw (le-ltb _ _ h)
+
+-- ---- lengths
+
+sizes-exact : (n s b w r : ℕ) → rightSizes n s b w r ≡ true → (n ≡ 16384) × (s ≡ 8192) × (b ≡ 16384) × (w ≡ 8 * 512) × (r ≡ 8 * 4769)
+unfolding rightSizes
+sizes-exact n s b w r e =
+    let en : Bool = eqb n 16384 in
+    let es : Bool = eqb s 8192 in
+    let eb : Bool = eqb b 16384 in
+    let ew : Bool = eqb w (8 * 512) in
+    let er : Bool = eqb r (8 * 4769) in
+    let e₃ = and-true-left (en && es && eb && ew) er e in
+    let e₂ = and-true-left (en && es && eb) ew e₃ in
+    let e₁ = and-true-left (en && es) eb e₂ in (
+      eqb-true _ _ (and-true-left en es e₁),
+      eqb-true _ _ (and-true-right en es e₁),
+      eqb-true _ _ (and-true-right (en && es) eb e₂),
+      eqb-true _ _ (and-true-right (en && es && eb) ew e₃),
+      eqb-true _ _ (and-true-right (en && es && eb && ew) er e),
+    )
+
+pub right-sized : (n s b w r : List ℕ) → rightSizes (length n) (length s) (length b) (length w) (length r) ≡ true → Sized (tabled n s b w r)
+right-sized n s b w r e =
+    let h = sizes-exact (length n) (length s) (length b) (length w) (length r) e in
+    record { names = h .0; strings = h .1; bits = h .2; wires = h .3; rows = h .4 }
+
+pub wrong-sizes : (n s b w r : ℕ) → ((n ≡ 16384) × (s ≡ 8192) × (b ≡ 16384) × (w ≡ 8 * 512) × (r ≡ 8 * 4769) → ⊥) → false ≡ rightSizes n s b w r
+wrong-sizes n s b w r h = by-test (rightSizes n s b w r) (λ e. absurd (h (sizes-exact n s b w r e))) (λ e. sym e)
+
+pub last-size : (n s b w r : ℕ) → n ≡ 16384 → s ≡ 8192 → b ≡ 16384 → w ≡ 8 * 512 → eqb r (8 * 4769) ≡ rightSizes n s b w r
+unfolding rightSizes
+last-size n s b w r en es eb ew = rw (eq-eqb _ _ en, eq-eqb _ _ es, eq-eqb _ _ eb, eq-eqb _ _ ew)
+
+module _ (f n s b w r : List ℕ) (k m : ℕ) (t : Bool) (e : t ≡ rightSizes (length n) (length s) (length b) (length w) (length r)) where
+  pub into-right : t ≡ true → (x : Result) → x ≡ leaves (read f) → x ≡ readInto f (lent n s b w r k m)
+  unfolding readInto rightLengths
+  into-right h x q = rw (← e, h) q
+
+  pub into-wrong : t ≡ false → result 1 0 (lent n s b w r k m) ≡ readInto f (lent n s b w r k m)
+  unfolding readInto rightLengths
+  into-wrong h = rw (← e, h)

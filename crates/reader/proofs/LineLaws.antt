@@ -1,0 +1,181 @@
+-- What a line gives, by the rows that the lexer leaves and the verdict on them.
+-- Assumes nothing.
+use Prim.Native.Nat.{ℕ, suc, _+_, _-_, _*_, _/_, _<_, _≤_}
+use mathlib.Core.Path.{_≡_, refl, sym, ap, _∙_, subst}
+use mathlib.Core.Bool.{Bool, true, false, not, Bool·not-not}
+use mathlib.Core.List.{List, [], _∷_}
+use native.Mathlib.Omega.{arith}
+use lib.Dec.{ltb}
+use lib.ListN.{length, getD, take, drop}
+use lib.Seq.{length-take-le, getD-take}
+use borrow.Author.Tests.{ltb-true}
+use Rattle.rules.specs.Lines as rules
+use Rattle.rules.specs.Lines.{place}
+use Rattle.rules.specs.Tokens.{Token, good}
+use Rattle.rules.specs.Shapes.{shape}
+use Rattle.rules.specs.Judgement.{Past, context}
+use Rattle.rules.specs.Reading as reading
+use Rattle.rules.specs.Reading.{shaped, stated, judged, lexed, outcome, skipped}
+use Rattle.scanner.specs.Laws.{by-test}
+use Rattle.scanner.specs.declared.lines.Line.{Line}
+use Rattle.tokens.specs.Rows.{rowOf, tokenAt, rowsFrom, line}
+use Rattle.tokens.specs.declared.Constant.the-variants as constant
+use Rattle.tokens.specs.declared.Token as row
+use Rattle.tokens.specs.declared.Token.the-variants.{Name, Word, Constant as Constantly, Mark, End}
+use Rattle.tokens.proofs.Laws.{present, front-token}
+use Rattle.lexer.specs.Lexemes.{Held}
+use Rattle.lexer.specs.Lines.{lexedOf, Among, LexedIs}
+use Rattle.lexer.specs.declared.Lexed.{Lexed}
+use Rattle.lexer.specs.declared.Lexed.the-variants.{Tokens, Bad}
+use Rattle.signals.specs.Reads.{WholeToken, Closed}
+use Rattle.syntax.specs.Statements.{Ready}
+use Rattle.judgement.specs.Judged as judgement
+use Rattle.judgement.specs.Judged.{Verdicts}
+use Rattle.judgement.specs.declared.Judged.{Judged}
+use Rattle.judgement.specs.declared.Judged.the-variants as judgedly
+use Rattle.reader.specs.Steps.{lineOf, judgedAs, OutcomeIs, Storable}
+use Rattle.reader.specs.declared.Outcome.{Outcome}
+
+-- ---- the rows of a line
+
+whole : (f : List ℕ) (x : row.Token) → Held f x → WholeToken f x
+whole f (Name a b) h = tt
+whole f (Word c) h = tt
+whole f (Constantly (constant.Integer z)) h = tt
+whole f (Constantly (constant.Value a b c)) h = tt
+whole f (Constantly (constant.Text a)) h = h .1
+whole f (Mark b) h = tt
+whole f End h = tt
+
+module _ (f t : List ℕ) (n : ℕ) (room : 4 * n ≤ length t) where
+  abbrev rows : List ℕ
+  rows = take (4 * n) t
+
+  long : length rows ≡ 4 * n
+  long = length-take-le (4 * n) t room
+
+  row-taken : (i : ℕ) → i < n → rowOf rows i ≡ rowOf t i
+  unfolding rowOf
+  row-taken i h =
+      let at : (j : ℕ) → j < 4 → getD rows (4 * i + j) 0 ≡ getD t (4 * i + j) 0 = λ j k. getD-take (4 * n) t (4 * i + j) 0 (omega arith) in
+      let first : getD rows (4 * i) 0 ≡ getD t (4 * i) 0 = getD-take (4 * n) t (4 * i) 0 (omega arith) in
+      rw (first, at 1 (omega arith), at 2 (omega arith), at 3 (omega arith))
+
+  closed : ((k : ℕ) → k < n → Held f (rowOf t k)) → Closed f rows
+  unfolding tokenAt
+  closed held =
+      record {
+        whole = λ i.
+            by-test (ltb i (length rows / 4))
+            (λ e. let k : i < n = omega (arith, long, ltb-true i (length rows / 4) e) in rw (e, row-taken i k) (whole f (rowOf t i) (held i k)))
+            (λ e. rw e tt);
+      }
+
+-- a row gives a token
+rows-some : (f t : List ℕ) (k : ℕ) → rowsFrom f t (suc k) 0 ≡ [] → ⊥
+unfolding rowsFrom
+rows-some f t k e = let z : _≡_ {A = ℕ} 0 1 = cc (front-token f (rowOf t 0) (rowsFrom f t k (0 + 1)) (present t 0)) in omega arith
+
+line-some : (f t : List ℕ) (n : ℕ) → length t ≡ 4 * n → (n ≡ 0 → ⊥) → line f t 0 ≡ [] → ⊥
+unfolding line
+line-some f t n e h q =
+    let k : length t / 4 - 0 ≡ suc (n - 1) = omega (arith, h) in rows-some f t (n - 1) (rw k at q)
+
+-- ---- the outcome
+
+not-is : (a b : Bool) → not a ≡ b → a ≡ not b
+not-is a b e = sym (Bool·not-not a) ∙ ap not e
+
+lexed-some : (ss : Past) (l : rules.Line) (ts : List Token) → (ts ≡ [] → ⊥) → lexed ss l (good ts) ≡ judged (place l) (stated ss (l .ended) ts)
+unfolding lexed
+lexed-some ss l [] h = absurd (h refl)
+lexed-some ss l (t ∷ ts) h = refl
+
+module _ (ss : Past) (f old new : List ℕ) (l : Line) (x : Lexed) (L : LexedIs f (l .start) (l .end) old new x) where
+  by-lexed : (y : Lexed) → x ≡ y → outcome ss (lineOf f l) ≡ lexed ss (lineOf f l) (lexedOf f (l .end) new y)
+  unfolding outcome lineOf
+  by-lexed y e = ap (lexed ss (lineOf f l)) (L .is ∙ ap (lexedOf f (l .end) new) e)
+
+  pub outcome-bad : (p : ℕ) → x ≡ Bad p → outcome ss (lineOf f l) ≡ reading.Outcome.refused 4 (place (lineOf f l))
+  unfolding lexedOf lexed
+  outcome-bad p e = by-lexed (Bad p) e
+
+  pub outcome-none : (n : ℕ) → x ≡ Tokens n → n ≡ 0 → outcome ss (lineOf f l) ≡ skipped
+  unfolding lexedOf lexed line rowsFrom
+  outcome-none n e z = by-lexed (Tokens 0) (e ∙ ap Tokens z)
+
+  module _ (n : ℕ) (e : x ≡ Tokens n) where
+    among : Among f (l .start) (l .end) new (Tokens n)
+    among = subst (Among f (l .start) (l .end) new) e (L .among)
+
+    module _ (inside : l .end ≤ length f) (file : length f ≤ 32768) (old-long : length old ≡ 131072) where
+      few : 4 * n ≤ 131072
+      few = omega (arith, among .0)
+
+      fits : 4 * n ≤ length new
+      fits = omega (arith, few, L .kept)
+
+      some-tokens : (n ≡ 0 → ⊥) → outcome ss (lineOf f l) ≡ judged (place (lineOf f l)) (stated ss (l .ended) (line f (take (4 * n) new) 0))
+      unfolding lexedOf lineOf
+      some-tokens h = by-lexed (Tokens n) e ∙ lexed-some ss (lineOf f l) _ (line-some f (take (4 * n) new) n (long f new n fits) h)
+
+      pub outcome-open : (n ≡ 0 → ⊥) → not (l .ended) ≡ true → outcome ss (lineOf f l) ≡ reading.Outcome.refused 5 (place (lineOf f l))
+      unfolding stated judged
+      outcome-open h k = some-tokens h ∙ ap (λ (b : Bool). judged (place (lineOf f l)) (stated ss b (line f (take (4 * n) new) 0))) (not-is (l .ended) true k)
+
+      pub outcome-shaped :
+          (n ≡ 0 → ⊥) → not (l .ended) ≡ false →
+          outcome ss (lineOf f l) ≡ judged (place (lineOf f l)) (shaped ss (shape (context ss) (line f (take (4 * n - 0) (drop 0 new)) 0)))
+      unfolding stated
+      outcome-shaped h k =
+          let q : 4 * n ≡ 4 * n - 0 = omega arith in
+          some-tokens h
+          ∙ ap (λ (b : Bool). judged (place (lineOf f l)) (stated ss b (line f (take (4 * n) new) 0))) (not-is (l .ended) false k)
+          ∙ ap (λ (m : ℕ). judged (place (lineOf f l)) (shaped ss (shape (context ss) (line f (take m new) 0)))) q
+
+-- the rows are ready for the verdict
+module _ (f old new : List ℕ) (l : Line) (x : Lexed) (L : LexedIs f (l .start) (l .end) old new x) (n : ℕ) (e : x ≡ Tokens n)
+    (inside : l .end ≤ length f) (file : length f ≤ 32768) (old-long : length old ≡ 131072) where
+  pub rows-few : 4 * n ≤ 131072
+  rows-few = few [] f old new l x L n e inside file old-long
+
+  pub rows-fit : 4 * n ≤ length new
+  rows-fit = fits [] f old new l x L n e inside file old-long
+
+  pub rows-ready : (s : List ℕ) (count : ℕ) → length s ≡ 36864 → count ≤ 512 → (n ≡ 0 → ⊥) → Ready f (take (4 * n - 0) (drop 0 new)) s count
+  rows-ready s count scratch c first =
+      let q : 4 * n ≡ 4 * n - 0 = omega arith in
+      let k : length (take (4 * n) new) ≡ 4 * n = long f new n rows-fit in
+      subst (λ (m : ℕ). Ready f (take m new) s count) q
+      (record {
+        rows = record {
+          file = file;
+          rows = omega (arith, k, rows-few);
+          here = omega (arith, k, first);
+          closed = closed f new n rows-fit (among [] f old new l x L n e .1);
+        };
+        room = omega arith;
+        few = c;
+      })
+
+-- ---- the verdict
+
+judged-is : (ss : Past) (l : rules.Line) (f t s : List ℕ) (j : Judged) → outcome ss l ≡ judged (place l) (shaped ss (shape (context ss) (line f t 0))) → Verdicts ss f t s j
+    → OutcomeIs ss l f s (judgedAs j)
+unfolding judgedAs judged
+judged-is ss l f t s (judgedly.Stated r u) e v =
+    record { statement = v .statement; is = e ∙ ap (judged (place l)) (v .accepts); stated = v .stated; sums-are = v .sums-are }
+judged-is ss l f t s (judgedly.Refused n) e v = e ∙ ap (judged (place l)) v
+
+pub outcome-judged :
+    (ss : Past) (l : rules.Line) (f t s : List ℕ) (j : Judged) (r : Outcome) → r ≡ judgedAs j →
+    outcome ss l ≡ judged (place l) (shaped ss (shape (context ss) (line f t 0))) → Verdicts ss f t s j → OutcomeIs ss l f s r
+outcome-judged ss l f t s j r q e v = subst (OutcomeIs ss l f s) (sym q) (judged-is ss l f t s j e v)
+
+storable-is : (f : List ℕ) (j : Judged) → judgement.Storable f j → Storable f (judgedAs j)
+unfolding judgedAs
+storable-is f (judgedly.Stated r u) h = h
+storable-is f (judgedly.Refused n) h = tt
+
+pub storable-judged : (f : List ℕ) (j : Judged) (r : Outcome) → r ≡ judgedAs j → judgement.Storable f j → Storable f r
+storable-judged f j r q h = subst (Storable f) (sym q) (storable-is f j h)

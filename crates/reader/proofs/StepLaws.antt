@@ -1,0 +1,156 @@
+-- The statements so far: what they give the next line, and what its statement adds to them.
+-- Assumes nothing.
+use Prim.Native.Nat.{ℕ, _*_, _≤_, _<_}
+use mathlib.Core.Path.{_≡_, refl, sym, ap, _∙_, subst}
+use mathlib.Core.List.{List, _∷_}
+use mathlib.Core.Option.{Option, some}
+use native.Mathlib.Omega.{arith}
+use lib.ListN.{length}
+use Rattle.rules.specs.Lines as rules
+use Rattle.rules.specs.Lines.{place}
+use Rattle.rules.specs.Statements as statements
+use Rattle.rules.specs.Statements.{code, contents, statementsOpen}
+use Rattle.rules.specs.Judgement.{Past}
+use Rattle.rules.specs.Reading as reading
+use Rattle.rules.specs.Reading.{outcome, next, skipped}
+use Rattle.rules.specs.Layout.{memory, used, padded}
+use Rattle.rules.specs.Layout as rooms
+use Rattle.tables.specs.Padded.{length-padded}
+use Rattle.tables.specs.Flat.{flat, Eights, length-flat}
+use Rattle.past.specs.Place.{placeOf, AfterIs}
+use Rattle.past.specs.Sizes.{sumsOf, Within}
+use Rattle.past.specs.declared.place.Place.{Place}
+use Rattle.past.specs.declared.sizes.Sizes.{Sizes}
+use Rattle.past.proofs.PlaceLaws.{bounds}
+use Rattle.past.proofs.SizeLaws.{same-wires}
+use Rattle.admitted.specs.AcceptedLaws.{Accepted, states-accepted, all-offsets, all-within, all-few}
+use Rattle.netlist.specs.Laid.{roomsOf}
+use Rattle.netlist.specs.LaidLaws.{laid-padded, eights-rows}
+use Rattle.netlist.specs.WireLaws.{eights-wires, wires-past}
+use Rattle.syntax.specs.Statements.{lateOf, statementIn, kindIn, Sound}
+use Rattle.syntax.specs.declared.Statement.{Statement}
+use Rattle.syntax.specs.declared.Statement.the-variants.{Autoidx, Attribute, Module, Parameter, Wire, Memory, Cell, CellParameter, CellConnection, Connection, End, NoShape, Process, BadNumber, MissingWire}
+use Rattle.layout.specs.Put.{Tables, tablesOf, usedOf, RoomFor}
+use Rattle.layout.specs.RoomLaws.{tables-put}
+use Rattle.layout.specs.Stored as stored
+use Rattle.layout.specs.Stored.{Sized, PutIs, UsedIs, usedBy}
+use Rattle.layout.specs.declared.Used.{Used}
+use Rattle.layout.proofs.PastLaws.{used-past, room-past}
+use Rattle.judgement.specs.Judged.{Stands}
+use Rattle.reader.specs.Steps.{PlaceFits, States, OutcomeIs, Storable, Done, Goes}
+use Rattle.reader.specs.declared.Outcome.{Outcome}
+use Rattle.reader.specs.declared.Outcome.the-variants as outcomes
+
+-- ---- what the statements so far give
+
+fits-past : (ss : Past) → Within (sumsOf ss) → PlaceFits (placeOf ss) (sumsOf ss)
+fits-past ss w = record { within = w; bounds = bounds ss; few = omega (arith, same-wires ss, w .wires) }
+
+stands-past : (ss : Past) → Accepted ss → let m = memory (roomsOf ss) 0 in Stands ss (placeOf ss) (sumsOf ss) (m .names) (m .wires) (m .rows)
+unfolding memory
+stands-past ss a =
+    record { place-is = refl; sums-are = refl; laid = laid-padded 16384 (8 * 4769) (roomsOf ss); wires-are = wires-past ss 0 (all-offsets a) }
+
+flat-long : (n k : ℕ) (rs : List (List ℕ)) → Eights rs → length rs ≤ k → n ≡ 8 * k → length (padded n (flat rs)) ≡ n
+flat-long n k rs h l e = length-padded n (flat rs) (omega (arith, length-flat rs h))
+
+pub sized-past : (ss : Past) → Accepted ss → Sized (tablesOf (memory (roomsOf ss) 0))
+unfolding tablesOf memory used usedBy placeOf
+sized-past ss a =
+    let w : Within (sumsOf ss) = all-within a in
+    let q : used (roomsOf ss) ≡ usedBy (placeOf ss) (sumsOf ss) = used-past ss in
+    record {
+      names = length-padded 16384 _ (omega (arith, ap (λ (u : rooms.Used). u .names) q, w .name-bytes));
+      strings = length-padded 8192 _ (omega (arith, ap (λ (u : rooms.Used). u .strings) q, w .string-bytes));
+      bits = length-padded 16384 _ (omega (arith, ap (λ (u : rooms.Used). u .bits) q, w .value-bits, w .signal-bits));
+      wires = flat-long (8 * 512) 512 _ (eights-wires ss) (omega (arith, ap (λ (u : rooms.Used). u .wires) q, same-wires ss, w .wires)) refl;
+      rows = flat-long (8 * 4769) 4769 _ (eights-rows ss) (omega (arith, ap (λ (u : rooms.Used). u .rows) q, all-few a)) refl;
+    }
+
+module _ {ss : Past} {p : Place} {u : Sizes} {t : Tables} (d : Done ss p u t) where
+  pub done-fits : PlaceFits p u
+  done-fits = rw (← d .place-is, ← d .sums-are) (fits-past ss (all-within (d .accepted)))
+
+  pub done-stands : Stands ss p u (t .names) (t .wires) (t .rows)
+  unfolding tablesOf
+  done-stands =
+      subst (λ (x : Tables). Stands ss p u (x .names) (x .wires) (x .rows)) (sym (d .tables-are))
+      (rw (← d .place-is, ← d .sums-are) (stands-past ss (d .accepted)))
+
+  pub done-sized : Sized t
+  done-sized = rw (d .tables-are) (sized-past ss (d .accepted))
+
+  pub done-rows : p .rows < 4294967295
+  unfolding placeOf
+  done-rows = rw (← d .place-is) (omega (arith, all-few (d .accepted)))
+
+-- ---- one statement more
+
+same-some : {A : Type 0} (o : Option A) (x y : A) → o ≡ some x → o ≡ some y → x ≡ y
+same-some o x y e h = cc
+
+-- the kind of the statement that an answer stands for
+kind-some : (f s : List ℕ) (r : Statement) (x y : statements.Statement) → statementIn f s r ≡ some y → contents y .kind ≡ kindIn r → statementIn f s r ≡ some x → kindIn r ≡ contents x .kind
+kind-some f s r x y e k h = sym k ∙ ap (λ (z : statements.Statement). contents z .kind) (same-some (statementIn f s r) y x e h)
+
+kind-is : (f s : List ℕ) (r : Statement) (x : statements.Statement) → statementIn f s r ≡ some x → kindIn r ≡ contents x .kind
+unfolding statementIn kindIn statementsOpen
+kind-is f s (Autoidx w) x e = kind-some f s (Autoidx w) x _ refl refl e
+kind-is f s (Attribute n c) x e = kind-some f s (Attribute n c) x _ refl refl e
+kind-is f s (Module n) x e = kind-some f s (Module n) x _ refl refl e
+kind-is f s (Parameter n c) x e = kind-some f s (Parameter n c) x _ refl refl e
+kind-is f s (Wire n w o k p) x e = kind-some f s (Wire n w o k p) x _ refl refl e
+kind-is f s (Memory n w z o) x e = kind-some f s (Memory n w z o) x _ refl refl e
+kind-is f s (Cell k n) x e = kind-some f s (Cell k n) x _ refl refl e
+kind-is f s (CellParameter o n c) x e = kind-some f s (CellParameter o n c) x _ refl refl e
+kind-is f s (CellConnection n w l) x e = kind-some f s (CellConnection n w l) x _ refl refl e
+kind-is f s (Connection a b l) x e = kind-some f s (Connection a b l) x _ refl refl e
+kind-is f s End x e = kind-some f s End x _ refl refl e
+kind-is f s NoShape x e = cc
+kind-is f s Process x e = cc
+kind-is f s BadNumber x e = cc
+kind-is f s MissingWire x e = cc
+
+module _ {ss : Past} {p : Place} {u : Sizes} {t : Tables} (d : Done ss p u t) (l : rules.Line) (f s : List ℕ) (r : Statement) (more : Sizes)
+    (x : Outcome) (is : x ≡ outcomes.Stated r more) (st : OutcomeIs ss l f s x) (sound : Storable f x) where
+  states : States ss l f s r more
+  states = subst (OutcomeIs ss l f s) is st
+
+  storable : Sound f r × (lateOf r ≡ 0) × Within more
+  storable = subst (Storable f) is sound
+
+  room : (v : Used) → UsedIs p u v → (y : statements.Statement) → statementIn f s r ≡ some y → RoomFor (usedOf v) y
+  room v us y e =
+      let q : states .statement ≡ y = same-some (statementIn f s r) _ y (states .stated) e in
+      rw (us ss (d .place-is) (d .sums-are))
+      (room-past ss y (rw (← q, states .sums-are) (storable .2)) (omega (arith, all-few (d .accepted))))
+
+  pub put-storable : (v : Used) → UsedIs p u v → length s ≡ 36864 → stored.Storable f s r v t
+  put-storable v us k =
+      record { sound = storable .0; settled = storable .1; room = room v us; sized = done-sized d; scratch = omega arith }
+
+  pub step-stated : (v : Used) (t′ : Tables) (k : ℕ) (q : Place) → UsedIs p u v → PutIs f s r v t t′ → k ≡ code (kindIn r) → AfterIs p k q → Goes ss l q more t′
+  unfolding next roomsOf
+  step-stated v t′ k q us put e after =
+      let y : statements.Statement = states .statement in
+      record {
+        past = y ∷ ss;
+        done = record {
+          accepted = states-accepted ss l y (states .is) (d .accepted);
+          place-is = after ss y (sym (d .place-is)) (e ∙ ap code (kind-is f s r y (states .stated)));
+          sums-are = states .sums-are;
+          tables-are =
+              tables-put (roomsOf ss) y 0 (usedOf v) t t′ (d .tables-are) (us ss (d .place-is) (d .sums-are)) (record { wires = eights-wires ss; rows = eights-rows ss })
+              (room v us y (states .stated)) (put y (states .stated));
+        };
+        goes = λ m. ap (next m ss) (states .is);
+      }
+
+module _ {ss : Past} {p : Place} {u : Sizes} {t : Tables} (d : Done ss p u t) (l : rules.Line) (f s : List ℕ) (x : Outcome) (st : OutcomeIs ss l f s x) where
+  pub step-skipped : x ≡ outcomes.Skipped → Goes ss l p u t
+  unfolding next
+  step-skipped e =
+      let o : outcome ss l ≡ skipped = subst (OutcomeIs ss l f s) e st in record { past = ss; done = d; goes = λ m. ap (next m ss) o }
+
+  pub step-refused : (n : ℕ) → x ≡ outcomes.Refused n → outcome ss l ≡ reading.Outcome.refused n (place l)
+  step-refused n e = subst (OutcomeIs ss l f s) e st

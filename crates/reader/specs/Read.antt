@@ -1,0 +1,37 @@
+-- Reading a file into design memory: what each outcome leaves.
+use Prim.Native.Nat.{ℕ, _*_}
+use mathlib.Core.List.{List, []}
+use mathlib.Core.Bool.{Bool, cond, _&&_}
+use lib.ListN.{length}
+use lib.Dec.{eqb}
+use Rattle.rules.specs.Reading.{Answer, accepted, refused, read}
+use Rattle.rules.specs.Layout.{Memory, empty, memory, layout}
+
+-- number, place, and all memory lent
+pub record Result : Type 0 where
+  pub number : ℕ
+  pub place : ℕ
+  pub memory : Memory
+
+abbrev pub result : ℕ → ℕ → Memory → Result
+result n p m = record { number = n; place = p; memory = m }
+
+-- the five tables with the counts of the card
+abbrev pub lent : (names strings bits wires rows : List ℕ) (renames room : ℕ) → Memory
+lent n s b w r k m = record { names = n; strings = s; bits = b; wires = w; rows = r; renames = k; room = m }
+
+-- 1: a table or the card is lent at the wrong length
+unfoldable pub rightSizes : (names strings bits wires rows : ℕ) → Bool
+rightSizes n s b w r = eqb n 16384 && eqb s 8192 && eqb b 16384 && eqb w (8 * 512) && eqb r (8 * 4769)
+
+unfoldable pub rightLengths : Memory → Bool
+rightLengths m = rightSizes (length (m .names)) (length (m .strings)) (length (m .bits)) (length (m .wires)) (length (m .rows))
+
+-- on any other refusal all tables and the card are zero; on success unused room is zero
+unfoldable pub leaves : Answer → Result
+leaves (accepted ss) = result 0 0 (layout ss [])
+leaves (refused n p) = result n p (memory empty 0)
+
+-- on 1 nothing is touched
+unfoldable pub readInto : List ℕ → Memory → Result
+readInto file m = cond (rightLengths m) (leaves (read file)) (result 1 0 m)

@@ -1,0 +1,118 @@
+-- What the parts of reading promise: of one line, and of the lines so far.
+use Prim.Native.Nat.{ℕ, _-_, _≤_}
+use mathlib.Core.Path.{_≡_}
+use mathlib.Core.Bool.{not, cond, _&&_}
+use mathlib.Core.Option.{some}
+use mathlib.Core.List.{List, _∷_}
+use lib.Dec.{eqb}
+use lib.ListN.{length}
+use lib.Seq.{slice}
+use Rattle.rules.specs.Lines as rules
+use Rattle.rules.specs.Lines.{place}
+use Rattle.rules.specs.Statements as statements
+use Rattle.rules.specs.Judgement.{Past}
+use Rattle.rules.specs.Reading as reading
+use Rattle.rules.specs.Reading.{outcome, next}
+use Rattle.rules.specs.Layout.{empty, putAll, memory}
+use Rattle.scanner.specs.declared.lines.Line.{Line}
+use Rattle.past.specs.Place.{placeOf, Bounds}
+use Rattle.past.specs.Sizes.{sumsOf, Within}
+use Rattle.past.specs.declared.place.Place.{Place}
+use Rattle.past.specs.declared.sizes.Sizes.{Sizes}
+use Rattle.admitted.specs.AcceptedLaws.{Accepted}
+use Rattle.netlist.specs.Laid.{roomsOf}
+use Rattle.syntax.specs.Statements.{lateOf, statementIn, Sound}
+use Rattle.syntax.specs.declared.Statement.{Statement}
+use Rattle.layout.specs.Put.{Tables, tablesOf}
+use Rattle.judgement.specs.Judged.{Stands}
+use Rattle.judgement.specs.declared.Judged.{Judged}
+use Rattle.judgement.specs.declared.Judged.the-variants as judged
+use Rattle.reader.specs.declared.Outcome.{Outcome}
+use Rattle.reader.specs.declared.Outcome.the-variants.{Skipped, Stated, Refused}
+use Rattle.reader.specs.declared.Step.{Step}
+use Rattle.reader.specs.declared.Step.the-variants.{Next, Stop}
+use Rattle.reader.specs.declared.Answer.{Answer}
+use Rattle.reader.specs.declared.Answer.the-variants as answer
+
+-- the line of the rules
+unfoldable pub lineOf : List ℕ → Line → rules.Line
+lineOf f l = record { start = l .start; text = slice (l .start) (l .end) f; ended = l .ended }
+
+-- a line lies in the file, and the tables for its tokens and its signals have their lengths
+pub record LineFits (f : List ℕ) (l : Line) (tokens scratch : List ℕ) : Type 0 where
+  pub low : l .start ≤ l .end
+  pub high : l .end ≤ length f
+  pub file : length f ≤ 32768
+  pub tokens-long : length tokens ≡ 131072
+  pub scratch-long : length scratch ≡ 36864
+
+-- what is told of the statements so far is small
+pub record PlaceFits (p : Place) (u : Sizes) : Type 0 where
+  pub within : Within u
+  pub bounds : Bounds p
+  pub few : p .wires - p .«wires_from» ≤ 512
+
+-- ONE LINE. The verdict as an outcome
+unfoldable pub judgedAs : Judged → Outcome
+judgedAs (judged.Stated r u) = Stated r u
+judgedAs (judged.Refused n) = Refused n
+
+-- it states this statement, and these are the sums with it
+pub record States (ss : Past) (l : rules.Line) (f s : List ℕ) (r : Statement) (u : Sizes) : Type 0 where
+  pub statement : statements.Statement
+  pub is : outcome ss l ≡ reading.states statement
+  pub stated : statementIn f s r ≡ some statement
+  pub sums-are : sumsOf (statement ∷ ss) ≡ u
+
+abbrev pub OutcomeIs : Past → rules.Line → (f s : List ℕ) → Outcome → Type 0
+OutcomeIs ss l f s Skipped = outcome ss l ≡ reading.skipped
+OutcomeIs ss l f s (Stated r u) = States ss l f s r u
+OutcomeIs ss l f s (Refused n) = outcome ss l ≡ reading.Outcome.refused n (place l)
+
+-- the outcome after any statements that stand so
+abbrev pub OutcomeAs : (f s : List ℕ) → Line → Place → Sizes → (names wires rows : List ℕ) → Outcome → Type 0
+OutcomeAs f s l p u names wires rows r = (ss : Past) → Stands ss p u names wires rows → OutcomeIs ss (lineOf f l) f s r
+
+-- what holds of a stated one whatever stands before it
+abbrev pub Storable : List ℕ → Outcome → Type 0
+Storable f Skipped = Unit {0}
+Storable f (Stated r u) = Sound f r × (lateOf r ≡ 0) × Within u
+Storable f (Refused n) = Unit {0}
+
+-- THE LINES SO FAR. These statements were accepted and lie in the tables; the next line stands behind them
+pub record Done (ss : Past) (p : Place) (u : Sizes) (t : Tables) : Type 0 where
+  pub accepted : Accepted ss
+  pub place-is : placeOf ss ≡ p
+  pub sums-are : sumsOf ss ≡ u
+  pub tables-are : t ≡ tablesOf (memory (roomsOf ss) 0)
+
+pub record SomeDone (p : Place) (u : Sizes) (t : Tables) : Type 0 where
+  pub past : Past
+  pub done : Done past p u t
+
+-- whatever is read behind the line is read after these statements
+pub record Goes (ss : Past) (l : rules.Line) (p : Place) (u : Sizes) (t : Tables) : Type 0 where
+  pub past : Past
+  pub done : Done past p u t
+  pub goes : (more : Past → reading.Answer) → next more ss (outcome ss l) ≡ more past
+
+abbrev pub StepIs : Past → rules.Line → Tables → Step → Type 0
+StepIs ss l t (Next p u) = Goes ss l p u t
+StepIs ss l t (Stop n) = outcome ss l ≡ reading.Outcome.refused n (place l)
+
+abbrev pub StepAs : List ℕ → Line → Place → Sizes → (t t′ : Tables) → Step → Type 0
+StepAs f l p u t t′ r = (ss : Past) → Done ss p u t → StepIs ss (lineOf f l) t′ r
+
+-- THE FILE. A refused line
+unfoldable pub refusalOf : List ℕ → Line → Step → Answer
+refusalOf f l (Next p u) = answer.Accepted 0
+refusalOf f l (Stop n) = answer.Refused n (place (lineOf f l))
+
+-- and the file's end, by the place behind the last statement
+unfoldable pub finishOf : ℕ → Place → Sizes → Answer
+finishOf size p u = cond (eqb (p .scope) 0 && not (p .attributed)) (answer.Accepted (u .«name_bytes»)) (answer.Refused 5 size)
+
+-- the file's answer: of an accepted one the tables hold the statements, and so many bytes of the name room are used
+abbrev pub Landed : reading.Answer → Tables → Answer → Type 0
+Landed (reading.accepted ss) t r = (r ≡ answer.Accepted (length (putAll empty ss .names))) × (t ≡ tablesOf (memory (putAll empty ss) 0))
+Landed (reading.refused n p) t r = r ≡ answer.Refused n p

@@ -1,0 +1,369 @@
+// Reading a file into lent tables: line by line, each judged after the statements so far and stored behind them.
+use judgement::Judged;
+use judgement::judge_line;
+use layout::put_statement;
+use layout::used_from;
+use lexer::Lexed;
+use lexer::lex_line;
+use past::place::Place;
+use past::place::after;
+use past::place::start;
+use past::sizes::Sizes;
+use past::sizes::none;
+use scanner::lines::Line;
+use scanner::lines::line_from;
+use scanner::runs::run_end;
+use syntax::Statement;
+use tables::clear_bytes;
+use tables::clear_words;
+ghost use mathlib.Core.Path.{_≡_};
+ghost use Prim.Native.Nat.{_≤_};
+ghost use lib.ListN.{length};
+ghost use Rattle.rules.specs.Statements.{code};
+ghost use Rattle.rules.specs.Reading.{readAny, read};
+ghost use Rattle.rules.specs.Layout.{empty, memory};
+ghost use Rattle.syntax.specs.Statements.{kindIn};
+ghost use Rattle.layout.specs.Put.{tablesOf};
+ghost use Rattle.layout.specs.Stored.{tabled, Sized};
+ghost use Rattle.reader.specs.Read.{result, lent, rightSizes, leaves, readInto};
+ghost use Rattle.reader.specs.Steps.{LineFits, PlaceFits, judgedAs, OutcomeAs, Storable, SomeDone, StepAs, refusalOf, finishOf, Landed};
+
+// Number 0 is none. The counts of the session card go in and out by value.
+pub struct Left {
+    pub number: u32,
+    pub place: u32,
+    pub renames: u32,
+    pub room: u32,
+}
+
+// What a line gives: nothing, since it has no token; a statement, with the sums of each size; or a refusal's number.
+enum Outcome {
+    Skipped,
+    Stated { statement: Statement, sums: Sizes },
+    Refused(u32),
+}
+
+// Where the next line stands, or the refusal's number.
+enum Step {
+    Next { place: Place, sums: Sizes },
+    Stop(u32),
+}
+
+// What the lines of a file give: so much of the name room is used; or a refusal.
+enum Answer {
+    Accepted(u32),
+    Refused { number: u32, place: u32 },
+}
+
+fn judged(j: Judged) -> Outcome
+    ensures { λ r. ⌜ r ≡ judgedAs j ⌝ }
+{
+    match j {
+        Judged::Stated { statement, sums } => Outcome::Stated { statement, sums },
+        Judged::Refused(n) => Outcome::Refused(n),
+    }
+}
+
+// A bad token is 4 on any line; a line without its line end is 5.
+fn line_outcome(
+    f: &[u8],
+    line: Line,
+    place: Place,
+    sums: Sizes,
+    names: &[u8],
+    wires: &[u32],
+    rows: &[u32],
+    tokens: &mut [u32],
+    scratch: &mut [u32],
+) -> Outcome
+    requires { ⌜ LineFits (now f) line (now tokens) (now scratch) ⌝ }
+    requires { ⌜ PlaceFits place sums ⌝ }
+    ensures { λ r. ⌜ Storable (now (f .entry)) r ⌝ }
+    ensures { λ r. ⌜ OutcomeAs (now (f .entry)) (now (scratch .exit)) line place sums (now (names .entry)) (now (wires .entry)) (now (rows .entry)) r ⌝ }
+{
+    let Lexed::Tokens(n) = lex_line(f, line.start, line.end, tokens) else {
+        return Outcome::Refused(4);
+    };
+    if n == 0 {
+        return Outcome::Skipped;
+    }
+    if !line.ended {
+        return Outcome::Refused(5);
+    }
+    let stop = 4 * n;
+    judged(judge_line(
+        f,
+        &tokens[0..stop],
+        place,
+        sums,
+        names,
+        wires,
+        rows,
+        scratch,
+    ))
+}
+
+fn take_line(
+    f: &[u8],
+    line: Line,
+    place: Place,
+    sums: Sizes,
+    tokens: &mut [u32],
+    scratch: &mut [u32],
+    names: &mut [u8],
+    strings: &mut [u8],
+    bits: &mut [u32],
+    wires: &mut [u32],
+    rows: &mut [u32],
+) -> Step
+    requires { ⌜ LineFits (now f) line (now tokens) (now scratch) ⌝ }
+    requires { ⌜ SomeDone place sums (tabled (now names) (now strings) (now bits) (now wires) (now rows)) ⌝ }
+    ensures { λ r. ⌜ StepAs (now (f .entry)) line place sums (tabled (now (names .entry)) (now (strings .entry)) (now (bits .entry)) (now (wires .entry)) (now (rows .entry))) (tabled (now (names .exit)) (now (strings .exit)) (now (bits .exit)) (now (wires .exit)) (now (rows .exit))) r ⌝ }
+{
+    match line_outcome(f, line, place, sums, names, wires, rows, tokens, scratch) {
+        Outcome::Skipped => Step::Next { place, sums },
+        Outcome::Refused(n) => Step::Stop(n),
+        Outcome::Stated {
+            statement,
+            sums: more,
+        } => {
+            let u = used_from(place, sums);
+            put_statement(f, statement, u, scratch, names, strings, bits, wires, rows);
+            Step::Next {
+                place: after(place, kind_code(statement)),
+                sums: more,
+            }
+        }
+    }
+}
+
+// The code of a statement's kind.
+fn kind_code(statement: Statement) -> u32
+    ensures { λ r. ⌜ r ≡ code (kindIn statement) ⌝ }
+{
+    match statement {
+        Statement::Autoidx(_) => 1,
+        Statement::Attribute { .. } => 2,
+        Statement::Module(_) => 3,
+        Statement::Parameter { .. } => 4,
+        Statement::Wire { .. } => 5,
+        Statement::Memory { .. } => 6,
+        Statement::Cell { .. } => 7,
+        Statement::CellParameter { .. } => 8,
+        Statement::CellConnection { .. } => 9,
+        Statement::Connection { .. } => 10,
+        Statement::End => 12,
+        Statement::NoShape => 11,
+        Statement::Process => 11,
+        Statement::BadNumber => 11,
+        Statement::MissingWire => 11,
+    }
+}
+
+// The line's first byte that is neither space nor tab.
+fn refusal(f: &[u8], line: Line, step: Step) -> Answer
+    requires { ⌜ (line .end ≤ length (now f)) × (length (now f) ≤ 32768) × (line .start ≤ line .end) ⌝ }
+    ensures { λ r. ⌜ r ≡ refusalOf (now (f .entry)) line step ⌝ }
+{
+    match step {
+        Step::Next { place: _, sums: _ } => Answer::Accepted(0),
+        Step::Stop(number) => {
+            let end = line.end;
+            Answer::Refused {
+                number,
+                place: run_end(&f[0..end], line.start, 3, 3) as u32,
+            }
+        }
+    }
+}
+
+// The file ends inside a module or after attributes: its length is the place.
+fn finish(size: usize, place: Place, sums: Sizes) -> Answer
+    requires { ⌜ size ≤ 32768 ⌝ }
+    ensures { λ r. ⌜ r ≡ finishOf size place sums ⌝ }
+{
+    if place.scope != 0 {
+        return Answer::Refused {
+            number: 5,
+            place: size as u32,
+        };
+    }
+    if place.attributed {
+        return Answer::Refused {
+            number: 5,
+            place: size as u32,
+        };
+    }
+    Answer::Accepted(sums.name_bytes)
+}
+
+fn read_lines(
+    f: &[u8],
+    tokens: &mut [u32],
+    scratch: &mut [u32],
+    names: &mut [u8],
+    strings: &mut [u8],
+    bits: &mut [u32],
+    wires: &mut [u32],
+    rows: &mut [u32],
+) -> Answer
+    requires { ⌜ (length (now f) ≤ 32768) × (length (now tokens) ≡ 131072) × (length (now scratch) ≡ 36864) × (tabled (now names) (now strings) (now bits) (now wires) (now rows) ≡ tablesOf (memory empty 0)) ⌝ }
+    ensures { λ r. ⌜ Landed (readAny (now (f .entry))) (tabled (now (names .exit)) (now (strings .exit)) (now (bits .exit)) (now (wires .exit)) (now (rows .exit))) r ⌝ }
+{
+    let mut line = line_from(f, 0);
+    let mut place = start();
+    let mut sums = none();
+    while line.start < f.len() {
+        let step = take_line(
+            f,
+            line,
+            place,
+            sums,
+            tokens,
+            scratch,
+            names,
+            strings,
+            bits,
+            wires,
+            rows,
+        );
+        let Step::Next { place: p, sums: u } = step else {
+            return refusal(f, line, step);
+        };
+        place = p;
+        sums = u;
+        line = line_from(f, line.next);
+    }
+    finish(f.len(), place, sums)
+}
+
+fn clear_tables(
+    names: &mut [u8],
+    strings: &mut [u8],
+    bits: &mut [u32],
+    wires: &mut [u32],
+    rows: &mut [u32],
+)
+    requires { ⌜ Sized (tabled (now names) (now strings) (now bits) (now wires) (now rows)) ⌝ }
+    ensures { λ _. ⌜ tabled (now (names .exit)) (now (strings .exit)) (now (bits .exit)) (now (wires .exit)) (now (rows .exit)) ≡ tablesOf (memory empty 0) ⌝ }
+{
+    clear_bytes(names);
+    clear_bytes(strings);
+    clear_words(bits);
+    clear_words(wires);
+    clear_words(rows);
+}
+
+pub fn right_lengths(names: usize, strings: usize, bits: usize, wires: usize, rows: usize) -> bool
+    ensures { λ r. ⌜ r ≡ rightSizes names strings bits wires rows ⌝ }
+{
+    if names != 16384 {
+        return false;
+    }
+    if strings != 8192 {
+        return false;
+    }
+    if bits != 16384 {
+        return false;
+    }
+    if wires != 4096 {
+        return false;
+    }
+    rows == 38152
+}
+
+// A file of at most 32,768 bytes into zero tables.
+fn read_file(
+    f: &[u8],
+    names: &mut [u8],
+    strings: &mut [u8],
+    bits: &mut [u32],
+    wires: &mut [u32],
+    rows: &mut [u32],
+) -> Answer
+    requires { ⌜ length (now f) ≤ 32768 ⌝ }
+    requires { ⌜ tabled (now names) (now strings) (now bits) (now wires) (now rows) ≡ tablesOf (memory empty 0) ⌝ }
+    ensures { λ r. ⌜ Landed (readAny (now (f .entry))) (tabled (now (names .exit)) (now (strings .exit)) (now (bits .exit)) (now (wires .exit)) (now (rows .exit))) r ⌝ }
+{
+    let mut tokens = [0u32; 131072];
+    let mut scratch = [0u32; 36864];
+    read_lines(
+        f,
+        &mut tokens,
+        &mut scratch,
+        names,
+        strings,
+        bits,
+        wires,
+        rows,
+    )
+}
+
+// Into tables of the right lengths.
+fn read_sized(
+    f: &[u8],
+    names: &mut [u8],
+    strings: &mut [u8],
+    bits: &mut [u32],
+    wires: &mut [u32],
+    rows: &mut [u32],
+) -> Left
+    requires { ⌜ Sized (tabled (now names) (now strings) (now bits) (now wires) (now rows)) ⌝ }
+    ensures { λ r. ⌜ result (r .number) (r .place) (lent (now (names .exit)) (now (strings .exit)) (now (bits .exit)) (now (wires .exit)) (now (rows .exit)) (r .renames) (r .room)) ≡ leaves (read (now (f .entry))) ⌝ }
+{
+    clear_tables(names, strings, bits, wires, rows);
+    if 32768 < f.len() {
+        return Left {
+            number: 2,
+            place: 0,
+            renames: 0,
+            room: 0,
+        };
+    }
+    match read_file(f, names, strings, bits, wires, rows) {
+        Answer::Accepted(room) => Left {
+            number: 0,
+            place: 0,
+            renames: 0,
+            room,
+        },
+        Answer::Refused { number, place } => {
+            clear_tables(names, strings, bits, wires, rows);
+            Left {
+                number,
+                place,
+                renames: 0,
+                room: 0,
+            }
+        }
+    }
+}
+
+pub fn read(
+    f: &[u8],
+    names: &mut [u8],
+    strings: &mut [u8],
+    bits: &mut [u32],
+    wires: &mut [u32],
+    rows: &mut [u32],
+    renames: u32,
+    room: u32,
+) -> Left
+    ensures { λ r. ⌜ result (r .number) (r .place) (lent (now (names .exit)) (now (strings .exit)) (now (bits .exit)) (now (wires .exit)) (now (rows .exit)) (r .renames) (r .room)) ≡ readInto (now (f .entry)) (lent (now (names .entry)) (now (strings .entry)) (now (bits .entry)) (now (wires .entry)) (now (rows .entry)) renames room) ⌝ }
+{
+    if right_lengths(
+        names.len(),
+        strings.len(),
+        bits.len(),
+        wires.len(),
+        rows.len(),
+    ) {
+        return read_sized(f, names, strings, bits, wires, rows);
+    }
+    Left {
+        number: 1,
+        place: 0,
+        renames,
+        room,
+    }
+}

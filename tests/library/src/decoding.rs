@@ -1,0 +1,170 @@
+//! Is memory what some text and accepted renames leave? Decoded, read again by the reference, and laid out again.
+
+use crate::layout::{self, kind, layout};
+use crate::lines::text;
+use crate::tables::{Card, Tables, ROW};
+use reference::session::{Rename, Session};
+use reference::statements::{
+    Attribute, Bit, Bits, CellConnection, CellParameter, Constant, Direction, Memory,
+    ModuleConnection, ModuleNumber, ModuleParameter, Port, Sign, Statement, Wire, WireNumber,
+};
+use reference::tokens::Name;
+use reference::{read_any_length, Design};
+
+/// Tables of the right lengths and a card.
+pub fn valid(tables: &Tables, card: Card) -> bool {
+    leaves(tables, card).is_some()
+}
+
+/// The statements and renames that leave the memory. It decides by comparing: a wrong decoding can only make it `None`.
+pub fn leaves(tables: &Tables, card: Card) -> Option<(Vec<Statement>, Vec<Rename>)> {
+    let (statements, renames) = decode(tables)?;
+    let netlist = read_any_length(&text(&statements)?).ok()?;
+    if netlist.statements != statements {
+        return None;
+    }
+    let mut session = Session::new(Design::of(&statements));
+    let accepted = |one: &Rename| session.rename(one.module, one.wire, &one.name) == 0;
+    if !renames.iter().all(accepted) {
+        return None;
+    }
+    let again = layout(&statements, &renames);
+    (again.0 == *tables && again.1 == card).then_some((statements, renames))
+}
+
+fn decode(tables: &Tables) -> Option<(Vec<Statement>, Vec<Rename>)> {
+    let mut statements = Vec::new();
+    let mut renames = Vec::new();
+    let mut in_cell = false;
+    for row in tables.rows.chunks_exact(ROW) {
+        match row[0] {
+            0 => break,
+            kind::RENAME => renames.push(Rename {
+                module: ModuleNumber(row[3] as usize),
+                wire: WireNumber(row[4] as usize),
+                name: tables.name(row[1], row[2])?,
+            }),
+            _ => {
+                let statement = tables.statement(row, in_cell)?;
+                in_cell = match statement {
+                    Statement::Cell(..) => true,
+                    Statement::CellEnd => false,
+                    _ => in_cell,
+                };
+                statements.push(statement);
+            }
+        }
+    }
+    Some((statements, renames))
+}
+
+/// The part of a table, if it lies in it.
+fn part<T>(table: &[T], start: u32, length: u32) -> Option<&[T]> {
+    let start = start as usize;
+    table.get(start..start + length as usize)
+}
+
+impl Tables {
+    fn statement(&self, row: &[u32], in_cell: bool) -> Option<Statement> {
+        Some(match row[0] {
+            kind::AUTOIDX => Statement::Autoidx(row[1] as i32),
+            kind::ATTRIBUTE => Statement::Attribute(Attribute {
+                name: self.name(row[1], row[2])?,
+                constant: self.constant(row[3], row[4], row[5])?,
+            }),
+            kind::MODULE => Statement::Module(self.name(row[1], row[2])?),
+            kind::MODULE_PARAMETER => Statement::ModuleParameter(ModuleParameter {
+                name: self.name(row[1], row[2])?,
+                constant: match row[3] {
+                    0 => None,
+                    kind => Some(self.constant(kind, row[4], row[5])?),
+                },
+            }),
+            kind::WIRE => Statement::Wire(self.wire(self.name(row[1], row[2])?, row[3])?),
+            kind::MEMORY => Statement::Memory(Memory {
+                name: self.name(row[1], row[2])?,
+                width: row[3] as usize,
+                size: row[4] as i32,
+                offset: row[5] as i32,
+            }),
+            kind::CELL => Statement::Cell(self.name(row[1], row[2])?, self.name(row[3], row[4])?),
+            kind::CELL_PARAMETER => Statement::CellParameter(CellParameter {
+                sign: match row[6] {
+                    0 => None,
+                    1 => Some(Sign::Signed),
+                    2 => Some(Sign::Real),
+                    _ => return None,
+                },
+                name: self.name(row[1], row[2])?,
+                constant: self.constant(row[3], row[4], row[5])?,
+            }),
+            kind::CELL_CONNECTION => Statement::CellConnection(CellConnection {
+                port: self.name(row[1], row[2])?,
+                bits: self.signal(row[3], row[4])?,
+            }),
+            kind::MODULE_CONNECTION => Statement::ModuleConnection(ModuleConnection {
+                left: self.signal(row[1], row[2])?,
+                right: self.signal(row[3], row[4])?,
+            }),
+            kind::END if in_cell => Statement::CellEnd,
+            kind::END => Statement::ModuleEnd,
+            _ => return None,
+        })
+    }
+
+    fn name(&self, start: u32, length: u32) -> Option<Name> {
+        part(&self.names, start, length).map(<[u8]>::to_vec)
+    }
+
+    fn constant(&self, kind: u32, first: u32, second: u32) -> Option<Constant> {
+        match kind {
+            layout::VALUE => {
+                let codes = part(&self.bits, first, second)?.iter().rev();
+                let digits = codes.map(|&code| layout::DIGITS.get(code as usize).copied());
+                Some(Constant::Value(digits.collect::<Option<_>>()?))
+            }
+            layout::INTEGER => Some(Constant::Integer(first as i32)),
+            layout::STRING => {
+                let bytes = part(&self.strings, first, second)?;
+                Some(Constant::String(bytes.to_vec()))
+            }
+            _ => None,
+        }
+    }
+
+    fn signal(&self, start: u32, length: u32) -> Option<Bits> {
+        let codes = part(&self.bits, start, length)?.iter();
+        let bits = codes.map(|&code| match layout::DIGITS.get(code as usize) {
+            Some(&digit) => Bit::Constant(digit),
+            None => {
+                let code = code - layout::FIRST_WIRE_BIT;
+                let wire = WireNumber((code / layout::WIRE_BITS) as usize);
+                Bit::Wire(wire, (code % layout::WIRE_BITS) as usize)
+            }
+        });
+        Some(bits.collect())
+    }
+
+    fn wire(&self, name: Name, place: u32) -> Option<Wire> {
+        let row = self.wires.chunks_exact(ROW).nth(place as usize)?;
+        let flags = row[5];
+        let direction = match flags / layout::DIRECTION {
+            0 => None,
+            1 => Some(Direction::Input),
+            2 => Some(Direction::Output),
+            3 => Some(Direction::Inout),
+            _ => return None,
+        };
+        Some(Wire {
+            name,
+            width: row[3] as usize,
+            offset: row[4] as i32,
+            upto: flags & layout::UPTO != 0,
+            signed: flags & layout::SIGNED != 0,
+            port: direction.map(|direction| Port {
+                direction,
+                number: row[6] as i32,
+            }),
+        })
+    }
+}

@@ -1,0 +1,14 @@
+//! The exported calls of Skytassel as Rust sees them, and what the reference says that they answer and leave.
+
+pub mod decoding;
+pub mod exported;
+pub mod files;
+pub mod layout;
+pub mod lines;
+pub mod oracle;
+pub mod tables;
+
+pub use decoding::valid;
+pub use exported::{read, Answer};
+pub use layout::layout;
+pub use tables::{Card, Tables};

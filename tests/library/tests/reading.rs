@@ -1,0 +1,86 @@
+//! Reading into memory filled with anything answers and leaves what the reference says.
+//! GENERATED_FILES=100000 asks for more files than the default.
+
+use library::files::{count, generated, vectors};
+use library::oracle::reading;
+use library::{read, Card, Tables};
+use reference::generate::random::Random;
+
+/// The first thing that differs, if any does.
+fn difference(file: &[u8], tables: &mut Tables, mut card: Card) -> Option<&'static str> {
+    let expected = reading(file, tables, card);
+    let answer = read(file, tables, &mut card);
+    let same = [
+        ("number", answer.number == expected.answer.number),
+        ("place", answer.place == expected.answer.place),
+        ("names", tables.names == expected.tables.names),
+        ("strings", tables.strings == expected.tables.strings),
+        ("bits", tables.bits == expected.tables.bits),
+        ("wires", tables.wires == expected.tables.wires),
+        ("rows", tables.rows == expected.tables.rows),
+        ("card", card == expected.card),
+    ];
+    same.iter().find(|one| !one.1).map(|one| one.0)
+}
+
+#[test]
+fn every_vector() {
+    let vectors = vectors();
+    assert!(vectors.len() >= 470);
+    let mut random = Random::new(1);
+    let mut tables = Tables::zeroed();
+    for (name, file) in vectors {
+        tables.fill(&mut random);
+        let card = Card::any(&mut random);
+        assert_eq!(difference(&file, &mut tables, card), None, "{name}");
+    }
+}
+
+#[test]
+fn generated_files() {
+    let mut tables = Tables::zeroed();
+    for seed in 0..count(20_000) {
+        let mut random = Random::new(!seed);
+        tables.fill(&mut random);
+        let card = Card::any(&mut random);
+        let file = generated(seed);
+        assert_eq!(difference(&file, &mut tables, card), None, "seed {seed}");
+    }
+}
+
+/// Reading twice into the same memory: nothing of the first file stays.
+#[test]
+fn one_file_after_another() {
+    let mut tables = Tables::zeroed();
+    let mut card = Card::default();
+    for seed in 0..1_000 {
+        let file = generated(seed);
+        assert_eq!(difference(&file, &mut tables, card), None, "seed {seed}");
+        card = reading(&file, &tables, card).card;
+    }
+}
+
+#[test]
+fn wrong_lengths_touch_nothing() {
+    let mut random = Random::new(2);
+    for file in [&b""[..], b"module \\m\nend\n", &[b'x'; 32_769]] {
+        for wrong in 0..15 {
+            let mut tables = Tables::zeroed();
+            let lengthen = |length: usize| match wrong / 5 {
+                0 => length - 1,
+                1 => length + 1,
+                _ => 0,
+            };
+            match wrong % 5 {
+                0 => tables.names.resize(lengthen(tables.names.len()), 0),
+                1 => tables.strings.resize(lengthen(tables.strings.len()), 0),
+                2 => tables.bits.resize(lengthen(tables.bits.len()), 0),
+                3 => tables.wires.resize(lengthen(tables.wires.len()), 0),
+                _ => tables.rows.resize(lengthen(tables.rows.len()), 0),
+            }
+            tables.fill(&mut random);
+            let card = Card::any(&mut random);
+            assert_eq!(difference(file, &mut tables, card), None, "case {wrong}");
+        }
+    }
+}
