@@ -138,7 +138,9 @@ module _ (names wires rows : List ℕ) (p : Place) (used : ℕ) where
         let y = file-only ss qs (z .0) (omega (arith, z .1 .standing)) k (z .1 .laid) in
         stuck ss (z .0) (y .0) qs (y .1) (omega (arith, z .1 .standing)) a k (f ss (z .0) (z .1))
       where
-        stuck : (ss : List Statement) (rs more qs : List Rename) → qs ≡ rs ++ more → length rs < length qs → Allowed (design ss) qs → Laid (rooms ss qs) names rows → ((q : Rename) → Laid (rooms ss (rs ++ q ∷ [])) names rows → renameCall (design ss) rs q ≡ accepted (rs ++ q ∷ []) → ⊥) → ⊥
+        stuck :
+            (ss : List Statement) (rs more qs : List Rename) → qs ≡ rs ++ more → length rs < length qs → Allowed (design ss) qs → Laid (rooms ss qs) names rows →
+            ((q : Rename) → Laid (rooms ss (rs ++ q ∷ [])) names rows → renameCall (design ss) rs q ≡ accepted (rs ++ q ∷ []) → ⊥) → ⊥
         stuck ss rs [] qs e b a k f = omega (arith, ap length e, length-append rs [])
         stuck ss rs (q ∷ more) qs e b a k f =
             f q (file-next ss rs more q (subst (λ (l : List Rename). Laid (rooms ss l) names rows) e k)) (allowed-next rs more q (subst (Allowed (design ss)) e a))

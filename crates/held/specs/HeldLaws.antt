@@ -206,7 +206,10 @@ unfolding rowAt wordAt isStatement within
 kind-ends rows at k = rw k
 
 -- behind the statements stands a rename's row or nothing
-rows-end : (q : Past) (rs : List Rename) (names rows : List ℕ) → Laid (putRenames (roomsOf q) rs) names rows → padded (8 * 4769) (flat (putRenames (roomsOf q) rs .rows)) ≡ rows → isStatement (wordAt rows (8 * length (roomsOf q .rows))) ≡ false
+rows-end :
+    (q : Past) (rs : List Rename) (names rows : List ℕ) → Laid (putRenames (roomsOf q) rs) names rows →
+    padded (8 * 4769) (flat (putRenames (roomsOf q) rs .rows)) ≡ rows →
+    isStatement (wordAt rows (8 * length (roomsOf q .rows))) ≡ false
 unfolding putRenames wordAt isStatement within
 rows-end q [] names rows l e =
     let z : getD rows (8 * length (roomsOf q .rows)) 0 ≡ 0 =
@@ -232,7 +235,8 @@ holds-stored {m} {ss} {rs} h =
     }
 
 -- STATEMENTS THAT ARE STORED lie in the tables, without renames and with them
-module _ (m : layouts.Memory) (ss : List Statement) (p : Place) (u : Sizes) (h : Stored (partsOf m) (m .rows) (reverse ss)) (ep : placeOf (reverse ss) ≡ p) (eu : sumsOf (reverse ss) ≡ u) where
+module _ (m : layouts.Memory) (ss : List Statement) (p : Place) (u : Sizes)
+    (h : Stored (partsOf m) (m .rows) (reverse ss)) (ep : placeOf (reverse ss) ≡ p) (eu : sumsOf (reverse ss) ≡ u) where
   pub stored-lies : Lies (m .names) (m .wires) (m .rows) p 0 (u .«name_bytes») ss []
   unfolding putRenames
   stored-lies =

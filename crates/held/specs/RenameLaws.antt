@@ -32,7 +32,9 @@ front-more t xs ys more e h =
     ∙ sym (append-assoc xs ys (drop (length ys) more))
 
 -- A RENAME'S ROW
-pub rename-eq : (m m′ w w′ : ℕ) (n n′ : Name) → m ≡ m′ → w ≡ w′ → n ≡ n′ → _≡_ {A = Rename} (record { moduleNumber = m; wireNumber = w; newName = n }) (record { moduleNumber = m′; wireNumber = w′; newName = n′ })
+pub rename-eq :
+    (m m′ w w′ : ℕ) (n n′ : Name) → m ≡ m′ → w ≡ w′ → n ≡ n′ →
+    _≡_ {A = Rename} (record { moduleNumber = m; wireNumber = w; newName = n }) (record { moduleNumber = m′; wireNumber = w′; newName = n′ })
 rename-eq m m′ w w′ n n′ em ew en = λ i. record { moduleNumber = em i; wireNumber = ew i; newName = en i }
 
 module _ (x : Row) (at : ℕ) where
@@ -166,7 +168,9 @@ module _ {names rows : List ℕ} (ss : List Statement) where
   pub file-only :
       (qs rs : List Rename) → length rs ≤ length qs → Laid (rooms ss qs) names rows → Laid (rooms ss rs) names rows → (more : List Rename) × (qs ≡ rs ++ more)
   file-only qs rs b l k =
-      begins-only (roomsOf (reverse ss)) (eights-rows (reverse ss)) qs rs b (subst (λ (R : Rooms). Laid R names rows) (rooms-file ss qs) l) (subst (λ (R : Rooms). Laid R names rows) (rooms-file ss rs) k)
+      begins-only (roomsOf (reverse ss)) (eights-rows (reverse ss)) qs rs b
+      (subst (λ (R : Rooms). Laid R names rows) (rooms-file ss qs) l)
+      (subst (λ (R : Rooms). Laid R names rows) (rooms-file ss rs) k)
 
   pub file-front : (rs more : List Rename) → Laid (rooms ss (rs ++ more)) names rows → Laid (rooms ss rs) names rows
   unfolding rooms

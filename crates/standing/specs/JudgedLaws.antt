@@ -35,10 +35,14 @@ use Rattle.standing.specs.TakenLaws.{wire-there, wire-missing, taken-lai
 pub legal-short : (n : Name) → legal n ≡ true → length n ≤ 255
 unfolding legal within
 legal-short [] e = omega arith
-legal-short (b ∷ bs) e = omega (arith, leb-true (length bs) 254 (and-true-right (leb 1 (length bs)) (leb (length bs) 254) (and-true-right (isNameStart b && all isNameByte bs) (within 1 254 (length bs)) e)))
+legal-short (b ∷ bs) e =
+    omega (arith, leb-true (length bs) 254 (and-true-right (leb 1 (length bs)) (leb (length bs) 254) (and-true-right (isNameStart b && all isNameByte bs) (within 1 254 (length bs)) e)))
 
 -- the first test that holds
-lowest-number : (rs : List Rename) (a b c d e : Bool) → numberOf (verdict rs (lowest ((4, a) ∷ (6, b) ∷ (8, c) ∷ (9, d) ∷ (11, e) ∷ []))) ≡ cond a 4 (cond b 6 (cond c 8 (cond d 9 (cond e 11 0))))
+lowest-number :
+    (rs : List Rename) (a b c d e : Bool) →
+    numberOf (verdict rs (lowest ((4, a) ∷ (6, b) ∷ (8, c) ∷ (9, d) ∷ (11, e) ∷ [])))
+    ≡ cond a 4 (cond b 6 (cond c 8 (cond d 9 (cond e 11 0))))
 unfolding numberOf verdict lowest
 lowest-number rs true b c d e = refl
 lowest-number rs false true c d e = refl
@@ -80,7 +84,9 @@ module _ (names wires rows : List ℕ) (p : Place) (standing room m w : ℕ) (n 
   unfolding exceedsRoom
   room-is = rw (← l .standing, ← l .room, room-used ss rs (l .admitted) (l .closes))
 
-  there : w < wireRange wires (p .wires) m .count → (x : Bool) (g : _ → Bool) → Option·elim (wireAt (design ss) m w) x (λ o. g (o .body)) ≡ g (wireOf wires (wireRange wires (p .wires) m .first + w))
+  there :
+      w < wireRange wires (p .wires) m .count → (x : Bool) (g : _ → Bool) →
+      Option·elim (wireAt (design ss) m w) x (λ o. g (o .body)) ≡ g (wireOf wires (wireRange wires (p .wires) m .first + w))
   there h x g =
       let b : w < wireRange wires (wiresIn (reverse ss)) m .count = rw all-wires at h in
       ap (λ (qs : List Statement). Option·elim (wireAt (design qs) m w) x (λ o. g (o .body))) (sym file)

@@ -57,7 +57,8 @@ module _ {names t : List ℕ} (wires : List ℕ) (R : Rooms) (h : Eights (R .row
       let g : Eights (S .rows) = eights-renames R (reverse qs) h in
       let e : length (S .rows) ≡ length (R .rows) + length qs = rename-rows R (reverse qs) ∙ ap (λ (n : ℕ). length (R .rows) + n) (length-reverse qs) in
       let q : RowIs t (length (R .rows) + length qs) (renameRow (length (S .names)) r) = rw (← e) (last-rename-row S r g d) in
-      rw (rename-row t (length (R .rows) + length qs) (length (S .names)) r q m w, rename-name t (length (R .rows) + length qs) (length (S .names)) r q names (last-rename-name S r g d), now-back qs (laid-rename S r d))
+      let j : ℕ = length (R .rows) + length qs in
+      rw (rename-row t j (length (S .names)) r q m w, rename-name t j (length (S .names)) r q names (last-rename-name S r g d), now-back qs (laid-rename S r d))
       (sym (ap (λ (rs : List Rename). designs.nameNow rs m w (nameOf names wires k)) (reverse-cons r qs) ∙ name-last (reverse qs) r m w (nameOf names wires k)))
 
   pub name-now-laid :

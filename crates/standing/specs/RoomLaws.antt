@@ -73,7 +73,9 @@ sum-design f ss e c =
     let q : ss ≡ linesOfFile (y .file) = sym (reverse-reverse ss) ∙ y .lines in
     rw (q, design-lines (y .file)) (canonical-sum f (y .file))
 
-pub room-used : (ss : List Statement) (rs : List Rename) → admitted (reverse ss) ≡ true → closes (reverse ss) ≡ true → roomUsed (design ss) rs ≡ length (rooms ss rs .names)
+pub room-used :
+    (ss : List Statement) (rs : List Rename) → admitted (reverse ss) ≡ true → closes (reverse ss) ≡ true →
+    roomUsed (design ss) rs ≡ length (rooms ss rs .names)
 unfolding roomUsed
 room-used ss rs e c =
     rw (rooms-file ss rs)

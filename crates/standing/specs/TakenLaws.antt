@@ -40,7 +40,9 @@ use Rattle.standing.specs.NowLaws.{name-now-laid}
 abbrev pairs : List (Object Wire) → Wires
 pairs xs = map (λ o. (o .name, o .body)) xs
 
-elim-pair : {C : Type 0} (z : C) (g : Wire → C) (xs : List (Object Wire)) (i : ℕ) → Option·elim (getElem? xs i) z (λ o. g (o .body)) ≡ Option·elim (getElem? (pairs xs) i) z (λ x. g (x .1))
+elim-pair :
+    {C : Type 0} (z : C) (g : Wire → C) (xs : List (Object Wire)) (i : ℕ) →
+    Option·elim (getElem? xs i) z (λ o. g (o .body)) ≡ Option·elim (getElem? (pairs xs) i) z (λ x. g (x .1))
 unfolding Option·elim
 elim-pair z g [] i = refl
 elim-pair z g (x ∷ xs) zero = refl
@@ -52,7 +54,9 @@ at-past (x ∷ xs) zero h = absurd (omega arith)
 at-past (x ∷ xs) (suc n) h = at-past xs n (omega arith)
 
 module _ {names t : List ℕ} (m w : ℕ) (ss : Past) (headed : Headed ss) (o : Offsets ss) (l : Wired (roomsOf ss) names t) {C : Type 0} (z : C) (g : Wire → C) where
-  wire-by : let r = wireRange t (wiresIn ss) m in Option·elim (wireAt (design (reverse ss)) m w) z (λ o. g (o .body)) ≡ Option·elim (getElem? (reverse (wiresFrom names t (r .first) (r .count))) w) z (λ x. g (x .1))
+  wire-by :
+      let r = wireRange t (wiresIn ss) m in
+      Option·elim (wireAt (design (reverse ss)) m w) z (λ o. g (o .body)) ≡ Option·elim (getElem? (reverse (wiresFrom names t (r .first) (r .count))) w) z (λ x. g (x .1))
   unfolding wireAt
   wire-by =
       elim-pair z g (wiresAt (design (reverse ss)) m) w
