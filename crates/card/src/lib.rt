@@ -1,8 +1,17 @@
 // The calls for other languages: a struct is laid out as C's, and the session card is lent and changed in place.
+use numbers::kinds::ModuleNumber;
+use numbers::kinds::WireNumber;
+use reader::Left;
 use reader::read;
+use session::index;
+use session::look_up;
+use session::rename;
+use session::undo;
 ghost use mathlib.Core.Path.{_≡_};
-ghost use Rattle.reader.specs.Read.{readInto};
-ghost use Rattle.card.specs.Lent.{lentWith, answered};
+ghost use Rattle.rules.specs.Session.{Call};
+ghost use Rattle.reader.specs.Read.{result, lent, readInto};
+ghost use Rattle.session.specs.Called.{CalledAs, LookedUp, IndexGiven};
+ghost use Rattle.card.specs.Lent.{lentWith, answered, foundBy, indexedBy};
 
 // The session card: renames standing, name room used.
 #[repr(C)]
@@ -16,6 +25,18 @@ pub struct Card {
 pub struct Answer {
     pub number: u32,
     pub place: u32,
+}
+
+#[repr(C)]
+pub struct WireAnswer {
+    pub number: u32,
+    pub wire: u32,
+}
+
+#[repr(C)]
+pub struct IndexAnswer {
+    pub number: u32,
+    pub index: i64,
 }
 
 #[no_mangle]
@@ -45,5 +66,153 @@ pub extern "C" fn skytassel_read(
     Answer {
         number: left.number,
         place: left.place,
+    }
+}
+
+// `session::rename` of plain numbers.
+fn rename_by_number(
+    names: &mut [u8],
+    strings: &[u8],
+    bits: &[u32],
+    wires: &[u32],
+    rows: &mut [u32],
+    renames: u32,
+    room: u32,
+    m: u32,
+    w: u32,
+    new: &[u8],
+) -> Left
+    ensures { λ r. ⌜ CalledAs (lent (now (names .entry)) (now (strings .entry)) (now (bits .entry)) (now (wires .entry)) (now (rows .entry)) renames room) (Call.rename (record { moduleNumber = m; wireNumber = w; newName = now (new .entry) })) (result (r .number) (r .place) (lent (now (names .exit)) (now (strings .entry)) (now (bits .entry)) (now (wires .entry)) (now (rows .exit)) (r .renames) (r .room))) ⌝ }
+{
+    rename(
+        names,
+        strings,
+        bits,
+        wires,
+        rows,
+        renames,
+        room,
+        ModuleNumber(m),
+        WireNumber(w),
+        new,
+    )
+}
+
+#[no_mangle]
+pub extern "C" fn skytassel_rename(
+    names: &mut [u8],
+    strings: &[u8],
+    bits: &[u32],
+    wires: &[u32],
+    rows: &mut [u32],
+    card: &mut Card,
+    m: u32,
+    w: u32,
+    new: &[u8],
+) -> Answer
+    ensures { λ r. ⌜ CalledAs (lentWith (now (card .entry)) (now (names .entry)) (now (strings .entry)) (now (bits .entry)) (now (wires .entry)) (now (rows .entry))) (Call.rename (record { moduleNumber = m; wireNumber = w; newName = now (new .entry) })) (answered r (lentWith (now (card .exit)) (now (names .exit)) (now (strings .entry)) (now (bits .entry)) (now (wires .entry)) (now (rows .exit)))) ⌝ }
+{
+    let renamed = rename_by_number(
+        names,
+        strings,
+        bits,
+        wires,
+        rows,
+        card.renames,
+        card.room,
+        m,
+        w,
+        new,
+    );
+    card.renames = renamed.renames;
+    card.room = renamed.room;
+    Answer {
+        number: renamed.number,
+        place: renamed.place,
+    }
+}
+
+#[no_mangle]
+pub extern "C" fn skytassel_undo(
+    names: &mut [u8],
+    strings: &[u8],
+    bits: &[u32],
+    wires: &[u32],
+    rows: &mut [u32],
+    card: &mut Card,
+) -> Answer
+    ensures { λ r. ⌜ CalledAs (lentWith (now (card .entry)) (now (names .entry)) (now (strings .entry)) (now (bits .entry)) (now (wires .entry)) (now (rows .entry))) Call.undo (answered r (lentWith (now (card .exit)) (now (names .exit)) (now (strings .entry)) (now (bits .entry)) (now (wires .entry)) (now (rows .exit)))) ⌝ }
+{
+    let undone = undo(names, strings, bits, wires, rows, card.renames, card.room);
+    card.renames = undone.renames;
+    card.room = undone.room;
+    Answer {
+        number: undone.number,
+        place: undone.place,
+    }
+}
+
+#[no_mangle]
+pub extern "C" fn skytassel_look_up(
+    names: &[u8],
+    strings: &[u8],
+    bits: &[u32],
+    wires: &[u32],
+    rows: &[u32],
+    renames: u32,
+    room: u32,
+    m: u32,
+    name: &[u8],
+) -> WireAnswer
+    ensures { λ r. ⌜ LookedUp (lent (now (names .entry)) (now (strings .entry)) (now (bits .entry)) (now (wires .entry)) (now (rows .entry)) renames room) m (now (name .entry)) (foundBy r) ⌝ }
+{
+    let found = look_up(
+        names,
+        strings,
+        bits,
+        wires,
+        rows,
+        renames,
+        room,
+        ModuleNumber(m),
+        name,
+    );
+    WireAnswer {
+        number: found.number,
+        wire: found.wire.0,
+    }
+}
+
+#[no_mangle]
+pub extern "C" fn skytassel_index(
+    names: &[u8],
+    strings: &[u8],
+    bits: &[u32],
+    wires: &[u32],
+    rows: &[u32],
+    renames: u32,
+    room: u32,
+    m: u32,
+    w: u32,
+    bit: u32,
+) -> IndexAnswer
+    ensures { λ r. ⌜ IndexGiven (lent (now (names .entry)) (now (strings .entry)) (now (bits .entry)) (now (wires .entry)) (now (rows .entry)) renames room) m w bit (indexedBy r) ⌝ }
+{
+    let wire = WireNumber(w);
+    let given = index(
+        names,
+        strings,
+        bits,
+        wires,
+        rows,
+        renames,
+        room,
+        ModuleNumber(m),
+        wire,
+        bit,
+    );
+    IndexAnswer {
+        number: given.number,
+        index: given.index,
     }
 }

@@ -29,7 +29,7 @@ use Rattle.netlist.specs.LaidLaws.{length-rows, eights-rows}
 use Rattle.netlist.specs.WireLaws.{wired-renames}
 use Rattle.designs.specs.Modules.{Headed}
 use Rattle.designs.specs.HeadLaws.{standing-headed}
-use Rattle.designs.specs.Ranges.{rowsWhere, wireRange}
+use Rattle.designs.specs.Ranges.{wireRange}
 use Rattle.designs.specs.RangeLaws.{where-le, where-next}
 use Rattle.designs.specs.WireLaws.{design-range}
 use Rattle.designs.specs.Now.{numbered, nameNow, wireNow}
@@ -38,11 +38,13 @@ use Rattle.designs.specs.declared.Range.{Range}
 use Rattle.line_text.specs.Now as table
 use Rattle.line_text.specs.declared.Module.{Module}
 use Rattle.reader.specs.Read.{lent}
+use Rattle.standing.specs.Judged.{moduleBy}
 use Rattle.standing.specs.RoomLaws.{rooms-file}
 use Rattle.standing.specs.NowLaws.{name-now-laid}
 use Rattle.standing.specs.TakenLaws.{wire-there, wire-missing}
+use Rattle.held.specs.HeldLaws.{holds-laid, holds-wired}
 use Rattle.session.specs.Called.{Called, holding, answer}
-use Rattle.session.specs.Steps.{Holding, moduleAt, searchNow}
+use Rattle.session.specs.Steps.{Holding, searchNow}
 use Rattle.session.proofs.HoldLaws as hold
 
 -- A TURN OF THE SEARCH: l wires are left from number k on; b: whether wire k has the name
@@ -141,10 +143,10 @@ module _ {names strings bits wires rows : List ℕ} {renames room : ℕ} {p : Pl
   offsets = admitted-offsets (reverse (h .statements)) (h .holds .admitted)
 
   laid : Laid (putRenames (roomsOf (reverse (h .statements))) (h .renames)) names rows
-  laid = rw rooms-file at (hold.laid h)
+  laid = rw rooms-file at (holds-laid (h .holds))
 
   wired : Wired (roomsOf (reverse (h .statements))) names wires
-  wired = wired-renames (roomsOf (reverse (h .statements))) (h .renames) (rw rooms-file at (hold.wired h))
+  wired = wired-renames (roomsOf (reverse (h .statements))) (h .renames) (rw rooms-file at (holds-wired (h .holds)))
 
   all-wires : wiresIn (reverse (h .statements)) ≡ p .wires
   unfolding placeOf
@@ -158,10 +160,9 @@ module _ {names strings bits wires rows : List ℕ} {renames room : ℕ} {p : Pl
       sym (rw (← e, ← hold.standing h) (name-now-laid wires (roomsOf (reverse (h .statements))) (eights-rows (reverse (h .statements))) m j k (h .renames) laid))
 
   names-are :
-      let x = moduleAt wires p renames m in
+      let x = moduleBy wires p renames m in
       map (λ o. o .name) (wiresAt (now (design (h .statements)) (h .renames)) m)
       ≡ up (λ j. table.nameNow names wires rows (x .from) (x .renames) (x .number .0) j (x .first + j)) (x .wires) 0
-  unfolding moduleAt
   names-are =
       let r = wireRange wires (p .wires) m in
       let own : ℕ → Name = λ j. nameOf names wires (r .first + j) in
@@ -179,11 +180,11 @@ module _ {names strings bits wires rows : List ℕ} {renames room : ℕ} {p : Pl
       ∙ up-same _ _ (λ j. name-now-is j (r .first + j)) (r .count) 0
 
   pub looked-up :
-      (n : Name) (x : Module) (a : ℕ × ℕ) → x ≡ moduleAt wires p renames m → a ≡ answer 0 (searchNow names wires rows x n (x .wires) 0) →
+      (n : Name) (x : Module) (a : ℕ × ℕ) → x ≡ moduleBy wires p renames m → a ≡ answer 0 (searchNow names wires rows x n (x .wires) 0) →
       Called (lent names strings bits wires rows renames room) (λ e. (e, 0)) (λ ss rs. answer 0 (lookUp (now (design ss) rs) m n)) a
   unfolding lookUp
   looked-up n x a ex ea =
-      let y = moduleAt wires p renames m in
+      let y = moduleBy wires p renames m in
       holding (h .statements) (h .renames) (h .lengths) (h .holds)
       (ea
       ∙ ap (λ (x : Module). answer 0 (searchNow names wires rows x n (x .wires) 0)) ex

@@ -6,23 +6,24 @@ use mathlib.Core.List.{List, [], _∷_, _++_}
 use native.Mathlib.Omega.{arith}
 use lib.ListN.{length, replicate, length-append}
 use Rattle.rules.specs.Statements.{Statement}
-use Rattle.rules.specs.Judgement.{Verdict, accepted, refused}
+use Rattle.rules.specs.Judgement.{accepted, refused}
 use Rattle.rules.specs.Design.{Design, design}
 use Rattle.rules.specs.Session.{Rename, Call, call, roomUsed, renameCall, undoCall, numberOf}
 use Rattle.rules.specs.Layout.{Rooms, Memory, padded, row, renameRow, putRename, rooms, memory, layout}
 use Rattle.tables.specs.Store.{store}
-use Rattle.tables.specs.Flat.{Eights}
 use Rattle.wires.specs.Rows.{column}
 use Rattle.past.specs.declared.place.Place.{Place}
 use Rattle.admitted.specs.Holds.{Allowed, no-renames, one-rename}
 use Rattle.netlist.specs.Laid.{Laid}
-use Rattle.reader.specs.Read.{Result, result, lent}
+use Rattle.reader.specs.Read.{result, lent}
 use Rattle.standing.specs.RoomLaws.{room-used}
 use Rattle.standing.specs.NowLaws.{last-rename-row}
+use Rattle.held.specs.HeldLaws.{holds-laid}
+use Rattle.held.specs.RenameLaws.{file-last, eights-file}
 use Rattle.session.specs.Called.{Called, holding, wrong-lengths, damaged, after, CalledAs}
 use Rattle.session.specs.Steps.{Holding, NotOpen, wrong-sizes, none-held}
-use Rattle.session.proofs.RenameLaws.{Passes, passes, refused-by, undo-last, rooms-last, layout-rename, layout-undo}
-use Rattle.session.proofs.HoldLaws.{rooms-eights, rooms-rows, long, standing, used, rows-before, few-rows, laid}
+use Rattle.session.proofs.RenameLaws.{Passes, passes, refused-by, undo-last, layout-rename, layout-undo}
+use Rattle.session.proofs.HoldLaws.{rooms-rows, long, standing, used, rows-before, few-rows}
 
 -- 1 and 3
 pub not-open :
@@ -38,13 +39,13 @@ module _ (m : Memory) (ss : List Statement) (rs : List Rename) (r : Rename) (row
       layout ss rs ≡ m → names′ ≡ store (m .names) (m .room) (r .newName) → rows′ ≡ store (m .rows) (8 * row) (renameRow (m .room) r) →
       lent names′ (m .strings) (m .bits) (m .wires) rows′ (m .renames + 1) (m .room + length (r .newName)) ≡ layout ss (rs ++ r ∷ [])
   unfolding layout memory
-  renamed-memory e en er = rw (en, er, at-row, ← e) (layout-rename ss rs r (rooms-eights ss rs) room few)
+  renamed-memory e en er = rw (en, er, at-row, ← e) (layout-rename ss rs r (eights-file ss rs) room few)
 
   undone-memory :
       layout ss (rs ++ r ∷ []) ≡ m → names′ ≡ store (m .names) (length (rooms ss rs .names)) (replicate (length (r .newName)) 0) → rows′ ≡ store (m .rows) (8 * row) (replicate 8 0) →
       lent names′ (m .strings) (m .bits) (m .wires) rows′ (length rs) (length (rooms ss rs .names)) ≡ layout ss rs
   unfolding layout memory
-  undone-memory e en er = rw (en, er, at-row, ← e) (layout-undo ss rs r (rooms-eights ss rs) room few)
+  undone-memory e en er = rw (en, er, at-row, ← e) (layout-undo ss rs r (eights-file ss rs) room few)
 
 -- RENAME
 module _ {names strings bits wires rows : List ℕ} {renames room : ℕ} {p : Place} (h : Holding (lent names strings bits wires rows renames room) p) (r : Rename) where
@@ -109,7 +110,7 @@ module _ {names strings bits wires rows : List ℕ} {renames room : ℕ} {p : Pl
     length-last = sym (length-append (last .before) (last .rename ∷ [])) ∙ ap length (sym (last .is)) ∙ standing h
 
     rooms-is : rooms (h .statements) (h .renames) ≡ putRename R (last .rename)
-    rooms-is = ap (rooms (h .statements)) (last .is) ∙ rooms-last (h .statements) (last .before) (last .rename)
+    rooms-is = ap (rooms (h .statements)) (last .is) ∙ file-last (h .statements) (last .before) (last .rename)
 
     row-is : length (R .rows) ≡ p .rows + (renames - 1)
     row-is = omega (arith, rooms-rows (h .statements) (last .before), rows-before h, length-last)
@@ -117,8 +118,8 @@ module _ {names strings bits wires rows : List ℕ} {renames room : ℕ} {p : Pl
     start-is : column rows (p .rows + (renames - 1)) 1 ≡ length (R .names)
     unfolding renameRow row padded
     start-is =
-        let l : Laid (putRename R (last .rename)) names rows = rw rooms-is at (laid h) in
-        rw (← row-is) (last-rename-row R (last .rename) (rooms-eights (h .statements) (last .before)) l 1 (omega arith))
+        let l : Laid (putRename R (last .rename)) names rows = rw rooms-is at (holds-laid (h .holds)) in
+        rw (← row-is) (last-rename-row R (last .rename) (eights-file (h .statements) (last .before)) l 1 (omega arith))
 
     room-is : room ≡ length (R .names) + length (last .rename .newName)
     unfolding putRename

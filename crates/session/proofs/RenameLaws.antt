@@ -1,9 +1,9 @@
 -- Design memory with one rename more, and with the last one taken off.
 -- Assumes nothing.
-use Prim.Native.Nat.{ℕ, suc, _+_, _-_, _*_, _≤_, _<_}
-use mathlib.Core.Path.{_≡_, refl, sym, ap, _∙_}
+use Prim.Native.Nat.{ℕ, _+_, _*_, _≤_, _<_}
+use mathlib.Core.Path.{_≡_, refl, sym, ap}
 use mathlib.Core.List.{List, [], _∷_, _++_, dropLast}
-use mathlib.Core.Bool.{Bool, true, false, not, cond, _||_}
+use mathlib.Core.Bool.{Bool, true, false, not, _||_}
 use native.Mathlib.Omega.{arith}
 use lib.Dec.{leb, ltb}
 use lib.ListN.{length, replicate, length-append}
@@ -13,13 +13,14 @@ use Rattle.rules.specs.Statements.{Statement}
 use Rattle.rules.specs.Judgement.{Verdict, accepted, refused, lowest, verdict}
 use Rattle.rules.specs.Design.{Design}
 use Rattle.rules.specs.Session.{Rename, roomUsed, renameCall, undoCall, numberOf}
-use Rattle.rules.specs.Layout.{Rooms, empty, padded, putAll, renameRow, putRename, rooms, memory, layout}
+use Rattle.rules.specs.Layout.{Rooms, padded, renameRow, putRename, rooms, memory, layout}
 use Rattle.tables.specs.Store.{store}
 use Rattle.tables.specs.Padded.{store-padded, padded-unput}
 use Rattle.tables.specs.Flat.{flat, Eights, flat-snoc, length-flat, store-row}
 use Rattle.reader.specs.Read.{lent}
-use Rattle.standing.specs.RoomLaws.{put-renames-last, length-rename-row}
+use Rattle.standing.specs.RoomLaws.{length-rename-row}
 use Rattle.standing.specs.JudgedLaws.{legal-short}
+use Rattle.held.specs.RenameLaws.{file-last}
 
 -- WHAT AN ACCEPTED RENAME KEEPS
 pub record Passes (d : Design) (rs : List Rename) (r : Rename) : Type 0 where
@@ -95,10 +96,6 @@ unput : (n : ℕ) (xs ys l : List ℕ) (at k : ℕ) → l ≡ padded n (xs ++ ys
 unput n xs ys l at k el ea ek h = rw (el, ea, ek) (padded-unput n xs ys h)
 
 module _ (ss : List Statement) (rs : List Rename) (r : Rename) where
-  pub rooms-last : rooms ss (rs ++ r ∷ []) ≡ putRename (rooms ss rs) r
-  unfolding rooms
-  rooms-last = put-renames-last (putAll empty ss) rs r
-
   length-more : length (rs ++ r ∷ []) ≡ length rs + 1
   length-more = length-append rs (r ∷ [])
 
@@ -111,7 +108,7 @@ module _ (ss : List Statement) (rs : List Rename) (r : Rename) where
     unfolding layout memory putRename
     layout-rename =
         let R : Rooms = rooms ss rs in
-        rw rooms-last
+        rw file-last
         (lent-eq (store-padded 16384 (R .names) (r .newName) _ _ refl refl room)
         (store-row (8 * 4769) (R .rows) (renameRow (length (R .names)) r) _ _ refl refl h (length-rename-row (length (R .names)) r) few)
         (sym length-more)
@@ -128,7 +125,7 @@ module _ (ss : List Statement) (rs : List Rename) (r : Rename) where
         let x : List ℕ = renameRow (length (R .names)) r in
         let e : length (flat (R .rows)) ≡ 8 * length (R .rows) = length-flat (R .rows) h in
         let k : length x ≡ 8 = length-rename-row (length (R .names)) r in
-        rw rooms-last
+        rw file-last
         (lent-eq (padded-unput 16384 (R .names) (r .newName) room)
         (unput (8 * 4769) (flat (R .rows)) x (padded (8 * 4769) (flat (R .rows ++ x ∷ []))) (8 * length (R .rows)) 8 (ap (padded (8 * 4769)) (flat-snoc (R .rows) x)) (sym e) (sym k) (omega arith))
         refl refl)

@@ -1,23 +1,20 @@
 -- The steps of the calls: memory that is open to them, a rename's row and name, and the search for a name now.
-use Prim.Native.Nat.{ℕ, zero, suc, _+_, _*_, _≤_}
+use Prim.Native.Nat.{ℕ, zero, suc, _+_}
 use mathlib.Core.Path.{_≡_}
-use mathlib.Core.Bool.{Bool, true, false, cond}
+use mathlib.Core.Bool.{true, false, cond}
 use mathlib.Core.List.{List, reverse}
-use lib.ListN.{length}
 use Rattle.rules.specs.Bytes.{same}
 use Rattle.rules.specs.Tokens.{Name}
 use Rattle.rules.specs.Statements.{Statement}
 use Rattle.rules.specs.Judgement.{Verdict, accepted, refused}
 use Rattle.rules.specs.Session.{Rename}
 use Rattle.rules.specs.Layout.{Memory}
-use Rattle.wires.specs.Rows.{column}
 use Rattle.past.specs.Place.{placeOf}
 use Rattle.past.specs.declared.place.Place.{Place}
 use Rattle.admitted.specs.Holds.{Holds}
 use Rattle.reader.specs.Read.{rightLengths}
 use Rattle.line_text.specs.Now.{nameNow}
 use Rattle.line_text.specs.declared.Module.{Module}
-use Rattle.designs.specs.Ranges.{wireRange}
 use Rattle.session.specs.Called.{Damaged}
 use Rattle.session.specs.declared.Opened.{Opened}
 use Rattle.session.specs.declared.Opened.the-variants.{Open, Refused}
@@ -37,17 +34,6 @@ pub data NotOpen (m : Memory) (n : ℕ) : Type 0 where
 abbrev pub OpenedIs : Memory → Opened → Type 0
 OpenedIs m (Open p) = Holding m p
 OpenedIs m (Refused n) = NotOpen m n
-
--- a module of open memory, as code holds it
-unfoldable pub moduleAt : List ℕ → Place → (renames m : ℕ) → Module
-moduleAt wires p renames m =
-    record {
-      number = record { 0 = m };
-      first = wireRange wires (p .wires) m .first;
-      wires = wireRange wires (p .wires) m .count;
-      from = p .rows;
-      renames = renames;
-    }
 
 -- the number of the first wire of a module that has this name now, from number k on, among so many
 module _ (names wires rows : List ℕ) (m : Module) (n : Name) where

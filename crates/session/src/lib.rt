@@ -24,12 +24,12 @@ ghost use lib.ListN.{length, replicate};
 ghost use lib.IntN.{pos};
 ghost use Rattle.rules.specs.Session.{Call, indexIn};
 ghost use Rattle.rules.specs.Layout.{renameRow};
-ghost use Rattle.numbers.specs.Signed.{verdictOf};
 ghost use Rattle.tables.specs.Store.{store};
 ghost use Rattle.wires.specs.Rows.{column, wireOf};
 ghost use Rattle.reader.specs.Read.{result, lent};
 ghost use Rattle.session.specs.Called.{CalledAs, answer, LookedUp, IndexGiven};
-ghost use Rattle.session.specs.Steps.{Holding, OpenedIs, moduleAt, searchNow};
+ghost use Rattle.session.specs.Steps.{Holding, OpenedIs, searchNow};
+ghost use Rattle.standing.specs.Judged.{moduleBy};
 
 // Number 0 is none.
 pub struct Found {
@@ -262,7 +262,7 @@ pub fn undo(
 
 // A module's wires and the renames that stand.
 fn module_of(wires: &[u32], place: Place, renames: u32, m: ModuleNumber) -> Module
-    ensures { λ r. ⌜ r ≡ moduleAt (now (wires .entry)) place renames (m .0) ⌝ }
+    ensures { λ r. ⌜ r ≡ moduleBy (now (wires .entry)) place renames (m .0) ⌝ }
 {
     let own = module_wires(wires, place.wires, m);
     Module {

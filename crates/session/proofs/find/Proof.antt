@@ -1,3 +1,5 @@
+-- The loop's invariant: the search from number k on is the whole search.
+-- Assumes nothing.
 use mathlib.Core.Path.{_≡_, sym, ap, _∙_}
 use Prim.Native.Nat.{suc, _+_, _-_, _≤_}
 use native.Mathlib.Omega.{arith}
@@ -8,10 +10,6 @@ use Rattle.session.specs.Steps.{searchNow}
 use Rattle.session.proofs.AskLaws.{search-start, search-here, search-next, search-end}
 use Rattle.session.proofs.find.Statement.{statement}
 use Rattle.session.proofs.find.Tie as tie
-use Rattle.session.proofs.find.Reads as reads
-use Rattle.session.proofs.find.Lts as lts
-use Rattle.line_text.proofs.name_now.Reads as name-now-reads
-use Rattle.scanner.proofs.names.same_bytes.Reads as same-bytes-reads
 
 abbrev Inv-loop : tie.InvT-loop
 Inv-loop names wires rows m name first k₀ k = (k ≤ m .wires) × (searchNow names wires rows m name (m .wires) 0 ≡ searchNow names wires rows m name (m .wires - k) k)
@@ -19,52 +17,41 @@ Inv-loop names wires rows m name first k₀ k = (k ≤ m .wires) × (searchNow n
 abbrev μ-loop : tie.MeasureT-loop
 μ-loop names wires rows m name first k₀ k = m .wires - k
 
--- src/lib.rt:279:17
 cast-first : tie.Need-cast-first Inv-loop μ-loop
 cast-first c = omega arith
 
--- src/lib.rt:281:5
 loop-holds : tie.Need-loop-holds Inv-loop μ-loop
 loop-holds c = (omega arith, search-start (now (c .before .before .before .before .before .args .names)) (now (c .before .before .before .before .before .args .wires)) (now (c .before .before .before .before .before .args .rows)) (c .before .before .before .before .before .args .m) (now (c .before .before .before .before .before .args .name)))
 
--- src/lib.rt:282:74
 cast-name-now : tie.Need-cast-name-now Inv-loop μ-loop
 cast-name-now c = omega arith
 
--- src/lib.rt:282:66
 add-name-now : tie.Need-add-name-now Inv-loop μ-loop
 add-name-now c = omega arith
 
--- src/lib.rt:282:13
 name-now-requires : tie.Need-name-now-requires Inv-loop μ-loop
 name-now-requires c κs = omega arith
 
--- src/lib.rt:283:12
 same-bytes-requires : tie.Need-same-bytes-requires Inv-loop μ-loop
 same-bytes-requires c κs = search needs
 
--- src/lib.rt:284:13
 returns : tie.Need-returns Inv-loop μ-loop
 unfolding answer
 returns c =
     let e : c .before .before .before .before .before .before .before .before .before .before .before .args .m .wires - c .before .before .before .before .before .loop .k ≡ suc (c .before .before .before .before .before .before .before .before .before .before .before .args .m .wires - (c .before .before .before .before .before .loop .k + 1)) = omega arith in
     sym (ap (answer 0) (c .before .before .before .before .before .loop .inv .1 ∙ search-here (now (c .before .before .before .before .before .before .before .before .before .before .before .args .names)) (now (c .before .before .before .before .before .before .before .before .before .before .before .args .wires)) (now (c .before .before .before .before .before .before .before .before .before .before .before .args .rows)) (c .before .before .before .before .before .before .before .before .before .before .before .args .m) (now (c .before .before .before .before .before .before .before .before .before .before .before .args .name)) _ _ _ (c .before .before .before .before .before .loop .k) _ e (c .before .before .name-now .ensures) (c .before .same-bytes .ensures) (c .if2 .taken)))
 
--- src/lib.rt:289:13
 add-k : tie.Need-add-k Inv-loop μ-loop
 add-k c = omega arith
 
--- src/lib.rt:281:5
 loop-less : tie.Need-loop-less Inv-loop μ-loop
 loop-less c = omega arith
 
--- src/lib.rt:281:5
 loop-again : tie.Need-loop-again Inv-loop μ-loop
 loop-again c =
     let e : c .before .before .before .before .before .before .before .before .before .before .before .args .m .wires - c .before .before .before .before .before .loop .k ≡ suc (c .before .before .before .before .before .before .before .before .before .before .before .args .m .wires - (c .before .before .before .before .before .loop .k + 1)) = omega arith in
     (omega arith, c .before .before .before .before .before .loop .inv .1 ∙ search-next (now (c .before .before .before .before .before .before .before .before .before .before .before .args .names)) (now (c .before .before .before .before .before .before .before .before .before .before .before .args .wires)) (now (c .before .before .before .before .before .before .before .before .before .before .before .args .rows)) (c .before .before .before .before .before .before .before .before .before .before .before .args .m) (now (c .before .before .before .before .before .before .before .before .before .before .before .args .name)) _ _ _ (c .before .before .before .before .before .loop .k) _ e (c .before .before .name-now .ensures) (c .before .same-bytes .ensures) (c .if2 .left))
 
--- src/lib.rt:276:1
 returns-2 : tie.Need-returns-2 Inv-loop μ-loop
 unfolding answer
 returns-2 c = sym (ap (answer 0) (c .before .before .loop .inv .1 ∙ search-end (now (c .before .before .before .before .before .before .before .before .args .names)) (now (c .before .before .before .before .before .before .before .before .args .wires)) (now (c .before .before .before .before .before .before .before .before .args .rows)) (c .before .before .before .before .before .before .before .before .args .m) (now (c .before .before .before .before .before .before .before .before .args .name)) _ (c .before .before .loop .k) (omega arith)))

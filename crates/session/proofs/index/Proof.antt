@@ -8,45 +8,31 @@ use Rattle.session.proofs.AskLaws.{index-fits, index-there, index-missi
 use borrow.Author.Needs.{needs}
 use Rattle.session.proofs.index.Statement.{statement}
 use Rattle.session.proofs.index.Tie as tie
-use Rattle.session.proofs.index.Reads as reads
-use Rattle.session.proofs.index.Lts as lts
-use Rattle.designs.proofs.module_wires.Reads as module-wires-reads
-use Rattle.session.proofs.open_memory.Reads as open-memory-reads
-use Rattle.session.proofs.row_index.Reads as row-index-reads
 
--- src/lib.rt:352:11
 open-memory-requires : tie.Need-open-memory-requires
 open-memory-requires c κs = search needs
 
--- src/lib.rt:353:22
 enum-known-place : tie.Need-enum-known-place
 enum-known-place c = search needs
 
--- src/lib.rt:354:17
 module-wires-requires : tie.Need-module-wires-requires
 module-wires-requires c κs = search needs
 
--- src/lib.rt:357:17
 returns : tie.Need-returns
 returns c = index-missing (opened (lent (now (c .before .before .before .before .before .before .before .before .before .before .before .before .args .names)) (now (c .before .before .before .before .before .before .before .before .before .before .before .before .args .strings)) (now (c .before .before .before .before .before .before .before .before .before .before .before .before .args .bits)) (now (c .before .before .before .before .before .before .before .before .before .before .before .before .args .wires)) (now (c .before .before .before .before .before .before .before .before .before .before .before .before .args .rows)) (c .before .before .before .before .before .before .before .before .before .before .before .before .args .renames) (c .before .before .before .before .before .before .before .before .before .before .before .before .args .room)) _ (c .before .before .before .before .before .before .open-memory .ensures) _ (c .before .before .before .before .place .given .1)) _ _ _ _ (c .before .before .module-wires .ensures) (c .if1 .taken)
 
--- src/lib.rt:362:30
 add-row-index : tie.Need-add-row-index
 add-row-index c = omega (arith, index-fits (opened (lent (now (c .before .before .before .before .before .before .before .before .before .before .before .before .before .args .names)) (now (c .before .before .before .before .before .before .before .before .before .before .before .before .before .args .strings)) (now (c .before .before .before .before .before .before .before .before .before .before .before .before .before .args .bits)) (now (c .before .before .before .before .before .before .before .before .before .before .before .before .before .args .wires)) (now (c .before .before .before .before .before .before .before .before .before .before .before .before .before .args .rows)) (c .before .before .before .before .before .before .before .before .before .before .before .before .before .args .renames) (c .before .before .before .before .before .before .before .before .before .before .before .before .before .args .room)) _ (c .before .before .before .before .before .before .before .open-memory .ensures) _ (c .before .before .before .before .before .place .given .1)) (c .before .before .before .before .before .before .before .before .before .before .before .before .before .args .m .0) (c .before .before .before .before .before .before .before .before .before .before .before .before .before .args .w .0) (c .before .before .before .before .before .before .before .before .before .before .before .before .before .args .bit) _ (c .before .before .before .module-wires .ensures) (c .before .if1 .left))
 
--- src/lib.rt:362:13
 row-index-requires : tie.Need-row-index-requires
 row-index-requires c κs = search needs
 
--- src/lib.rt:364:25
 enum-known-number : tie.Need-enum-known-number
 enum-known-number c = search needs
 
--- src/lib.rt:338:1
 returns-2 : tie.Need-returns-2
 returns-2 c = index-there (opened (lent (now (c .before .before .before .before .before .before .before .before .before .before .before .before .before .before .args .names)) (now (c .before .before .before .before .before .before .before .before .before .before .before .before .before .before .args .strings)) (now (c .before .before .before .before .before .before .before .before .before .before .before .before .before .before .args .bits)) (now (c .before .before .before .before .before .before .before .before .before .before .before .before .before .before .args .wires)) (now (c .before .before .before .before .before .before .before .before .before .before .before .before .before .before .args .rows)) (c .before .before .before .before .before .before .before .before .before .before .before .before .before .before .args .renames) (c .before .before .before .before .before .before .before .before .before .before .before .before .before .before .args .room)) _ (c .before .before .before .before .before .before .before .before .open-memory .ensures) _ (c .before .before .before .before .before .before .place .given .1)) (c .before .before .before .before .before .before .before .before .before .before .before .before .before .before .args .m .0) (c .before .before .before .before .before .before .before .before .before .before .before .before .before .before .args .w .0) (c .before .before .before .before .before .before .before .before .before .before .before .before .before .before .args .bit) _ (c .before .before .before .before .module-wires .ensures) _ (c .before .before .if1 .left) (c .row-index .ensures)
 
--- src/lib.rt:338:1
 returns-3 : tie.Need-returns-3
 returns-3 c = not-open (λ n. (n, pos 0)) _ _ (not-opened (lent (now (c .before .before .before .before .before .before .before .before .before .args .names)) (now (c .before .before .before .before .before .before .before .before .before .args .strings)) (now (c .before .before .before .before .before .before .before .before .before .args .bits)) (now (c .before .before .before .before .before .before .before .before .before .args .wires)) (now (c .before .before .before .before .before .before .before .before .before .args .rows)) (c .before .before .before .before .before .before .before .before .before .args .renames) (c .before .before .before .before .before .before .before .before .before .args .room)) _ (c .before .before .before .open-memory .ensures) _ (c .before .number .given .1))
 

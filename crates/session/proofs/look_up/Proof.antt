@@ -6,37 +6,25 @@ use Rattle.session.proofs.AskLaws.{looked-up}
 use borrow.Author.Needs.{needs}
 use Rattle.session.proofs.look_up.Statement.{statement}
 use Rattle.session.proofs.look_up.Tie as tie
-use Rattle.session.proofs.look_up.Reads as reads
-use Rattle.session.proofs.look_up.Lts as lts
-use Rattle.session.proofs.find.Reads as find-reads
-use Rattle.session.proofs.module_of.Reads as module-of-reads
-use Rattle.session.proofs.open_memory.Reads as open-memory-reads
 
--- src/lib.rt:310:11
 open-memory-requires : tie.Need-open-memory-requires
 open-memory-requires c κs = search needs
 
--- src/lib.rt:311:22
 enum-known-place : tie.Need-enum-known-place
 enum-known-place c = search needs
 
--- src/lib.rt:315:13
 module-of-requires : tie.Need-module-of-requires
 module-of-requires c κs = search needs
 
--- src/lib.rt:311:32
 find-requires : tie.Need-find-requires
 find-requires c κs = search needs
 
--- src/lib.rt:318:25
 enum-known-number : tie.Need-enum-known-number
 enum-known-number c = search needs
 
--- src/lib.rt:297:1
 returns : tie.Need-returns
 returns c = looked-up (opened (lent (now (c .before .before .before .before .before .before .before .before .before .before .before .before .args .names)) (now (c .before .before .before .before .before .before .before .before .before .before .before .before .args .strings)) (now (c .before .before .before .before .before .before .before .before .before .before .before .before .args .bits)) (now (c .before .before .before .before .before .before .before .before .before .before .before .before .args .wires)) (now (c .before .before .before .before .before .before .before .before .before .before .before .before .args .rows)) (c .before .before .before .before .before .before .before .before .before .before .before .before .args .renames) (c .before .before .before .before .before .before .before .before .before .before .before .before .args .room)) _ (c .before .before .before .before .before .open-memory .ensures) _ (c .before .before .before .place .given .1)) (c .before .before .before .before .before .before .before .before .before .before .before .before .args .m .0) (now (c .before .before .before .before .before .before .before .before .before .before .before .before .args .name)) _ _ (c .before .module-of .ensures) (c .find .ensures)
 
--- src/lib.rt:297:1
 returns-2 : tie.Need-returns-2
 returns-2 c = not-open (λ n. (n, 0)) _ _ (not-opened (lent (now (c .before .before .before .before .before .before .before .before .before .before .args .names)) (now (c .before .before .before .before .before .before .before .before .before .before .args .strings)) (now (c .before .before .before .before .before .before .before .before .before .before .args .bits)) (now (c .before .before .before .before .before .before .before .before .before .before .args .wires)) (now (c .before .before .before .before .before .before .before .before .before .before .args .rows)) (c .before .before .before .before .before .before .before .before .before .before .args .renames) (c .before .before .before .before .before .before .before .before .before .before .args .room)) _ (c .before .before .before .open-memory .ensures) _ (c .before .number .given .1))
 

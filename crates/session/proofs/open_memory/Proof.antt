@@ -6,38 +6,27 @@ use Rattle.session.proofs.OpenLaws.{not-true, not-false, held-open, hel
 use borrow.Author.Needs.{needs}
 use Rattle.session.proofs.open_memory.Statement.{statement}
 use Rattle.session.proofs.open_memory.Tie as tie
-use Rattle.session.proofs.open_memory.Reads as reads
-use Rattle.session.proofs.open_memory.Lts as lts
-use Rattle.held.proofs.judge_memory.Reads as judge-memory-reads
-use Rattle.reader.proofs.right_lengths.Reads as right-lengths-reads
 
--- src/lib.rt:62:9
 right-lengths-requires : tie.Need-right-lengths-requires
 right-lengths-requires c κs = search needs
 
--- src/lib.rt:69:9
 returns : tie.Need-returns
 unfolding rightLengths
 returns c = wrong-sizes (sym (c .before .right-lengths .ensures) ∙ not-true _ (c .if1 .taken)) refl
 
--- src/lib.rt:71:11
 judge-memory-requires : tie.Need-judge-memory-requires
 judge-memory-requires c κs = search needs
 
--- src/lib.rt:72:25
 enum-known-place : tie.Need-enum-known-place
 enum-known-place c = search needs
 
--- src/lib.rt:73:26
 enum-told : tie.Need-enum-told
 enum-told c = search needs
 
--- src/lib.rt:51:1
 returns-2 : tie.Need-returns-2
 unfolding rightLengths
 returns-2 c = held-open (lent (now (c .before .before .before .before .before .before .before .before .before .before .before .args .names)) (now (c .before .before .before .before .before .before .before .before .before .before .before .args .strings)) (now (c .before .before .before .before .before .before .before .before .before .before .before .args .bits)) (now (c .before .before .before .before .before .before .before .before .before .before .before .args .wires)) (now (c .before .before .before .before .before .before .before .before .before .before .before .args .rows)) (c .before .before .before .before .before .before .before .before .before .before .before .args .renames) (c .before .before .before .before .before .before .before .before .before .before .before .args .room)) _ (c .before .before .before .judge-memory .ensures) (sym (c .before .before .before .before .before .right-lengths .ensures) ∙ not-false _ (c .before .before .before .before .if1 .left)) _ _ (c .before .place .given .1)
 
--- src/lib.rt:51:1
 returns-3 : tie.Need-returns-3
 unfolding rightLengths
 returns-3 c = held-none (lent (now (c .before .before .before .before .before .before .before .before .before .before .args .names)) (now (c .before .before .before .before .before .before .before .before .before .before .args .strings)) (now (c .before .before .before .before .before .before .before .before .before .before .args .bits)) (now (c .before .before .before .before .before .before .before .before .before .before .args .wires)) (now (c .before .before .before .before .before .before .before .before .before .before .args .rows)) (c .before .before .before .before .before .before .before .before .before .before .args .renames) (c .before .before .before .before .before .before .before .before .before .before .args .room)) _ (c .before .before .judge-memory .ensures) (sym (c .before .before .before .before .right-lengths .ensures) ∙ not-false _ (c .before .before .before .if1 .left)) (c .enum-told .given .1)

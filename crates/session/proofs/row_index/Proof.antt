@@ -7,28 +7,20 @@ use Rattle.session.specs.Called.{answer}
 use borrow.Author.Needs.{needs}
 use Rattle.session.proofs.row_index.Statement.{statement}
 use Rattle.session.proofs.row_index.Tie as tie
-use Rattle.session.proofs.row_index.Reads as reads
-use Rattle.session.proofs.row_index.Lts as lts
-use Rattle.wires.proofs.wire_index.Reads as wire-index-reads
 
--- src/lib.rt:329:11
 wire-index-requires : tie.Need-wire-index-requires
 wire-index-requires c κs = search needs
 
--- src/lib.rt:330:36
 enum-known-index : tie.Need-enum-known-index
 enum-known-index c = search needs
 
--- src/lib.rt:331:41
 enum-told : tie.Need-enum-told
 enum-told c = search needs
 
--- src/lib.rt:326:1
 returns : tie.Need-returns
 unfolding answer verdictOf
 returns c = ap (λ (z : ℤ). (0, z)) (toZ-ofZ {w = w64} (record { sfits = c .known-told .given .0 .1 })) ∙ sym (ap (answer (pos 0)) (c .before .before .before .wire-index .ensures ∙ ap verdictOf (c .before .index .given .1)))
 
--- src/lib.rt:326:1
 returns-2 : tie.Need-returns-2
 unfolding answer verdictOf
 returns-2 c = sym (ap (answer (pos 0)) (c .before .before .wire-index .ensures ∙ ap verdictOf (c .enum-told .given .1)))

@@ -4,46 +4,32 @@ use Rattle.wires.specs.Rows.{wordAt, column}
 use borrow.Author.Needs.{needs}
 use Rattle.session.proofs.take_rename.Statement.{statement}
 use Rattle.session.proofs.take_rename.Tie as tie
-use Rattle.session.proofs.take_rename.Reads as reads
-use Rattle.session.proofs.take_rename.Lts as lts
-use Rattle.tables.proofs.put_row.Reads as put-row-reads
-use Rattle.tables.proofs.word.Reads as word-reads
-use Rattle.tables.proofs.zero_bytes.Reads as zero-bytes-reads
 
--- src/lib.rt:186:14
 mul-at : tie.Need-mul-at
 mul-at c = search needs
 
--- src/lib.rt:187:28
 add-word : tie.Need-add-word
 add-word c = search needs
 
--- src/lib.rt:187:9
 word-requires : tie.Need-word-requires
 word-requires c κs = search needs
 
--- src/lib.rt:188:23
 cast-from : tie.Need-cast-from
 cast-from c = search needs
 
--- src/lib.rt:188:5
 zero-bytes-requires : tie.Need-zero-bytes-requires
 unfolding column wordAt
 zero-bytes-requires c κs = (omega (arith, c .before .before .before .before .before .pre .0, c .before .word .ensures), omega (arith, c .before .before .before .before .before .pre .0, c .before .before .before .before .before .pre .1, c .before .word .ensures))
 
--- src/lib.rt:189:5
 put-row-requires : tie.Need-put-row-requires
 put-row-requires c κs = search needs
 
--- src/lib.rt:180:1
 same-length : tie.Need-same-length
 same-length c = search needs
 
--- src/lib.rt:180:1
 same-length-2 : tie.Need-same-length-2
 same-length-2 c = search needs
 
--- src/lib.rt:180:1
 returns : tie.Need-returns
 unfolding words column wordAt
 returns c = (c .before .before .before .before .before .before .before .before .word .ensures, (rw (← c .before .before .before .before .before .before .before .before .word .ensures) (c .before .before .before .before .before .before .zero-bytes .ensures), c .before .before .put-row .ensures))
