@@ -1,0 +1,4 @@
+mod OneLaws
+mod NumberLaws
+mod CallLaws
+mod RunLaws

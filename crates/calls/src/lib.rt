@@ -1,0 +1,140 @@
+// A file and a list of calls on it: the file is read, then each call is made on the memory and the counts that the last one left.
+use numbers::kinds::ModuleNumber;
+use numbers::kinds::WireNumber;
+use reader::Left;
+use reader::read;
+use scanner::parts::part;
+use session::rename;
+use session::undo;
+use tables::word;
+ghost use mathlib.Core.Path.{_≡_};
+ghost use Prim.Native.Nat.{_+_, _*_, _≤_};
+ghost use lib.ListN.{length, set};
+ghost use Rattle.reader.specs.Read.{result, lent};
+ghost use Rattle.session.specs.Called.{CalledAs};
+ghost use Rattle.calls.specs.Calls.{callAt, callsIn, session};
+ghost use Rattle.calls.specs.Steps.{Opened, MadeAs};
+
+// A call's answer, if there is a place for it.
+fn put_answer(answers: &mut [u32], i: usize, number: u32)
+    ensures { λ _. ⌜ now (answers .exit) ≡ set (now (answers .entry)) i number ⌝ }
+{
+    if i < answers.len() {
+        answers[i] = number;
+    }
+}
+
+// Five words a call: 1 a rename with module, wire, and where its new name starts in `texts` and its length; anything else an undo.
+fn make_call(
+    calls: &[u32],
+    texts: &[u8],
+    i: usize,
+    names: &mut [u8],
+    strings: &[u8],
+    bits: &[u32],
+    wires: &[u32],
+    rows: &mut [u32],
+    renames: u32,
+    room: u32,
+) -> Left
+    requires { ⌜ 5 * i + 5 ≤ length (now calls) ⌝ }
+    ensures { λ r. ⌜ CalledAs (lent (now (names .entry)) (now (strings .entry)) (now (bits .entry)) (now (wires .entry)) (now (rows .entry)) renames room) (callAt (now (calls .entry)) (now (texts .entry)) i) (result (r .number) (r .place) (lent (now (names .exit)) (now (strings .entry)) (now (bits .entry)) (now (wires .entry)) (now (rows .exit)) (r .renames) (r .room))) ⌝ }
+{
+    let at = 5 * i;
+    if word(calls, at) != 1 {
+        return undo(names, strings, bits, wires, rows, renames, room);
+    }
+    let start = word(calls, at + 3) as usize;
+    let size = word(calls, at + 4) as usize;
+    rename(
+        names,
+        strings,
+        bits,
+        wires,
+        rows,
+        renames,
+        room,
+        ModuleNumber(word(calls, at + 1)),
+        WireNumber(word(calls, at + 2)),
+        part(texts, start, start + size),
+    )
+}
+
+// The calls one after another, on memory that holds a design.
+fn make_calls(
+    calls: &[u32],
+    texts: &[u8],
+    answers: &mut [u32],
+    names: &mut [u8],
+    strings: &[u8],
+    bits: &[u32],
+    wires: &[u32],
+    rows: &mut [u32],
+    renames: u32,
+    room: u32,
+) -> Left
+    requires { ⌜ Opened (lent (now names) (now strings) (now bits) (now wires) (now rows) renames room) ⌝ }
+    ensures { λ r. ⌜ MadeAs (lent (now (names .entry)) (now (strings .entry)) (now (bits .entry)) (now (wires .entry)) (now (rows .entry)) renames room) (now (answers .entry)) (callsIn (now (calls .entry)) (now (texts .entry))) (result (r .number) (r .place) (lent (now (names .exit)) (now (strings .entry)) (now (bits .entry)) (now (wires .entry)) (now (rows .exit)) (r .renames) (r .room))) (now (answers .exit)) ⌝ }
+{
+    let many = calls.len() / 5;
+    let mut i = 0;
+    let mut standing = renames;
+    let mut used = room;
+    while i < many {
+        let left = make_call(
+            calls,
+            texts,
+            i,
+            names,
+            strings,
+            bits,
+            wires,
+            rows,
+            standing,
+            used,
+        );
+        put_answer(answers, i, left.number);
+        standing = left.renames;
+        used = left.room;
+        i = i + 1;
+    }
+    Left {
+        number: 0,
+        place: 0,
+        renames: standing,
+        room: used,
+    }
+}
+
+pub fn run_calls(
+    f: &[u8],
+    calls: &[u32],
+    texts: &[u8],
+    answers: &mut [u32],
+    names: &mut [u8],
+    strings: &mut [u8],
+    bits: &mut [u32],
+    wires: &mut [u32],
+    rows: &mut [u32],
+    renames: u32,
+    room: u32,
+) -> Left
+    ensures { λ r. ⌜ (result (r .number) (r .place) (lent (now (names .exit)) (now (strings .exit)) (now (bits .exit)) (now (wires .exit)) (now (rows .exit)) (r .renames) (r .room)), now (answers .exit)) ≡ session (now (f .entry)) (callsIn (now (calls .entry)) (now (texts .entry))) (lent (now (names .entry)) (now (strings .entry)) (now (bits .entry)) (now (wires .entry)) (now (rows .entry)) renames room) (now (answers .entry)) ⌝ }
+{
+    let left = read(f, names, strings, bits, wires, rows, renames, room);
+    if left.number != 0 {
+        return left;
+    }
+    make_calls(
+        calls,
+        texts,
+        answers,
+        names,
+        strings,
+        bits,
+        wires,
+        rows,
+        left.renames,
+        left.room,
+    )
+}
