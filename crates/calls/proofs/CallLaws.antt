@@ -1,24 +1,22 @@
 -- Calls made one after another on memory that holds a design.
 -- Assumes nothing.
 use Prim.Native.Nat.{ℕ, zero, suc, _+_, _-_, _*_, _/_, _≤_, _<_}
-use mathlib.Core.Path.{_≡_, refl, sym, ap, ap₂, _∙_, subst}
+use mathlib.Core.Path.{_≡_, refl, sym, ap, ap₂, _∙_}
 use mathlib.Core.List.{List, [], _∷_, _++_, append-assoc, append-nil}
-use mathlib.Core.Bool.{Bool, true, false, cond}
+use mathlib.Core.Bool.{true}
 use native.Mathlib.Omega.{arith}
-use lib.Dec.{eqb, leb}
 use lib.ListN.{length, getD, set, length-append}
 use lib.Seq.{slice}
 use borrow.Author.Tests.{eq-eqb, ne-eqb}
 use Rattle.rules.specs.Statements.{Statement}
 use Rattle.rules.specs.Judgement as judgement
 use Rattle.rules.specs.Judgement.{Verdict}
-use Rattle.rules.specs.Reading.{Answer, accepted, refused, read, readAny}
 use Rattle.rules.specs.Design.{design}
 use Rattle.rules.specs.Session.{Rename, Call, call, numberOf, standing, plainSession}
 use Rattle.rules.specs.Layout.{Memory, layout}
 use Rattle.admitted.specs.Holds.{Allowed, Holds}
 use Rattle.reader.specs.Read.{Result, result, rightLengths}
-use Rattle.session.specs.Called.{Called, wrong-lengths, damaged, holding, after, CalledAs}
+use Rattle.session.specs.Called.{wrong-lengths, damaged, holding, after, CalledAs}
 use Rattle.theorems.specs.StandingLaws.{allowed-session}
 use Rattle.calls.specs.Calls.{callWord, renameAt, callAt, callsFrom, callsIn, answered}
 use Rattle.calls.specs.Steps.{Opened, MadeAs}

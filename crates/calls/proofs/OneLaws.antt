@@ -9,11 +9,10 @@ use lib.Dec.{ltb}
 use lib.ListN.{length, take, drop, replicate}
 use borrow.Author.Tests.{ltb-true, ltb-false}
 use Rattle.rules.specs.Bytes.{within}
-use Rattle.rules.specs.Tokens.{Name}
 use Rattle.rules.specs.Statements.{Statement, Kind, anAutoidx, anAttribute, aModule, aParameter, aWire, aMemory, aCell, aCellParameter, aCellConnection, aConnection, aProcess, anEnd, code, contents}
 use Rattle.rules.specs.Judgement.{Past, wires}
 use Rattle.rules.specs.Session.{Rename}
-use Rattle.rules.specs.Layout.{Memory, Rooms, padded, row, used, put, renameRow, putRename, putRenames, rooms, memory, layout}
+use Rattle.rules.specs.Layout.{Memory, Rooms, padded, row, used, renameRow, putRename, putRenames, rooms, memory, layout}
 use Rattle.scanner.specs.Laws.{by-test}
 use Rattle.tables.specs.Flat.{flat, Eights, length-flat}
 use Rattle.tables.specs.Padded.{padded-behind}
@@ -21,7 +20,7 @@ use Rattle.tables.specs.Row.{rowAt}
 use Rattle.wires.specs.Rows.{wordAt, column}
 use Rattle.netlist.specs.Rows.{kindAt}
 use Rattle.netlist.specs.RowLaws.{row-kind}
-use Rattle.netlist.specs.Laid.{roomsOf, Laid, Wired}
+use Rattle.netlist.specs.Laid.{roomsOf, Laid}
 use Rattle.netlist.specs.LaidLaws.{eights-rows, laid-padded, laid-row, laid-renames}
 use Rattle.netlist.specs.WireLaws.{wired-padded, wired-renames}
 use Rattle.admitted.specs.Admitted.{admitted}

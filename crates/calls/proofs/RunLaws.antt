@@ -1,24 +1,22 @@
 -- What reading the file tells of the calls after it.
 -- Assumes nothing.
 use Prim.Native.Nat.{ℕ}
-use mathlib.Core.Path.{_≡_, refl, sym, ap, ap₂, _∙_, subst}
+use mathlib.Core.Path.{_≡_, refl, sym, ap, _∙_}
 use mathlib.Core.List.{List, []}
 use mathlib.Core.Bool.{Bool, true, false, cond}
 use native.Mathlib.Omega.{arith}
-use lib.Dec.{leb, ltb}
+use lib.Dec.{ltb}
 use lib.ListN.{length}
 use borrow.Author.Tests.{leb-true}
 use Rattle.rules.specs.Statements.{Statement}
 use Rattle.rules.specs.Reading.{Answer, accepted, refused, read, readAny}
-use Rattle.rules.specs.Design.{design}
-use Rattle.rules.specs.Session.{Call, plainSession}
+use Rattle.rules.specs.Session.{Call}
 use Rattle.rules.specs.Layout.{Memory, layout}
 use Rattle.admitted.specs.Holds.{Holds, no-renames}
-use Rattle.reader.specs.Read.{Result, result, lent, rightLengths, leaves, readInto}
+use Rattle.reader.specs.Read.{Result, result, rightLengths, leaves, readInto}
 use Rattle.soundness.specs.ReadLaws.{read-admitted}
-use Rattle.calls.specs.Calls.{answered, sessionOn, session}
+use Rattle.calls.specs.Calls.{sessionOn, session}
 use Rattle.calls.specs.Steps.{Opened, MadeAs}
-use Rattle.calls.proofs.OneLaws.{never}
 use Rattle.calls.proofs.CallLaws.{LengthsKept, lengths-kept}
 use Rattle.calls.proofs.NumberLaws.{numbered, read-numbered}
 

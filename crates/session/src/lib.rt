@@ -43,12 +43,12 @@ pub struct Indexed {
 }
 
 // Memory that holds a design, whose statements end at a place; or the refusal's number.
-enum Opened {
+pub enum Opened {
     Open(Place),
     Refused(u32),
 }
 
-fn open_memory(
+pub fn open_memory(
     names: &[u8],
     strings: &[u8],
     bits: &[u32],

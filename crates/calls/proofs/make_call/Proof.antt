@@ -3,98 +3,70 @@ use Rattle.calls.proofs.CallLaws.{call-undo, call-rename}
 use borrow.Author.Needs.{needs}
 use Rattle.calls.proofs.make_call.Statement.{statement}
 use Rattle.calls.proofs.make_call.Tie as tie
-use Rattle.calls.proofs.make_call.Reads as reads
-use Rattle.calls.proofs.make_call.Lts as lts
-use Rattle.scanner.proofs.parts.part.Reads as part-reads
-use Rattle.session.proofs.rename.Reads as rename-reads
-use Rattle.session.proofs.undo.Reads as undo-reads
-use Rattle.tables.proofs.word.Reads as word-reads
 
--- src/lib.rt:43:14
 mul-at : tie.Need-mul-at
 mul-at c = search needs
 
--- src/lib.rt:44:8
 word-requires : tie.Need-word-requires
 word-requires c κs = search needs
 
--- src/lib.rt:45:9
 undo-requires : tie.Need-undo-requires
 undo-requires c κs = search needs
 
--- src/lib.rt:45:9
 same-length : tie.Need-same-length
 same-length c = search needs
 
--- src/lib.rt:45:9
 same-length-2 : tie.Need-same-length-2
 same-length-2 c = search needs
 
--- src/lib.rt:45:9
 returns : tie.Need-returns
 returns c = rw (call-undo (now (c .before .before .before .before .before .before .before .before .before .before .before .before .before .before .before .before .args .calls)) (now (c .before .before .before .before .before .before .before .before .before .before .before .before .before .before .before .before .args .texts)) (c .before .before .before .before .before .before .before .before .before .before .before .before .before .before .before .before .args .i) _ (c .before .before .before .before .before .before .before .before .word .ensures) (c .before .before .before .before .before .before .before .if1 .taken)) (c .before .before .before .before .undo .ensures)
 
--- src/lib.rt:47:29
 add-word : tie.Need-add-word
 add-word c = search needs
 
--- src/lib.rt:47:17
 word-requires-2 : tie.Need-word-requires-2
 word-requires-2 c κs = search needs
 
--- src/lib.rt:47:17
 cast-start : tie.Need-cast-start
 cast-start c = search needs
 
--- src/lib.rt:48:28
 add-word-2 : tie.Need-add-word-2
 add-word-2 c = search needs
 
--- src/lib.rt:48:16
 word-requires-3 : tie.Need-word-requires-3
 word-requires-3 c κs = search needs
 
--- src/lib.rt:48:16
 cast-size : tie.Need-cast-size
 cast-size c = search needs
 
--- src/lib.rt:57:34
 add-word-3 : tie.Need-add-word-3
 add-word-3 c = search needs
 
--- src/lib.rt:57:22
 word-requires-4 : tie.Need-word-requires-4
 word-requires-4 c κs = search needs
 
--- src/lib.rt:58:32
 add-word-4 : tie.Need-add-word-4
 add-word-4 c = search needs
 
--- src/lib.rt:58:20
 word-requires-5 : tie.Need-word-requires-5
 word-requires-5 c κs = search needs
 
--- src/lib.rt:59:28
 add-part : tie.Need-add-part
 add-part c = search needs
 
--- src/lib.rt:59:9
 part-requires : tie.Need-part-requires
 part-requires c κs = search needs
 
--- src/lib.rt:49:5
 rename-requires : tie.Need-rename-requires
 rename-requires c κs = search needs
 
--- src/lib.rt:28:1
 same-length-3 : tie.Need-same-length-3
 same-length-3 c = search needs
 
--- src/lib.rt:28:1
 same-length-4 : tie.Need-same-length-4
 same-length-4 c = search needs
 
--- src/lib.rt:28:1
 returns-2 : tie.Need-returns-2
 returns-2 c = rw (call-rename (now (c .before .before .before .before .before .before .before .before .before .before .before .before .before .before .before .before .before .before .before .before .before .args .calls)) (now (c .before .before .before .before .before .before .before .before .before .before .before .before .before .before .before .before .before .before .before .before .before .args .texts)) (c .before .before .before .before .before .before .before .before .before .before .before .before .before .before .before .before .before .before .before .before .before .args .i) _ (c .before .before .before .before .before .before .before .before .before .before .before .before .before .word .ensures) (c .before .before .before .before .before .before .before .before .before .before .before .before .if1 .left) _ _ _ _ _ (c .before .before .before .before .before .before .before .word4 .ensures) (c .before .before .before .before .before .before .word5 .ensures) (c .before .before .before .before .before .before .before .before .before .before .before .word2 .ensures) (c .before .before .before .before .before .before .before .before .before .before .word3 .ensures) (c .before .before .before .before .before .part .ensures)) (c .before .before .before .before .rename .ensures)
 

@@ -8,10 +8,6 @@ use Rattle.calls.specs.Calls.{callsFrom, callsIn}
 use Rattle.calls.proofs.CallLaws.{Going, going-start, going-step, going-end, calls-start, calls-next, calls-end}
 use Rattle.calls.proofs.make_calls.Statement.{statement}
 use Rattle.calls.proofs.make_calls.Tie as tie
-use Rattle.calls.proofs.make_calls.Reads as reads
-use Rattle.calls.proofs.make_calls.Lts as lts
-use Rattle.calls.proofs.make_call.Reads as make-call-reads
-use Rattle.calls.proofs.put_answer.Reads as put-answer-reads
 
 abbrev Inv-loop : tie.InvT-loop
 Inv-loop calls texts answers₀ names₀ strings bits wires rows₀ renames room many i₀ standing₀ used₀ answers names rows i standing used =
@@ -21,27 +17,21 @@ abbrev μ-loop : tie.MeasureT-loop
 μ-loop calls texts answers₀ names₀ strings bits wires rows₀ renames room many i₀ standing₀ used₀ answers names rows i standing used =
     many - i
 
--- src/lib.rt:83:5
 loop-holds : tie.Need-loop-holds Inv-loop μ-loop
 loop-holds c = (omega arith, refl, refl, refl, omega arith, going-start _ (c .before .before .before .before .before .before .before .before .pre) _ _ _ (calls-start (now (c .before .before .before .before .before .before .before .before .args .calls)) (now (c .before .before .before .before .before .before .before .before .args .texts))))
 
--- src/lib.rt:84:13
 make-call-requires : tie.Need-make-call-requires Inv-loop μ-loop
 make-call-requires c κs = omega (arith, c .before .before .before .loop .inv .4)
 
--- src/lib.rt:87:9
 put-answer-requires : tie.Need-put-answer-requires Inv-loop μ-loop
 put-answer-requires c κs = tt
 
--- src/lib.rt:90:13
 add-i : tie.Need-add-i Inv-loop μ-loop
 add-i c = omega arith
 
--- src/lib.rt:83:5
 loop-less : tie.Need-loop-less Inv-loop μ-loop
 loop-less c = omega arith
 
--- src/lib.rt:83:5
 loop-again : tie.Need-loop-again Inv-loop μ-loop
 loop-again c = (
   omega arith,
@@ -52,19 +42,15 @@ loop-again c = (
   going-step (c .before .before .before .before .before .before .before .before .before .before .before .before .loop .inv .5) _ _ (calls-next (now (c .before .before .before .before .before .before .before .before .before .before .before .before .before .before .before .before .before .before .before .before .before .args .calls)) (now (c .before .before .before .before .before .before .before .before .before .before .before .before .before .before .before .before .before .before .before .before .before .args .texts)) _ (c .before .before .before .before .before .before .before .before .before .before .before .before .loop .i) (omega arith)) _ (c .before .before .before .before .before .before .before .before .make-call .ensures) (c .before .before .before .before .before .before .before .before .make-call .kept .1 .1 .1 .0, refl, refl, refl, c .before .before .before .before .before .before .before .before .make-call .kept .1 .1 .1 .1 .1 .1 .1 .0) _ (c .before .before .put-answer .ensures),
 )
 
--- src/lib.rt:64:1
 same-length : tie.Need-same-length Inv-loop μ-loop
 same-length c = c .before .loop .inv .1
 
--- src/lib.rt:64:1
 same-length-2 : tie.Need-same-length-2 Inv-loop μ-loop
 same-length-2 c = c .before .loop .inv .2
 
--- src/lib.rt:64:1
 same-length-3 : tie.Need-same-length-3 Inv-loop μ-loop
 same-length-3 c = c .before .loop .inv .3
 
--- src/lib.rt:64:1
 returns : tie.Need-returns Inv-loop μ-loop
 returns c = going-end (c .before .loop .inv .5) (calls-end (now (c .before .before .before .before .before .before .before .before .before .before .args .calls)) (now (c .before .before .before .before .before .before .before .before .before .before .args .texts)) _ (c .before .loop .i) (omega arith))
 

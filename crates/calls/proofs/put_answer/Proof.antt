@@ -5,26 +5,19 @@ use Rattle.calls.proofs.CallLaws.{set-past}
 use borrow.Author.Needs.{needs}
 use Rattle.calls.proofs.put_answer.Statement.{statement}
 use Rattle.calls.proofs.put_answer.Tie as tie
-use Rattle.calls.proofs.put_answer.Reads as reads
-use Rattle.calls.proofs.put_answer.Lts as lts
 
--- src/lib.rt:23:9
 mul-answers : tie.Need-mul-answers
 mul-answers c = search needs
 
--- src/lib.rt:23:9
 slice-write-answers : tie.Need-slice-write-answers
 slice-write-answers c = search needs
 
--- src/lib.rt:19:1
 same-length : tie.Need-same-length
 same-length c = search needs
 
--- src/lib.rt:19:1
 returns : tie.Need-returns
 returns c = search needs
 
--- src/lib.rt:19:1
 returns-2 : tie.Need-returns-2
 returns-2 c = sym (set-past (now (c .before .args .answers)) (c .before .args .i) (c .before .args .number) (omega arith))
 

@@ -1,0 +1,399 @@
+-- The rows of tables that begin with a file's statements and its renames write the text of the file.
+-- Assumes nothing.
+use Prim.Native.Nat.{ℕ, suc, _+_, _-_, _≤_, _<_}
+use mathlib.Core.Path.{_≡_, refl, sym, ap, ap₂, _∙_}
+use mathlib.Core.List.{List, [], _∷_, _++_, flatMap, reverse, reverseAux, reverse-reverse, append-nil}
+use mathlib.Core.Option.{some}
+use mathlib.Core.Bool.{Bool, true, false, cond, false≢true}
+use native.Mathlib.Omega.{arith}
+use lib.Dec.{eqb, leb, eqb·suc-zero}
+use lib.ListN.{length, length-reverse}
+use borrow.Author.Tests.{eqb-true}
+use Rattle.rules.specs.Bytes.{all, any, bytes}
+use Rattle.rules.specs.Tokens.{Name}
+use Rattle.rules.specs.Numbers.{int32}
+use Rattle.rules.specs.Statements.{Statement, Wire, autoidx-stmt, attr-stmt, module-stmt, param-stmt, wire-stmt, memory-stmt, cell-stmt, cell-param-stmt, cell-conn-stmt, conn-stmt, proc-stmt, end-stmt, anAutoidx, anAttribute, aModule, aWire, code, contents, is, statementsOpen}
+use Rattle.rules.specs.Shapes.{Scope}
+use Rattle.rules.specs.Signals.{Wires}
+use Rattle.rules.specs.Judgement.{Past, until, sum, among, count, ofModule, wires}
+use Rattle.rules.specs.Session.{Rename}
+use Rattle.rules.specs.Text.{textOpen}
+use Rattle.rules.specs.Layout.{used, nameBytes, putRenames}
+use Rattle.scanner.specs.Laws.{by-test, and-true-left, and-true-right}
+use Rattle.wires.specs.Rows.{column, nameOf, wireOf}
+use Rattle.wires.specs.RowLaws.{row-wire, row-name}
+use Rattle.past.specs.Place.{wiresIn, placeOf}
+use Rattle.past.proofs.PlaceLaws.{length-all-wires}
+use Rattle.netlist.specs.Rows.{kindAt}
+use Rattle.netlist.specs.Laid.{roomsOf}
+use Rattle.netlist.specs.LaidLaws.{length-rows, eights-rows}
+use Rattle.netlist.specs.WireLaws.{length-wire-rows}
+use Rattle.admitted.specs.Admitted.{admitted}
+use Rattle.admitted.specs.AdmitLaws.{fine-fits, admitted-last, admitted-standing, admitted-offsets}
+use Rattle.designs.specs.Modules.{statementsOf, wiresOf, moduleCount, upTo}
+use Rattle.designs.specs.Now.{nameNow}
+use Rattle.designs.specs.Ranges.{wireRange}
+use Rattle.designs.specs.PastLaws.{module-counts, other-counts, count-step, module-first, module-more, module-past, none-counts, up-to-all, up-to-back}
+use Rattle.designs.specs.HeadLaws.{standing-headed}
+use Rattle.designs.specs.WireLaws.{wires-back, wire-range-there, wires-range}
+use Rattle.line_text.specs.Now as line
+use Rattle.line_text.specs.Lines.{statementNow}
+use Rattle.line_text.specs.declared.Module.{Module}
+use Rattle.module_text.specs.Blocks.{lineOf, plainLine}
+use Rattle.module_text.specs.LineLaws.{plain-line}
+use Rattle.module_text.specs.Passes.{named, wiresNow, wiresDown, linesOf, firstLine, objectLines, bodyLines, printModule, fileText}
+use Rattle.module_text.specs.WireLaws.{wires-down}
+use Rattle.module_text.specs.StandLaws.{Follows, one-follows, follows, follows-until, autoidx-first}
+use Rattle.design_text.specs.declared.Counts.{Counts}
+use Rattle.design_text.specs.Rows.{Tables, nextRow, waitingFrom, rowLine, lineIf, kindRows, bodyRows, moduleAt, moduleIf, moduleRows, textRows}
+use Rattle.design_text.proofs.Begun.{Begun, begun-wired, begun-renames, begun-past, admitted-past, last-parts, last-kind, last-decodes, last-wire, name-is, wires-are}
+use Rattle.design_text.proofs.Passes.{Rowed, no-rows, one-row, rowed-more, Kinded, no-kinds, one-kind, next-until, eqb-back, more-behind, all-more, row-line, attribute-rows, body-rows}
+use Rattle.design_text.proofs.Named.{named-code, named-other, nowed, length-nowed, body-nowed}
+
+-- ---- how many wires
+
+wires-more : (s : Statement) (ss : Past) → wiresIn (s ∷ ss) ≡ wiresIn ss + cond (is aWire s) 1 0
+unfolding wiresIn sum count among any
+wires-more s ss = by-test (is aWire s) (λ e. rw e (omega arith)) (λ e. rw e (omega arith))
+
+wires-onto : (xs : List Statement) (base : Past) → wiresIn (reverseAux xs base) ≡ wiresIn xs + wiresIn base
+unfolding wiresIn sum
+wires-onto [] base = omega arith
+wires-onto (x ∷ xs) base = omega (arith, wires-onto xs (x ∷ base))
+
+rooms-wires : (ss : Past) → length (roomsOf ss .wires) ≡ wiresIn ss
+unfolding placeOf
+rooms-wires ss = length-wire-rows ss ∙ length-all-wires ss
+
+no-wires : wiresIn [] ≡ 0
+unfolding wiresIn sum
+no-wires = refl
+
+-- ---- the rows of a statement
+
+data Adds : Statement → Type 0 where
+  a-wire : (w : Wire) (n : Name) → Adds (wire-stmt w n)
+  no-wire : {s : Statement} → is aWire s ≡ false → Adds s
+
+adds : (s : Statement) → Adds s
+unfolding statementsOpen
+adds (autoidx-stmt i) = no-wire refl
+adds (attr-stmt n c) = no-wire refl
+adds (module-stmt n) = no-wire refl
+adds (param-stmt n c) = no-wire refl
+adds (wire-stmt w n) = a-wire w n
+adds (memory-stmt m n) = no-wire refl
+adds (cell-stmt y n) = no-wire refl
+adds (cell-param-stmt o n c) = no-wire refl
+adds (cell-conn-stmt n x) = no-wire refl
+adds (conn-stmt x y) = no-wire refl
+adds (proc-stmt n) = no-wire refl
+adds end-stmt = no-wire refl
+
+-- lines that name no wire
+module-only : (s : Statement) → is aModule s ≡ true → is aWire s ≡ false
+unfolding is code
+module-only s h = rw (← eqb-true 3 (code (contents s .kind)) h)
+
+attribute-no-module : (s : Statement) → is anAttribute s ≡ true → is aModule s ≡ false
+unfolding is code
+attribute-no-module s h = rw (← eqb-true 2 (code (contents s .kind)) h)
+
+autoidx-only : (s : Statement) → is anAutoidx s ≡ true → is aWire s ≡ false
+unfolding is code
+autoidx-only s h = rw (← eqb-true 1 (code (contents s .kind)) h)
+
+autoidx-kind : {t : Tables} (s : Statement) → Begun (roomsOf (s ∷ [])) t → eqb (kindAt (t .rows) 0) 1 ≡ is anAutoidx s
+unfolding is code
+autoidx-kind s k = rw (last-kind s [] k) (eqb-back (code (contents s .kind)) 1)
+
+attribute-only : (s : Statement) → is anAttribute s ≡ true → is aWire s ≡ false
+unfolding is code
+attribute-only s h = rw (← eqb-true 2 (code (contents s .kind)) h)
+
+-- of a kind whose lines have no signal
+plain-kinds : (s : Statement) → leb (code (contents s .kind)) 8 ≡ true → contents s .signals ≡ []
+unfolding statementsOpen
+plain-kinds (autoidx-stmt i) h = refl
+plain-kinds (attr-stmt n c) h = refl
+plain-kinds (module-stmt n) h = refl
+plain-kinds (param-stmt n c) h = refl
+plain-kinds (wire-stmt w n) h = refl
+plain-kinds (memory-stmt m n) h = refl
+plain-kinds (cell-stmt y n) h = refl
+plain-kinds (cell-param-stmt o n c) h = refl
+plain-kinds (cell-conn-stmt n x) h = absurd (false≢true h)
+plain-kinds (conn-stmt x y) h = absurd (false≢true h)
+plain-kinds (proc-stmt n) h = refl
+plain-kinds end-stmt h = refl
+
+plain-at : (l : ℕ) (ws : Wires) (s : Statement) → contents s .signals ≡ [] → lineOf l ws s ≡ lineOf l [] s
+unfolding plainLine
+plain-at l ws s e = plain-line l ws s e
+
+module-plain : (s : Statement) → is aModule s ≡ true → contents s .signals ≡ []
+unfolding is code
+module-plain s h = plain-kinds s (rw (← eqb-true 3 (code (contents s .kind)) h))
+
+attribute-plain : (s : Statement) → is anAttribute s ≡ true → contents s .signals ≡ []
+unfolding is code
+attribute-plain s h = plain-kinds s (rw (← eqb-true 2 (code (contents s .kind)) h))
+
+autoidx-plain : (s : Statement) → is anAutoidx s ≡ true → contents s .signals ≡ []
+unfolding is code
+autoidx-plain s h = plain-kinds s (rw (← eqb-true 1 (code (contents s .kind)) h))
+
+lines-plain : (l : ℕ) (ws : Wires) (at : List Statement) → all (is anAttribute) at ≡ true → linesOf l ws at ≡ linesOf l [] at
+unfolding linesOf flatMap all
+lines-plain l ws [] h = refl
+lines-plain l ws (s ∷ at) h = ap₂ _++_ (plain-at l ws s (attribute-plain s (and-true-left (is anAttribute s) _ h))) (lines-plain l ws at (and-true-right (is anAttribute s) _ h))
+
+end-top : bytes "end\n" ≡ lineOf 0 [] end-stmt
+unfolding lineOf textOpen statementsOpen
+end-top = refl
+
+-- one that declares no wire, whatever the module is
+plain-row : {t : Tables} (m : Module) (s : Statement) (ps : Past) → Begun (roomsOf (s ∷ ps)) t → admitted (s ∷ ps) ≡ true → is aWire s ≡ false → statementNow (t .names) (t .strings) (t .bits) (t .wires) (t .rows) m (length ps) ≡ some s
+unfolding statementNow is code
+plain-row {t} m s ps b e h =
+    rw (last-kind s ps b, eqb-back (code (contents s .kind)) 5, h) (last-decodes s ps b e)
+
+module _ {t : Tables} (rs : List Rename) (F : Past) (b : Begun (putRenames (roomsOf F) rs) t) (m : Module) (from-is : m .from ≡ length F) (renames-are : m .renames ≡ length rs) where
+  now-is : (n k : ℕ) → line.nameNow (t .names) (t .wires) (t .rows) (m .from) (m .renames) (m .number .0) n k ≡ nameNow rs (m .number .0) n (nameOf (t .names) (t .wires) k)
+  now-is n k = rw (from-is, renames-are, ← length-rows F) (name-is (roomsOf F) (eights-rows F) rs b (m .number .0) n k)
+
+  wire-row :
+      (w : Wire) (x : Name) (ps : Past) (n : ℕ) → Begun (roomsOf (wire-stmt w x ∷ ps)) t → admitted (wire-stmt w x ∷ ps) ≡ true → m .first + n ≡ wiresIn ps →
+      statementNow (t .names) (t .strings) (t .bits) (t .wires) (t .rows) m (length ps) ≡ some (wire-stmt w (nameNow rs (m .number .0) n x))
+  unfolding statementNow line.ownNow used nameBytes flatMap all statementsOpen
+  wire-row w x ps n bs e h =
+      let p = last-parts (wire-stmt w x) ps bs in
+      let k : ℕ = length (roomsOf ps .wires) in
+      let c : column (t .rows) (length ps) 3 ≡ k = last-wire w x ps bs in
+      let d : k - m .first ≡ n = omega (arith, rooms-wires ps) in
+      let r = p .wire-is w x refl in
+      let o : int32 (w .offset) ≡ true = and-true-left (int32 (w .offset)) true (fine-fits (wires ps) (wire-stmt w x) (admitted-last (wire-stmt w x) ps e .parts)) in
+      let wi : wireOf (t .wires) k ≡ w = row-wire (t .wires) k (used (roomsOf ps)) x w r o in
+      let ni : nameOf (t .names) (t .wires) k ≡ x = row-name (t .wires) k (used (roomsOf ps)) x w r (t .names) (rw append-nil at (p .names-has)) in
+      rw (last-kind (wire-stmt w x) ps bs, c, now-is (k - m .first) k, d, wi, ni)
+
+  named-row :
+      (s : Statement) (ps : Past) (n : ℕ) → Adds s → Begun (roomsOf (s ∷ ps)) t → admitted (s ∷ ps) ≡ true → m .first + n ≡ wiresIn ps →
+      statementNow (t .names) (t .strings) (t .bits) (t .wires) (t .rows) m (length ps) ≡ some (named (nameNow rs (m .number .0) n) s)
+  unfolding named
+  named-row s ps n (a-wire w x) bs e h = wire-row w x ps n bs e h
+  named-row s ps n (no-wire o) bs e h = plain-row m s ps bs e o ∙ ap some (sym (named-other (nameNow rs (m .number .0) n) s o))
+
+  -- THE ROWS OF A MODULE
+  rowed :
+      (qs : List Statement) (ps : Past) (n : ℕ) → Begun (roomsOf (reverseAux qs ps)) t → admitted (reverseAux qs ps) ≡ true → m .first + n ≡ wiresIn ps →
+      Rowed t m (length ps) (nowed rs (m .number .0) n qs)
+  unfolding nowed
+  rowed [] ps n bs e h = no-rows
+  rowed (s ∷ qs) ps n bs e h =
+      let c : Begun (roomsOf (s ∷ ps)) t = begun-past qs (s ∷ ps) bs in
+      one-row (named-row s ps n (adds s) c (admitted-past qs (s ∷ ps) e) h)
+      (last-kind s ps c ∙ sym (named-code (nameNow rs (m .number .0) n) s))
+      (rowed qs (s ∷ ps) (cond (is aWire s) (n + 1) n) bs e
+      (by-test (is aWire s)
+      (λ w. rw w (omega (arith, rw w at (wires-more s ps))))
+      (λ w. rw w (omega (arith, rw w at (wires-more s ps))))))
+
+kinded : {t : Tables} (qs : List Statement) (ps : Past) → Begun (roomsOf (reverseAux qs ps)) t → Kinded (t .rows) (length ps) qs
+kinded [] ps b = no-kinds
+kinded (s ∷ qs) ps b = one-kind (last-kind s ps (begun-past qs (s ∷ ps) b)) (kinded qs (s ∷ ps) b)
+
+-- ---- where a module's statements end
+
+unfoldable beyond : List Statement → List Statement
+beyond [] = []
+beyond (s ∷ qs) = let r = beyond qs in cond (is aModule s) (s ∷ qs) r
+
+until-beyond : (qs : List Statement) (base : Past) → reverseAux qs base ≡ reverseAux (beyond qs) (reverseAux (until (is aModule) qs) base)
+unfolding beyond until
+until-beyond [] base = refl
+until-beyond (s ∷ qs) base = by-test (is aModule s) (λ e. rw e) (λ e. rw e (until-beyond qs (s ∷ base)))
+
+count-onto : (xs : List Statement) (base : Past) → moduleCount base ≤ moduleCount (reverseAux xs base)
+count-onto [] base = omega arith
+count-onto (x ∷ xs) base = omega (arith, count-onto xs (x ∷ base), count-step x base .0)
+
+count-until : (qs : List Statement) (base : Past) → moduleCount (reverseAux (until (is aModule) qs) base) ≡ moduleCount base
+unfolding until
+count-until [] base = refl
+count-until (s ∷ qs) base = by-test (is aModule s) (λ e. rw e) (λ e. rw e (count-until qs (s ∷ base) ∙ other-counts s base e))
+
+of-until : (qs : List Statement) (base : Past) → ofModule (reverseAux (until (is aModule) qs) base) ≡ reverseAux (until (is aModule) qs) (ofModule base)
+unfolding until
+of-until [] base = refl
+of-until (s ∷ qs) base =
+    by-test (is aModule s) (λ e. rw e)
+    (λ e. rw e (of-until qs (s ∷ base) ∙ ap (reverseAux (until (is aModule) qs)) (module-more s base e)))
+
+module _ (n : ℕ) where
+  up-to-onto : (xs : List Statement) (base : Past) → suc n < moduleCount base → upTo n (reverseAux xs base) ≡ upTo n base
+  up-to-onto [] base h = refl
+  up-to-onto (x ∷ xs) base h =
+      let k : suc n < moduleCount (x ∷ base) = omega (arith, count-step x base .0) in
+      up-to-onto xs (x ∷ base) k ∙ up-to-back n x base k
+
+  up-to-beyond : (qs : List Statement) (base : Past) → moduleCount base ≡ suc n → upTo n (reverseAux (beyond qs) base) ≡ base
+  unfolding beyond
+  up-to-beyond [] base h = up-to-all n base (omega arith)
+  up-to-beyond (s ∷ qs) base h =
+      by-test (is aModule s)
+      (λ e.
+      let k : suc n < moduleCount (s ∷ base) = omega (arith, module-counts s base e) in
+      rw e (up-to-onto qs (s ∷ base) k ∙ up-to-back n s base k ∙ up-to-all n base (omega arith)))
+      (λ e. rw e (up-to-beyond qs base h))
+
+-- THE MODULE whose line s stands behind ps, with the statements qs behind it
+module _
+    {t : Tables} (rs : List Rename) (C : Counts) (F : Past) (b : Begun (putRenames (roomsOf F) rs) t) (e : admitted F ≡ true)
+    (statements : C .statements ≡ length F) (wires-in : C .wires ≡ wiresIn F) (renames : C .renames ≡ length rs) where
+  F-begun : Begun (roomsOf F) t
+  F-begun = begun-renames (roomsOf F) rs b
+
+  module _ (s : Statement) (ps : Past) (qs : List Statement) (n : ℕ) (is-F : reverseAux qs (s ∷ ps) ≡ F) (n-is : n ≡ moduleCount ps) (line-is : is aModule s ≡ true) where
+    abbrev own : List Statement
+    own = until (is aModule) qs
+
+    counted : moduleCount (s ∷ ps) ≡ suc n
+    counted = module-counts s ps line-is ∙ ap suc (sym n-is)
+
+    there : n < moduleCount F
+    there = rw (← is-F) (omega (arith, count-onto qs (s ∷ ps), counted))
+
+    up-to-is : upTo n F ≡ reverseAux own (s ∷ ps)
+    up-to-is = ap (upTo n) (sym is-F ∙ until-beyond qs (s ∷ ps)) ∙ up-to-beyond n qs (reverseAux own (s ∷ ps)) (count-until qs (s ∷ ps) ∙ counted)
+
+    of-is : ofModule (upTo n F) ≡ reverse own
+    of-is = ap ofModule up-to-is ∙ of-until qs (s ∷ ps) ∙ ap (reverseAux own) (module-first s ps line-is)
+
+    statements-are : statementsOf n (reverse F) ≡ own
+    statements-are = module-past F n there ∙ ap reverse of-is ∙ reverse-reverse own
+
+    first-is : moduleAt (t .wires) C n .first ≡ wiresIn (s ∷ ps)
+    unfolding moduleAt
+    first-is =
+        let r = wire-range-there n F (standing-headed (admitted-standing F e)) (begun-wired (roomsOf F) F-begun) there in
+        let x : wiresIn (upTo n F) ≡ wiresIn own + wiresIn (s ∷ ps) = ap wiresIn up-to-is ∙ wires-onto own (s ∷ ps) in
+        let y : wiresIn (ofModule (upTo n F)) ≡ wiresIn own + wiresIn [] = ap wiresIn of-is ∙ wires-onto own [] in
+        rw wires-in (omega (arith, r .0, r .1, x, y, no-wires))
+
+    seen-is : line.wiresIn (t .names) (t .wires) (t .rows) (moduleAt (t .wires) C n) ≡ wiresNow rs n own
+    unfolding moduleAt line.wiresIn
+    seen-is =
+        rw (statements, renames, wires-in, ← length-rows F)
+        (wires-are (roomsOf F) (eights-rows F) rs b n (wireRange (t .wires) (wiresIn F) n .first) (wireRange (t .wires) (wiresIn F) n .count)
+        ∙ ap (wiresDown rs n)
+        (wires-range n F (standing-headed (admitted-standing F e)) (begun-wired (roomsOf F) F-begun) (admitted-offsets F e)
+        ∙ ap (λ (l : List Statement). wiresOf (reverse l)) statements-are
+        ∙ sym (wires-back own))
+        ∙ sym (wires-down rs n own))
+
+    own-rowed : Rowed t (moduleAt (t .wires) C n) (suc (length ps)) (nowed rs n 0 own)
+    unfolding moduleAt
+    own-rowed =
+        let c : Begun (roomsOf (reverseAux (beyond qs) (reverseAux own (s ∷ ps)))) t = rw (sym is-F ∙ until-beyond qs (s ∷ ps)) at F-begun in
+        let a : admitted (reverseAux (beyond qs) (reverseAux own (s ∷ ps))) ≡ true = ap admitted (sym (until-beyond qs (s ∷ ps)) ∙ is-F) ∙ e in
+        rowed rs F b (moduleAt (t .wires) C n) statements renames own (s ∷ ps) 0 (begun-past (beyond qs) (reverseAux own (s ∷ ps)) c) (admitted-past (beyond qs) (reverseAux own (s ∷ ps)) a)
+        (omega (arith, first-is))
+
+    -- its rows write it
+    module-rows :
+        (first : ℕ) (at : List Statement) {p : Scope} {f : Bool} → Follows p f qs → length ps ≡ first + length at → all (is anAttribute) at ≡ true →
+        Rowed t (moduleAt (t .wires) C n) first at → moduleIf t C n first (length ps) (length qs) ≡ printModule rs n at s qs
+    unfolding moduleIf printModule is code
+    module-rows first at fo el ea r =
+        let m : Module = moduleAt (t .wires) C n in
+        let c : Begun (roomsOf (reverseAux qs (s ∷ ps))) t = rw is-F F-begun in
+        let a : admitted (reverseAux qs (s ∷ ps)) ≡ true = ap admitted is-F ∙ e in
+        let k : kindAt (t .rows) (length ps) ≡ code (contents s .kind) = last-kind s ps (begun-past qs (s ∷ ps) c) in
+        let x : eqb (kindAt (t .rows) (length ps)) 3 ≡ true = rw k (eqb-back (code (contents s .kind)) 3 ∙ line-is) in
+        let j : length ps + 1 ≡ suc (length ps) = omega arith in
+        let y : nextRow (t .rows) 3 (length ps + 1) (length qs) - (length ps + 1) ≡ length own =
+        rw j (let z : nextRow (t .rows) 3 (suc (length ps)) (length qs) ≡ suc (length ps) + length own = next-until (t .rows) aModule 3 refl (kinded qs (s ∷ ps) c) in omega arith) in
+        let d : length ps - first ≡ length at = omega arith in
+        let st : statementNow (t .names) (t .strings) (t .bits) (t .wires) (t .rows) m (length ps) ≡ some s =
+        plain-row m s ps (begun-past qs (s ∷ ps) c) (admitted-past qs (s ∷ ps) a) (module-only s line-is) in
+        let l : rowLine t m 0 (length ps) ≡ lineOf 0 [] s = row-line t m 0 (length ps) s st ∙ plain-at 0 (line.wiresIn (t .names) (t .wires) (t .rows) m) s (module-plain s line-is) in
+        let at-is : kindRows t m 2 0 first (length ps - first) ≡ linesOf 0 [] at = attribute-rows t m 0 (length ps - first) d ea r ∙ lines-plain 0 (line.wiresIn (t .names) (t .wires) (t .rows) m) at ea in
+        let bd : bodyRows t m (length ps + 1) (nextRow (t .rows) 3 (length ps + 1) (length qs) - (length ps + 1)) ≡ bodyLines rs n (wiresNow rs n own) own =
+        rw (y, j) (ap (bodyRows t m (suc (length ps))) (sym (length-nowed rs n 0 own)) ∙ body-rows t m own-rowed ∙ body-nowed rs n (line.wiresIn (t .names) (t .wires) (t .rows) m) own (follows-until (is aModule) fo) ∙ ap (λ (ws : Wires). bodyLines rs n ws own) seen-is) in
+        rw (x, at-is, l, bd, end-top)
+
+  -- rows that are no module line
+  module-not : (s : Statement) (ps : Past) (n first c : ℕ) → Begun (roomsOf (s ∷ ps)) t → is aModule s ≡ false → moduleIf t C n first (length ps) c ≡ []
+  unfolding moduleIf is code
+  module-not s ps n first c k h = rw (last-kind s ps k, eqb-back (code (contents s .kind)) 3, h)
+
+  more-modules : (s : Statement) (ps : Past) (n : ℕ) → Begun (roomsOf (s ∷ ps)) t → n ≡ moduleCount ps → n + cond (eqb (kindAt (t .rows) (length ps)) 3) 1 0 ≡ moduleCount (s ∷ ps)
+  unfolding is code
+  more-modules s ps n k h =
+      rw (last-kind s ps k, eqb-back (code (contents s .kind)) 3)
+      (by-test (eqb 3 (code (contents s .kind))) (λ x. rw x (omega (arith, module-counts s ps x))) (λ x. rw x (omega (arith, other-counts s ps x))))
+
+  waits : (s : Statement) (ps : Past) (first : ℕ) → Begun (roomsOf (s ∷ ps)) t → is anAttribute s ≡ true → waitingFrom (kindAt (t .rows) (length ps)) first (length ps) ≡ first
+  unfolding waitingFrom is code
+  waits s ps first k h = rw (last-kind s ps k, ← eqb-true 2 (code (contents s .kind)) h)
+
+  passes : (s : Statement) (ps : Past) (first : ℕ) → Begun (roomsOf (s ∷ ps)) t → is anAttribute s ≡ false → waitingFrom (kindAt (t .rows) (length ps)) first (length ps) ≡ suc (length ps)
+  unfolding waitingFrom is code
+  passes s ps first k h = rw (last-kind s ps k, eqb-back (code (contents s .kind)) 2, h) (omega arith)
+
+  -- ALL MODULES
+  modules-rows :
+      (qs : List Statement) (ps : Past) (n first : ℕ) (at : List Statement) {p : Scope} {f : Bool} → Follows p f qs → reverseAux qs ps ≡ F → n ≡ moduleCount ps →
+      length ps ≡ first + length at → all (is anAttribute) at ≡ true → ((m : Module) → Rowed t m first at) →
+      moduleRows t C n first (length ps) (length qs) ≡ objectLines aModule (printModule rs) n at qs
+  unfolding moduleRows objectLines all
+  modules-rows [] ps n first at fo i h el ea r = refl
+  modules-rows (s ∷ qs) ps n first at (one-follows g q fo) i h el ea r =
+      let c : Begun (roomsOf (reverseAux qs (s ∷ ps))) t = rw i F-begun in
+      let a : admitted (reverseAux qs (s ∷ ps)) ≡ true = ap admitted i ∙ e in
+      let k : Begun (roomsOf (s ∷ ps)) t = begun-past qs (s ∷ ps) c in
+      let n′ : n + cond (eqb (kindAt (t .rows) (length ps)) 3) 1 0 ≡ moduleCount (s ∷ ps) = more-modules s ps n k h in
+      by-test (is anAttribute s)
+      (λ w.
+      let o : is aModule s ≡ false = attribute-no-module s w in
+      let same : n ≡ moduleCount (s ∷ ps) = h ∙ sym (other-counts s ps o) in
+      rw (module-not s ps n first (length qs) k o, waits s ps first k w, n′, ← same, w)
+      (modules-rows qs (s ∷ ps) n first (at ++ s ∷ []) fo i same (more-behind (length ps) first at s el) (all-more (is anAttribute) at s ea w)
+      (λ m. rowed-more s (length ps) el (r m) (plain-row m s ps k (admitted-past qs (s ∷ ps) a) (attribute-only s w)) (last-kind s ps k))))
+      (λ w. by-test (is aModule s)
+      (λ z.
+      let next : n + 1 ≡ moduleCount (s ∷ ps) = omega (arith, module-counts s ps z) in
+      rw (passes s ps first k w, n′, ← next, w, z)
+      (ap₂ _++_ (module-rows s ps qs n i h z first at fo el ea (r (moduleAt (t .wires) C n)))
+      (modules-rows qs (s ∷ ps) (n + 1) (suc (length ps)) [] fo i next (omega arith) refl (λ m. no-rows))))
+      (λ z.
+      let same : n ≡ moduleCount (s ∷ ps) = h ∙ sym (other-counts s ps z) in
+      rw (module-not s ps n first (length qs) k z, passes s ps first k w, n′, ← same, w, z)
+      (modules-rows qs (s ∷ ps) n (suc (length ps)) [] fo i same (omega arith) refl (λ m. no-rows))))
+
+  -- the `autoidx` line
+  autoidx-rows : (ss : List Statement) {p : Scope} {f : Bool} → Follows p f ss → reverse ss ≡ F → kindRows t (moduleAt (t .wires) C 0) 1 0 0 (cond (eqb (length ss) 0) 0 1) ≡ firstLine anAutoidx ss
+  unfolding kindRows lineIf firstLine
+  autoidx-rows [] fo i = refl
+  autoidx-rows (s ∷ ss) fo i =
+      let c : Begun (roomsOf (reverseAux ss (s ∷ []))) t = rw i F-begun in
+      let a : admitted (reverseAux ss (s ∷ [])) ≡ true = ap admitted i ∙ e in
+      let k : Begun (roomsOf (s ∷ [])) t = begun-past ss (s ∷ []) c in
+      rw eqb·suc-zero (first-autoidx s k (admitted-past ss (s ∷ []) a) ∙ sym (autoidx-first fo))
+    where
+      first-autoidx : (s : Statement) → Begun (roomsOf (s ∷ [])) t → admitted (s ∷ []) ≡ true → cond (eqb (kindAt (t .rows) 0) 1) (rowLine t (moduleAt (t .wires) C 0) 0 0) [] ++ [] ≡ cond (is anAutoidx s) (lineOf 0 [] s) []
+      first-autoidx s k a =
+          rw (append-nil, autoidx-kind s k)
+          (by-test (is anAutoidx s)
+          (λ h. rw h (row-line t (moduleAt (t .wires) C 0) 0 0 s (plain-row (moduleAt (t .wires) C 0) s [] k a (autoidx-only s h)) ∙ plain-at 0 _ s (autoidx-plain s h)))
+          (λ h. rw h))
+
+  -- THE TEXT
+  pub text-of : (ss : List Statement) → reverse ss ≡ F → textRows t C ≡ fileText rs ss
+  unfolding textRows fileText all
+  text-of ss i =
+      let fo = follows ss (rw i (admitted-standing F e)) in
+      let l : C .statements ≡ length ss = statements ∙ ap length (sym i) ∙ length-reverse ss in
+      ap (λ (c : ℕ). kindRows t (moduleAt (t .wires) C 0) 1 0 0 (cond (eqb c 0) 0 1) ++ moduleRows t C 0 0 0 c) l
+      ∙ (ap₂ _++_ (autoidx-rows ss fo i) (modules-rows ss [] 0 0 [] fo i (sym none-counts) refl refl (λ m. no-rows)))

@@ -1,0 +1,164 @@
+-- Passes over statements whose wires have their names now are those of the written text.
+-- Assumes nothing.
+use Prim.Native.Nat.{ℕ, suc, _+_}
+use mathlib.Core.Path.{_≡_, refl, sym, ap, ap₂}
+use mathlib.Core.List.{List, [], _∷_, _++_}
+use mathlib.Core.Bool.{Bool, true, false, cond, false≢true}
+use lib.Dec.{eqb}
+use lib.ListN.{length}
+use borrow.Author.Tests.{eqb-true}
+use Rattle.rules.specs.Tokens.{Name}
+use Rattle.rules.specs.Statements.{Statement, autoidx-stmt, attr-stmt, module-stmt, param-stmt, wire-stmt, memory-stmt, cell-stmt, cell-param-stmt, cell-conn-stmt, conn-stmt, proc-stmt, end-stmt, Kind, anAttribute, aParameter, aWire, aMemory, aCell, aCellParameter, aCellConnection, aConnection, anEnd, code, contents, is, statementsOpen}
+use Rattle.rules.specs.Shapes.{Scope}
+use Rattle.rules.specs.Signals.{Wires}
+use Rattle.rules.specs.Judgement.{until}
+use Rattle.rules.specs.Session.{Rename}
+use Rattle.scanner.specs.Laws.{by-test}
+use Rattle.designs.specs.Now.{nameNow}
+use Rattle.module_text.specs.Passes.{named, kindLines, Print, objectLines, printWire, printMemory, cellBlock, printToEnd, bodyLines}
+use Rattle.module_text.specs.StandLaws.{Follows, cells-end}
+
+-- a wire's statement with its name changed; others stay
+module _ (f : Name → Name) where
+  named-contents : (s : Statement) → contents (named f s) .kind ≡ contents s .kind
+  unfolding named statementsOpen
+  named-contents (autoidx-stmt i) = refl
+  named-contents (attr-stmt x c) = refl
+  named-contents (module-stmt x) = refl
+  named-contents (param-stmt x c) = refl
+  named-contents (wire-stmt w x) = refl
+  named-contents (memory-stmt m x) = refl
+  named-contents (cell-stmt t x) = refl
+  named-contents (cell-param-stmt o x c) = refl
+  named-contents (cell-conn-stmt x g) = refl
+  named-contents (conn-stmt g h) = refl
+  named-contents (proc-stmt x) = refl
+  named-contents end-stmt = refl
+
+  pub named-code : (s : Statement) → code (contents (named f s) .kind) ≡ code (contents s .kind)
+  named-code s = ap code (named-contents s)
+
+  pub named-is : (k : Kind) (s : Statement) → is k (named f s) ≡ is k s
+  unfolding is
+  named-is k s = ap (λ (n : ℕ). eqb (code k) n) (named-code s)
+
+  pub named-other : (s : Statement) → is aWire s ≡ false → named f s ≡ s
+  unfolding named statementsOpen
+  named-other (autoidx-stmt i) h = refl
+  named-other (attr-stmt x c) h = refl
+  named-other (module-stmt x) h = refl
+  named-other (param-stmt x c) h = refl
+  named-other (wire-stmt w x) h = absurd (false≢true (sym h))
+  named-other (memory-stmt m x) h = refl
+  named-other (cell-stmt t x) h = refl
+  named-other (cell-param-stmt o x c) h = refl
+  named-other (cell-conn-stmt x g) h = refl
+  named-other (conn-stmt g h′) h = refl
+  named-other (proc-stmt x) h = refl
+  named-other end-stmt h = refl
+
+wire-only : (K : Kind) → eqb (code K) 5 ≡ false → (s : Statement) → is aWire s ≡ true → is K s ≡ false
+unfolding is code
+wire-only K o s h = rw (← eqb-true 5 (code (contents s .kind)) h) o
+
+attribute-not : eqb (code anAttribute) 5 ≡ false
+unfolding code
+attribute-not = refl
+
+attribute-only : (s : Statement) → is anAttribute s ≡ true → is aWire s ≡ false
+unfolding is code
+attribute-only s h = rw (← eqb-true 2 (code (contents s .kind)) h)
+
+-- statements of module m, the next wire's number being n, with names now
+module _ (rs : List Rename) (m : ℕ) where
+  unfoldable pub nowed : ℕ → List Statement → List Statement
+  nowed n [] = []
+  nowed n (s ∷ ss) = named (nameNow rs m n) s ∷ nowed (cond (is aWire s) (n + 1) n) ss
+
+  pub length-nowed : (n : ℕ) (ss : List Statement) → length (nowed n ss) ≡ length ss
+  unfolding nowed
+  length-nowed n [] = refl
+  length-nowed n (s ∷ ss) = ap suc (length-nowed (cond (is aWire s) (n + 1) n) ss)
+
+  until-nowed : (K : Kind) (n : ℕ) (ss : List Statement) → until (is K) (nowed n ss) ≡ nowed n (until (is K) ss)
+  unfolding nowed until
+  until-nowed K n [] = refl
+  until-nowed K n (s ∷ ss) =
+      by-test (is K s)
+      (λ h. rw (named-is (nameNow rs m n) K s, h))
+      (λ h. rw (named-is (nameNow rs m n) K s, h) (ap (λ (l : List Statement). named (nameNow rs m n) s ∷ l) (until-nowed K (cond (is aWire s) (n + 1) n) ss)))
+
+  -- passes that are not of wires
+  module _ (K : Kind) (o : eqb (code K) 5 ≡ false) where
+    kinds-nowed : (l : ℕ) (ws : Wires) (n : ℕ) (ss : List Statement) → kindLines K l ws (nowed n ss) ≡ kindLines K l ws ss
+    unfolding nowed kindLines
+    kinds-nowed l ws n [] = refl
+    kinds-nowed l ws n (s ∷ ss) =
+        by-test (is aWire s)
+        (λ h. rw (named-is (nameNow rs m n) K s, wire-only K o s h) (kinds-nowed l ws _ ss))
+        (λ h. rw (named-other (nameNow rs m n) s h, kinds-nowed l ws (cond (is aWire s) (n + 1) n) ss))
+
+    objects-nowed :
+        (print : Print) → ((w n : ℕ) (at : List Statement) (s : Statement) (more : List Statement) → print w at s (nowed n more) ≡ print w at s more) →
+        (w n : ℕ) (at ss : List Statement) → objectLines K print w at (nowed n ss) ≡ objectLines K print w at ss
+    unfolding nowed objectLines
+    objects-nowed print p w n at [] = refl
+    objects-nowed print p w n at (s ∷ ss) =
+        by-test (is aWire s)
+        (λ h.
+        rw (named-is (nameNow rs m n) anAttribute s, named-is (nameNow rs m n) K s, wire-only K o s h, wire-only anAttribute attribute-not s h) (objects-nowed print p w _ [] ss))
+        (λ h.
+        let k : ℕ = cond (is aWire s) (n + 1) n in
+        rw (named-other (nameNow rs m n) s h)
+        (by-test (is anAttribute s)
+        (λ a. rw a (objects-nowed print p w k (at ++ s ∷ []) ss))
+        (λ a. by-test (is K s)
+        (λ b. rw (a, b) (ap₂ _++_ (p w k at s ss) (objects-nowed print p (w + 1) k [] ss)))
+        (λ b. rw (a, b) (objects-nowed print p w k [] ss)))))
+
+  -- wires: their number is counted in both
+  one-wire : (ws : Wires) (n : ℕ) (at : List Statement) (s : Statement) (qs ss : List Statement) → printMemory ws n at (named (nameNow rs m n) s) qs ≡ printWire rs m ws n at s ss
+  unfolding printMemory printWire
+  one-wire ws n at s qs ss = refl
+
+  wires-nowed : (ws : Wires) (n : ℕ) (at ss : List Statement) → objectLines aWire (printMemory ws) n at (nowed n ss) ≡ objectLines aWire (printWire rs m ws) n at ss
+  unfolding nowed objectLines
+  wires-nowed ws n at [] = refl
+  wires-nowed ws n at (s ∷ ss) =
+      rw (named-is (nameNow rs m n) anAttribute s, named-is (nameNow rs m n) aWire s)
+      (by-test (is anAttribute s)
+      (λ a.
+      let h : is aWire s ≡ false = attribute-only s a in
+      rw (a, h, named-other (nameNow rs m n) s h) (wires-nowed ws n (at ++ s ∷ []) ss))
+      (λ a. by-test (is aWire s)
+      (λ b. rw (a, b) (ap₂ _++_ (one-wire ws n at s (nowed (n + 1) ss) ss) (wires-nowed ws (n + 1) [] ss)))
+      (λ b. rw (a, b) (wires-nowed ws n [] ss))))
+
+  cell-same : (ws : Wires) (w n : ℕ) (at : List Statement) (s : Statement) (more : List Statement) → printToEnd ws w at s (nowed n more) ≡ printToEnd ws w at s more
+  unfolding printToEnd cellBlock code
+  cell-same ws w n at s more =
+      rw (until-nowed anEnd n more, kinds-nowed aCellParameter refl 2 ws n (until (is anEnd) more), kinds-nowed aCellConnection refl 2 ws n (until (is anEnd) more))
+
+  line-same : (ws : Wires) (w n : ℕ) (at : List Statement) (s : Statement) (more : List Statement) → printMemory ws w at s (nowed n more) ≡ printMemory ws w at s more
+  unfolding printMemory
+  line-same ws w n at s more = refl
+
+  -- WHAT STANDS IN A MODULE, where each statement stands in its place
+  pub body-nowed :
+      (ws : Wires) {p : Scope} {f : Bool} (ss : List Statement) → Follows p f ss →
+      kindLines aParameter 1 ws (nowed 0 ss)
+      ++ objectLines aWire (printMemory ws) 0 [] (nowed 0 ss)
+      ++ objectLines aMemory (printMemory ws) 0 [] (nowed 0 ss)
+      ++ objectLines aCell (printToEnd ws) 0 [] (nowed 0 ss)
+      ++ kindLines aConnection 1 ws (nowed 0 ss)
+      ≡ bodyLines rs m ws ss
+  unfolding bodyLines code
+  body-nowed ws ss h =
+      rw (
+        kinds-nowed aParameter refl 1 ws 0 ss,
+        wires-nowed ws 0 [] ss,
+        objects-nowed aMemory refl (printMemory ws) (line-same ws) 0 0 [] ss,
+        objects-nowed aCell refl (printToEnd ws) (cell-same ws) 0 0 [] ss,
+        kinds-nowed aConnection refl 1 ws 0 ss,
+        cells-end ws h 0 [],
+      )

@@ -1,0 +1,54 @@
+-- The attributes that wait, then the object; nothing if the row is of another kind.
+-- Assumes nothing.
+use borrow.Author.Tests.{eq-eqb, ne-eqb}
+use native.Mathlib.Omega.{arith}
+use denote.Ref.{now}
+use Rattle.text.specs.Written.{written-none, written-most, written-then}
+use Rattle.design_text.specs.Rows.{rowLine, objectIf}
+use borrow.Author.Needs.{needs}
+use Rattle.design_text.proofs.put_object.Statement.{statement}
+use Rattle.design_text.proofs.put_object.Tie as tie
+
+row-kind-requires : tie.Need-row-kind-requires
+row-kind-requires c κs = search needs
+
+returns : tie.Need-returns
+unfolding objectIf
+returns c = rw (← c .before .row-kind .ensures, ne-eqb (c .before .row-kind .result) (c .before .before .before .before .before .before .before .before .args .kind) (c .if1 .taken)) (written-none (c .before .before .before .before .before .before .before .before .args .at) (now (c .before .before .before .before .before .before .before .before .args .out)) (c .before .before .before .before .before .before .before .before .pre .0))
+
+put-kind-requires : tie.Need-put-kind-requires
+put-kind-requires c κs = (c .before .before .before .before .before .before .before .before .before .pre .0, c .before .before .before .before .before .before .before .before .before .pre .1, omega arith)
+
+put-cell-requires : tie.Need-put-cell-requires
+put-cell-requires c κs = (written-most (c .before .before .before .before .put-kind .ensures), c .before .before .before .before .before .before .before .before .before .before .before .before .before .before .pre .1, c .before .before .before .before .before .before .before .before .before .before .before .before .before .before .pre .2)
+
+returns-2 : tie.Need-returns-2
+unfolding objectIf
+returns-2 c = rw (← c .before .before .before .before .before .before .before .before .before .before .row-kind .ensures, eq-eqb (c .before .before .before .before .before .before .before .before .before .before .row-kind .result) (c .before .before .before .before .before .before .before .before .before .before .before .before .before .before .before .before .before .args .kind) (c .before .before .before .before .before .before .before .before .before .if1 .left), eq-eqb (c .before .before .before .before .before .before .before .before .before .before .before .before .before .before .before .before .before .args .kind) 7 (c .before .before .before .before .if2 .taken)) (written-then (c .before .before .before .before .before .before .before .put-kind .ensures) (c .before .before .put-cell .ensures))
+
+same-length : tie.Need-same-length
+same-length c = returns-2 c .kept
+
+put-line-requires : tie.Need-put-line-requires
+put-line-requires c κs = (written-most (c .before .before .before .before .put-kind .ensures), omega arith, c .before .before .before .before .before .before .before .before .before .before .before .before .before .before .pre .1)
+
+returns-3 : tie.Need-returns-3
+unfolding rowLine objectIf
+returns-3 c = rw (← c .before .before .before .before .before .before .before .before .before .before .row-kind .ensures, eq-eqb (c .before .before .before .before .before .before .before .before .before .before .row-kind .result) (c .before .before .before .before .before .before .before .before .before .before .before .before .before .before .before .before .before .args .kind) (c .before .before .before .before .before .before .before .before .before .if1 .left), ne-eqb (c .before .before .before .before .before .before .before .before .before .before .before .before .before .before .before .before .before .args .kind) 7 (c .before .before .before .before .if2 .left)) (written-then (c .before .before .before .before .before .before .before .put-kind .ensures) (c .before .before .put-line .ensures))
+
+same-length-2 : tie.Need-same-length-2
+same-length-2 c = returns-3 c .kept
+
+pub put-object-spec : {M : Type 1} → statement M
+put-object-spec =
+    tie.close
+    (tie.spec
+    row-kind-requires
+    returns
+    put-kind-requires
+    put-cell-requires
+    same-length
+    returns-2
+    put-line-requires
+    same-length-2
+    returns-3)

@@ -1,0 +1,36 @@
+-- The first line, then the modules.
+-- Assumes nothing.
+use native.Mathlib.Omega.{arith}
+use Rattle.text.specs.Written.{written-most}
+use Rattle.design_text.proofs.Loops.{text-written}
+use Rattle.design_text.proofs.put_text.Statement.{statement}
+use Rattle.design_text.proofs.put_text.Tie as tie
+
+module-of-requires : tie.Need-module-of-requires
+module-of-requires c κs = tt
+
+at-most-one-requires : tie.Need-at-most-one-requires
+at-most-one-requires c κs = tt
+
+put-kind-requires : tie.Need-put-kind-requires
+put-kind-requires c κs = (omega arith, c .before .before .before .before .before .before .before .before .before .pre, omega arith)
+
+put-modules-requires : tie.Need-put-modules-requires
+put-modules-requires c κs = (written-most (c .before .before .before .put-kind .ensures), c .before .before .before .before .before .before .before .before .before .before .before .before .before .pre)
+
+returns : tie.Need-returns
+returns c = text-written _ _ (c .before .before .before .before .before .before .before .before .before .module-of .result) (c .before .before .before .before .before .before .before .before .at-most-one .result) (c .before .before .before .before .before .before .before .before .before .module-of .ensures) (c .before .before .before .before .before .before .before .before .at-most-one .ensures) (c .before .before .before .before .before .before .put-kind .ensures) (c .before .before .put-modules .ensures)
+
+same-length : tie.Need-same-length
+same-length c = returns c .kept
+
+pub put-text-spec : {M : Type 1} → statement M
+put-text-spec =
+    tie.close
+    (tie.spec
+    module-of-requires
+    at-most-one-requires
+    put-kind-requires
+    put-modules-requires
+    same-length
+    returns)

@@ -1,0 +1,460 @@
+// The written text of design memory: passes over the rows of its statements, one for each kind of line.
+// All of it is total: a word past a table's end counts as 0, and a row that holds no statement is not written.
+use designs::module_wires;
+use line_text::Module;
+use line_text::put_line;
+use netlist::rows::row_kind;
+use numbers::kinds::ModuleNumber;
+use text::put_bytes;
+ghost use mathlib.Core.Path.{_≡_};
+ghost use mathlib.Core.Bool.{cond};
+ghost use Prim.Native.Nat.{_+_, _-_, _≤_, _<_};
+ghost use lib.Dec.{eqb};
+ghost use lib.ListN.{length};
+ghost use Rattle.text.specs.Written.{Written};
+ghost use Rattle.design_text.specs.Rows.{tabled, nextRow, waitingFrom, lineIf, kindRows, cellRows, objectIf, objectRows, bodyRows, moduleAt, moduleIf, moduleRows, textRows};
+
+// How many rows of each: statements, wires, standing renames.
+pub struct Counts {
+    pub statements: u32,
+    pub wires: u32,
+    pub renames: u32,
+}
+
+// The rows from one up to another.
+struct Span {
+    from: u32,
+    to: u32,
+}
+
+// A row of an object: its attributes' first row, its own, and where the module's rows end.
+struct Object {
+    first: u32,
+    row: u32,
+    to: u32,
+}
+
+// The first row of a kind among some, or their end.
+fn next_row(rows: &[u32], kind: u32, from: u32, to: u32) -> u32
+    ensures { λ r. ⌜ r ≡ nextRow (now (rows .entry)) kind from (to - from) ⌝ }
+{
+    let mut k = from;
+    while k < to {
+        if row_kind(rows, k) == kind {
+            return k;
+        }
+        k = k + 1;
+    }
+    k
+}
+
+// Where the attributes that wait begin behind row k: an attribute waits on, any other statement ends the wait.
+fn waiting_from(kind: u32, first: u32, k: u32) -> u32
+    requires { ⌜ k < 4294967295 ⌝ }
+    ensures { λ r. ⌜ r ≡ waitingFrom kind first k ⌝ }
+{
+    if kind == 2 {
+        return first;
+    }
+    k + 1
+}
+
+// The line of row k, if it is of this kind.
+fn put_row(
+    names: &[u8],
+    strings: &[u8],
+    bits: &[u32],
+    wires: &[u32],
+    rows: &[u32],
+    m: Module,
+    kind: u32,
+    level: usize,
+    k: u32,
+    out: &mut [u8],
+    at: usize,
+) -> usize
+    requires { ⌜ (at ≤ 32769) × (length (now bits) ≤ 16384) × (level ≤ 2) ⌝ }
+    ensures { λ r. ⌜ Written at (lineIf (tabled (now (names .entry)) (now (strings .entry)) (now (bits .entry)) (now (wires .entry)) (now (rows .entry))) m kind level k) (now (out .entry)) (now (out .exit)) r ⌝ }
+{
+    if row_kind(rows, k) != kind {
+        return at;
+    }
+    put_line(names, strings, bits, wires, rows, m, k, level, out, at)
+}
+
+// The lines of a kind, in their order.
+fn put_kind(
+    names: &[u8],
+    strings: &[u8],
+    bits: &[u32],
+    wires: &[u32],
+    rows: &[u32],
+    m: Module,
+    kind: u32,
+    level: usize,
+    span: Span,
+    out: &mut [u8],
+    at: usize,
+) -> usize
+    requires { ⌜ (at ≤ 32769) × (length (now bits) ≤ 16384) × (level ≤ 2) ⌝ }
+    ensures { λ r. ⌜ Written at (kindRows (tabled (now (names .entry)) (now (strings .entry)) (now (bits .entry)) (now (wires .entry)) (now (rows .entry))) m kind level (span .from) (span .to - span .from)) (now (out .entry)) (now (out .exit)) r ⌝ }
+{
+    let mut end = at;
+    let mut k = span.from;
+    while k < span.to {
+        end = put_row(
+            names,
+            strings,
+            bits,
+            wires,
+            rows,
+            m,
+            kind,
+            level,
+            k,
+            out,
+            end,
+        );
+        k = k + 1;
+    }
+    end
+}
+
+// A cell's line, its parameters, its connections and its end: they stand before the next `end`.
+fn put_cell(
+    names: &[u8],
+    strings: &[u8],
+    bits: &[u32],
+    wires: &[u32],
+    rows: &[u32],
+    m: Module,
+    k: u32,
+    to: u32,
+    out: &mut [u8],
+    at: usize,
+) -> usize
+    requires { ⌜ (at ≤ 32769) × (length (now bits) ≤ 16384) × (k < to) ⌝ }
+    ensures { λ r. ⌜ Written at (cellRows (tabled (now (names .entry)) (now (strings .entry)) (now (bits .entry)) (now (wires .entry)) (now (rows .entry))) m k (to - (k + 1))) (now (out .entry)) (now (out .exit)) r ⌝ }
+{
+    let from = k + 1;
+    let end = next_row(rows, 12, from, to);
+    let line = put_line(names, strings, bits, wires, rows, m, k, 1, out, at);
+    let parameters = put_kind(
+        names,
+        strings,
+        bits,
+        wires,
+        rows,
+        m,
+        8,
+        2,
+        Span {
+            from: from,
+            to: end,
+        },
+        out,
+        line,
+    );
+    let connections = put_kind(
+        names,
+        strings,
+        bits,
+        wires,
+        rows,
+        m,
+        9,
+        2,
+        Span {
+            from: from,
+            to: end,
+        },
+        out,
+        parameters,
+    );
+    put_bytes(out, connections, b"  end\n")
+}
+
+// An object of this kind, if the row is of it, with its attributes before it.
+fn put_object(
+    names: &[u8],
+    strings: &[u8],
+    bits: &[u32],
+    wires: &[u32],
+    rows: &[u32],
+    m: Module,
+    kind: u32,
+    object: Object,
+    out: &mut [u8],
+    at: usize,
+) -> usize
+    requires { ⌜ (at ≤ 32769) × (length (now bits) ≤ 16384) × (object .row < object .to) ⌝ }
+    ensures { λ r. ⌜ Written at (objectIf (tabled (now (names .entry)) (now (strings .entry)) (now (bits .entry)) (now (wires .entry)) (now (rows .entry))) m kind (object .first) (object .row) (object .to - (object .row + 1))) (now (out .entry)) (now (out .exit)) r ⌝ }
+{
+    let k = object.row;
+    if row_kind(rows, k) != kind {
+        return at;
+    }
+    let line = put_kind(
+        names,
+        strings,
+        bits,
+        wires,
+        rows,
+        m,
+        2,
+        1,
+        Span {
+            from: object.first,
+            to: k,
+        },
+        out,
+        at,
+    );
+    if kind == 7 {
+        return put_cell(
+            names,
+            strings,
+            bits,
+            wires,
+            rows,
+            m,
+            k,
+            object.to,
+            out,
+            line,
+        );
+    }
+    put_line(names, strings, bits, wires, rows, m, k, 1, out, line)
+}
+
+// The objects of a kind, in their order.
+fn put_objects(
+    names: &[u8],
+    strings: &[u8],
+    bits: &[u32],
+    wires: &[u32],
+    rows: &[u32],
+    m: Module,
+    kind: u32,
+    span: Span,
+    out: &mut [u8],
+    at: usize,
+) -> usize
+    requires { ⌜ (at ≤ 32769) × (length (now bits) ≤ 16384) ⌝ }
+    ensures { λ r. ⌜ Written at (objectRows (tabled (now (names .entry)) (now (strings .entry)) (now (bits .entry)) (now (wires .entry)) (now (rows .entry))) m kind (span .from) (span .from) (span .to - span .from)) (now (out .entry)) (now (out .exit)) r ⌝ }
+{
+    let mut end = at;
+    let mut first = span.from;
+    let mut k = span.from;
+    while k < span.to {
+        end = put_object(
+            names,
+            strings,
+            bits,
+            wires,
+            rows,
+            m,
+            kind,
+            Object {
+                first: first,
+                row: k,
+                to: span.to,
+            },
+            out,
+            end,
+        );
+        first = waiting_from(row_kind(rows, k), first, k);
+        k = k + 1;
+    }
+    end
+}
+
+// What stands in a module, by the kinds' order: parameters, wires, memories, cells, connections.
+fn put_body(
+    names: &[u8],
+    strings: &[u8],
+    bits: &[u32],
+    wires: &[u32],
+    rows: &[u32],
+    m: Module,
+    span: Span,
+    out: &mut [u8],
+    at: usize,
+) -> usize
+    requires { ⌜ (at ≤ 32769) × (length (now bits) ≤ 16384) ⌝ }
+    ensures { λ r. ⌜ Written at (bodyRows (tabled (now (names .entry)) (now (strings .entry)) (now (bits .entry)) (now (wires .entry)) (now (rows .entry))) m (span .from) (span .to - span .from)) (now (out .entry)) (now (out .exit)) r ⌝ }
+{
+    let parameters = put_kind(names, strings, bits, wires, rows, m, 4, 1, span, out, at);
+    let declared = put_objects(
+        names,
+        strings,
+        bits,
+        wires,
+        rows,
+        m,
+        5,
+        span,
+        out,
+        parameters,
+    );
+    let memories = put_objects(names, strings, bits, wires, rows, m, 6, span, out, declared);
+    let cells = put_objects(names, strings, bits, wires, rows, m, 7, span, out, memories);
+    put_kind(
+        names,
+        strings,
+        bits,
+        wires,
+        rows,
+        m,
+        10,
+        1,
+        span,
+        out,
+        cells,
+    )
+}
+
+// A module by its number: its wires' rows, and where the renames' rows begin.
+fn module_of(wires: &[u32], counts: Counts, number: u32) -> Module
+    ensures { λ r. ⌜ r ≡ moduleAt (now (wires .entry)) counts number ⌝ }
+{
+    let range = module_wires(wires, counts.wires, ModuleNumber(number));
+    Module {
+        number: ModuleNumber(number),
+        first: range.first,
+        wires: range.count,
+        from: counts.statements,
+        renames: counts.renames,
+    }
+}
+
+// A module, if the row is a module line: its attributes, its line, what stands in it up to the next module line, its end.
+fn put_module(
+    names: &[u8],
+    strings: &[u8],
+    bits: &[u32],
+    wires: &[u32],
+    rows: &[u32],
+    counts: Counts,
+    number: u32,
+    first: u32,
+    k: u32,
+    out: &mut [u8],
+    at: usize,
+) -> usize
+    requires { ⌜ (at ≤ 32769) × (length (now bits) ≤ 16384) × (k < counts .statements) ⌝ }
+    ensures { λ r. ⌜ Written at (moduleIf (tabled (now (names .entry)) (now (strings .entry)) (now (bits .entry)) (now (wires .entry)) (now (rows .entry))) counts number first k (counts .statements - (k + 1))) (now (out .entry)) (now (out .exit)) r ⌝ }
+{
+    if row_kind(rows, k) != 3 {
+        return at;
+    }
+    let m = module_of(wires, counts, number);
+    let from = k + 1;
+    let to = next_row(rows, 3, from, counts.statements);
+    let attributes = put_kind(
+        names,
+        strings,
+        bits,
+        wires,
+        rows,
+        m,
+        2,
+        0,
+        Span { from: first, to: k },
+        out,
+        at,
+    );
+    let line = put_line(names, strings, bits, wires, rows, m, k, 0, out, attributes);
+    let body = put_body(
+        names,
+        strings,
+        bits,
+        wires,
+        rows,
+        m,
+        Span { from: from, to: to },
+        out,
+        line,
+    );
+    put_bytes(out, body, b"end\n")
+}
+
+fn one_if_module(kind: u32) -> u32
+    ensures { λ r. ⌜ r ≡ cond (eqb kind 3) 1 0 ⌝ }
+{
+    if kind == 3 {
+        return 1;
+    }
+    0
+}
+
+// The modules, in their order; a module's number is how many module lines stand before its own.
+fn put_modules(
+    names: &[u8],
+    strings: &[u8],
+    bits: &[u32],
+    wires: &[u32],
+    rows: &[u32],
+    counts: Counts,
+    out: &mut [u8],
+    at: usize,
+) -> usize
+    requires { ⌜ (at ≤ 32769) × (length (now bits) ≤ 16384) ⌝ }
+    ensures { λ r. ⌜ Written at (moduleRows (tabled (now (names .entry)) (now (strings .entry)) (now (bits .entry)) (now (wires .entry)) (now (rows .entry))) counts 0 0 0 (counts .statements)) (now (out .entry)) (now (out .exit)) r ⌝ }
+{
+    let mut end = at;
+    let mut number = 0;
+    let mut first = 0;
+    let mut k = 0;
+    while k < counts.statements {
+        let kind = row_kind(rows, k);
+        end = put_module(
+            names,
+            strings,
+            bits,
+            wires,
+            rows,
+            counts,
+            number,
+            first,
+            k,
+            out,
+            end,
+        );
+        number = number + one_if_module(kind);
+        first = waiting_from(kind, first, k);
+        k = k + 1;
+    }
+    end
+}
+
+fn at_most_one(n: u32) -> u32
+    ensures { λ r. ⌜ r ≡ cond (eqb n 0) 0 1 ⌝ }
+{
+    if n == 0 {
+        return 0;
+    }
+    1
+}
+
+// The `autoidx` line, if the first statement is one, then each module.
+pub fn put_text(
+    names: &[u8],
+    strings: &[u8],
+    bits: &[u32],
+    wires: &[u32],
+    rows: &[u32],
+    counts: Counts,
+    out: &mut [u8],
+) -> usize
+    requires { ⌜ length (now bits) ≤ 16384 ⌝ }
+    ensures { λ r. ⌜ Written 0 (textRows (tabled (now (names .entry)) (now (strings .entry)) (now (bits .entry)) (now (wires .entry)) (now (rows .entry))) counts) (now (out .entry)) (now (out .exit)) r ⌝ }
+{
+    let m = module_of(wires, counts, 0);
+    let span = Span {
+        from: 0,
+        to: at_most_one(counts.statements),
+    };
+    let end = put_kind(names, strings, bits, wires, rows, m, 1, 0, span, out, 0);
+    put_modules(names, strings, bits, wires, rows, counts, out, end)
+}

@@ -1,0 +1,120 @@
+-- A text by its end, and the text of memory that is open.
+-- Assumes nothing.
+use Prim.Native.Nat.{ℕ, _+_, _*_, _≤_, _<_}
+use mathlib.Core.Path.{_≡_, sym, ap, ap₂, _∙_, subst}
+use mathlib.Core.List.{List, reverse}
+use mathlib.Core.Bool.{Bool, _&&_}
+use native.Mathlib.Omega.{arith}
+use lib.Dec.{eqb}
+use lib.ListN.{length, length-reverse}
+use borrow.Author.Tests.{lt-ltb, le-ltb, eqb-true}
+use Rattle.rules.specs.Judgement.{verdict, lowest}
+use Rattle.rules.specs.Statements.{Statement}
+use Rattle.rules.specs.Design.{design}
+use Rattle.rules.specs.Session.{Rename, now}
+use Rattle.rules.specs.Text.{text, write, measure}
+use Rattle.rules.specs.Layout.{Memory, memory, layout}
+use Rattle.scanner.specs.Laws.{and-true-left, and-true-right}
+use Rattle.past.specs.Place.{wiresIn, placeOf}
+use Rattle.past.specs.declared.place.Place.{Place}
+use Rattle.text.specs.Written.{moved, Written, written-end}
+use Rattle.reader.specs.Read.{rightSizes, rightLengths}
+use Rattle.session.specs.Called.{Called, wrong-lengths, damaged, holding, answer}
+use Rattle.session.specs.Steps.{Holding, NotOpen, wrong-sizes, none-held, OpenedIs}
+use Rattle.session.specs.declared.Opened.{Opened}
+use Rattle.session.specs.declared.Opened.the-variants.{Open, Refused}
+use Rattle.design_text.specs.Rows.{tabled, textRows}
+use Rattle.design_text.specs.declared.Counts.{Counts}
+use Rattle.design_text.proofs.Text.{text-held}
+use Rattle.writer.specs.Write.{measureText, writeText, wrote}
+
+-- ---- the verdict on a text that ends at r
+module _ (t : List ℕ) (r : ℕ) (e : r ≡ moved 0 (length t)) where
+  long : 32768 < r → 32768 < length t
+  unfolding moved
+  long h = omega arith
+
+  end-is : r ≤ 32768 → length t ≡ r
+  unfolding moved
+  end-is h = omega arith
+
+  pub measure-long : 32768 < r → (12, 0) ≡ answer 0 (measureText t)
+  unfolding answer measureText verdict lowest
+  measure-long h = rw (lt-ltb 32768 (length t) (long h))
+
+  pub measure-short : r ≤ 32768 → (0, r) ≡ answer 0 (measureText t)
+  unfolding answer measureText verdict lowest
+  measure-short h =
+      let q : length t ≡ r = end-is h in
+      rw (le-ltb 32768 (length t) (omega arith), q)
+
+  module _ (old : List ℕ) where
+    pub write-long : 32768 < r → (12, 0, old) ≡ wrote old (writeText (length old) t)
+    unfolding wrote writeText verdict lowest
+    write-long h = rw (lt-ltb 32768 (length t) (long h))
+
+    pub write-past : r ≤ 32768 → length old < r → (12, 0, old) ≡ wrote old (writeText (length old) t)
+    unfolding wrote writeText verdict lowest
+    write-past h b =
+        let q : length t ≡ r = end-is h in
+        rw (le-ltb 32768 (length t) (omega arith), lt-ltb (length old) (length t) (omega arith))
+
+    pub write-short : r ≤ 32768 → r ≤ length old → {new : List ℕ} {s : ℕ} → Written 0 t old new s → (0, s, new) ≡ wrote old (writeText (length old) t)
+    unfolding wrote writeText verdict lowest
+    write-short h b {new} {s} w =
+        let q : length t ≡ r = end-is h in
+        let x : 0 + length t ≤ 32768 = omega arith in
+        let z : s ≡ length t = omega (arith, written-end w x) in
+        rw (le-ltb 32768 (length t) (omega arith), le-ltb (length old) (length t) (omega arith)) (ap₂ (λ (a : ℕ) (l : List ℕ). (0, a, l)) z (w .stored x))
+
+-- ---- memory that is open, and memory that is not
+module _ (m : Memory) (r : Opened) (is : OpenedIs m r) where
+  pub opened : (p : Place) → r ≡ Open p → Holding m p
+  opened p q = subst (λ (x : Opened). OpenedIs m x) q is
+
+  pub not-opened : {A : Type 0} (refuse : ℕ → A) (says : List Statement → List Rename → A) (n : ℕ) → r ≡ Refused n → Called m refuse says (refuse n)
+  not-opened refuse says n q = refused-by (subst (λ (x : Opened). OpenedIs m x) q is)
+    where
+      refused-by : NotOpen m n → Called m refuse says (refuse n)
+      refused-by (wrong-sizes e q) = wrong-lengths e (ap refuse q)
+      refused-by (none-held e d q) = damaged e d (ap refuse q)
+
+module _ {m : Memory} {p : Place} (h : Holding m p) where
+  pub bits-few : length (m .bits) ≤ 16384
+  unfolding rightLengths rightSizes
+  bits-few =
+      let n : Bool = eqb (length (m .names)) 16384 in
+      let s : Bool = eqb (length (m .strings)) 8192 in
+      let b : Bool = eqb (length (m .bits)) 16384 in
+      let w : Bool = eqb (length (m .wires)) (8 * 512) in
+      omega (arith, eqb-true (length (m .bits)) 16384 (and-true-right (n && s) b (and-true-left (n && s && b) w (and-true-left (n && s && b && w) _ (h .lengths)))))
+
+  rows-are : p .rows ≡ length (h .statements)
+  unfolding placeOf
+  rows-are = sym (ap (λ (x : Place). x .rows) (h .place)) ∙ length-reverse (h .statements)
+
+  wires-are : p .wires ≡ wiresIn (reverse (h .statements))
+  unfolding placeOf
+  wires-are = sym (ap (λ (x : Place). x .wires) (h .place))
+
+  renames-are : m .renames ≡ length (h .renames)
+  unfolding layout memory
+  renames-are = sym (ap (λ (x : Memory). x .renames) (h .holds .is))
+
+  module _ (C : Counts) (e : C ≡ record { statements = p .rows; wires = p .wires; renames = m .renames }) where
+    text-is : textRows (tabled (m .names) (m .strings) (m .bits) (m .wires) (m .rows)) C ≡ text (now (design (h .statements)) (h .renames))
+    text-is =
+        text-held m (h .statements) (h .renames) C (h .holds) (ap (λ (x : Counts). x .statements) e ∙ rows-are) (ap (λ (x : Counts). x .wires) e ∙ wires-are)
+        (ap (λ (x : Counts). x .renames) e ∙ renames-are)
+
+    pub measured :
+        (a : ℕ × ℕ) → a ≡ answer 0 (measureText (textRows (tabled (m .names) (m .strings) (m .bits) (m .wires) (m .rows)) C)) →
+        Called m (λ n. (n, 0)) (λ ss rs. answer 0 (measure (now (design ss) rs))) a
+    unfolding measure measureText
+    measured a q = holding (h .statements) (h .renames) (h .lengths) (h .holds) (q ∙ ap (λ (t : List ℕ). answer 0 (measureText t)) text-is)
+
+    pub written :
+        (old : List ℕ) (a : ℕ × ℕ × List ℕ) → a ≡ wrote old (writeText (length old) (textRows (tabled (m .names) (m .strings) (m .bits) (m .wires) (m .rows)) C)) →
+        Called m (λ n. (n, 0, old)) (λ ss rs. wrote old (write (length old) (now (design ss) rs))) a
+    unfolding write writeText
+    written old a q = holding (h .statements) (h .renames) (h .lengths) (h .holds) (q ∙ ap (λ (t : List ℕ). wrote old (writeText (length old) t)) text-is)

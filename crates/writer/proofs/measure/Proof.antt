@@ -1,0 +1,41 @@
+-- Open memory holds a design; else the refusal of opening it.
+-- Assumes nothing.
+use denote.Ref.{now}
+use Rattle.reader.specs.Read.{lent}
+use Rattle.writer.proofs.Laws.{opened, not-opened, bits-few, measured}
+use borrow.Author.Needs.{needs}
+use Rattle.writer.proofs.measure.Statement.{statement}
+use Rattle.writer.proofs.measure.Tie as tie
+
+open-memory-requires : tie.Need-open-memory-requires
+open-memory-requires c κs = search needs
+
+enum-known-place : tie.Need-enum-known-place
+enum-known-place c = search needs
+
+counts-at-requires : tie.Need-counts-at-requires
+counts-at-requires c κs = search needs
+
+measure-rows-requires : tie.Need-measure-rows-requires
+measure-rows-requires c κs = bits-few (opened (lent (now (c .before .before .before .before .before .before .before .before .before .before .args .names)) (now (c .before .before .before .before .before .before .before .before .before .before .args .strings)) (now (c .before .before .before .before .before .before .before .before .before .before .args .bits)) (now (c .before .before .before .before .before .before .before .before .before .before .args .wires)) (now (c .before .before .before .before .before .before .before .before .before .before .args .rows)) (c .before .before .before .before .before .before .before .before .before .before .args .renames) (c .before .before .before .before .before .before .before .before .before .before .args .room)) _ (c .before .before .before .before .open-memory .ensures) _ (c .before .before .place .given .1))
+
+enum-known-n : tie.Need-enum-known-n
+enum-known-n c = search needs
+
+returns : tie.Need-returns
+returns c = measured (opened (lent (now (c .before .before .before .before .before .before .before .before .before .before .before .args .names)) (now (c .before .before .before .before .before .before .before .before .before .before .before .args .strings)) (now (c .before .before .before .before .before .before .before .before .before .before .before .args .bits)) (now (c .before .before .before .before .before .before .before .before .before .before .before .args .wires)) (now (c .before .before .before .before .before .before .before .before .before .before .before .args .rows)) (c .before .before .before .before .before .before .before .before .before .before .before .args .renames) (c .before .before .before .before .before .before .before .before .before .before .before .args .room)) _ (c .before .before .before .before .before .open-memory .ensures) _ (c .before .before .before .place .given .1)) (c .before .counts-at .result) (c .before .counts-at .ensures) _ (c .measure-rows .ensures)
+
+returns-2 : tie.Need-returns-2
+returns-2 c = not-opened (lent (now (c .before .before .before .before .before .before .before .before .before .args .names)) (now (c .before .before .before .before .before .before .before .before .before .args .strings)) (now (c .before .before .before .before .before .before .before .before .before .args .bits)) (now (c .before .before .before .before .before .before .before .before .before .args .wires)) (now (c .before .before .before .before .before .before .before .before .before .args .rows)) (c .before .before .before .before .before .before .before .before .before .args .renames) (c .before .before .before .before .before .before .before .before .before .args .room)) _ (c .before .before .before .open-memory .ensures) (λ n. (n, 0)) _ _ (c .before .n .given .1)
+
+pub measure-spec : {M : Type 1} → statement M
+measure-spec =
+    tie.close
+    (tie.spec
+    open-memory-requires
+    enum-known-place
+    counts-at-requires
+    measure-rows-requires
+    enum-known-n
+    returns
+    returns-2)
