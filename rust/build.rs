@@ -1,0 +1,13 @@
+//! Links the proved library, which `rt staticlib card` writes.
+
+use std::path::Path;
+
+fn main() {
+    let folder = Path::new(env!("CARGO_MANIFEST_DIR")).join("../target/staticlib");
+    println!("cargo:rustc-link-search=native={}", folder.display());
+    println!("cargo:rustc-link-lib=static=card");
+    println!(
+        "cargo:rerun-if-changed={}",
+        folder.join("libcard.a").display()
+    );
+}
