@@ -23,11 +23,11 @@ enum { SKYTASSEL_NAMES = 16384, SKYTASSEL_STRINGS = 8192, SKYTASSEL_BITS = 16384
  * nor tab, or the file's length. A refused call gives 0 beside its number. */
 struct skytassel_card { uint32_t renames, room; };
 struct skytassel_answer { uint32_t number, place; };
-struct skytassel_wire { uint32_t number, wire; };
-struct skytassel_index { uint32_t number; int64_t index; };
-struct skytassel_length { uint32_t number, length; };
+struct skytassel_wire_answer { uint32_t number, wire; };
+struct skytassel_index_answer { uint32_t number; int64_t index; };
+struct skytassel_length_answer { uint32_t number, length; };
 /* A part of table 1, the names, or 2, the strings; a refusal has table 0. */
-struct skytassel_part { uint32_t number, table, start, length; };
+struct skytassel_part_answer { uint32_t number, table, start, length; };
 
 /* The five tables lent, each with its length, for a call that only asks of them; and the card's two counts. */
 #define SKYTASSEL_VIEW \
@@ -47,13 +47,13 @@ struct skytassel_answer skytassel_undo(uint8_t *names, size_t names_length, cons
     const uint32_t *wires, size_t wires_length, uint32_t *rows, size_t rows_length, struct skytassel_card *card);
 
 /* The wire that has these bytes as its name now: 1, 3, 8. The author's index of a bit: 1, 3, 8, 10. Where the name to show lies: 1, 3, 8. */
-struct skytassel_wire skytassel_look_up(SKYTASSEL_VIEW, uint32_t module, const uint8_t *name, size_t name_length);
-struct skytassel_index skytassel_index(SKYTASSEL_VIEW, uint32_t module, uint32_t wire, uint32_t bit);
-struct skytassel_part skytassel_show(SKYTASSEL_VIEW, uint32_t module, uint32_t wire);
+struct skytassel_wire_answer skytassel_look_up(SKYTASSEL_VIEW, uint32_t module, const uint8_t *name, size_t name_length);
+struct skytassel_index_answer skytassel_index(SKYTASSEL_VIEW, uint32_t module, uint32_t wire, uint32_t bit);
+struct skytassel_part_answer skytassel_show(SKYTASSEL_VIEW, uint32_t module, uint32_t wire);
 
 /* The one written text, at the start of `out`, and its length: 1, 3, 12. A refusal leaves `out` as it was. */
-struct skytassel_length skytassel_measure(SKYTASSEL_VIEW);
-struct skytassel_length skytassel_write(SKYTASSEL_VIEW, uint8_t *out, size_t out_length);
+struct skytassel_length_answer skytassel_measure(SKYTASSEL_VIEW);
+struct skytassel_length_answer skytassel_write(SKYTASSEL_VIEW, uint8_t *out, size_t out_length);
 
 #ifdef __cplusplus
 }

@@ -17,7 +17,7 @@ static struct skytassel_answer read_text(const char *file)
 
 static int print_text(void)
 {
-    struct skytassel_length written = skytassel_write(VIEW, card.renames, card.room, text, sizeof text);
+    struct skytassel_length_answer written = skytassel_write(VIEW, card.renames, card.room, text, sizeof text);
     if (written.number != 0)
         return 0;
     fwrite(text, 1, written.length, stdout);
@@ -32,12 +32,12 @@ int main(void)
     if (read_text("module \\ear\n  wire width 8 offset -4 \\gain\n  attribute \\hdlname \"left ear\"\n  wire \\y\nend\n").number != 0)
         return 1;
     const uint8_t old_name[] = {'\\', 'g', 'a', 'i', 'n'}, new_name[] = {'\\', 'g'};
-    struct skytassel_wire gain = skytassel_look_up(VIEW, card.renames, card.room, 0, old_name, sizeof old_name);
+    struct skytassel_wire_answer gain = skytassel_look_up(VIEW, card.renames, card.room, 0, old_name, sizeof old_name);
     if (gain.number != 0 || skytassel_rename(VIEW, &card, 0, gain.wire, new_name, sizeof new_name).number != 0)
         return 1;
-    struct skytassel_part shown = skytassel_show(VIEW, card.renames, card.room, 0, 1);
+    struct skytassel_part_answer shown = skytassel_show(VIEW, card.renames, card.room, 0, 1);
     printf("shown: %.*s\n", (int)shown.length, (const char *)(shown.table == 1 ? names : strings) + shown.start);
-    struct skytassel_index first = skytassel_index(VIEW, card.renames, card.room, 0, gain.wire, 0);
+    struct skytassel_index_answer first = skytassel_index(VIEW, card.renames, card.room, 0, gain.wire, 0);
     printf("bit 0: %lld\n", (long long)first.index);
     if (!print_text())
         return 1;
