@@ -99,6 +99,7 @@ cases =
     (bytes "module \\m\nwire \\a\nconnect \\a\nend\n", bytes "5 18\n") ∷
     (bytes "module \\m\nwire \\a\nconnect \\a \\a \\a\nend\n", bytes "5 18\n") ∷
     (bytes "attribute \\a 1\nattribute \\b 1'1\nattribute \\c \"1\"\nattribute \\d 32'00000000000000000000000000000001\nattribute \\e \"\"\nattribute \\f 0'\nmodule \\m\n  parameter \\a\n  parameter \\b 0\n  parameter \\c 1'0\n  parameter \\d \"0\"\nend\n", bytes "attribute \\a 1\nattribute \\b 1'1\nattribute \\c \"1\"\nattribute \\d 32'00000000000000000000000000000001\nattribute \\e \"\"\nattribute \\f 0'\nmodule \\m\n  parameter \\a\n  parameter \\b 0\n  parameter \\c 1'0\n  parameter \\d \"0\"\nend\n") ∷
+    (bytes "module \\constants\nwire width 32 \\a\nconnect \\a -1\nconnect \\a 32'11111111111111111111111111111111\nconnect \\a 1\nconnect \\a 32'1\nattribute \\escapes \"\\n\\t\\141\\\\\\\"\\r\"\nwire \\b\nend\n", bytes "module \\constants\n  wire width 32 \\a\n  attribute \\escapes \"\\n\\ta\\\\\\\"r\"\n  wire \\b\n  connect \\a 32'11111111111111111111111111111111\n  connect \\a 32'11111111111111111111111111111111\n  connect \\a 32'00000000000000000000000000000001\n  connect \\a 32'00000000000000000000000000000001\nend\n") ∷
     (bytes "module \\m" ++ (13 ∷ []) ++ bytes "wire \\a" ++ (13 ∷ []) ++ bytes "end" ++ (13 ∷ []), bytes "module \\m\n  wire \\a\nend\n") ∷
     (bytes "module \\m" ++ (13 ∷ []) ++ bytes "\n" ++ (9 ∷ []) ++ bytes "wire \\a # x" ++ (13 ∷ []) ++ bytes "\nend" ++ (13 ∷ []) ++ bytes "\n", bytes "module \\m\n  wire \\a\nend\n") ∷
     (bytes "module \\m\n  connect { { { { { { { { { { { { { { { { } } } } } } } } } } } } } } } } { }\nend\n", bytes "module \\m\n  connect { } { }\nend\n") ∷
@@ -207,6 +208,7 @@ cases =
     (bytes "module \\m\n  wire \\a" ++ (0 ∷ []) ++ bytes "\nend\n", bytes "4 12\n") ∷
     (bytes "module \\m\n  wire \\a" ++ (31 ∷ []) ++ bytes "\nend\n", bytes "4 12\n") ∷
     (bytes "module \\m\n  wire \\a\n  wire \\A\n  wire $a\n  wire \\m\nend\n", bytes "module \\m\n  wire \\a\n  wire \\A\n  wire $a\n  wire \\m\nend\n") ∷
+    (bytes "module \\names\nwire \\sig42\nwire $sig42\nconnect \\sig42 $sig42\nend\n", bytes "module \\names\n  wire \\sig42\n  wire $sig42\n  connect \\sig42 $sig42\nend\n") ∷
     (bytes "module \\{\n  wire \\\"\n  wire \\'\n  wire \\[\n  wire \\,\n  wire $$\n  wire \\\\\n  wire \\$\n  wire $\\\n  wire \\#\n  wire \\end\n  wire \\1'0\nend\n", bytes "module \\{\n  wire \\\"\n  wire \\'\n  wire \\[\n  wire \\,\n  wire $$\n  wire \\\\\n  wire \\$\n  wire $\\\n  wire \\#\n  wire \\end\n  wire \\1'0\nend\n") ∷
     (bytes "module \\m\n  parameter \\p -1'0\nend\n", bytes "4 12\n") ∷
     (bytes "module \\m\nend", bytes "5 10\n") ∷
@@ -258,6 +260,7 @@ cases =
     (bytes "module \\m\ncell \\t \\c\nprocess \\p\nend\nend\n", bytes "5 21\n") ∷
     (bytes "module \\m\nwire \\a\nprocess \\a\nend\nend\n", bytes "6 18\n") ∷
     (bytes "module \\ff\nwire \\reset\nwire \\enable\nwire \\clock\nwire \\d\nwire \\q\nwire $0\\q[0:0]\nprocess $proc$ff_with_en_and_async_reset.v:4$1\n    assign $0\\q[0:0] \\q\n    switch \\reset\n        case 1'1\n            assign $0\\q[0:0] 1'0\n        case\n            switch \\enable\n                case 1'1\n                    assign $0\\q[0:0] \\d\n                case\n            end\n    end\n    sync posedge \\clock\n        update \\q $0\\q[0:0]\n    sync posedge \\reset\n        update \\q $0\\q[0:0]\nend\nend\n", bytes "6 79\n") ∷
+    (bytes "module \\ff\nwire \\reset\nwire \\enable\nwire \\clock\nwire \\d\nwire \\q\nwire $0\\q[0:0]\nprocess $proc$ff_with_en_and_async_reset.v:4$1\n    assign $0\\q[0:0] \\q\n    switch \\enable\n        case 1'1\n            assign $0\\q[0:0] \\d\n        case\n    end\n    sync posedge \\clock\n        update \\q $0\\q[0:0]\n    sync high \\reset\n        update \\q 1'0\nend\nend\n", bytes "6 79\n") ∷
     (bytes "module \\m\nprocess \\p \\q\nend\nend\n", bytes "5 10\n") ∷
     (bytes "module \\m\n  process $p\nend\nend\n", bytes "6 12\n") ∷
     (bytes "module \\m\nprocess\nend\nend\n", bytes "5 10\n") ∷
@@ -314,6 +317,7 @@ cases =
     (bytes "module \\m\n  wire width 2048 \\a\n  connect \\a \\a\n  connect \\a \\a\n  connect 1'0 1'0\nend\n", bytes "11 65\n") ∷
     (bytes "module \\m\n  wire width 2048 \\a\ncell \\t \\c\nconnect \\0 \\a [0]\nconnect \\1 \\a [1]\nconnect \\2 \\a [2]\nconnect \\3 \\a [3]\nconnect \\4 \\a [4]\nconnect \\5 \\a [5]\nconnect \\6 \\a [6]\nconnect \\7 \\a [7]\nconnect \\8 \\a [8]\nconnect \\9 \\a [9]\nconnect \\10 \\a [10]\nconnect \\11 \\a [11]\nconnect \\12 \\a [12]\nconnect \\13 \\a [13]\nconnect \\14 \\a [14]\nconnect \\15 \\a [15]\nconnect \\16 \\a [16]\nconnect \\17 \\a [17]\nconnect \\18 \\a [18]\nconnect \\19 \\a [19]\nend\nend\n", bytes "module \\m\n  wire width 2048 \\a\n  cell \\t \\c\n    connect \\0 \\a [0]\n    connect \\1 \\a [1]\n    connect \\2 \\a [2]\n    connect \\3 \\a [3]\n    connect \\4 \\a [4]\n    connect \\5 \\a [5]\n    connect \\6 \\a [6]\n    connect \\7 \\a [7]\n    connect \\8 \\a [8]\n    connect \\9 \\a [9]\n    connect \\10 \\a [10]\n    connect \\11 \\a [11]\n    connect \\12 \\a [12]\n    connect \\13 \\a [13]\n    connect \\14 \\a [14]\n    connect \\15 \\a [15]\n    connect \\16 \\a [16]\n    connect \\17 \\a [17]\n    connect \\18 \\a [18]\n    connect \\19 \\a [19]\n  end\nend\n") ∷
     (bytes "module \\m\n  wire width 2048 \\a\n  connect \\a \\a\nend\nmodule \\n\n  wire width 2048 \\a\n  connect \\a \\a\n  cell \\t \\c\n    connect \\A 1'0\n  end\nend\n", bytes "11 115\n") ∷
+    (bytes "# the signals that 000 gives as examples, spelled as RTLIL text\nmodule \\signals\nwire width 32 \\mywire\ncell \\any \\c\nconnect \\A 1337\nconnect \\B 16'0000010100111001\nconnect \\C 1'1\nconnect \\D 1'x\nconnect \\E \\mywire\nconnect \\F \\mywire [24]\nconnect \\G \\mywire [15:8]\nconnect \\H { 16'10100111001 \\mywire [15:8] }\nend\nend\n", bytes "module \\signals\n  wire width 32 \\mywire\n  cell \\any \\c\n    connect \\A 32'00000000000000000000010100111001\n    connect \\B 16'0000010100111001\n    connect \\C 1'1\n    connect \\D 1'x\n    connect \\E \\mywire\n    connect \\F \\mywire [24]\n    connect \\G \\mywire [15:8]\n    connect \\H { 16'0000010100111001 \\mywire [15:8] }\n  end\nend\n") ∷
     (bytes "module \\m\n  parameter \\p '0\nend\n", bytes "4 12\n") ∷
     (bytes "module \\m\nwire width 4 \\a\nwire width 2 \\b\nwire \\y\ncell \\t \\c\nconnect \\A [0]\nend\nend\n", bytes "5 61\n") ∷
     (bytes "module \\m\n  wire width 4 \\a\n  wire width 2 \\b\n  wire \\y\ncell \\t \\c\nconnect \\A \\y [0]\nend\nend\n", bytes "module \\m\n  wire width 4 \\a\n  wire width 2 \\b\n  wire \\y\n  cell \\t \\c\n    connect \\A \\y\n  end\nend\n") ∷
@@ -398,6 +402,7 @@ cases =
     (bytes "module \\m\n  parameter \\p 4'012\nend\n", bytes "4 12\n") ∷
     (bytes "module \\m\n  parameter \\p 6'01xzm-\n  connect 6'01xzm- 6'-mzx10\nend\n", bytes "module \\m\n  parameter \\p 6'01xzm-\n  connect 6'01xzm- 6'-mzx10\nend\n") ∷
     (bytes "module \\m\nparameter \\p 4'x\nparameter \\q 4'z1\nend\n", bytes "module \\m\n  parameter \\p 4'000x\n  parameter \\q 4'00z1\nend\n") ∷
+    (bytes "module \\m\nwire width 16 \\a\nconnect \\a 16'b0000010100111001\nend\n", bytes "4 27\n") ∷
     (bytes "module \\m\n  parameter \\p 1'0\\a\nend\n", bytes "4 12\n") ∷
     (bytes "module \\m\n  parameter \\p 1'0\"a\"\nend\n", bytes "4 12\n") ∷
     (bytes "module \\m\n  parameter \\p 2'000\nend\n", bytes "7 12\n") ∷
@@ -451,7 +456,10 @@ cases =
     (bytes "module \\m\n  foo \\a\nend\n", bytes "4 12\n") ∷
     (bytes "module \\m\n  wire\\a\nend\n", bytes "4 12\n") ∷
     (bytes "# Generated by Yosys 0.23 (git sha1 7ce5011c24b)\nautoidx 7\nattribute \\dynports 1\nattribute \\cells_not_processed 1\nattribute \\src \"counter.v:1.1-5.10\"\nmodule \\counter\n  parameter \\WIDTH 8\n  attribute \\src \"counter.v:4.23-4.31\"\n  wire width 8 $add$counter.v:4$2_Y\n  attribute \\src \"counter.v:1.46-1.49\"\n  wire input 1 \\clk\n  attribute \\src \"counter.v:1.68-1.70\"\n  wire input 3 \\en\n  attribute \\src \"counter.v:1.95-1.96\"\n  wire width 8 output 4 \\q\n  attribute \\src \"counter.v:1.57-1.60\"\n  wire input 2 \\rst\n  attribute \\src \"counter.v:4.23-4.31\"\n  cell $add $add$counter.v:4$2\n    parameter \\A_SIGNED 0\n    parameter \\A_WIDTH 8\n    parameter \\B_SIGNED 0\n    parameter \\B_WIDTH 1\n    parameter \\Y_WIDTH 8\n    connect \\A \\q\n    connect \\B 1'1\n    connect \\Y $add$counter.v:4$2_Y\n  end\n  attribute \\src \"counter.v:2.3-4.32\"\n  cell $adffe $auto$ff.cc:266:slice$6\n    parameter \\ARST_POLARITY 1\n    parameter \\ARST_VALUE 8'00000000\n    parameter \\CLK_POLARITY 1\n    parameter \\EN_POLARITY 1\n    parameter \\WIDTH 8\n    connect \\ARST \\rst\n    connect \\CLK \\clk\n    connect \\D $add$counter.v:4$2_Y\n    connect \\EN \\en\n    connect \\Q \\q\n  end\nend\n", bytes "autoidx 7\nattribute \\dynports 1\nattribute \\cells_not_processed 1\nattribute \\src \"counter.v:1.1-5.10\"\nmodule \\counter\n  parameter \\WIDTH 8\n  attribute \\src \"counter.v:4.23-4.31\"\n  wire width 8 $add$counter.v:4$2_Y\n  attribute \\src \"counter.v:1.46-1.49\"\n  wire input 1 \\clk\n  attribute \\src \"counter.v:1.68-1.70\"\n  wire input 3 \\en\n  attribute \\src \"counter.v:1.95-1.96\"\n  wire width 8 output 4 \\q\n  attribute \\src \"counter.v:1.57-1.60\"\n  wire input 2 \\rst\n  attribute \\src \"counter.v:4.23-4.31\"\n  cell $add $add$counter.v:4$2\n    parameter \\A_SIGNED 0\n    parameter \\A_WIDTH 8\n    parameter \\B_SIGNED 0\n    parameter \\B_WIDTH 1\n    parameter \\Y_WIDTH 8\n    connect \\A \\q\n    connect \\B 1'1\n    connect \\Y $add$counter.v:4$2_Y\n  end\n  attribute \\src \"counter.v:2.3-4.32\"\n  cell $adffe $auto$ff.cc:266:slice$6\n    parameter \\ARST_POLARITY 1\n    parameter \\ARST_VALUE 8'00000000\n    parameter \\CLK_POLARITY 1\n    parameter \\EN_POLARITY 1\n    parameter \\WIDTH 8\n    connect \\ARST \\rst\n    connect \\CLK \\clk\n    connect \\D $add$counter.v:4$2_Y\n    connect \\EN \\en\n    connect \\Q \\q\n  end\nend\n") ∷
+    (bytes "# Generated by Yosys 0.23 (git sha1 7ce5011c24b)\nautoidx 5\nattribute \\top 1\nattribute \\src \"ff_with_en_and_async_reset.v:1.1-9.10\"\nmodule \\ff_with_en_and_async_reset\n  attribute \\src \"ff_with_en_and_async_reset.v:4.1-8.16\"\n  wire $0\\q[0:0]\n  attribute \\src \"ff_with_en_and_async_reset.v:2.7-2.12\"\n  wire input 1 \\clock\n  attribute \\src \"ff_with_en_and_async_reset.v:2.29-2.30\"\n  wire input 4 \\d\n  attribute \\src \"ff_with_en_and_async_reset.v:2.21-2.27\"\n  wire input 3 \\enable\n  attribute \\src \"ff_with_en_and_async_reset.v:3.12-3.13\"\n  wire output 5 \\q\n  attribute \\src \"ff_with_en_and_async_reset.v:2.14-2.19\"\n  wire input 2 \\reset\n  attribute \\src \"ff_with_en_and_async_reset.v:4.1-8.16\"\n  cell $adff $procdff$4\n    parameter \\ARST_POLARITY 1'1\n    parameter \\ARST_VALUE 1'0\n    parameter \\CLK_POLARITY 1'1\n    parameter \\WIDTH 1\n    connect \\ARST \\reset\n    connect \\CLK \\clock\n    connect \\D $0\\q[0:0]\n    connect \\Q \\q\n  end\n  attribute \\src \"ff_with_en_and_async_reset.v:7.14-7.20|ff_with_en_and_async_reset.v:7.10-8.16\"\n  cell $mux $procmux$2\n    parameter \\WIDTH 1\n    connect \\A \\q\n    connect \\B \\d\n    connect \\S \\enable\n    connect \\Y $0\\q[0:0]\n  end\nend\n", bytes "autoidx 5\nattribute \\top 1\nattribute \\src \"ff_with_en_and_async_reset.v:1.1-9.10\"\nmodule \\ff_with_en_and_async_reset\n  attribute \\src \"ff_with_en_and_async_reset.v:4.1-8.16\"\n  wire $0\\q[0:0]\n  attribute \\src \"ff_with_en_and_async_reset.v:2.7-2.12\"\n  wire input 1 \\clock\n  attribute \\src \"ff_with_en_and_async_reset.v:2.29-2.30\"\n  wire input 4 \\d\n  attribute \\src \"ff_with_en_and_async_reset.v:2.21-2.27\"\n  wire input 3 \\enable\n  attribute \\src \"ff_with_en_and_async_reset.v:3.12-3.13\"\n  wire output 5 \\q\n  attribute \\src \"ff_with_en_and_async_reset.v:2.14-2.19\"\n  wire input 2 \\reset\n  attribute \\src \"ff_with_en_and_async_reset.v:4.1-8.16\"\n  cell $adff $procdff$4\n    parameter \\ARST_POLARITY 1'1\n    parameter \\ARST_VALUE 1'0\n    parameter \\CLK_POLARITY 1'1\n    parameter \\WIDTH 1\n    connect \\ARST \\reset\n    connect \\CLK \\clock\n    connect \\D $0\\q[0:0]\n    connect \\Q \\q\n  end\n  attribute \\src \"ff_with_en_and_async_reset.v:7.14-7.20|ff_with_en_and_async_reset.v:7.10-8.16\"\n  cell $mux $procmux$2\n    parameter \\WIDTH 1\n    connect \\A \\q\n    connect \\B \\d\n    connect \\S \\enable\n    connect \\Y $0\\q[0:0]\n  end\nend\n") ∷
+    (bytes "# Generated by Yosys 0.23 (git sha1 7ce5011c24b)\nautoidx 14\nattribute \\top 1\nattribute \\src \"frame_counter.v:2.1-8.10\"\nmodule \\frame_counter\n  parameter \\LENGTH 64\n  attribute \\src \"frame_counter.v:7.19-7.28\"\n  attribute \\unused_bits \"6 7 8 9 10 11 12 13 14 15 16 17 18 19 20 21 22 23 24 25 26 27 28 29 30 31\"\n  wire width 32 $add$frame_counter.v:7$3_Y\n  wire $auto$opt_dff.cc:253:combine_resets$12\n  attribute \\src \"frame_counter.v:2.54-2.57\"\n  wire input 1 \\clk\n  attribute \\src \"frame_counter.v:2.95-2.104\"\n  wire output 4 \\frame_end\n  attribute \\src \"frame_counter.v:2.81-2.86\"\n  wire width 6 output 3 \\place\n  attribute \\src \"frame_counter.v:2.59-2.62\"\n  wire input 2 \\rst\n  attribute \\src \"frame_counter.v:7.19-7.28\"\n  cell $add $add$frame_counter.v:7$3\n    parameter \\A_SIGNED 0\n    parameter \\A_WIDTH 6\n    parameter \\B_SIGNED 0\n    parameter \\B_WIDTH 32\n    parameter \\Y_WIDTH 32\n    connect \\A \\place\n    connect \\B 1\n    connect \\Y $add$frame_counter.v:7$3_Y\n  end\n  attribute \\src \"frame_counter.v:4.3-7.29\"\n  cell $sdff $auto$ff.cc:266:slice$11\n    parameter \\CLK_POLARITY 1\n    parameter \\SRST_POLARITY 1\n    parameter \\SRST_VALUE 6'000000\n    parameter \\WIDTH 6\n    connect \\CLK \\clk\n    connect \\D $add$frame_counter.v:7$3_Y [5:0]\n    connect \\Q \\place\n    connect \\SRST $auto$opt_dff.cc:253:combine_resets$12\n  end\n  cell $reduce_or $auto$opt_dff.cc:254:combine_resets$13\n    parameter \\A_SIGNED 0\n    parameter \\A_WIDTH 2\n    parameter \\Y_WIDTH 1\n    connect \\A { \\frame_end \\rst }\n    connect \\Y $auto$opt_dff.cc:253:combine_resets$12\n  end\n  attribute \\src \"frame_counter.v:3.22-3.41\"\n  cell $eq $eq$frame_counter.v:3$1\n    parameter \\A_SIGNED 0\n    parameter \\A_WIDTH 6\n    parameter \\B_SIGNED 0\n    parameter \\B_WIDTH 6\n    parameter \\Y_WIDTH 1\n    connect \\A \\place\n    connect \\B 6'111111\n    connect \\Y \\frame_end\n  end\nend\n", bytes "autoidx 14\nattribute \\top 1\nattribute \\src \"frame_counter.v:2.1-8.10\"\nmodule \\frame_counter\n  parameter \\LENGTH 64\n  attribute \\src \"frame_counter.v:7.19-7.28\"\n  attribute \\unused_bits \"6 7 8 9 10 11 12 13 14 15 16 17 18 19 20 21 22 23 24 25 26 27 28 29 30 31\"\n  wire width 32 $add$frame_counter.v:7$3_Y\n  wire $auto$opt_dff.cc:253:combine_resets$12\n  attribute \\src \"frame_counter.v:2.54-2.57\"\n  wire input 1 \\clk\n  attribute \\src \"frame_counter.v:2.95-2.104\"\n  wire output 4 \\frame_end\n  attribute \\src \"frame_counter.v:2.81-2.86\"\n  wire width 6 output 3 \\place\n  attribute \\src \"frame_counter.v:2.59-2.62\"\n  wire input 2 \\rst\n  attribute \\src \"frame_counter.v:7.19-7.28\"\n  cell $add $add$frame_counter.v:7$3\n    parameter \\A_SIGNED 0\n    parameter \\A_WIDTH 6\n    parameter \\B_SIGNED 0\n    parameter \\B_WIDTH 32\n    parameter \\Y_WIDTH 32\n    connect \\A \\place\n    connect \\B 32'00000000000000000000000000000001\n    connect \\Y $add$frame_counter.v:7$3_Y\n  end\n  attribute \\src \"frame_counter.v:4.3-7.29\"\n  cell $sdff $auto$ff.cc:266:slice$11\n    parameter \\CLK_POLARITY 1\n    parameter \\SRST_POLARITY 1\n    parameter \\SRST_VALUE 6'000000\n    parameter \\WIDTH 6\n    connect \\CLK \\clk\n    connect \\D $add$frame_counter.v:7$3_Y [5:0]\n    connect \\Q \\place\n    connect \\SRST $auto$opt_dff.cc:253:combine_resets$12\n  end\n  cell $reduce_or $auto$opt_dff.cc:254:combine_resets$13\n    parameter \\A_SIGNED 0\n    parameter \\A_WIDTH 2\n    parameter \\Y_WIDTH 1\n    connect \\A { \\frame_end \\rst }\n    connect \\Y $auto$opt_dff.cc:253:combine_resets$12\n  end\n  attribute \\src \"frame_counter.v:3.22-3.41\"\n  cell $eq $eq$frame_counter.v:3$1\n    parameter \\A_SIGNED 0\n    parameter \\A_WIDTH 6\n    parameter \\B_SIGNED 0\n    parameter \\B_WIDTH 6\n    parameter \\Y_WIDTH 1\n    connect \\A \\place\n    connect \\B 6'111111\n    connect \\Y \\frame_end\n  end\nend\n") ∷
     (bytes "# Generated by Yosys 0.23 (git sha1 7ce5011c24b)\nautoidx 4\nattribute \\cells_not_processed 1\nattribute \\src \"hier.v:5.1-10.10\"\nmodule \\hier\n  attribute \\src \"hier.v:5.26-5.27\"\n  wire width 8 input 1 \\a\n  attribute \\src \"hier.v:5.51-5.54\"\n  wire inout 3 \\pad\n  attribute \\src \"hier.v:6.14-6.15\"\n  wire width 4 \\t\n  attribute \\src \"hier.v:5.42-5.43\"\n  wire width 8 output 2 \\y\n  attribute \\src \"hier.v:9.16-9.34\"\n  cell $mux $ternary$hier.v:9$3\n    parameter \\WIDTH 1\n    connect \\A 1'x\n    connect \\B \\a [1]\n    connect \\S \\a [0]\n    connect \\Y \\pad\n  end\n  attribute \\module_not_derived 1\n  attribute \\src \"hier.v:7.50-7.71\"\n  cell \\leaf \\l\n    parameter \\K 8'01xzzx10\n    parameter \\NAME \"left\"\n    parameter signed \\W 4\n    connect \\a \\a [7:4]\n    connect \\y \\t\n  end\n  attribute \\module_not_derived 1\n  attribute \\src \"hier.v:8.24-8.50\"\n  cell \\leaf \\r\n    parameter signed \\S 5\n    parameter signed \\W 8\n    connect \\a { \\t \\a [3:0] }\n    connect \\y \\y\n  end\nend\nattribute \\dynports 1\nattribute \\cells_not_processed 1\nattribute \\src \"hier.v:1.1-4.10\"\nmodule \\leaf\n  parameter \\W 4\n  parameter \\K 8'x\n  parameter \\NAME \"leaf\"\n  parameter \\R\n  parameter \\S 6'111101\n  attribute \\src \"hier.v:3.14-3.23\"\n  attribute \\unused_bits \"4 5 6 7\"\n  wire width 8 $xor$hier.v:3$2_Y\n  attribute \\src \"hier.v:2.18-2.19\"\n  wire width 4 input 1 \\a\n  attribute \\src \"hier.v:2.36-2.37\"\n  wire width 4 output 2 \\y\n  attribute \\src \"hier.v:3.14-3.23\"\n  cell $xor $xor$hier.v:3$2\n    parameter \\A_SIGNED 0\n    parameter \\A_WIDTH 8\n    parameter \\B_SIGNED 0\n    parameter \\B_WIDTH 6\n    parameter \\Y_WIDTH 8\n    connect \\A { 4'0000 \\a }\n    connect \\B 6'111101\n    connect \\Y { $xor$hier.v:3$2_Y [7:4] \\y }\n  end\n  connect $xor$hier.v:3$2_Y [3:0] \\y\nend\n", bytes "autoidx 4\nattribute \\cells_not_processed 1\nattribute \\src \"hier.v:5.1-10.10\"\nmodule \\hier\n  attribute \\src \"hier.v:5.26-5.27\"\n  wire width 8 input 1 \\a\n  attribute \\src \"hier.v:5.51-5.54\"\n  wire inout 3 \\pad\n  attribute \\src \"hier.v:6.14-6.15\"\n  wire width 4 \\t\n  attribute \\src \"hier.v:5.42-5.43\"\n  wire width 8 output 2 \\y\n  attribute \\src \"hier.v:9.16-9.34\"\n  cell $mux $ternary$hier.v:9$3\n    parameter \\WIDTH 1\n    connect \\A 1'x\n    connect \\B \\a [1]\n    connect \\S \\a [0]\n    connect \\Y \\pad\n  end\n  attribute \\module_not_derived 1\n  attribute \\src \"hier.v:7.50-7.71\"\n  cell \\leaf \\l\n    parameter \\K 8'01xzzx10\n    parameter \\NAME \"left\"\n    parameter signed \\W 4\n    connect \\a \\a [7:4]\n    connect \\y \\t\n  end\n  attribute \\module_not_derived 1\n  attribute \\src \"hier.v:8.24-8.50\"\n  cell \\leaf \\r\n    parameter signed \\S 5\n    parameter signed \\W 8\n    connect \\a { \\t \\a [3:0] }\n    connect \\y \\y\n  end\nend\nattribute \\dynports 1\nattribute \\cells_not_processed 1\nattribute \\src \"hier.v:1.1-4.10\"\nmodule \\leaf\n  parameter \\W 4\n  parameter \\K 8'0000000x\n  parameter \\NAME \"leaf\"\n  parameter \\R\n  parameter \\S 6'111101\n  attribute \\src \"hier.v:3.14-3.23\"\n  attribute \\unused_bits \"4 5 6 7\"\n  wire width 8 $xor$hier.v:3$2_Y\n  attribute \\src \"hier.v:2.18-2.19\"\n  wire width 4 input 1 \\a\n  attribute \\src \"hier.v:2.36-2.37\"\n  wire width 4 output 2 \\y\n  attribute \\src \"hier.v:3.14-3.23\"\n  cell $xor $xor$hier.v:3$2\n    parameter \\A_SIGNED 0\n    parameter \\A_WIDTH 8\n    parameter \\B_SIGNED 0\n    parameter \\B_WIDTH 6\n    parameter \\Y_WIDTH 8\n    connect \\A { 4'0000 \\a }\n    connect \\B 6'111101\n    connect \\Y { $xor$hier.v:3$2_Y [7:4] \\y }\n  end\n  connect $xor$hier.v:3$2_Y [3:0] \\y\nend\n") ∷
+    (bytes "# Generated by Yosys 0.23 (git sha1 7ce5011c24b)\nautoidx 7\nattribute \\top 1\nattribute \\src \"program_mux.v:2.1-10.10\"\nmodule \\program_mux\n  wire $procmux$4_CMP\n  wire $procmux$5_CMP\n  wire $procmux$6_CMP\n  attribute \\src \"program_mux.v:2.82-2.87\"\n  wire width 16 input 4 signed \\music\n  attribute \\src \"program_mux.v:2.75-2.80\"\n  wire width 16 input 3 signed \\noise\n  attribute \\src \"program_mux.v:2.89-2.94\"\n  wire width 16 input 5 signed \\phone\n  attribute \\src \"program_mux.v:2.32-2.46\"\n  wire width 2 input 1 \\program_number\n  attribute \\src \"program_mux.v:2.68-2.73\"\n  wire width 16 input 2 signed \\quiet\n  attribute \\src \"program_mux.v:2.121-2.126\"\n  wire width 16 output 6 signed \\sound\n  attribute \\full_case 1\n  attribute \\src \"program_mux.v:0.0-0.0|program_mux.v:4.5-9.12\"\n  cell $pmux $procmux$3\n    parameter \\S_WIDTH 3\n    parameter \\WIDTH 16\n    connect \\A \\phone\n    connect \\B { \\quiet \\noise \\music }\n    connect \\S { $procmux$6_CMP $procmux$5_CMP $procmux$4_CMP }\n    connect \\Y \\sound\n  end\n  attribute \\full_case 1\n  attribute \\src \"program_mux.v:0.0-0.0|program_mux.v:4.5-9.12\"\n  cell $eq $procmux$4_CMP0\n    parameter \\A_SIGNED 0\n    parameter \\A_WIDTH 2\n    parameter \\B_SIGNED 0\n    parameter \\B_WIDTH 2\n    parameter \\Y_WIDTH 1\n    connect \\A \\program_number\n    connect \\B 2'10\n    connect \\Y $procmux$4_CMP\n  end\n  attribute \\full_case 1\n  attribute \\src \"program_mux.v:0.0-0.0|program_mux.v:4.5-9.12\"\n  cell $eq $procmux$5_CMP0\n    parameter \\A_SIGNED 0\n    parameter \\A_WIDTH 2\n    parameter \\B_SIGNED 0\n    parameter \\B_WIDTH 2\n    parameter \\Y_WIDTH 1\n    connect \\A \\program_number\n    connect \\B 2'01\n    connect \\Y $procmux$5_CMP\n  end\n  attribute \\full_case 1\n  attribute \\src \"program_mux.v:0.0-0.0|program_mux.v:4.5-9.12\"\n  cell $logic_not $procmux$6_CMP0\n    parameter \\A_SIGNED 0\n    parameter \\A_WIDTH 2\n    parameter \\Y_WIDTH 1\n    connect \\A \\program_number\n    connect \\Y $procmux$6_CMP\n  end\nend\n", bytes "autoidx 7\nattribute \\top 1\nattribute \\src \"program_mux.v:2.1-10.10\"\nmodule \\program_mux\n  wire $procmux$4_CMP\n  wire $procmux$5_CMP\n  wire $procmux$6_CMP\n  attribute \\src \"program_mux.v:2.82-2.87\"\n  wire width 16 input 4 signed \\music\n  attribute \\src \"program_mux.v:2.75-2.80\"\n  wire width 16 input 3 signed \\noise\n  attribute \\src \"program_mux.v:2.89-2.94\"\n  wire width 16 input 5 signed \\phone\n  attribute \\src \"program_mux.v:2.32-2.46\"\n  wire width 2 input 1 \\program_number\n  attribute \\src \"program_mux.v:2.68-2.73\"\n  wire width 16 input 2 signed \\quiet\n  attribute \\src \"program_mux.v:2.121-2.126\"\n  wire width 16 output 6 signed \\sound\n  attribute \\full_case 1\n  attribute \\src \"program_mux.v:0.0-0.0|program_mux.v:4.5-9.12\"\n  cell $pmux $procmux$3\n    parameter \\S_WIDTH 3\n    parameter \\WIDTH 16\n    connect \\A \\phone\n    connect \\B { \\quiet \\noise \\music }\n    connect \\S { $procmux$6_CMP $procmux$5_CMP $procmux$4_CMP }\n    connect \\Y \\sound\n  end\n  attribute \\full_case 1\n  attribute \\src \"program_mux.v:0.0-0.0|program_mux.v:4.5-9.12\"\n  cell $eq $procmux$4_CMP0\n    parameter \\A_SIGNED 0\n    parameter \\A_WIDTH 2\n    parameter \\B_SIGNED 0\n    parameter \\B_WIDTH 2\n    parameter \\Y_WIDTH 1\n    connect \\A \\program_number\n    connect \\B 2'10\n    connect \\Y $procmux$4_CMP\n  end\n  attribute \\full_case 1\n  attribute \\src \"program_mux.v:0.0-0.0|program_mux.v:4.5-9.12\"\n  cell $eq $procmux$5_CMP0\n    parameter \\A_SIGNED 0\n    parameter \\A_WIDTH 2\n    parameter \\B_SIGNED 0\n    parameter \\B_WIDTH 2\n    parameter \\Y_WIDTH 1\n    connect \\A \\program_number\n    connect \\B 2'01\n    connect \\Y $procmux$5_CMP\n  end\n  attribute \\full_case 1\n  attribute \\src \"program_mux.v:0.0-0.0|program_mux.v:4.5-9.12\"\n  cell $logic_not $procmux$6_CMP0\n    parameter \\A_SIGNED 0\n    parameter \\A_WIDTH 2\n    parameter \\Y_WIDTH 1\n    connect \\A \\program_number\n    connect \\Y $procmux$6_CMP\n  end\nend\n") ∷
     (bytes "attribute \\f2Z -1759674197\nattribute $1 1\nmodule \\e" ++ (204 ∷ []) ++ (129 ∷ []) ++ bytes "\nconnect { { 0' 4' } 2' } 7'-z-z00x [ 5 : 0 ]\nconnect 33 { 20'1101z00m0z--00-0zz-z { 7'0mmm010 28 [ 23 : 19 ] } }\nend\n", bytes "attribute \\f2Z -1759674197\nattribute $1 1\nmodule \\e" ++ (204 ∷ []) ++ (129 ∷ []) ++ bytes "\n  connect 6'000000 6'z-z00x\n  connect 32'00000000000000000000000000100001 32'1101z00m0z--00-0zz-z0mmm01000000\nend\n") ∷
     (bytes "module \\m\n \"\"\n  # note " ++ (0 ∷ []) ++ (13 ∷ []), bytes "5 11\n") ∷
     (bytes "  module \\g6" ++ (13 ∷ []) ++ bytes "wire offset -2147483648   inout 16" ++ (9 ∷ []) ++ bytes "width 2  " ++ (9 ∷ []) ++ bytes "\\3.\n\nconnect{ \\3. }" ++ (9 ∷ []) ++ bytes "[0" ++ (9 ∷ []) ++ bytes "] {" ++ (9 ∷ []) ++ bytes "\\3. } [0" ++ (9 ∷ []) ++ bytes "]#L>-)" ++ (168 ∷ []) ++ (219 ∷ []) ++ (13 ∷ []) ++ bytes "\nend" ++ (13 ∷ []) ++ bytes "\n", bytes "module \\g6\n  wire width 2 offset -2147483648 inout 16 \\3.\n  connect \\3. [0] \\3. [0]\nend\n") ∷

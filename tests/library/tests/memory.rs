@@ -1,10 +1,11 @@
 //! The layout by hand, and which memory some text and accepted renames leave.
 
-use library::files::{count, generated, vectors};
+use library::files::{count, generated};
 use library::{layout, valid, Card, Tables};
 use reference::generate::random::Random;
 use reference::session::Session;
 use reference::statements::{ModuleNumber, Statement, WireNumber};
+use reference::vectors::vectors;
 use reference::{read, Design};
 
 const FILE: &[u8] = b"autoidx -2
@@ -91,7 +92,7 @@ fn session(statements: &[Statement], random: &mut Random) -> Session {
 #[test]
 fn what_is_laid_out_is_valid() {
     let mut random = Random::new(3);
-    let files = vectors().into_iter().map(|vector| vector.1);
+    let files = vectors().into_iter().map(|vector| vector.file);
     for file in files.chain((0..count(20_000) / 10).map(generated)) {
         let Ok(netlist) = read(&file) else { continue };
         let session = session(&netlist.statements, &mut random);

@@ -1,10 +1,13 @@
 //! Reading into memory filled with anything answers and leaves what the reference says.
-//! GENERATED_FILES=100000 asks for more files than the default.
+//! GENERATED_FILES=1000000 asks for more files than the default; `--nocapture` shows what they gave.
 
-use library::files::{count, generated, vectors};
+use library::files::{count, generated};
 use library::oracle::reading;
 use library::{read, Card, Tables};
+use reference::generate::generated_or_mutated;
 use reference::generate::random::Random;
+use reference::vectors::vectors;
+use std::collections::BTreeMap;
 
 /// The first thing that differs, if any does.
 fn difference(file: &[u8], tables: &mut Tables, mut card: Card) -> Option<&'static str> {
@@ -26,26 +29,41 @@ fn difference(file: &[u8], tables: &mut Tables, mut card: Card) -> Option<&'stat
 #[test]
 fn every_vector() {
     let vectors = vectors();
-    assert!(vectors.len() >= 470);
+    assert!(vectors.len() >= 480);
     let mut random = Random::new(1);
     let mut tables = Tables::zeroed();
-    for (name, file) in vectors {
+    for one in vectors {
         tables.fill(&mut random);
         let card = Card::any(&mut random);
-        assert_eq!(difference(&file, &mut tables, card), None, "{name}");
+        let difference = difference(&one.file, &mut tables, card);
+        assert_eq!(difference, None, "{}", one.name);
     }
 }
 
+/// Generated and mutated files, and the written texts of those that are accepted.
 #[test]
-fn generated_files() {
+fn generated_and_mutated_files() {
+    let vectors = vectors();
     let mut tables = Tables::zeroed();
+    let (mut numbers, mut texts) = (BTreeMap::new(), 0);
     for seed in 0..count(20_000) {
         let mut random = Random::new(!seed);
         tables.fill(&mut random);
         let card = Card::any(&mut random);
-        let file = generated(seed);
+        let file = generated_or_mutated(seed, &vectors);
         assert_eq!(difference(&file, &mut tables, card), None, "seed {seed}");
+        let number = match reference::read(&file) {
+            Ok(netlist) => {
+                let text = reference::text::text(&netlist.design());
+                assert_eq!(difference(&text, &mut tables, card), None, "text of {seed}");
+                texts += 1;
+                0
+            }
+            Err(refusal) => refusal.number,
+        };
+        *numbers.entry(number).or_insert(0) += 1;
     }
+    println!("files by number: {numbers:?}; {texts} written texts");
 }
 
 /// Reading twice into the same memory: nothing of the first file stays.

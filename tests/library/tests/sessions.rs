@@ -1,5 +1,5 @@
 //! Random sessions through the exported calls, held to the plain session: every answer, and all memory at the end.
-//! SESSIONS=2000 asks for more of them than the default.
+//! SESSIONS=20000 asks for more of them than the default; `--nocapture` shows what was met.
 
 use library::oracle::right_lengths;
 use library::{index, layout, look_up, read, rename, undo, Answer, Card, Tables};
@@ -8,9 +8,41 @@ use reference::generate::{self, SizeClass};
 use reference::session::Session;
 use reference::statements::{ModuleNumber, Statement, WireNumber};
 use reference::Design;
+use std::collections::BTreeMap;
+use std::fmt;
 
 fn answer(number: u32) -> Answer {
     Answer { number, place: 0 }
+}
+
+/// What the sessions met.
+#[derive(Default)]
+struct Figures {
+    sessions: u64,
+    calls: u64,
+    numbers: BTreeMap<u32, u64>,
+    /// Renames refused with 64 standing, and for want of name room.
+    at_64: u64,
+    no_room: u64,
+    /// Accepted renames that left no name room at all.
+    room_full: u64,
+}
+
+impl Figures {
+    fn take(&mut self, number: u32) {
+        self.calls += 1;
+        *self.numbers.entry(number).or_default() += 1;
+    }
+}
+
+impl fmt::Display for Figures {
+    fn fmt(&self, to: &mut fmt::Formatter) -> fmt::Result {
+        write!(to, "{} sessions, {} calls, ", self.sessions, self.calls)?;
+        write!(to, "answers by number {:?}, ", self.numbers)?;
+        write!(to, "refused with 64 standing {}, ", self.at_64)?;
+        write!(to, "for want of room {}, ", self.no_room)?;
+        write!(to, "room filled to the last byte {}", self.room_full)
+    }
 }
 
 /// Memory with a file read into it, beside the plain session.
@@ -19,14 +51,16 @@ struct Both {
     card: Card,
     statements: Vec<Statement>,
     plain: Session,
-    /// Renames standing at most so far, and the most name room used.
-    most: (usize, usize),
+    met: Figures,
 }
 
 impl Both {
+    /// Whatever the memory held before.
     fn of(file: &[u8]) -> Option<Both> {
         let statements = reference::read(file).ok()?.statements;
-        let (mut tables, mut card) = (Tables::zeroed(), Card::default());
+        let mut random = Random::new(file.len() as u64);
+        let (mut tables, mut card) = (Tables::zeroed(), Card::any(&mut random));
+        tables.fill(&mut random);
         assert_eq!(read(file, &mut tables, &mut card), answer(0));
         let plain = Session::new(Design::of(&statements));
         Some(Both {
@@ -34,7 +68,7 @@ impl Both {
             card,
             statements,
             plain,
-            most: (0, 0),
+            met: Figures::default(),
         })
     }
 
@@ -45,8 +79,14 @@ impl Both {
             .plain
             .rename(ModuleNumber(module), WireNumber(wire), name);
         assert_eq!(given, answer(number));
-        let used = (self.plain.renames().len(), self.plain.room_used());
-        self.most = (self.most.0.max(used.0), self.most.1.max(used.1));
+        self.met.take(number);
+        let standing = self.plain.renames().len();
+        match number {
+            11 if standing == 64 => self.met.at_64 += 1,
+            11 => self.met.no_room += 1,
+            0 if self.plain.room_used() == 16_384 => self.met.room_full += 1,
+            _ => (),
+        }
         number
     }
 
@@ -54,16 +94,18 @@ impl Both {
         let given = undo(&mut self.tables, &mut self.card);
         let number = self.plain.undo();
         assert_eq!(given, answer(number));
+        self.met.take(number);
         number
     }
 
-    fn look_up(&self, module: usize, name: &[u8]) {
+    fn look_up(&mut self, module: usize, name: &[u8]) {
         let given = look_up(&self.tables, self.card, module as u32, name);
         let found = self.plain.look_up(ModuleNumber(module), name);
         assert_eq!(given, found.map(|wire| wire.0 as u32));
+        self.met.take(given.err().unwrap_or(0));
     }
 
-    fn index(&self, module: usize, wire: usize, bit: usize) {
+    fn index(&mut self, module: usize, wire: usize, bit: usize) {
         let given = index(
             &self.tables,
             self.card,
@@ -75,6 +117,7 @@ impl Both {
             .plain
             .index(ModuleNumber(module), WireNumber(wire), bit);
         assert_eq!(given, expected);
+        self.met.take(given.err().unwrap_or(0));
     }
 
     fn check_memory(&self) {
@@ -164,29 +207,32 @@ fn file(seed: u64, random: &mut Random) -> Vec<u8> {
     }
 }
 
+/// How many sessions: SESSIONS, or 200.
+fn count() -> u64 {
+    let asked = std::env::var("SESSIONS").ok();
+    asked.and_then(|count| count.parse().ok()).unwrap_or(200)
+}
+
 #[test]
 fn random_sessions() {
-    let asked = std::env::var("SESSIONS").ok();
-    let count = asked.and_then(|count| count.parse().ok()).unwrap_or(200);
-    let (mut done, mut most) = (0, (0, 0));
+    let mut met = Figures::default();
     for seed in 0u64.. {
-        if done == count {
+        if met.sessions == count() {
+            println!("seeds below {seed}: {met}");
             break;
         }
         let mut random = Random::new(seed ^ 0x5e55);
         let Some(mut both) = Both::of(&file(seed, &mut random)) else {
             continue;
         };
+        both.met = met;
         calls(&mut random, &mut both);
         both.check_memory();
-        most = (most.0.max(both.most.0), most.1.max(both.most.1));
-        done += 1;
+        met = both.met;
+        met.sessions += 1;
     }
     // the limits were met
-    assert!(
-        count < 200 || (most.0 == 64 && most.1 > 16_384 - 8),
-        "{most:?}"
-    );
+    assert!(count() < 200 || (met.at_64 > 0 && met.no_room > 0 && met.room_full > 0));
 }
 
 const WIRES: &[u8] = b"module \\m\n  wire width 4 \\a\n  wire \\y\n  wire input 1 \\i\nend\n";

@@ -1,7 +1,8 @@
 //! The program equals the reference byte for byte, and its texts read back as themselves.
 
 use program::answer;
-use reference::generate::{self, SizeClass};
+use reference::generate::generated_or_mutated;
+use reference::vectors::{vectors, Vector};
 
 /// GENERATED_FILES, or 2,000.
 fn count() -> u64 {
@@ -9,8 +10,8 @@ fn count() -> u64 {
     asked.and_then(|n| n.parse().ok()).unwrap_or(2_000)
 }
 
-fn check(seed: u64) {
-    let file = generate::file(seed, SizeClass::of(seed));
+fn check(seed: u64, vectors: &[Vector]) {
+    let file = generated_or_mutated(seed, vectors);
     let text = answer(&file);
     assert!(text == reference::program(&file), "seed {seed}");
     if reference::read(&file).is_ok() && reference::read(&text).is_ok() {
@@ -20,10 +21,11 @@ fn check(seed: u64) {
 
 #[test]
 fn equals_the_reference() {
-    let half = count() / 2;
-    let other = std::thread::spawn(move || (0..half).for_each(check));
-    (half..count()).for_each(check);
-    other.join().expect("no difference");
+    let (half, vectors) = (count() / 2, &vectors());
+    std::thread::scope(|both| {
+        both.spawn(move || (0..half).for_each(|seed| check(seed, vectors)));
+        (half..count()).for_each(|seed| check(seed, vectors));
+    });
 }
 
 #[test]

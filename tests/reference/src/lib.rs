@@ -19,6 +19,7 @@ pub mod statements;
 pub mod surroundings;
 pub mod text;
 pub mod tokens;
+pub mod vectors;
 
 pub use design::Design;
 pub use program::program;

@@ -2,9 +2,8 @@
 //! files, each with what the program must write. The vectors' outputs are those stored beside them, the generated files' the reference's.
 
 use reference::generate::{self, SizeClass};
-use std::fs;
+use reference::vectors::vectors;
 use std::io::{self, Write};
-use std::path::Path;
 
 const LARGEST: usize = 2_000;
 const GENERATED: u64 = 300;
@@ -75,22 +74,12 @@ fn quote(byte: u8) -> String {
     }
 }
 
-fn vectors(folder: &Path) -> io::Result<Vec<(Vec<u8>, Vec<u8>)>> {
-    let mut files: Vec<_> = fs::read_dir(folder)?
-        .map(|entry| entry.map(|e| e.path()))
-        .collect::<io::Result<_>>()?;
-    files.retain(|path| path.extension().is_some_and(|e| e == "il"));
-    files.sort();
-    files
-        .iter()
-        .map(|path| Ok((fs::read(path)?, fs::read(path.with_extension("out"))?)))
-        .collect()
-}
-
 fn main() -> io::Result<()> {
-    let folder = Path::new(env!("CARGO_MANIFEST_DIR")).join("../vectors");
-    let mut cases = vectors(&folder)?;
-    cases.retain(|case| case.0.len() < LARGEST);
+    let vectors = vectors().into_iter();
+    let mut cases: Vec<_> = vectors
+        .filter(|one| one.file.len() < LARGEST)
+        .map(|one| (one.file, one.written))
+        .collect();
     for seed in 0..GENERATED {
         let file = generate::file(seed, SizeClass::Small);
         let written = reference::program(&file);

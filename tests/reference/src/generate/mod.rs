@@ -9,6 +9,8 @@ mod signals;
 mod soup;
 mod well_formed;
 
+use crate::reading::read;
+use crate::vectors::Vector;
 use random::Random;
 
 #[derive(Debug, Clone, Copy, PartialEq, Eq)]
@@ -61,6 +63,39 @@ pub fn well_formed_file(seed: u64, size: SizeClass) -> Vec<u8> {
             return file;
         }
     }
+}
+
+/// The file after a number is changed, or after one to four changes: bytes changed, put in or left out, tokens and lines doubled,
+/// swapped, moved or left out.
+pub fn mutated(seed: u64, file: Vec<u8>) -> Vec<u8> {
+    let mut random = Random::new(seed);
+    match random.one_in(3) {
+        true => mutations::change_number(&mut random, file),
+        false => mutations::mutate(&mut random, file),
+    }
+}
+
+/// The file of this seed: half of them generated, a quarter a vector and a quarter an accepted generated file, both after some changes.
+pub fn generated_or_mutated(seed: u64, vectors: &[Vector]) -> Vec<u8> {
+    let of_kind = seed / 4;
+    match seed % 4 {
+        0 => {
+            let vector = &vectors[of_kind as usize % vectors.len()];
+            mutated(seed, vector.file.clone())
+        }
+        1 => mutated(seed, accepted(of_kind)),
+        kind => {
+            let seed = 2 * of_kind + kind - 2;
+            file(seed, SizeClass::of(seed))
+        }
+    }
+}
+
+/// A well-formed file that is accepted: the first one from this seed on.
+fn accepted(seed: u64) -> Vec<u8> {
+    let files = (seed..).map(|one| well_formed_file(one, SizeClass::of(one)));
+    let mut accepted = files.filter(|file| read(file).is_ok());
+    accepted.next().expect("some file is accepted")
 }
 
 /// A file with one size at its limit, one under or one over.

@@ -5,6 +5,39 @@ use super::random::Random;
 /// Bytes at the edges of the classes.
 const INTERESTING: &[u8] = b"\x00\x01\t\n\r \"#$'-:,019=[\\]`az{}xzm\x1f\x7f\x80\xff";
 
+/// Numbers at the edges of the rules.
+const EDGES: [&str; 14] = [
+    "0",
+    "1",
+    "-1",
+    "15",
+    "16",
+    "1023",
+    "1024",
+    "2047",
+    "2048",
+    "2049",
+    "2147483647",
+    "2147483648",
+    "-2147483648",
+    "-2147483649",
+];
+
+/// The file with one run of its digits replaced by a number at the edges, if it has any.
+pub fn change_number(random: &mut Random, file: Vec<u8>) -> Vec<u8> {
+    let is_digit = |at: usize| file.get(at).is_some_and(u8::is_ascii_digit);
+    let starts: Vec<usize> = (0..file.len())
+        .filter(|&at| is_digit(at) && (at == 0 || !is_digit(at - 1)))
+        .collect();
+    if starts.is_empty() {
+        return file;
+    }
+    let start = *random.pick(&starts);
+    let end = (start..).find(|&at| !is_digit(at)).unwrap_or(file.len());
+    let number = random.pick(&EDGES).as_bytes();
+    [&file[..start], number, &file[end..]].concat()
+}
+
 /// The file after one to four changes.
 pub fn mutate(random: &mut Random, mut file: Vec<u8>) -> Vec<u8> {
     for _ in 0..random.between(1, 4) {
