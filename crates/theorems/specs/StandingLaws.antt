@@ -9,7 +9,7 @@ use Rattle.rules.specs.Design.{Design}
 use Rattle.rules.specs.Session.{Rename, Call, rename, undo, renameCall, undoCall, call, standing, plainSession}
 use Rattle.admitted.specs.Holds.{Allowed, no-renames, one-rename}
 
-drop-last : (rs : List Rename) (r : Rename) → dropLast (rs ++ r ∷ []) ≡ rs
+pub drop-last : (rs : List Rename) (r : Rename) → dropLast (rs ++ r ∷ []) ≡ rs
 drop-last [] r = refl
 drop-last (q ∷ []) r = refl
 drop-last (q ∷ p ∷ rs) r = ap (λ (l : List Rename). q ∷ l) (drop-last (p ∷ rs) r)
@@ -21,7 +21,7 @@ undone [] = refl
 undone (q ∷ qs) = refl
 
 -- a verdict accepts what it is given, or refuses
-judged : {A : Type 0} (P : Verdict A → Type 0) (a : A) (o : Option ℕ) → (verdict a o ≡ accepted a → P (accepted a)) → ((n : ℕ) → P (refused n)) → P (verdict a o)
+pub judged : {A : Type 0} (P : Verdict A → Type 0) (a : A) (o : Option ℕ) → (verdict a o ≡ accepted a → P (accepted a)) → ((n : ℕ) → P (refused n)) → P (verdict a o)
 unfolding verdict
 judged P a none f g = f refl
 judged P a (some n) f g = g n
