@@ -1,1 +1,3 @@
 mod StepLaws
+mod FoundLaws
+mod ShowLaws

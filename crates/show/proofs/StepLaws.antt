@@ -8,15 +8,18 @@ use native.Mathlib.Numerals.{add-one}
 use native.Mathlib.Omega.{arith}
 use lib.Dec.{eqb}
 use lib.ListN.{length, getD, take, drop}
-use lib.Seq.{drop-cons}
+use lib.Seq.{drop-cons, length-slice}
 use borrow.Author.Tests.{eq-eqb, ne-eqb}
-use Rattle.rules.specs.Session.{plainName}
+use Rattle.rules.specs.Session.{plainName, orElse}
 use Rattle.scanner.specs.Laws.{by-test}
+use Rattle.scanner.proofs.RunLaws.{slice-part}
 use Rattle.wires.specs.Rows.{column, nameOf}
 use Rattle.netlist.specs.Rows.{kindAt, nameFrom}
 use Rattle.netlist.specs.Statements.{spanAt}
 use Rattle.line_text.specs.Now.{renames, nameNow}
-use Rattle.show.specs.Rows.{declares, wireLine, isHdlname, hdlnameRow, textAt, lastRename}
+use Rattle.show.specs.Rows.{declares, wireLine, isHdlname, hdlnameRow, textAt, lastRename, shownName}
+use Rattle.show.specs.Parts.{PartIs}
+use Rattle.show.specs.declared.Part.{Part}
 
 -- THE WIRE'S STATEMENT
 module _ (rows : List ℕ) (w k : ℕ) where
@@ -122,3 +125,37 @@ module _ (names : List ℕ) (start end : ℕ) where
   pub plain-none : end ≤ start → take (end - start) (drop start names) ≡ plainName (take (end - start) (drop start names))
   unfolding plainName
   plain-none h = let e : end - start ≡ 0 = omega arith in rw e
+
+-- THE STRING, OR THE NAME
+length-part : (t : List ℕ) (start end : ℕ) → end ≤ length t → length (take (end - start) (drop start t)) ≡ end - start
+length-part t start end h = ap length (sym (slice-part start end t)) ∙ length-slice start end t h
+
+else-first : (xs ys : List ℕ) → 0 < length xs → xs ≡ orElse xs ys
+unfolding orElse
+else-first [] ys h = absurd (omega arith)
+else-first (x ∷ xs) ys h = refl
+
+else-second : (xs ys : List ℕ) → length xs ≡ 0 → ys ≡ orElse xs ys
+unfolding orElse
+else-second [] ys h = refl
+else-second (x ∷ xs) ys h = absurd (omega arith)
+
+module _ (names strings wires rows : List ℕ) (from count m n k line behind : ℕ) (p : Part)
+    (el : line ≡ wireLine rows from k) (eb : behind ≡ hdlnameRow names rows line 0) (h : PartIs strings (textAt strings rows behind) p) where
+  text-length : length (textAt strings rows behind) ≡ p .end - p .start
+  text-length = ap length (sym (h .2)) ∙ length-part strings (p .start) (p .end) (h .1)
+
+  found-text : textAt strings rows behind ≡ textAt strings rows (hdlnameRow names rows (wireLine rows from k) 0)
+  found-text = ap (textAt strings rows) (eb ∙ ap (λ (x : ℕ). hdlnameRow names rows x 0) el)
+
+  pub shows-text : p .start < p .end → take (p .end - p .start) (drop (p .start) strings) ≡ shownName names strings wires rows from count m n k
+  unfolding shownName
+  shows-text b =
+      h .2 ∙ else-first (textAt strings rows behind) (plainName (nameNow names wires rows from count m n k)) (omega (arith, text-length))
+      ∙ ap (λ (x : List ℕ). orElse x (plainName (nameNow names wires rows from count m n k))) found-text
+
+  pub shows-name : p .end ≤ p .start → (xs : List ℕ) → xs ≡ plainName (nameNow names wires rows from count m n k) → xs ≡ shownName names strings wires rows from count m n k
+  unfolding shownName
+  shows-name b xs e =
+      e ∙ else-second (textAt strings rows behind) (plainName (nameNow names wires rows from count m n k)) (omega (arith, text-length))
+      ∙ ap (λ (x : List ℕ). orElse x (plainName (nameNow names wires rows from count m n k))) found-text

@@ -1,42 +1,38 @@
+-- The last rename's name, if there is one.
+-- Assumes nothing.
+use Prim.Native.Nat.{suc, _-_}
+use mathlib.Core.Path.{_≡_, _∙_}
+use native.Mathlib.Omega.{arith}
+use denote.Ref.{now}
+use Rattle.show.proofs.StepLaws.{name-own, name-given}
 use borrow.Author.Needs.{needs}
 use Rattle.show.proofs.name_part.Statement.{statement}
 use Rattle.show.proofs.name_part.Tie as tie
-use Rattle.show.proofs.name_part.Reads as reads
-use Rattle.show.proofs.name_part.Lts as lts
-use Rattle.show.proofs.last_rename.Reads as last-rename-reads
-use Rattle.show.proofs.span.Reads as span-reads
 
--- src/lib.rt:173:9
 last-rename-requires : tie.Need-last-rename-requires
 last-rename-requires c κs = search needs
 
--- src/lib.rt:175:9
 span-requires : tie.Need-span-requires
 span-requires c κs = search needs
 
--- src/lib.rt:175:9
 returns : tie.Need-returns
-returns c = ?
+returns c = (c .span .ensures .0, c .span .ensures .1, c .span .ensures .2 ∙ name-own (now (c .before .before .before .before .before .before .args .names)) (now (c .before .before .before .before .before .before .args .wires)) (now (c .before .before .before .before .before .before .args .rows)) (c .before .before .before .before .before .before .args .from) (c .before .before .before .before .before .before .args .m .0) (c .before .before .before .before .before .before .args .w .0) (c .before .before .before .before .before .before .args .k) (c .before .before .before .before .before .before .args .count) _ (c .before .before .last-rename .ensures) (c .before .if1 .taken))
 
--- src/lib.rt:177:40
 sub-span : tie.Need-sub-span
 sub-span c = search needs
 
--- src/lib.rt:177:39
 cast-span : tie.Need-cast-span
 cast-span c = search needs
 
--- src/lib.rt:177:23
 add-span : tie.Need-add-span
 add-span c = search needs
 
--- src/lib.rt:177:5
 span-requires-2 : tie.Need-span-requires-2
 span-requires-2 c κs = search needs
 
--- src/lib.rt:161:1
 returns-2 : tie.Need-returns-2
-returns-2 c = ?
+returns-2 c = let e : c .before .before .last-rename .result ≡ suc (c .before .before .last-rename .result - 1) = omega arith in
+    (c .span2 .ensures .0, c .span2 .ensures .1, c .span2 .ensures .2 ∙ name-given (now (c .before .before .before .before .before .before .args .names)) (now (c .before .before .before .before .before .before .args .wires)) (now (c .before .before .before .before .before .before .args .rows)) (c .before .before .before .before .before .before .args .from) (c .before .before .before .before .before .before .args .m .0) (c .before .before .before .before .before .before .args .w .0) (c .before .before .before .before .before .before .args .k) (c .before .before .before .before .before .before .args .count) _ (c .before .before .last-rename .ensures) (c .before .before .last-rename .result - 1) e)
 
 pub name-part-spec : {M : Type 1} → statement M
 name-part-spec =

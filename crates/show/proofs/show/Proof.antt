@@ -1,73 +1,61 @@
+-- The part of each case of the place.
+-- Assumes nothing.
+use mathlib.Core.Path.{subst}
+use denote.Ref.{now}
+use Rattle.reader.specs.Read.{lent}
+use Rattle.show.specs.Parts.{InRange}
+use Rattle.show.proofs.ShowLaws.{shown-name, shown-text, shown-none}
 use borrow.Author.Needs.{needs}
 use Rattle.show.proofs.show.Statement.{statement}
 use Rattle.show.proofs.show.Tie as tie
-use Rattle.show.proofs.show.Reads as reads
-use Rattle.show.proofs.show.Lts as lts
-use Rattle.show.proofs.find_shown.Reads as find-shown-reads
 
--- src/lib.rt:281:9
 find-shown-requires : tie.Need-find-shown-requires
 find-shown-requires c κs = search needs
 
--- src/lib.rt:283:23
 enum-known-place : tie.Need-enum-known-place
 enum-known-place c = search needs
 
--- src/lib.rt:285:20
 sub-result : tie.Need-sub-result
-sub-result c = ?
+sub-result c = subst (InRange (now (c .before .before .before .before .before .before .before .before .before .args .names)) (now (c .before .before .before .before .before .before .before .before .before .args .strings))) (c .before .place .given .1) (c .before .before .before .find-shown .ensures .0) .0
 
--- src/lib.rt:285:20
 part-result-start : tie.Need-part-result-start
-part-result-start c = ?
+part-result-start c = subst (InRange (now (c .before .before .before .before .before .before .before .before .before .args .names)) (now (c .before .before .before .before .before .before .before .before .before .args .strings))) (c .before .place .given .1) (c .before .before .before .find-shown .ensures .0) .0
 
--- src/lib.rt:285:20
 part-result-end : tie.Need-part-result-end
-part-result-end c = ?
+part-result-end c = subst (InRange (now (c .before .before .before .before .before .before .before .before .before .args .names)) (now (c .before .before .before .before .before .before .before .before .before .args .strings))) (c .before .place .given .1) (c .before .before .before .find-shown .ensures .0) .1
 
--- src/lib.rt:285:13
 returns : tie.Need-returns
-returns c = ?
+returns c = shown-name (lent (now (c .before .before .before .before .before .before .before .before .before .before .args .names)) (now (c .before .before .before .before .before .before .before .before .before .before .args .strings)) (now (c .before .before .before .before .before .before .before .before .before .before .args .bits)) (now (c .before .before .before .before .before .before .before .before .before .before .args .wires)) (now (c .before .before .before .before .before .before .before .before .before .before .args .rows)) (c .before .before .before .before .before .before .before .before .before .before .args .renames) (c .before .before .before .before .before .before .before .before .before .before .args .room)) (c .before .before .before .before .before .before .before .before .before .before .args .m .0) (c .before .before .before .before .before .before .before .before .before .before .args .w .0) _ (c .before .before .before .before .find-shown .ensures .1) _ _ (c .before .before .place .given .1)
 
--- src/lib.rt:287:23
 enum-known-place-2 : tie.Need-enum-known-place-2
 enum-known-place-2 c = search needs
 
--- src/lib.rt:289:20
 sub-result-2 : tie.Need-sub-result-2
-sub-result-2 c = ?
+sub-result-2 c = subst (InRange (now (c .before .before .before .before .before .before .before .before .before .args .names)) (now (c .before .before .before .before .before .before .before .before .before .args .strings))) (c .before .place2 .given .1) (c .before .before .before .find-shown .ensures .0) .0
 
--- src/lib.rt:289:20
 part-result-start-2 : tie.Need-part-result-start-2
-part-result-start-2 c = ?
+part-result-start-2 c = subst (InRange (now (c .before .before .before .before .before .before .before .before .before .args .names)) (now (c .before .before .before .before .before .before .before .before .before .args .strings))) (c .before .place2 .given .1) (c .before .before .before .find-shown .ensures .0) .0
 
--- src/lib.rt:289:20
 part-result-end-2 : tie.Need-part-result-end-2
-part-result-end-2 c = ?
+part-result-end-2 c = subst (InRange (now (c .before .before .before .before .before .before .before .before .before .args .names)) (now (c .before .before .before .before .before .before .before .before .before .args .strings))) (c .before .place2 .given .1) (c .before .before .before .find-shown .ensures .0) .1
 
--- src/lib.rt:289:13
 returns-2 : tie.Need-returns-2
-returns-2 c = ?
+returns-2 c = shown-text (lent (now (c .before .before .before .before .before .before .before .before .before .before .args .names)) (now (c .before .before .before .before .before .before .before .before .before .before .args .strings)) (now (c .before .before .before .before .before .before .before .before .before .before .args .bits)) (now (c .before .before .before .before .before .before .before .before .before .before .args .wires)) (now (c .before .before .before .before .before .before .before .before .before .before .args .rows)) (c .before .before .before .before .before .before .before .before .before .before .args .renames) (c .before .before .before .before .before .before .before .before .before .before .args .room)) (c .before .before .before .before .before .before .before .before .before .before .args .m .0) (c .before .before .before .before .before .before .before .before .before .before .args .w .0) _ (c .before .before .before .before .find-shown .ensures .1) _ _ (c .before .before .place2 .given .1)
 
--- src/lib.rt:291:24
 enum-known-place-3 : tie.Need-enum-known-place-3
 enum-known-place-3 c = search needs
 
--- src/lib.rt:293:20
 sub-result-3 : tie.Need-sub-result-3
 sub-result-3 c = search needs
 
--- src/lib.rt:293:20
 part-result-start-3 : tie.Need-part-result-start-3
 part-result-start-3 c = search needs
 
--- src/lib.rt:293:20
 part-result-end-3 : tie.Need-part-result-end-3
 part-result-end-3 c = search needs
 
--- src/lib.rt:293:13
 returns-3 : tie.Need-returns-3
-returns-3 c = ?
+returns-3 c = shown-none (lent (now (c .before .before .before .before .before .before .before .before .before .before .args .names)) (now (c .before .before .before .before .before .before .before .before .before .before .args .strings)) (now (c .before .before .before .before .before .before .before .before .before .before .args .bits)) (now (c .before .before .before .before .before .before .before .before .before .before .args .wires)) (now (c .before .before .before .before .before .before .before .before .before .before .args .rows)) (c .before .before .before .before .before .before .before .before .before .before .args .renames) (c .before .before .before .before .before .before .before .before .before .before .args .room)) (c .before .before .before .before .before .before .before .before .before .before .args .m .0) (c .before .before .before .before .before .before .before .before .before .before .args .w .0) _ (c .before .before .before .before .find-shown .ensures .1) _ (c .before .before .place3 .given .1)
 
 pub show-spec : {M : Type 1} → statement M
 show-spec =
