@@ -133,26 +133,26 @@ body-now z g rs m w (some o) = refl
 
 -- IN MEMORY THAT HOLDS A DESIGN
 module _ {names strings bits wires rows : List ℕ} {renames room : ℕ} {p : Place} (h : Holding (lent names strings bits wires rows renames room) p) (m : ℕ) where
-  file : reverse (reverse (h .statements)) ≡ h .statements
+  pub file : reverse (reverse (h .statements)) ≡ h .statements
   file = reverse-reverse (h .statements)
 
-  headed : Headed (reverse (h .statements))
+  pub headed : Headed (reverse (h .statements))
   headed = standing-headed (admitted-standing (reverse (h .statements)) (h .holds .admitted))
 
-  offsets : Offsets (reverse (h .statements))
+  pub offsets : Offsets (reverse (h .statements))
   offsets = admitted-offsets (reverse (h .statements)) (h .holds .admitted)
 
   laid : Laid (putRenames (roomsOf (reverse (h .statements))) (h .renames)) names rows
   laid = rw rooms-file at (holds-laid (h .holds))
 
-  wired : Wired (roomsOf (reverse (h .statements))) names wires
+  pub wired : Wired (roomsOf (reverse (h .statements))) names wires
   wired = wired-renames (roomsOf (reverse (h .statements))) (h .renames) (rw rooms-file at (holds-wired (h .holds)))
 
-  all-wires : wiresIn (reverse (h .statements)) ≡ p .wires
+  pub all-wires : wiresIn (reverse (h .statements)) ≡ p .wires
   unfolding placeOf
   all-wires = ap (λ (x : Place). x .wires) (h .place)
 
-  name-now-is : (j k : ℕ) → nameNow (h .renames) m j (nameOf names wires k) ≡ table.nameNow names wires rows (p .rows) renames m j k
+  pub name-now-is : (j k : ℕ) → nameNow (h .renames) m j (nameOf names wires k) ≡ table.nameNow names wires rows (p .rows) renames m j k
   unfolding placeOf
   name-now-is j k =
       let e : length (roomsOf (reverse (h .statements)) .rows) ≡ p .rows =

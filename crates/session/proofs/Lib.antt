@@ -1,5 +1,5 @@
 mod RenameLaws
-mod HoldLaws
-mod OpenLaws
-mod CallLaws
-mod AskLaws
+pub mod HoldLaws
+pub mod OpenLaws
+pub mod CallLaws
+pub mod AskLaws

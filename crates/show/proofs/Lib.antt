@@ -1,0 +1,3 @@
+mod StepLaws
+mod FoundLaws
+mod ShowLaws

@@ -1,0 +1,166 @@
+-- What show answers on memory that holds a design.
+-- Assumes nothing.
+use Prim.Native.Nat.{ℕ, zero, suc, _+_, _-_, _≤_, _<_}
+use mathlib.Core.Path.{_≡_, refl, sym, ap, ap₂, subst, _∙_}
+use mathlib.Core.List.{List, [], _∷_, _++_, map, reverse, append-nil}
+use mathlib.Core.Option.{Option, none, some, Option·map, Option·elim}
+use mathlib.Core.Bool.{true, false}
+use native.Mathlib.Omega.{arith}
+use lib.ListN.{length, getElem?, take, drop, length-reverse}
+use Rattle.rules.specs.Tokens.{Name}
+use Rattle.rules.specs.Statements.{Statement, Wire, wire-stmt}
+use Rattle.rules.specs.Signals.{Wires}
+use Rattle.rules.specs.Judgement.{Past, accepted, refused}
+use Rattle.rules.specs.Design.{Object, object, design}
+use Rattle.rules.specs.Session.{wiresAt, wireAt, now, hdlname, plainName, orElse, show}
+use Rattle.rules.specs.Layout.{Memory}
+use Rattle.wires.specs.Rows.{nameOf, wireOf, wiresFrom}
+use Rattle.wires.specs.RowLaws.{length-wires, wire-numbered}
+use Rattle.past.specs.Place.{wiresIn}
+use Rattle.past.specs.declared.place.Place.{Place}
+use Rattle.netlist.specs.Laid.{roomsOf}
+use Rattle.designs.specs.Modules.{statementsOf, wiresOf}
+use Rattle.designs.specs.Ranges.{wireRange}
+use Rattle.designs.specs.WireLaws.{pairs-range, design-range}
+use Rattle.designs.specs.AttributeLaws.{settingsBefore}
+use Rattle.designs.specs.DeclaredLaws.{Declared, wire-declared, declared-wire, declared-number}
+use Rattle.designs.specs.Now.{nameNow, wireNow}
+use Rattle.designs.specs.NowLaws.{wire-now}
+use Rattle.designs.specs.declared.Range.{Range}
+use Rattle.line_text.specs.Now as table
+use Rattle.reader.specs.Read.{lent}
+use Rattle.replay.specs.Reads.{Tables, tabled}
+use Rattle.replay.specs.Begins.{Fronts}
+use Rattle.replay.proofs.BeginLaws.{fronts-before}
+use Rattle.standing.specs.TakenLaws.{wire-missing}
+use Rattle.held.specs.HeldLaws.{holds-stored}
+use Rattle.session.specs.Called.{holding, answer}
+use Rattle.session.specs.Steps.{Holding}
+use Rattle.session.proofs.HoldLaws.{rows-before}
+use Rattle.session.proofs.AskLaws.{file, headed, offsets, wired, all-wires, name-now-is}
+use Rattle.show.specs.Rows.{wireLine, hdlnameRow, textAt, shownName}
+use Rattle.show.specs.Parts.{numberOf, bytesIn, ShownAs}
+use Rattle.show.specs.declared.Shown.{Shown}
+use Rattle.show.proofs.FoundLaws.{line-found, fronts-behind, hdlname-found}
+
+at-map : {A B : Type 0} (f : A → B) (xs : List A) (i : ℕ) → getElem? (map f xs) i ≡ Option·map f (getElem? xs i)
+at-map f [] i = refl
+at-map f (x ∷ xs) zero = refl
+at-map f (x ∷ xs) (suc i) = at-map f xs i
+
+none-by : {A : Type 0} (o : Option A) → Option·elim o true (λ x. false) ≡ true → o ≡ none
+unfolding Option·elim
+none-by none e = refl
+none-by (some x) e = cc
+
+-- a wire of a design as it stands, by that of its module's pairs
+abbrev pairOf : Object Wire → Name × Wire
+pairOf o = (o .name, o .body)
+
+name-by : (xs : List (Object Wire)) (i : ℕ) (o : Object Wire) (x : Name × Wire) → getElem? xs i ≡ some o → getElem? (map pairOf xs) i ≡ some x → o .name ≡ x .0
+unfolding Option·elim
+name-by xs i o x e q =
+    ap (λ (y : Option (Name × Wire)). Option·elim y [] (λ z. z .0)) (sym (at-map pairOf xs i ∙ ap (Option·map pairOf) e) ∙ q)
+
+module _ {names strings bits wires rows : List ℕ} {renames room : ℕ} {p : Place} (h : Holding (lent names strings bits wires rows renames room) p) (m w : ℕ)
+    (own : Range) (eo : own ≡ wireRange wires (p .wires) m) where
+  abbrev past : Past
+  past = reverse (h .statements)
+
+  abbrev parts : Tables
+  parts = tabled names strings bits wires
+
+  fronts : Fronts (roomsOf past) parts rows
+  fronts = holds-stored (h .holds) .begins .fronts
+
+  range-is : own ≡ wireRange wires (wiresIn past) m
+  range-is = rw (all-wires h m) eo
+
+  wires-many : length (wiresOf (statementsOf m (reverse past))) ≡ own .count
+  wires-many =
+      let r = wireRange wires (wiresIn past) m in
+      ap length (sym (pairs-range m past (headed h m) (wired h m) (offsets h m)))
+      ∙ length-reverse (wiresFrom names wires (r .first) (r .count))
+      ∙ length-wires names wires (r .first) (r .count)
+      ∙ ap (λ (x : Range). x .count) (sym range-is)
+
+  -- THE WIRE IS THERE
+  module _ (b : w < own .count) where
+    declared : Declared past m w
+    declared = wire-declared past m w (omega (arith, wires-many))
+
+    wire-is : wireAt (design (h .statements)) m w ≡ some (object (settingsBefore (declared .before)) (declared .name) (declared .body))
+    wire-is = ap (λ (ss : List Statement). wireAt (design ss) m w) (sym (file h m)) ∙ declared-wire past m w declared
+
+    -- its name as it was read, and as it is now
+    name-is : declared .name ≡ nameOf names wires (own .first + w)
+    unfolding wireAt
+    name-is =
+        let r = wireRange wires (wiresIn past) m in
+        name-by (wiresAt (design (reverse past)) m) w _ (nameOf names wires (r .first + w), wireOf wires (r .first + w)) (declared-wire past m w declared)
+        (ap (λ (xs : Wires). getElem? xs w) (sym (design-range m past (headed h m) (wired h m) (offsets h m)))
+        ∙ wire-numbered names wires (r .first) w (r .count) (rw (← range-is) b))
+        ∙ ap (λ (x : Range). nameOf names wires (x .first + w)) (sym range-is)
+
+    name-now : table.nameNow names wires rows (p .rows) renames m w (own .first + w) ≡ nameNow (h .renames) m w (declared .name)
+    name-now = sym (name-now-is h m w (own .first + w)) ∙ ap (nameNow (h .renames) m w) (sym name-is)
+
+    -- its statement, and the attribute before it
+    all-fronts : Fronts (roomsOf (declared .behind ++ wire-stmt (declared .body) (declared .name) ∷ declared .before)) parts rows
+    all-fronts = subst (λ (x : Past). Fronts (roomsOf x) parts rows) (declared .all) fronts
+
+    line-is : wireLine rows (p .rows) (own .first + w) ≡ length (declared .before)
+    line-is =
+        let k : wiresIn (declared .before) ≡ own .first + w =
+        declared-number past m w declared (headed h m) (wired h m) ∙ ap (λ (x : Range). x .first + w) (sym range-is) in
+        let l : p .rows ≡ length (declared .behind ++ wire-stmt (declared .body) (declared .name) ∷ declared .before) =
+        sym (rows-before h) ∙ sym (length-reverse (h .statements)) ∙ ap length (declared .all) in
+        ap₂ (wireLine rows) l (sym k) ∙ line-found parts rows (declared .body) (declared .name) (declared .before) (declared .behind) all-fronts
+
+    text-is : textAt strings rows (hdlnameRow names rows (wireLine rows (p .rows) (own .first + w)) 0) ≡ hdlname (settingsBefore (declared .before))
+    unfolding textAt hdlname
+    text-is =
+        let s : Statement = wire-stmt (declared .body) (declared .name) in
+        let f : Fronts (roomsOf (declared .before)) parts rows =
+        fronts-before parts rows s (declared .before) (fronts-behind parts rows (declared .behind) (s ∷ declared .before) all-fronts) in
+        rw line-is (hdlname-found parts rows (declared .before) f [] 0 refl ∙ ap hdlname (append-nil (settingsBefore (declared .before))))
+
+    show-is : show (now (design (h .statements)) (h .renames)) m w ≡ accepted (shownName names strings wires rows (p .rows) renames m w (own .first + w))
+    unfolding show shownName wireNow Option·elim
+    show-is =
+        ap (λ (o : Option (Object Wire)). Option·elim o (refused 8) (λ x. accepted (orElse (hdlname (x .attributes)) (plainName (x .name)))))
+        (wire-now (design (h .statements)) (h .renames) m w ∙ ap (Option·map (wireNow (h .renames) m w)) wire-is)
+        ∙ rw (text-is, name-now)
+
+    pub shown-there :
+        (n : ℕ) (xs : List ℕ) → n ≡ 0 → xs ≡ shownName names strings wires rows (p .rows) renames m w (own .first + w) →
+        ShownAs (lent names strings bits wires rows renames room) m w n xs
+    unfolding answer
+    shown-there n xs en ex = holding (h .statements) (h .renames) (h .lengths) (h .holds) (rw (en, ex, show-is))
+
+  -- THE WIRE IS NOT THERE
+  pub shown-missing : own .count ≤ w → ShownAs (lent names strings bits wires rows renames room) m w 8 []
+  unfolding answer show Option·elim
+  shown-missing b =
+      let e : wireAt (design (reverse past)) m w ≡ none =
+      none-by _ (wire-missing m w past (headed h m) (offsets h m) (wired h m) true (λ (x : Wire). false) (rw (← range-is) b)) in
+      let q : wireAt (now (design (h .statements)) (h .renames)) m w ≡ none =
+      wire-now (design (h .statements)) (h .renames) m w ∙ ap (Option·map (wireNow (h .renames) m w)) (ap (λ (ss : List Statement). wireAt (design ss) m w) (sym (file h m)) ∙ e) in
+      holding (h .statements) (h .renames) (h .lengths) (h .holds) (rw q)
+
+-- THE PART AT A PLACE
+module _ (M : Memory) (m w : ℕ) (r : Shown) (h : ShownAs M m w (numberOf r) (bytesIn (M .names) (M .strings) r)) where
+  abbrev Answered : Shown → Type 0
+  Answered x = ShownAs M m w (numberOf x) (bytesIn (M .names) (M .strings) x)
+
+  pub shown-name : (s e : ℕ) → r ≡ Shown.Name s e → ShownAs M m w 0 (take (e - s) (drop s (M .names)))
+  unfolding numberOf bytesIn
+  shown-name s e q = subst Answered q h
+
+  pub shown-text : (s e : ℕ) → r ≡ Shown.Text s e → ShownAs M m w 0 (take (e - s) (drop s (M .strings)))
+  unfolding numberOf bytesIn
+  shown-text s e q = subst Answered q h
+
+  pub shown-none : (n : ℕ) → r ≡ Shown.Refused n → ShownAs M m w n []
+  unfolding numberOf bytesIn
+  shown-none n q = subst Answered q h

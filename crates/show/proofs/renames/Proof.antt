@@ -1,0 +1,25 @@
+-- The module first, then the wire.
+-- Assumes nothing.
+use borrow.Author.Tests.{eq-eqb, ne-eqb}
+use Rattle.line_text.specs.Now.{renames}
+use borrow.Author.Needs.{needs}
+use Rattle.show.proofs.renames.Statement.{statement}
+use Rattle.show.proofs.renames.Tie as tie
+use Rattle.show.proofs.column.Reads as column-reads
+
+column-requires : tie.Need-column-requires
+column-requires c κs = search needs
+
+returns : tie.Need-returns
+unfolding renames
+returns c = rw (← c .before .column .ensures, ne-eqb _ _ (c .if1 .taken))
+
+column-requires-2 : tie.Need-column-requires-2
+column-requires-2 c κs = search needs
+
+returns-2 : tie.Need-returns-2
+unfolding renames
+returns-2 c = rw (← c .before .before .column .ensures, ← c .column2 .ensures, eq-eqb _ _ (c .before .if1 .left))
+
+pub renames-spec : {M : Type 1} → statement M
+renames-spec = tie.close (tie.spec column-requires returns column-requires-2 returns-2)

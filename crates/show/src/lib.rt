@@ -1,0 +1,296 @@
+// The name to show of a wire: its attribute `\hdlname` if that is a string that isn't empty, else its name now, without the `\` if public. It is a part of
+// the strings or of the names, not a copy.
+use designs::module_wires;
+use netlist::rows::row_kind;
+use netlist::rows::row_name;
+use numbers::kinds::ModuleNumber;
+use numbers::kinds::WireNumber;
+use scanner::names::same_bytes;
+use session::Opened;
+use session::open_memory;
+use tables::word;
+ghost use mathlib.Core.Path.{_≡_};
+ghost use Prim.Native.Nat.{_-_, _≤_, _<_};
+ghost use lib.ListN.{length, take, drop};
+ghost use lib.Seq.{slice};
+ghost use Rattle.rules.specs.Session.{plainName};
+ghost use Rattle.wires.specs.Rows.{column};
+ghost use Rattle.netlist.specs.Statements.{spanAt};
+ghost use Rattle.line_text.specs.Now.{renames, nameNow};
+ghost use Rattle.reader.specs.Read.{lent};
+ghost use Rattle.show.specs.Rows.{declares, wireLine, isHdlname, hdlnameRow, textAt, lastRename, shownName};
+ghost use Rattle.show.specs.Parts.{PartIs, numberOf, bytesIn, InRange, ShownAs};
+
+// Where a shown name lies: a part of the names, a part of the strings, or neither, with the refusal's number.
+pub enum Shown {
+    Name { start: usize, end: usize },
+    Text { start: usize, end: usize },
+    Refused(u32),
+}
+
+pub struct Part {
+    pub start: usize,
+    pub end: usize,
+}
+
+// A row's number is the sum of two words at most, so that it may pass 32 bits.
+fn column(t: &[u32], row: usize, c: usize) -> u32
+    requires { ⌜ (row < 8589934592) × (c < 8) ⌝ }
+    ensures { λ r. ⌜ r ≡ column (now (t .entry)) row c ⌝ }
+{
+    word(t, 8 * row + c)
+}
+
+// The bytes from start up to end, cut to those that are there.
+fn cut(s: &[u8], start: usize, end: usize) -> Part
+    ensures { λ r. ⌜ PartIs (now (s .entry)) (slice start end (now (s .entry))) r ⌝ }
+{
+    let stop = if end < s.len() { end } else { s.len() };
+    if stop <= start {
+        return Part { start: 0, end: 0 };
+    }
+    Part {
+        start: start,
+        end: stop,
+    }
+}
+
+// The bytes whose start stands in column c, and their number behind it.
+fn span(s: &[u8], t: &[u32], row: usize, c: usize) -> Part
+    requires { ⌜ (row < 8589934592) × (c < 7) ⌝ }
+    ensures { λ r. ⌜ PartIs (now (s .entry)) (spanAt (now (s .entry)) (now (t .entry)) row c) r ⌝ }
+{
+    let start = column(t, row, c) as usize;
+    let size = column(t, row, c + 1) as usize;
+    cut(s, start, start + size)
+}
+
+// Whether a row is the statement of the wire in this row of the table of wires.
+fn declares(rows: &[u32], row: u32, wire: u32) -> bool
+    ensures { λ r. ⌜ r ≡ declares (now (rows .entry)) row wire ⌝ }
+{
+    if row_kind(rows, row) != 5 {
+        return false;
+    }
+    column(rows, row as usize, 3) == wire
+}
+
+// The row of the wire's statement.
+fn wire_line(rows: &[u32], total: u32, wire: u32) -> u32
+    ensures { λ r. ⌜ r ≡ wireLine (now (rows .entry)) total wire ⌝ }
+{
+    let mut k = total;
+    while 0 < k {
+        let last = k - 1;
+        if declares(rows, last, wire) {
+            return last;
+        }
+        k = last;
+    }
+    0
+}
+
+fn is_hdlname(names: &[u8], rows: &[u32], row: u32) -> bool
+    ensures { λ r. ⌜ r ≡ isHdlname (now (names .entry)) (now (rows .entry)) row ⌝ }
+{
+    same_bytes(row_name(names, rows, row), b"\\hdlname")
+}
+
+// The row behind the first `\hdlname` of the attributes right before a row; 0 if there is none.
+fn hdlname_row(names: &[u8], rows: &[u32], line: u32) -> u32
+    ensures { λ r. ⌜ r ≡ hdlnameRow (now (names .entry)) (now (rows .entry)) line 0 ⌝ }
+{
+    let mut found = 0;
+    let mut k = line;
+    while 0 < k {
+        let last = k - 1;
+        if row_kind(rows, last) != 2 {
+            return found;
+        }
+        found = if is_hdlname(names, rows, last) {
+            k
+        } else {
+            found
+        };
+        k = last;
+    }
+    found
+}
+
+// The string of the attribute in the row before this one; none if it has no string, or if this is row 0.
+fn text_part(strings: &[u8], rows: &[u32], behind: u32) -> Part
+    ensures { λ r. ⌜ PartIs (now (strings .entry)) (textAt (now (strings .entry)) (now (rows .entry)) behind) r ⌝ }
+{
+    if behind == 0 {
+        return Part { start: 0, end: 0 };
+    }
+    let row = (behind - 1) as usize;
+    if column(rows, row, 3) != 3 {
+        return Part { start: 0, end: 0 };
+    }
+    span(strings, rows, row, 4)
+}
+
+// Whether a rename's row is of this wire.
+fn renames(rows: &[u32], row: usize, number: u32, wire: u32) -> bool
+    requires { ⌜ row < 8589934592 ⌝ }
+    ensures { λ r. ⌜ r ≡ renames (now (rows .entry)) row number wire ⌝ }
+{
+    if column(rows, row, 3) != number {
+        return false;
+    }
+    column(rows, row, 4) == wire
+}
+
+// How many of the renames, whose rows start at `from`, there are up to the last one of this wire.
+fn last_rename(rows: &[u32], from: u32, count: u32, m: ModuleNumber, w: WireNumber) -> u32
+    ensures { λ r. ⌜ r ≡ lastRename (now (rows .entry)) from (m .0) (w .0) count ⌝ }
+{
+    let mut i = count;
+    while 0 < i {
+        let last = i - 1;
+        if renames(rows, from as usize + last as usize, m.0, w.0) {
+            return i;
+        }
+        i = last;
+    }
+    0
+}
+
+// The name now of the wire in row k of the table of wires.
+fn name_part(
+    names: &[u8],
+    wires: &[u32],
+    rows: &[u32],
+    from: u32,
+    count: u32,
+    m: ModuleNumber,
+    w: WireNumber,
+    k: u32,
+) -> Part
+    ensures { λ r. ⌜ PartIs (now (names .entry)) (nameNow (now (names .entry)) (now (wires .entry)) (now (rows .entry)) from count (m .0) (w .0) k) r ⌝ }
+{
+    let last = last_rename(rows, from, count, m, w);
+    if last == 0 {
+        return span(names, wires, k as usize, 1);
+    }
+    span(names, rows, from as usize + (last - 1) as usize, 1)
+}
+
+// Without the `\` of a public name.
+fn plain_part(names: &[u8], p: Part) -> Part
+    requires { ⌜ (p .start ≤ p .end) × (p .end ≤ length (now names)) ⌝ }
+    ensures { λ r. ⌜ PartIs (now (names .entry)) (plainName (take (p .end - p .start) (drop (p .start) (now (names .entry))))) r ⌝ }
+{
+    let start = p.start;
+    if start < p.end {
+        if names[start] == b'\\' {
+            return Part {
+                start: start + 1,
+                end: p.end,
+            };
+        }
+    }
+    p
+}
+
+// The name to show of the wire in row k of the table of wires.
+fn shown_wire(
+    names: &[u8],
+    strings: &[u8],
+    wires: &[u32],
+    rows: &[u32],
+    from: u32,
+    count: u32,
+    m: ModuleNumber,
+    w: WireNumber,
+    k: u32,
+) -> Shown
+    ensures { λ r. ⌜ InRange (now (names .entry)) (now (strings .entry)) r ⌝ }
+    ensures { λ r. ⌜ numberOf r ≡ 0 ⌝ }
+    ensures { λ r. ⌜ bytesIn (now (names .entry)) (now (strings .entry)) r ≡ shownName (now (names .entry)) (now (strings .entry)) (now (wires .entry)) (now (rows .entry)) from count (m .0) (w .0) k ⌝ }
+{
+    let line = wire_line(rows, from, k);
+    let text = text_part(strings, rows, hdlname_row(names, rows, line));
+    if text.start < text.end {
+        return Shown::Text {
+            start: text.start,
+            end: text.end,
+        };
+    }
+    let now = name_part(names, wires, rows, from, count, m, w, k);
+    let name = plain_part(names, now);
+    Shown::Name {
+        start: name.start,
+        end: name.end,
+    }
+}
+
+pub fn find_shown(
+    names: &[u8],
+    strings: &[u8],
+    bits: &[u32],
+    wires: &[u32],
+    rows: &[u32],
+    renames: u32,
+    room: u32,
+    m: ModuleNumber,
+    w: WireNumber,
+) -> Shown
+    ensures { λ r. ⌜ InRange (now (names .entry)) (now (strings .entry)) r ⌝ }
+    ensures { λ r. ⌜ ShownAs (lent (now (names .entry)) (now (strings .entry)) (now (bits .entry)) (now (wires .entry)) (now (rows .entry)) renames room) (m .0) (w .0) (numberOf r) (bytesIn (now (names .entry)) (now (strings .entry)) r) ⌝ }
+{
+    match open_memory(names, strings, bits, wires, rows, renames, room) {
+        Opened::Open(place) => {
+            let own = module_wires(wires, place.wires, m);
+            let number = w.0;
+            if own.count <= number {
+                return Shown::Refused(8);
+            }
+            shown_wire(
+                names,
+                strings,
+                wires,
+                rows,
+                place.rows,
+                renames,
+                m,
+                w,
+                own.first + number,
+            )
+        }
+        Opened::Refused(number) => Shown::Refused(number),
+    }
+}
+
+// Number 0 is none; a refusal answers the empty part.
+pub fn show<'a>(
+    names: &'a [u8],
+    strings: &'a [u8],
+    bits: &[u32],
+    wires: &[u32],
+    rows: &[u32],
+    renames: u32,
+    room: u32,
+    m: ModuleNumber,
+    w: WireNumber,
+    number: &mut u32,
+) -> &'a [u8]
+    ensures { λ r. ⌜ ShownAs (lent (now (names .entry)) (now (strings .entry)) (now (bits .entry)) (now (wires .entry)) (now (rows .entry)) renames room) (m .0) (w .0) (now (number .exit)) (now r) ⌝ }
+{
+    let place = find_shown(names, strings, bits, wires, rows, renames, room, m, w);
+    match place {
+        Shown::Name { start, end } => {
+            *number = 0;
+            return &names[start..end];
+        }
+        Shown::Text { start, end } => {
+            *number = 0;
+            return &strings[start..end];
+        }
+        Shown::Refused(n) => {
+            *number = n;
+            return &names[0..0];
+        }
+    }
+}
