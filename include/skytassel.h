@@ -27,7 +27,7 @@ struct skytassel_wire_answer { uint32_t number, wire; };
 struct skytassel_index_answer { uint32_t number; int64_t index; };
 struct skytassel_length_answer { uint32_t number, length; };
 /* A part of table 1, the names, or 2, the strings; a refusal has table 0. */
-struct skytassel_part_answer { uint32_t number, table, start, length; };
+struct skytassel_part_answer { uint32_t number, table; size_t start, length; };
 
 /* The five tables lent, each with its length, for a call that only asks of them; and the card's two counts. */
 #define SKYTASSEL_VIEW \

@@ -161,7 +161,7 @@ impl Design {
                 &self.strings
             },
         )?;
-        Ok(&table[shown.start as usize..][..shown.length as usize])
+        Ok(&table[shown.start..][..shown.length])
     }
 
     /// The author's index of a bit, which may be negative. Refused: [`Refusal::NotThere`], [`Refusal::BadWidth`] (past the wire).

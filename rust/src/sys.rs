@@ -43,8 +43,8 @@ pub struct LengthAnswer {
 pub struct PartAnswer {
     pub number: u32,
     pub table: u32,
-    pub start: u32,
-    pub length: u32,
+    pub start: usize,
+    pub length: usize,
 }
 
 extern "C" {

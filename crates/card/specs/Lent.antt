@@ -1,15 +1,19 @@
 -- What a call with a lent card answers and leaves.
 use mathlib.Core.List.{List}
-use Prim.Native.Nat.{ℕ}
+use Prim.Native.Nat.{ℕ, _-_}
+use mathlib.Core.Path.{_≡_}
 use Rattle.rules.specs.Layout.{Memory}
 use Rattle.reader.specs.Read.{Result, result, lent}
 use Rattle.session.specs.declared.Found.{Found}
 use Rattle.session.specs.declared.Indexed.{Indexed}
+use Rattle.show.specs.Parts.{numberOf, bytesIn, InRange, ShownAs}
+use Rattle.show.specs.declared.Shown.{Shown}
 use Rattle.writer.specs.declared.Written.{Written}
 use Rattle.card.specs.declared.Card.{Card}
 use Rattle.card.specs.declared.WireAnswer.{WireAnswer}
 use Rattle.card.specs.declared.IndexAnswer.{IndexAnswer}
 use Rattle.card.specs.declared.LengthAnswer.{LengthAnswer}
+use Rattle.card.specs.declared.PartAnswer.{PartAnswer}
 use Rattle.card.specs.declared.Answer.{Answer}
 
 -- the design memory: five tables and the card
@@ -29,3 +33,13 @@ indexedBy a = record { number = a .number; index = a .index }
 
 abbrev pub writtenBy : LengthAnswer → Written
 writtenBy a = record { number = a .number; length = a .length }
+
+-- a part by its table, 1 the names and 2 the strings, its start and its length; a refusal is zero but for its number
+unfoldable pub partOf : Shown → PartAnswer
+partOf (Shown.Name s e) = record { number = 0; table = 1; start = s; length = e - s }
+partOf (Shown.Text s e) = record { number = 0; table = 2; start = s; length = e - s }
+partOf (Shown.Refused n) = record { number = n; table = 0; start = 0; length = 0 }
+
+abbrev pub PartGiven : Memory → (k w : ℕ) → PartAnswer → Type 0
+PartGiven m k w a =
+    (s : Shown) × InRange (m .names) (m .strings) s × ShownAs m k w (numberOf s) (bytesIn (m .names) (m .strings) s) × (a ≡ partOf s)

@@ -7,6 +7,8 @@ use session::index;
 use session::look_up;
 use session::rename;
 use session::undo;
+use show::Shown;
+use show::find_shown;
 use writer::measure;
 use writer::write;
 ghost use mathlib.Core.Path.{_≡_};
@@ -14,7 +16,7 @@ ghost use Rattle.rules.specs.Session.{Call};
 ghost use Rattle.reader.specs.Read.{result, lent, readInto};
 ghost use Rattle.session.specs.Called.{CalledAs, LookedUp, IndexGiven};
 ghost use Rattle.writer.specs.Write.{MeasuredAs, WrittenAs};
-ghost use Rattle.card.specs.Lent.{lentWith, answered, foundBy, indexedBy, writtenBy};
+ghost use Rattle.card.specs.Lent.{lentWith, answered, foundBy, indexedBy, writtenBy, PartGiven};
 
 // The session card: renames standing, name room used.
 #[repr(C)]
@@ -46,6 +48,15 @@ pub struct IndexAnswer {
 pub struct LengthAnswer {
     pub number: u32,
     pub length: u32,
+}
+
+// A part of table 1, the names, or of table 2, the strings; a refusal has table 0.
+#[repr(C)]
+pub struct PartAnswer {
+    pub number: u32,
+    pub table: u32,
+    pub start: usize,
+    pub length: usize,
 }
 
 #[no_mangle]
@@ -262,5 +273,52 @@ pub extern "C" fn skytassel_write(
     LengthAnswer {
         number: written.number,
         length: written.length,
+    }
+}
+
+#[no_mangle]
+pub extern "C" fn skytassel_show(
+    names: &[u8],
+    strings: &[u8],
+    bits: &[u32],
+    wires: &[u32],
+    rows: &[u32],
+    renames: u32,
+    room: u32,
+    m: u32,
+    w: u32,
+) -> PartAnswer
+    ensures { λ r. ⌜ PartGiven (lent (now (names .entry)) (now (strings .entry)) (now (bits .entry)) (now (wires .entry)) (now (rows .entry)) renames room) m w r ⌝ }
+{
+    let shown = find_shown(
+        names,
+        strings,
+        bits,
+        wires,
+        rows,
+        renames,
+        room,
+        ModuleNumber(m),
+        WireNumber(w),
+    );
+    match shown {
+        Shown::Name { start, end } => PartAnswer {
+            number: 0,
+            table: 1,
+            start,
+            length: end - start,
+        },
+        Shown::Text { start, end } => PartAnswer {
+            number: 0,
+            table: 2,
+            start,
+            length: end - start,
+        },
+        Shown::Refused(number) => PartAnswer {
+            number,
+            table: 0,
+            start: 0,
+            length: 0,
+        },
     }
 }

@@ -49,7 +49,7 @@ pub fn show(tables: &Tables, card: Card, module: u32, wire: u32) -> Result<&[u8]
         2 => &tables.strings,
         _ => panic!("no table {table}"),
     };
-    Ok(&room[start as usize..][..length as usize])
+    Ok(&room[start..][..length])
 }
 
 /// The length of the text.
