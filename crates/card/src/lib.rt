@@ -7,11 +7,14 @@ use session::index;
 use session::look_up;
 use session::rename;
 use session::undo;
+use writer::measure;
+use writer::write;
 ghost use mathlib.Core.Path.{_≡_};
 ghost use Rattle.rules.specs.Session.{Call};
 ghost use Rattle.reader.specs.Read.{result, lent, readInto};
 ghost use Rattle.session.specs.Called.{CalledAs, LookedUp, IndexGiven};
-ghost use Rattle.card.specs.Lent.{lentWith, answered, foundBy, indexedBy};
+ghost use Rattle.writer.specs.Write.{MeasuredAs, WrittenAs};
+ghost use Rattle.card.specs.Lent.{lentWith, answered, foundBy, indexedBy, writtenBy};
 
 // The session card: renames standing, name room used.
 #[repr(C)]
@@ -37,6 +40,12 @@ pub struct WireAnswer {
 pub struct IndexAnswer {
     pub number: u32,
     pub index: i64,
+}
+
+#[repr(C)]
+pub struct LengthAnswer {
+    pub number: u32,
+    pub length: u32,
 }
 
 #[no_mangle]
@@ -214,5 +223,44 @@ pub extern "C" fn skytassel_index(
     IndexAnswer {
         number: given.number,
         index: given.index,
+    }
+}
+
+#[no_mangle]
+pub extern "C" fn skytassel_measure(
+    names: &[u8],
+    strings: &[u8],
+    bits: &[u32],
+    wires: &[u32],
+    rows: &[u32],
+    renames: u32,
+    room: u32,
+) -> LengthAnswer
+    ensures { λ r. ⌜ MeasuredAs (lent (now (names .entry)) (now (strings .entry)) (now (bits .entry)) (now (wires .entry)) (now (rows .entry)) renames room) (writtenBy r) ⌝ }
+{
+    let measured = measure(names, strings, bits, wires, rows, renames, room);
+    LengthAnswer {
+        number: measured.number,
+        length: measured.length,
+    }
+}
+
+#[no_mangle]
+pub extern "C" fn skytassel_write(
+    names: &[u8],
+    strings: &[u8],
+    bits: &[u32],
+    wires: &[u32],
+    rows: &[u32],
+    renames: u32,
+    room: u32,
+    out: &mut [u8],
+) -> LengthAnswer
+    ensures { λ r. ⌜ WrittenAs (lent (now (names .entry)) (now (strings .entry)) (now (bits .entry)) (now (wires .entry)) (now (rows .entry)) renames room) (now (out .entry)) (now (out .exit)) (writtenBy r) ⌝ }
+{
+    let written = write(names, strings, bits, wires, rows, renames, room, out);
+    LengthAnswer {
+        number: written.number,
+        length: written.length,
     }
 }

@@ -5,13 +5,13 @@ use layout::put_statement;
 use layout::used_from;
 use lexer::Lexed;
 use lexer::lex_line;
+use line_reader::line_at;
 use past::place::Place;
 use past::place::after;
 use past::place::start;
 use past::sizes::Sizes;
 use past::sizes::none;
 use scanner::lines::Line;
-use scanner::lines::line_from;
 use scanner::runs::run_end;
 use syntax::Statement;
 use tables::clear_bytes;
@@ -210,7 +210,7 @@ fn read_lines(
     requires { ⌜ (length (now f) ≤ 32768) × (length (now tokens) ≡ 131072) × (length (now scratch) ≡ 36864) × (tabled (now names) (now strings) (now bits) (now wires) (now rows) ≡ tablesOf (memory empty 0)) ⌝ }
     ensures { λ r. ⌜ Landed (readAny (now (f .entry))) (tabled (now (names .exit)) (now (strings .exit)) (now (bits .exit)) (now (wires .exit)) (now (rows .exit))) r ⌝ }
 {
-    let mut line = line_from(f, 0);
+    let mut line = line_at(f, 0);
     let mut place = start();
     let mut sums = none();
     while line.start < f.len() {
@@ -232,7 +232,7 @@ fn read_lines(
         };
         place = p;
         sums = u;
-        line = line_from(f, line.next);
+        line = line_at(f, line.next);
     }
     finish(f.len(), place, sums)
 }

@@ -9,6 +9,6 @@ pub mod oracle;
 pub mod tables;
 
 pub use decoding::valid;
-pub use exported::{index, look_up, read, rename, undo, Answer};
+pub use exported::{index, look_up, measure, read, rename, show, undo, write, Answer};
 pub use layout::layout;
 pub use tables::{Card, Tables};

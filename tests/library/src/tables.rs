@@ -1,14 +1,9 @@
 //! The memory that a caller lends: five tables and the session card.
 
 use reference::generate::random::Random;
-
-pub const NAMES: usize = 16_384;
-pub const STRINGS: usize = 8_192;
-pub const BITS: usize = 16_384;
-/// Words of a row.
-pub const ROW: usize = 8;
-pub const WIRES: usize = ROW * 512;
-pub const ROWS: usize = ROW * 4_769;
+use skytassel::lent::{Lent, View};
+pub use skytassel::lent::{BITS, NAMES, ROW, ROWS, STRINGS, WIRES};
+pub use skytassel::sys::Card;
 
 /// Lengths are the caller's, so that wrong ones can be lent.
 #[derive(Debug, Clone, PartialEq, Eq)]
@@ -18,14 +13,6 @@ pub struct Tables {
     pub bits: Vec<u32>,
     pub wires: Vec<u32>,
     pub rows: Vec<u32>,
-}
-
-/// Renames standing, name room used.
-#[repr(C)]
-#[derive(Debug, Clone, Copy, Default, PartialEq, Eq)]
-pub struct Card {
-    pub renames: u32,
-    pub room: u32,
 }
 
 impl Tables {
@@ -47,13 +34,33 @@ impl Tables {
             table.fill_with(|| random.number() as u32);
         }
     }
+
+    pub fn lent<'a>(&'a mut self, card: &'a mut Card) -> Lent<'a> {
+        Lent {
+            names: &mut self.names,
+            strings: &mut self.strings,
+            bits: &mut self.bits,
+            wires: &mut self.wires,
+            rows: &mut self.rows,
+            card,
+        }
+    }
+
+    pub fn view(&self, card: Card) -> View<'_> {
+        View {
+            names: &self.names,
+            strings: &self.strings,
+            bits: &self.bits,
+            wires: &self.wires,
+            rows: &self.rows,
+            card,
+        }
+    }
 }
 
-impl Card {
-    pub fn any(random: &mut Random) -> Card {
-        Card {
-            renames: random.number() as u32,
-            room: random.number() as u32,
-        }
+pub fn any_card(random: &mut Random) -> Card {
+    Card {
+        renames: random.number() as u32,
+        room: random.number() as u32,
     }
 }

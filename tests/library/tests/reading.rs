@@ -3,6 +3,7 @@
 
 use library::files::{count, generated};
 use library::oracle::reading;
+use library::tables::any_card;
 use library::{read, Card, Tables};
 use reference::generate::generated_or_mutated;
 use reference::generate::random::Random;
@@ -34,7 +35,7 @@ fn every_vector() {
     let mut tables = Tables::zeroed();
     for one in vectors {
         tables.fill(&mut random);
-        let card = Card::any(&mut random);
+        let card = any_card(&mut random);
         let difference = difference(&one.file, &mut tables, card);
         assert_eq!(difference, None, "{}", one.name);
     }
@@ -49,7 +50,7 @@ fn generated_and_mutated_files() {
     for seed in 0..count(20_000) {
         let mut random = Random::new(!seed);
         tables.fill(&mut random);
-        let card = Card::any(&mut random);
+        let card = any_card(&mut random);
         let file = generated_or_mutated(seed, &vectors);
         assert_eq!(difference(&file, &mut tables, card), None, "seed {seed}");
         let number = match reference::read(&file) {
@@ -97,7 +98,7 @@ fn wrong_lengths_touch_nothing() {
                 _ => tables.rows.resize(lengthen(tables.rows.len()), 0),
             }
             tables.fill(&mut random);
-            let card = Card::any(&mut random);
+            let card = any_card(&mut random);
             assert_eq!(difference(file, &mut tables, card), None, "case {wrong}");
         }
     }

@@ -2,7 +2,10 @@
 //! SESSIONS=20000 asks for more of them than the default; `--nocapture` shows what was met.
 
 use library::oracle::right_lengths;
-use library::{index, layout, look_up, read, rename, undo, Answer, Card, Tables};
+use library::tables::any_card;
+use library::{
+    index, layout, look_up, measure, read, rename, show, undo, write, Answer, Card, Tables,
+};
 use reference::generate::random::Random;
 use reference::generate::{self, SizeClass};
 use reference::session::Session;
@@ -59,7 +62,7 @@ impl Both {
     fn of(file: &[u8]) -> Option<Both> {
         let statements = reference::read(file).ok()?.statements;
         let mut random = Random::new(file.len() as u64);
-        let (mut tables, mut card) = (Tables::zeroed(), Card::any(&mut random));
+        let (mut tables, mut card) = (Tables::zeroed(), any_card(&mut random));
         tables.fill(&mut random);
         assert_eq!(read(file, &mut tables, &mut card), answer(0));
         let plain = Session::new(Design::of(&statements));
@@ -120,6 +123,30 @@ impl Both {
         self.met.take(given.err().unwrap_or(0));
     }
 
+    fn show(&mut self, module: usize, wire: usize) {
+        let given = show(&self.tables, self.card, module as u32, wire as u32);
+        let expected = self.plain.show(ModuleNumber(module), WireNumber(wire));
+        assert_eq!(given, expected);
+        let number = given.err().unwrap_or(0);
+        self.met.take(number);
+    }
+
+    /// The text is the reference's, in room just long enough; room that is too short stays as it was.
+    fn check_text(&self) {
+        let design = self.plain.design_now();
+        let length = reference::measure(&design);
+        assert_eq!(measure(&self.tables, self.card), length);
+        let longest = length.unwrap_or(32_768);
+        for room in [longest, longest.saturating_sub(1)] {
+            let mut given = vec![7; room];
+            let written = write(&self.tables, self.card, &mut given);
+            match reference::write(&design, room) {
+                Ok(text) => assert!(written == length && given == text),
+                Err(number) => assert!(written == Err(number) && given == vec![7; room]),
+            }
+        }
+    }
+
     fn check_memory(&self) {
         let (tables, card) = layout(&self.statements, self.plain.renames());
         assert_eq!(self.card, card);
@@ -177,12 +204,13 @@ fn calls(random: &mut Random, both: &mut Both) {
             continue;
         }
         let name = new_name(random, &both.plain, module);
-        match random.below(8) {
+        match random.below(9) {
             0 => both.look_up(module, &name),
             1 => {
                 let bits = [0, 1, 7, 2_047, 2_048, u32::MAX as usize];
                 both.index(module, wire, *random.pick(&bits));
             }
+            2 => both.show(module, wire),
             _ => {
                 both.rename(module, wire, &name);
             }
@@ -227,6 +255,7 @@ fn random_sessions() {
         };
         both.met = met;
         calls(&mut random, &mut both);
+        both.check_text();
         both.check_memory();
         met = both.met;
         met.sessions += 1;

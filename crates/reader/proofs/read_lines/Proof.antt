@@ -13,8 +13,8 @@ Inv-loop f tokens₀ scratch₀ names₀ strings₀ bits₀ wires₀ rows₀ lin
 abbrev μ-loop : tie.MeasureT-loop
 μ-loop f tokens₀ scratch₀ names₀ strings₀ bits₀ wires₀ rows₀ line₀ place₀ sums₀ tokens scratch names strings bits wires rows line place sums = length f - line .start
 
-line-from-requires : tie.Need-line-from-requires Inv-loop μ-loop
-line-from-requires c κs = tt
+line-at-requires : tie.Need-line-at-requires Inv-loop μ-loop
+line-at-requires c κs = tt
 
 start-requires : tie.Need-start-requires Inv-loop μ-loop
 start-requires c κs = tt
@@ -23,7 +23,7 @@ none-requires : tie.Need-none-requires Inv-loop μ-loop
 none-requires c κs = tt
 
 loop-holds : tie.Need-loop-holds Inv-loop μ-loop
-loop-holds c = before _ _ (reached-start _ _ _ _ _ _ (c .before .before .before .before .before .before .before .before .before .before .before .pre) (c .before .start .ensures) (c .none .ensures)) (c .before .before .line-from .ensures)
+loop-holds c = before _ _ (reached-start _ _ _ _ _ _ (c .before .before .before .before .before .before .before .before .before .before .before .pre) (c .before .start .ensures) (c .none .ensures)) (c .before .before .line-at .ensures)
 
 take-line-requires : tie.Need-take-line-requires Inv-loop μ-loop
 take-line-requires c κs = (reached-fits (c .before .before .before .before .before .before .before .before .before .loop .inv .reached) _ (c .before .before .before .before .before .before .before .before .before .loop .inv .is), record { past = c .before .before .before .before .before .before .before .before .before .loop .inv .reached .past; done = c .before .before .before .before .before .before .before .before .before .loop .inv .reached .done })
@@ -61,14 +61,14 @@ same-length-7 c = c .before .before .before .before .before .before .before .bef
 returns : tie.Need-returns Inv-loop μ-loop
 returns c = landed-stop (c .before .before .before .before .before .before .before .before .before .before .before .before .before .before .before .before .before .before .before .before .before .before .before .before .before .before .before .loop .inv .reached) _ (c .before .before .before .before .before .before .before .before .before .before .before .before .before .before .before .before .before .before .before .before .before .before .before .before .before .before .before .loop .inv .is) _ _ (c .before .before .before .before .before .before .before .before .before .before .before .before .before .before .before .before .before .take-line .ensures) _ _ (c .before .enum-told .given .1) (c .refusal .ensures)
 
-line-from-requires-2 : tie.Need-line-from-requires-2 Inv-loop μ-loop
-line-from-requires-2 c κs = tt
+line-at-requires-2 : tie.Need-line-at-requires-2 Inv-loop μ-loop
+line-at-requires-2 c κs = tt
 
 loop-less : tie.Need-loop-less Inv-loop μ-loop
-loop-less c = less (c .before .before .before .before .before .before .before .before .before .before .before .before .before .before .before .before .before .before .before .before .before .before .before .before .before .before .before .before .loop .inv) _ (c .before .before .before .before .before .before .before .before .before .before .before .before .before .before .before .before .before .before .before .before .before .before .before .before .before .before .if1 .taken) (c .line-from2 .ensures)
+loop-less c = less (c .before .before .before .before .before .before .before .before .before .before .before .before .before .before .before .before .before .before .before .before .before .before .before .before .before .before .before .before .loop .inv) _ (c .before .before .before .before .before .before .before .before .before .before .before .before .before .before .before .before .before .before .before .before .before .before .before .before .before .before .if1 .taken) (c .line-at2 .ensures)
 
 loop-again : tie.Need-loop-again Inv-loop μ-loop
-loop-again c = before _ _ (reached-more (c .before .before .before .before .before .before .before .before .before .before .before .before .before .before .before .before .before .before .before .before .before .before .before .before .before .before .before .before .loop .inv .reached) _ (c .before .before .before .before .before .before .before .before .before .before .before .before .before .before .before .before .before .before .before .before .before .before .before .before .before .before .before .before .loop .inv .is) _ _ (c .before .before .before .before .before .before .before .before .before .before .before .before .before .before .before .before .before .before .take-line .ensures) _ _ _ _ (c .before .before .step .given .1) (c .before .before .before .before .before .before .before .before .before .before .before .before .before .before .before .before .before .before .take-line .kept .1 .1 .1 .1 .0) (c .before .before .before .before .before .before .before .before .before .before .before .before .before .before .before .before .before .before .take-line .kept .1 .1 .1 .1 .1 .0)) (c .line-from2 .ensures)
+loop-again c = before _ _ (reached-more (c .before .before .before .before .before .before .before .before .before .before .before .before .before .before .before .before .before .before .before .before .before .before .before .before .before .before .before .before .loop .inv .reached) _ (c .before .before .before .before .before .before .before .before .before .before .before .before .before .before .before .before .before .before .before .before .before .before .before .before .before .before .before .before .loop .inv .is) _ _ (c .before .before .before .before .before .before .before .before .before .before .before .before .before .before .before .before .before .before .take-line .ensures) _ _ _ _ (c .before .before .step .given .1) (c .before .before .before .before .before .before .before .before .before .before .before .before .before .before .before .before .before .before .take-line .kept .1 .1 .1 .1 .0) (c .before .before .before .before .before .before .before .before .before .before .before .before .before .before .before .before .before .before .take-line .kept .1 .1 .1 .1 .1 .0)) (c .line-at2 .ensures)
 
 finish-requires : tie.Need-finish-requires Inv-loop μ-loop
 finish-requires c κs = c .before .before .loop .inv .reached .file
@@ -103,7 +103,7 @@ read-lines-spec =
     (tie.spec
     Inv-loop
     μ-loop
-    line-from-requires
+    line-at-requires
     start-requires
     none-requires
     loop-holds
@@ -119,7 +119,7 @@ read-lines-spec =
     same-length-6
     same-length-7
     returns
-    line-from-requires-2
+    line-at-requires-2
     loop-less
     loop-again
     finish-requires

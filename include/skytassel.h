@@ -1,0 +1,61 @@
+/* Skytassel: reads, writes and reversibly renames RTLIL netlists. The calls of target/staticlib/libcard.a, which `rt staticlib card` writes; link it statically.
+ *
+ * Every call is proved to answer for any bytes and any lengths, and to end. It relies on C for what C alone can promise: no pointer is null, each length is
+ * that of its part, and no two parts overlap where one of them is changed. A call takes about 700 KB of stack and keeps nothing between calls.
+ *
+ * Numbers: 0 none. 1 a table hasn't its exact length. 2 file over 32,768 bytes. 3 memory that holds no design. 4 bad token, ill-formed new name. 5 no permitted
+ * shape, a missing line end or end. 6 `process` line, rename of a port wire. 7 number or option rule broken. 8 module or wire not there. 9 name taken. 10 slice or
+ * width rule broken, index past the wire. 11 a size exceeded. 12 text over 32,768 bytes or over the room lent. 13 nothing to undo.
+ */
+#ifndef SKYTASSEL_H
+#define SKYTASSEL_H
+
+#include <stddef.h>
+#include <stdint.h>
+
+#ifdef __cplusplus
+extern "C" {
+#endif
+
+enum { SKYTASSEL_NAMES = 16384, SKYTASSEL_STRINGS = 8192, SKYTASSEL_BITS = 16384, SKYTASSEL_WIRES = 8 * 512, SKYTASSEL_ROWS = 8 * 4769, SKYTASSEL_TEXT = 32768 };
+
+/* The session card: renames standing, name room used. A refusal's place is 0 but in reading: the position of the refused line's first byte that is neither space
+ * nor tab, or the file's length. A refused call gives 0 beside its number. */
+struct skytassel_card { uint32_t renames, room; };
+struct skytassel_answer { uint32_t number, place; };
+struct skytassel_wire_answer { uint32_t number, wire; };
+struct skytassel_index_answer { uint32_t number; int64_t index; };
+struct skytassel_length_answer { uint32_t number, length; };
+/* A part of table 1, the names, or 2, the strings; a refusal has table 0. */
+struct skytassel_part_answer { uint32_t number, table, start, length; };
+
+/* The five tables lent, each with its length, for a call that only asks of them; and the card's two counts. */
+#define SKYTASSEL_VIEW \
+    const uint8_t *names, size_t names_length, const uint8_t *strings, size_t strings_length, const uint32_t *bits, size_t bits_length, \
+    const uint32_t *wires, size_t wires_length, const uint32_t *rows, size_t rows_length, uint32_t renames, uint32_t room
+
+/* Reads a file, whatever the tables and the card held. On 1 nothing is touched; on any other refusal tables and card are zero. */
+struct skytassel_answer skytassel_read(const uint8_t *file, size_t file_length,
+    uint8_t *names, size_t names_length, uint8_t *strings, size_t strings_length, uint32_t *bits, size_t bits_length,
+    uint32_t *wires, size_t wires_length, uint32_t *rows, size_t rows_length, struct skytassel_card *card);
+
+/* Gives a wire a new name, any bytes: 1, 3, 4, 6, 8, 9, 11. Undo takes the youngest rename off: 1, 3, 13. A refusal changes nothing. */
+struct skytassel_answer skytassel_rename(uint8_t *names, size_t names_length, const uint8_t *strings, size_t strings_length, const uint32_t *bits, size_t bits_length,
+    const uint32_t *wires, size_t wires_length, uint32_t *rows, size_t rows_length, struct skytassel_card *card,
+    uint32_t module, uint32_t wire, const uint8_t *name, size_t name_length);
+struct skytassel_answer skytassel_undo(uint8_t *names, size_t names_length, const uint8_t *strings, size_t strings_length, const uint32_t *bits, size_t bits_length,
+    const uint32_t *wires, size_t wires_length, uint32_t *rows, size_t rows_length, struct skytassel_card *card);
+
+/* The wire that has these bytes as its name now: 1, 3, 8. The author's index of a bit: 1, 3, 8, 10. Where the name to show lies: 1, 3, 8. */
+struct skytassel_wire_answer skytassel_look_up(SKYTASSEL_VIEW, uint32_t module, const uint8_t *name, size_t name_length);
+struct skytassel_index_answer skytassel_index(SKYTASSEL_VIEW, uint32_t module, uint32_t wire, uint32_t bit);
+struct skytassel_part_answer skytassel_show(SKYTASSEL_VIEW, uint32_t module, uint32_t wire);
+
+/* The one written text, at the start of `out`, and its length: 1, 3, 12. A refusal leaves `out` as it was. */
+struct skytassel_length_answer skytassel_measure(SKYTASSEL_VIEW);
+struct skytassel_length_answer skytassel_write(SKYTASSEL_VIEW, uint8_t *out, size_t out_length);
+
+#ifdef __cplusplus
+}
+#endif
+#endif

@@ -1,0 +1,185 @@
+//! Design memory that somebody lends, in any state and of any lengths, and the calls on it as they answer. Whoever wants memory of his own takes [`crate::Design`].
+
+use crate::sys::{self, Answer, Card, IndexAnswer, LengthAnswer, PartAnswer, WireAnswer};
+
+/// The exact lengths of the five tables. Lent at any other, every call answers 1 and touches nothing.
+pub const NAMES: usize = 16_384;
+pub const STRINGS: usize = 8_192;
+pub const BITS: usize = 16_384;
+/// Words of a row.
+pub const ROW: usize = 8;
+pub const WIRES: usize = ROW * 512;
+pub const ROWS: usize = ROW * 4_769;
+
+/// Design memory lent to a call that may change it. A call takes about 700 KB of stack.
+#[derive(Debug)]
+pub struct Lent<'a> {
+    pub names: &'a mut [u8],
+    pub strings: &'a mut [u8],
+    pub bits: &'a mut [u32],
+    pub wires: &'a mut [u32],
+    pub rows: &'a mut [u32],
+    pub card: &'a mut Card,
+}
+
+/// Design memory lent to a call that only asks of it.
+#[derive(Debug, Clone, Copy)]
+pub struct View<'a> {
+    pub names: &'a [u8],
+    pub strings: &'a [u8],
+    pub bits: &'a [u32],
+    pub wires: &'a [u32],
+    pub rows: &'a [u32],
+    pub card: Card,
+}
+
+/// A part that C lends: none where the pointer is null or not aligned, or the part would not fit into memory.
+///
+/// # Safety
+/// Where the pointer is not null, `length` elements from it on are readable and nobody changes them during `'a`.
+pub unsafe fn part<'a, T>(start: *const T, length: usize) -> Option<&'a [T]> {
+    let fits = length.checked_mul(size_of::<T>())? <= isize::MAX as usize;
+    if start.is_null() || !start.is_aligned() || !fits {
+        return None;
+    }
+    Some(std::slice::from_raw_parts(start, length))
+}
+
+/// A part that C lends to be changed, as [`part`].
+///
+/// # Safety
+/// Where the pointer is not null, `length` elements from it on are readable and writable and nobody else uses them during `'a`.
+pub unsafe fn part_mut<'a, T>(start: *mut T, length: usize) -> Option<&'a mut [T]> {
+    part(start, length)?;
+    Some(std::slice::from_raw_parts_mut(start, length))
+}
+
+impl<'a> Lent<'a> {
+    pub fn view(&self) -> View<'_> {
+        View {
+            names: self.names,
+            strings: self.strings,
+            bits: self.bits,
+            wires: self.wires,
+            rows: self.rows,
+            card: *self.card,
+        }
+    }
+
+    /// Reads a file: number and place. On 1 nothing is touched, on any other refusal all memory is zero.
+    pub fn read(&mut self, file: &[u8]) -> Answer {
+        // SAFETY: each pointer comes with its length, no two overlap, and the call asks nothing of its caller.
+        unsafe {
+            sys::skytassel_read(
+                file.as_ptr(),
+                file.len(),
+                self.names.as_mut_ptr(),
+                self.names.len(),
+                self.strings.as_mut_ptr(),
+                self.strings.len(),
+                self.bits.as_mut_ptr(),
+                self.bits.len(),
+                self.wires.as_mut_ptr(),
+                self.wires.len(),
+                self.rows.as_mut_ptr(),
+                self.rows.len(),
+                self.card,
+            )
+        }
+    }
+
+    /// Renames a wire. A refusal changes nothing.
+    pub fn rename(&mut self, module: u32, wire: u32, name: &[u8]) -> Answer {
+        // SAFETY: as in `read`.
+        unsafe {
+            sys::skytassel_rename(
+                self.names.as_mut_ptr(),
+                self.names.len(),
+                self.strings.as_ptr(),
+                self.strings.len(),
+                self.bits.as_ptr(),
+                self.bits.len(),
+                self.wires.as_ptr(),
+                self.wires.len(),
+                self.rows.as_mut_ptr(),
+                self.rows.len(),
+                self.card,
+                module,
+                wire,
+                name.as_ptr(),
+                name.len(),
+            )
+        }
+    }
+
+    /// Takes the youngest rename off.
+    pub fn undo(&mut self) -> Answer {
+        // SAFETY: as in `read`.
+        unsafe {
+            sys::skytassel_undo(
+                self.names.as_mut_ptr(),
+                self.names.len(),
+                self.strings.as_ptr(),
+                self.strings.len(),
+                self.bits.as_ptr(),
+                self.bits.len(),
+                self.wires.as_ptr(),
+                self.wires.len(),
+                self.rows.as_mut_ptr(),
+                self.rows.len(),
+                self.card,
+            )
+        }
+    }
+}
+
+/// A call on the tables and the two counts, then what the call takes of its own.
+macro_rules! ask {
+    ($call:ident, $view:expr $(, $more:expr)*) => {
+        // SAFETY: each pointer comes with its length, and the call asks nothing of its caller.
+        unsafe {
+            sys::$call(
+                $view.names.as_ptr(),
+                $view.names.len(),
+                $view.strings.as_ptr(),
+                $view.strings.len(),
+                $view.bits.as_ptr(),
+                $view.bits.len(),
+                $view.wires.as_ptr(),
+                $view.wires.len(),
+                $view.rows.as_ptr(),
+                $view.rows.len(),
+                $view.card.renames,
+                $view.card.room
+                $(, $more)*
+            )
+        }
+    };
+}
+
+impl View<'_> {
+    /// The number of the wire that has this name now.
+    pub fn look_up(&self, module: u32, name: &[u8]) -> WireAnswer {
+        ask!(skytassel_look_up, self, module, name.as_ptr(), name.len())
+    }
+
+    /// The author's index of a bit.
+    pub fn index(&self, module: u32, wire: u32, bit: u32) -> IndexAnswer {
+        ask!(skytassel_index, self, module, wire, bit)
+    }
+
+    /// Where the name to show lies.
+    pub fn show(&self, module: u32, wire: u32) -> PartAnswer {
+        ask!(skytassel_show, self, module, wire)
+    }
+
+    /// The length of the written text.
+    pub fn measure(&self) -> LengthAnswer {
+        ask!(skytassel_measure, self)
+    }
+
+    /// Writes the text at the start of the room lent. A refusal leaves the room as it was.
+    pub fn write(&self, room: &mut [u8]) -> LengthAnswer {
+        ask!(skytassel_write, self, room.as_mut_ptr(), room.len())
+    }
+}

@@ -1,0 +1,108 @@
+//! The numbers of refusals.
+
+use std::error::Error;
+use std::fmt;
+
+/// Why a call is refused. The discriminants are the numbers.
+#[derive(Debug, Clone, Copy, PartialEq, Eq, Hash)]
+#[repr(u32)]
+pub enum Refusal {
+    /// A lent table hasn't its exact stated length.
+    WrongLength = 1,
+    /// The file is over 32,768 bytes.
+    FileTooLong = 2,
+    /// Design memory that no text and no accepted renames after it leave.
+    DamagedMemory = 3,
+    /// A bad token, or an ill-formed new name.
+    BadToken = 4,
+    /// The line has no permitted shape here, or lacks its line end; a bundle is too deep; the file ends inside a module or after attributes.
+    BadShape = 5,
+    /// A `process` line, or the rename of a port wire.
+    ProcessOrPort = 6,
+    /// A number or option rule is broken, an integer is outside 32 bits, a value is over 2,048 wide or has too many digits.
+    BadNumber = 7,
+    /// The module or wire is not there.
+    NotThere = 8,
+    /// The name is taken.
+    NameTaken = 9,
+    /// A slice or width rule is broken, or the index is asked past the wire.
+    BadWidth = 10,
+    /// A size is exceeded.
+    SizeExceeded = 11,
+    /// The text is over 32,768 bytes or over the room lent.
+    TextTooLong = 12,
+    /// There is nothing to undo.
+    NothingToUndo = 13,
+}
+
+impl Refusal {
+    /// All of them, in order of their numbers.
+    pub const ALL: [Refusal; 13] = [
+        Refusal::WrongLength,
+        Refusal::FileTooLong,
+        Refusal::DamagedMemory,
+        Refusal::BadToken,
+        Refusal::BadShape,
+        Refusal::ProcessOrPort,
+        Refusal::BadNumber,
+        Refusal::NotThere,
+        Refusal::NameTaken,
+        Refusal::BadWidth,
+        Refusal::SizeExceeded,
+        Refusal::TextTooLong,
+        Refusal::NothingToUndo,
+    ];
+
+    pub fn number(self) -> u32 {
+        self as u32
+    }
+
+    /// The refusal of a number, none for 0 and for a number that no call gives.
+    ///
+    /// ```
+    /// use skytassel::Refusal;
+    /// assert_eq!(Refusal::of(9), Some(Refusal::NameTaken));
+    /// assert_eq!(Refusal::of(0), None);
+    /// ```
+    pub fn of(number: u32) -> Option<Refusal> {
+        Refusal::ALL.into_iter().find(|one| one.number() == number)
+    }
+}
+
+impl fmt::Display for Refusal {
+    fn fmt(&self, to: &mut fmt::Formatter<'_>) -> fmt::Result {
+        let words = match self {
+            Refusal::WrongLength => "a lent table hasn't its exact length",
+            Refusal::FileTooLong => "the file is over 32,768 bytes",
+            Refusal::DamagedMemory => "the memory holds no design",
+            Refusal::BadToken => "bad token or ill-formed name",
+            Refusal::BadShape => "no permitted shape",
+            Refusal::ProcessOrPort => "a process, or the rename of a port wire",
+            Refusal::BadNumber => "a number or option rule is broken",
+            Refusal::NotThere => "module or wire not there",
+            Refusal::NameTaken => "name taken",
+            Refusal::BadWidth => "a slice or width rule is broken",
+            Refusal::SizeExceeded => "a size is exceeded",
+            Refusal::TextTooLong => "the text is too long",
+            Refusal::NothingToUndo => "nothing to undo",
+        };
+        write!(to, "{}: {words}", self.number())
+    }
+}
+
+impl Error for Refusal {}
+
+/// A refused file: why, and the place of the line's first byte that is neither space nor tab, or the file's length for its end.
+#[derive(Debug, Clone, Copy, PartialEq, Eq)]
+pub struct Refused {
+    pub refusal: Refusal,
+    pub place: usize,
+}
+
+impl fmt::Display for Refused {
+    fn fmt(&self, to: &mut fmt::Formatter<'_>) -> fmt::Result {
+        write!(to, "{} (at byte {})", self.refusal, self.place)
+    }
+}
+
+impl Error for Refused {}

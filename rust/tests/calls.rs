@@ -1,0 +1,214 @@
+//! What a caller can get wrong, and that each number is what its refusal says.
+
+use skytassel::lent::{self, Lent, BITS, NAMES, ROWS, STRINGS, WIRES};
+use skytassel::sys::{Answer, Card};
+use skytassel::{Design, ModuleNumber, Refusal, WireNumber};
+
+const FILE: &[u8] = b"module \\ear
+  attribute \\hdlname \"left gain\"
+  wire width 8 offset -4 upto \\gain
+  wire input 1 \\i
+  attribute \\hdlname \"\"
+  wire \\y
+  memory \\r
+end
+";
+const EAR: ModuleNumber = ModuleNumber(0);
+const GAIN: WireNumber = WireNumber(0);
+
+fn design() -> Design {
+    Design::read(FILE).expect("an accepted file")
+}
+
+#[test]
+fn numbers_are_those_of_the_table() {
+    for (at, refusal) in Refusal::ALL.into_iter().enumerate() {
+        assert_eq!(refusal.number() as usize, at + 1);
+        assert_eq!(Refusal::of(refusal.number()), Some(refusal));
+        assert!(refusal.to_string().starts_with(&(at + 1).to_string()));
+    }
+    assert_eq!(Refusal::of(0), None);
+    assert_eq!(Refusal::of(14), None);
+}
+
+#[test]
+fn refused_files() {
+    let long = vec![b'\n'; 32_769];
+    let files: [(&[u8], Refusal, usize); 9] = [
+        (&long, Refusal::FileTooLong, 0),
+        (b"\\", Refusal::BadToken, 0),
+        (b"module \\m\n", Refusal::BadShape, 10),
+        (b"module \\m\n process \\p\n", Refusal::ProcessOrPort, 11),
+        (b"module \\m\nwire width 2049 \\a\n", Refusal::BadNumber, 10),
+        (b"module \\m\nconnect \\a \\a\n", Refusal::NotThere, 10),
+        (b"module \\m\nend\nmodule \\m\n", Refusal::NameTaken, 14),
+        (b"module \\m\nconnect 1'0 2'0\n", Refusal::BadWidth, 10),
+        (
+            b"module \\m\nconnect { 2048'0 1'0 } { 2048'0 1'0 }\n",
+            Refusal::SizeExceeded,
+            10,
+        ),
+    ];
+    for (file, refusal, place) in files {
+        let refused = Design::read(file).expect_err("a refused file");
+        assert_eq!((refused.refusal, refused.place), (refusal, place));
+    }
+}
+
+#[test]
+fn refused_calls_change_nothing() {
+    let read = design();
+    let mut design = read.clone();
+    let renames: [(WireNumber, &[u8], Refusal); 5] = [
+        (GAIN, b"gain", Refusal::BadToken),
+        (WireNumber(1), b"\\j", Refusal::ProcessOrPort),
+        (WireNumber(3), b"\\j", Refusal::NotThere),
+        (GAIN, b"\\gain", Refusal::NameTaken),
+        (GAIN, b"\\r", Refusal::NameTaken),
+    ];
+    for (wire, name, refusal) in renames {
+        assert_eq!(design.rename(EAR, wire, name), Err(refusal));
+    }
+    assert_eq!(design.undo(), Err(Refusal::NothingToUndo));
+    assert_eq!(design.look_up(EAR, b"no name"), Err(Refusal::NotThere));
+    assert_eq!(
+        design.look_up(ModuleNumber(1), b"\\gain"),
+        Err(Refusal::NotThere)
+    );
+    assert_eq!(design.index(EAR, GAIN, 8), Err(Refusal::BadWidth));
+    assert_eq!(design.show(EAR, WireNumber(3)), Err(Refusal::NotThere));
+    assert!(design == read);
+}
+
+#[test]
+fn a_session() {
+    let read = design();
+    let mut design = read.clone();
+    assert_eq!(design.show(EAR, GAIN), Ok(&b"left gain"[..]));
+    assert_eq!(design.show(EAR, WireNumber(2)), Ok(&b"y"[..]));
+    assert_eq!(design.index(EAR, GAIN, 0), Ok(3));
+    assert_eq!(design.index(EAR, GAIN, 7), Ok(-4));
+    design
+        .rename(EAR, WireNumber(2), b"$z")
+        .expect("a new name");
+    assert_eq!(
+        (design.renames(), design.room_used()),
+        (1, read.room_used() + 2)
+    );
+    assert_eq!(design.show(EAR, WireNumber(2)), Ok(&b"$z"[..]));
+    assert_eq!(design.look_up(EAR, b"\\y"), Err(Refusal::NotThere));
+    assert_eq!(design.look_up(EAR, b"$z"), Ok(WireNumber(2)));
+    let text = design.write().expect("a short text");
+    assert_eq!(design.measure(), Ok(text.len()));
+    assert_eq!(Design::read(&text).expect("its own text").write(), Ok(text));
+    design.undo().expect("a rename stands");
+    assert!(design == read);
+}
+
+#[test]
+fn sixty_four_renames() {
+    let mut design = design();
+    for number in 0..64 {
+        let name = format!("\\gain{number}");
+        assert_eq!(design.rename(EAR, GAIN, name.as_bytes()), Ok(()));
+    }
+    assert_eq!(
+        design.rename(EAR, GAIN, b"\\more"),
+        Err(Refusal::SizeExceeded)
+    );
+    assert_eq!(design.undo(), Ok(()));
+    assert_eq!(design.rename(EAR, GAIN, b"\\more"), Ok(()));
+}
+
+/// Memory as C lends it: a length for each table, which may be wrong.
+fn with_lengths(lengths: [usize; 5], call: impl FnOnce(&mut Lent)) {
+    let (mut names, mut strings) = (vec![7; lengths[0]], vec![7; lengths[1]]);
+    let (mut bits, mut wires) = (vec![7; lengths[2]], vec![7; lengths[3]]);
+    let mut rows = vec![7; lengths[4]];
+    let mut card = Card {
+        renames: 7,
+        room: 7,
+    };
+    call(&mut Lent {
+        names: &mut names,
+        strings: &mut strings,
+        bits: &mut bits,
+        wires: &mut wires,
+        rows: &mut rows,
+        card: &mut card,
+    });
+}
+
+#[test]
+fn wrong_lengths_are_refused_and_nothing_is_touched() {
+    let right = [NAMES, STRINGS, BITS, WIRES, ROWS];
+    for table in 0..5 {
+        for length in [0, 1, right[table] - 1, right[table] + 1] {
+            let mut lengths = right;
+            lengths[table] = length;
+            with_lengths(lengths, |memory| {
+                let refused = Answer {
+                    number: 1,
+                    place: 0,
+                };
+                assert_eq!(memory.read(FILE), refused);
+                assert_eq!(memory.rename(0, 0, b"\\a"), refused);
+                assert_eq!(memory.undo(), refused);
+                let (view, mut room) = (memory.view(), [7; 100]);
+                assert_eq!(view.look_up(0, b"\\a").number, 1);
+                assert_eq!(view.index(0, 0, 0).number, 1);
+                assert_eq!(view.show(0, 0).number, 1);
+                assert_eq!(view.measure().number, 1);
+                assert_eq!(view.write(&mut room).number, 1);
+                assert!(room == [7; 100]);
+                assert!(view.names.iter().chain(view.strings).all(|&byte| byte == 7));
+                let words = view.bits.iter().chain(view.wires).chain(view.rows);
+                assert!(words.copied().all(|word| word == 7));
+                assert_eq!((view.card.renames, view.card.room), (7, 7));
+            });
+        }
+    }
+}
+
+#[test]
+fn memory_that_holds_no_design_is_refused() {
+    with_lengths([NAMES, STRINGS, BITS, WIRES, ROWS], |memory| {
+        assert_eq!(memory.undo().number, Refusal::DamagedMemory.number());
+        assert_eq!(memory.view().measure().number, 3);
+        // a read takes any memory
+        assert_eq!(memory.read(FILE).number, 0);
+        assert_eq!(memory.view().show(0, 0).length, 9);
+    });
+}
+
+#[test]
+fn room_too_short_is_left_as_it_was() {
+    with_lengths([NAMES, STRINGS, BITS, WIRES, ROWS], |memory| {
+        assert_eq!(memory.read(FILE).number, 0);
+        let view = memory.view();
+        let length = view.measure().length as usize;
+        let mut room = vec![7; length - 1];
+        assert_eq!(view.write(&mut room).number, Refusal::TextTooLong.number());
+        assert!(room.iter().all(|&byte| byte == 7));
+        let mut room = vec![7; length + 3];
+        let written = view.write(&mut room);
+        assert_eq!((written.number, written.length as usize), (0, length));
+        assert_eq!(room[length..], [7, 7, 7]);
+    });
+}
+
+#[test]
+fn pointers_that_are_no_parts() {
+    let words = [1u32, 2];
+    // SAFETY: null and unaligned pointers and lengths past all memory are what `part` refuses.
+    unsafe {
+        assert_eq!(lent::part(words.as_ptr(), 2), Some(&words[..]));
+        assert_eq!(lent::part::<u8>(std::ptr::null(), 0), None);
+        assert_eq!(lent::part::<u32>(std::ptr::null(), 2), None);
+        let unaligned = words.as_ptr().cast::<u8>().add(1).cast::<u32>();
+        assert_eq!(lent::part(unaligned, 1), None);
+        assert_eq!(lent::part(words.as_ptr(), usize::MAX), None);
+        assert_eq!(lent::part(words.as_ptr(), usize::MAX / 4), None);
+        assert_eq!(lent::part_mut::<u8>(std::ptr::null_mut(), 1), None);
+    }
+}

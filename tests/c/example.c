@@ -1,0 +1,49 @@
+/* Reads a netlist, renames a wire, shows it, writes the text, and takes the rename back. */
+#include "skytassel.h"
+
+#include <stdio.h>
+#include <string.h>
+
+static uint8_t names[SKYTASSEL_NAMES], strings[SKYTASSEL_STRINGS], text[SKYTASSEL_TEXT];
+static uint32_t bits[SKYTASSEL_BITS], wires[SKYTASSEL_WIRES], rows[SKYTASSEL_ROWS];
+static struct skytassel_card card;
+
+#define VIEW names, sizeof names, strings, sizeof strings, bits, SKYTASSEL_BITS, wires, SKYTASSEL_WIRES, rows, SKYTASSEL_ROWS
+
+static struct skytassel_answer read_text(const char *file)
+{
+    return skytassel_read((const uint8_t *)file, strlen(file), VIEW, &card);
+}
+
+static int print_text(void)
+{
+    struct skytassel_length_answer written = skytassel_write(VIEW, card.renames, card.room, text, sizeof text);
+    if (written.number != 0)
+        return 0;
+    fwrite(text, 1, written.length, stdout);
+    return 1;
+}
+
+int main(void)
+{
+    struct skytassel_answer refused = read_text("module \\ear\n  wire width 4096 \\gain\nend\n");
+    printf("refused: %u at %u\n", (unsigned)refused.number, (unsigned)refused.place);
+
+    if (read_text("module \\ear\n  wire width 8 offset -4 \\gain\n  attribute \\hdlname \"left ear\"\n  wire \\y\nend\n").number != 0)
+        return 1;
+    const uint8_t old_name[] = {'\\', 'g', 'a', 'i', 'n'}, new_name[] = {'\\', 'g'};
+    struct skytassel_wire_answer gain = skytassel_look_up(VIEW, card.renames, card.room, 0, old_name, sizeof old_name);
+    if (gain.number != 0 || skytassel_rename(VIEW, &card, 0, gain.wire, new_name, sizeof new_name).number != 0)
+        return 1;
+    struct skytassel_part_answer shown = skytassel_show(VIEW, card.renames, card.room, 0, 1);
+    printf("shown: %.*s\n", (int)shown.length, (const char *)(shown.table == 1 ? names : strings) + shown.start);
+    struct skytassel_index_answer first = skytassel_index(VIEW, card.renames, card.room, 0, gain.wire, 0);
+    printf("bit 0: %lld\n", (long long)first.index);
+    if (!print_text())
+        return 1;
+
+    if (skytassel_undo(VIEW, &card).number != 0)
+        return 1;
+    printf("undo again: %u\n", (unsigned)skytassel_undo(VIEW, &card).number);
+    return print_text() ? 0 : 1;
+}

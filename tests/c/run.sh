@@ -1,0 +1,11 @@
+#!/usr/bin/env bash
+# The C example, compiled as C and as C++ against include/skytassel.h and the static library, writes what it must.
+set -euo pipefail
+cd "$(dirname "$0")/../.."
+built=target/c
+mkdir -p "$built"
+flags=(-Wall -Wextra -Werror -pedantic -O2 -Iinclude)
+gcc -std=c99 "${flags[@]}" tests/c/example.c target/staticlib/libcard.a -o "$built/example"
+g++ -std=c++17 "${flags[@]}" -x c++ -fsyntax-only tests/c/example.c
+"$built/example" > "$built/written"
+diff tests/c/expected "$built/written"
