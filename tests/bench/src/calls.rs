@@ -1,14 +1,14 @@
 //! Times of the calls on design memory with 64 renames at most, beside the plain session.
 
 use crate::{files, micros, shortest, RUNS};
-use library::{look_up, read, rename, undo, valid, Card, Tables};
+use library::{look_up, measure, read, rename, undo, valid, write, Card, Tables};
 use reference::session::Session;
 use reference::statements::{ModuleNumber, WireNumber};
 use std::hint::black_box;
 use std::time::{Duration, Instant};
 
 const HEAD: &str =
-    "design, call                       whole us   reference us   whole/ref  judged ref us  whole/judged ref";
+    "design, call                        whole us    rest us  reference us  whole/ref  rest/ref";
 
 /// Memory and the plain session, 63 renames standing in both, and the wire to rename.
 struct Both {
@@ -101,6 +101,42 @@ impl Both {
         look_up(&self.tables, self.card, module as u32, name)
     }
 
+    /// The text's length, by memory and by the reference from the design with the names now.
+    fn measure(&self) -> [Duration; 2] {
+        let design = self.plain.design_now();
+        assert_eq!(
+            measure(&self.tables, self.card),
+            reference::measure(&design)
+        );
+        [
+            shortest(|| {
+                let _ = black_box(measure(black_box(&self.tables), self.card));
+            }),
+            shortest(|| {
+                let _ = black_box(reference::measure(black_box(&design)));
+            }),
+        ]
+    }
+
+    /// The text, into room of 32,768 bytes, in the same way.
+    fn write(&self) -> [Duration; 2] {
+        let design = self.plain.design_now();
+        let mut room = vec![0; 32_768];
+        let length = write(&self.tables, self.card, &mut room).expect("a text");
+        assert_eq!(
+            reference::write(&design, 32_768).as_deref(),
+            Ok(&room[..length])
+        );
+        [
+            shortest(|| {
+                let _ = black_box(write(black_box(&self.tables), self.card, &mut room));
+            }),
+            shortest(|| {
+                let _ = black_box(reference::write(black_box(&design), 32_768));
+            }),
+        ]
+    }
+
     /// Telling that the memory holds a design: a look-up in no module, and the tests' own decision.
     fn judging(&self) -> [Duration; 2] {
         assert_eq!(self.memory_look_up(32, b"\\none"), Err(8));
@@ -122,8 +158,8 @@ fn shortest_two(mut run: impl FnMut() -> [Duration; 2]) -> [Duration; 2] {
 }
 
 pub fn print() {
-    println!("\nCalls with 63 or 64 renames standing. A call clears nothing, and first tells that the memory holds a design ('judging').");
-    println!("The plain session judges no memory: 'judged ref' is its call after tests/library's own decision.");
+    println!("\nCalls with 63 or 64 renames standing. A call clears nothing, and first tells that the memory holds a design.");
+    println!("The plain session holds a design and judges no memory: 'rest' is the call without judging. Beside judging stands tests/library's own decision.");
     println!("{HEAD}");
     let designs = [
         ("1 KB", files::of_size(1_024), 0, 3),
@@ -133,27 +169,29 @@ pub fn print() {
     for (name, file, module, wire) in designs {
         let mut both = Both::of(&file, module, wire);
         let judging = both.judging();
-        let look_up = both.look_up();
-        let memory = both.rename_undo_memory();
-        let plain = both.rename_undo_plain();
-        row(name, "judging", judging[0], Duration::ZERO, judging[1]);
-        row(name, "rename, the 64th", memory[0], plain[0], judging[1]);
-        row(name, "undo of the 64th", memory[1], plain[1], judging[1]);
-        row(name, "look-up", look_up[0], look_up[1], judging[1]);
+        row(name, "judging", judging, Duration::ZERO);
+        let (memory, plain) = (both.rename_undo_memory(), both.rename_undo_plain());
+        let calls = [
+            ("rename, the 64th", [memory[0], plain[0]]),
+            ("undo of the 64th", [memory[1], plain[1]]),
+            ("look-up", both.look_up()),
+            ("measure", both.measure()),
+            ("write", both.write()),
+        ];
+        for (call, times) in calls {
+            row(name, call, times, judging[0]);
+        }
     }
 }
 
-/// One line of the table.
-fn row(design: &str, call: &str, whole: Duration, reference: Duration, judging: Duration) {
-    let (whole, reference) = (micros(whole), micros(reference));
-    let judged = reference + micros(judging);
-    let ratio = match reference > 0.0 {
-        true => format!("{:.0}", whole / reference),
-        false => String::from("-"),
-    };
+/// One line of the table: through memory and by the reference.
+fn row(design: &str, call: &str, times: [Duration; 2], judging: Duration) {
+    let [whole, reference] = times.map(micros);
+    let rest = (whole - micros(judging)).max(0.0);
     println!(
-        "{:<34} {whole:>8.1} {reference:>14.2} {ratio:>11} {judged:>14.1} {:>17.2}",
+        "{:<34} {whole:>9.1} {rest:>10.1} {reference:>13.2} {:>10.1} {:>9.1}",
         format!("{design}, {call}"),
-        whole / judged
+        whole / reference,
+        rest / reference
     );
 }
