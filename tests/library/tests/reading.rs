@@ -43,10 +43,11 @@ fn every_vector() {
 }
 
 /// Writing and measuring, and reading the text: the number, 0 or 12.
-fn check_text(tables: &mut Tables, mut card: Card, design: &Design) -> u32 {
-    assert!(text_is_of(tables, card, design));
+fn check_text(seed: u64, tables: &mut Tables, mut card: Card, design: &Design) -> u32 {
+    assert!(text_is_of(tables, card, design), "text of seed {seed}");
     let text = reference::text::text(design);
-    assert_eq!(difference(&text, tables, &mut card), None);
+    let different = difference(&text, tables, &mut card);
+    assert_eq!(different, None, "seed {seed}, its text again");
     reference::measure(design).err().unwrap_or(0)
 }
 
@@ -64,7 +65,7 @@ fn generated_and_mutated_files() {
         let different = difference(&file, &mut tables, &mut card);
         assert_eq!(different, None, "seed {seed}");
         let number = match reference::read(&file) {
-            Ok(netlist) => check_text(&mut tables, card, &netlist.design()),
+            Ok(netlist) => check_text(seed, &mut tables, card, &netlist.design()),
             Err(refusal) => refusal.number,
         };
         *numbers.entry(number).or_insert(0) += 1;
