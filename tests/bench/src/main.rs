@@ -1,5 +1,6 @@
-//! Times of reading, beside the reference: `cargo run --release`. It prints; it judges nothing.
+//! Times of the exported calls, beside the reference: `cargo run --release`. It prints; it judges nothing.
 
+mod calls;
 mod files;
 
 use library::oracle::reading;
@@ -74,6 +75,7 @@ fn main() {
     for (name, file) in full {
         print(name, &file, &empty, None);
     }
+    calls::print();
 }
 
 /// One line of the table; the sizes and times for the next one's growth.

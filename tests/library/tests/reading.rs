@@ -1,19 +1,20 @@
-//! Reading into memory filled with anything answers and leaves what the reference says.
+//! Reading into memory filled with anything answers and leaves what the reference says, and the text written from there is the reference's.
 //! GENERATED_FILES=1000000 asks for more files than the default; `--nocapture` shows what they gave.
 
 use library::files::{count, generated};
-use library::oracle::reading;
+use library::oracle::{reading, text_is_of};
 use library::tables::any_card;
 use library::{read, Card, Tables};
 use reference::generate::generated_or_mutated;
 use reference::generate::random::Random;
 use reference::vectors::vectors;
+use reference::Design;
 use std::collections::BTreeMap;
 
 /// The first thing that differs, if any does.
-fn difference(file: &[u8], tables: &mut Tables, mut card: Card) -> Option<&'static str> {
-    let expected = reading(file, tables, card);
-    let answer = read(file, tables, &mut card);
+fn difference(file: &[u8], tables: &mut Tables, card: &mut Card) -> Option<&'static str> {
+    let expected = reading(file, tables, *card);
+    let answer = read(file, tables, card);
     let same = [
         ("number", answer.number == expected.answer.number),
         ("place", answer.place == expected.answer.place),
@@ -22,7 +23,7 @@ fn difference(file: &[u8], tables: &mut Tables, mut card: Card) -> Option<&'stat
         ("bits", tables.bits == expected.tables.bits),
         ("wires", tables.wires == expected.tables.wires),
         ("rows", tables.rows == expected.tables.rows),
-        ("card", card == expected.card),
+        ("card", *card == expected.card),
     ];
     same.iter().find(|one| !one.1).map(|one| one.0)
 }
@@ -35,10 +36,19 @@ fn every_vector() {
     let mut tables = Tables::zeroed();
     for one in vectors {
         tables.fill(&mut random);
-        let card = any_card(&mut random);
-        let difference = difference(&one.file, &mut tables, card);
+        let mut card = any_card(&mut random);
+        let difference = difference(&one.file, &mut tables, &mut card);
         assert_eq!(difference, None, "{}", one.name);
     }
+}
+
+/// Writing and measuring, and reading the text: the number, 0 or 12.
+fn check_text(seed: u64, tables: &mut Tables, mut card: Card, design: &Design) -> u32 {
+    assert!(text_is_of(tables, card, design), "text of seed {seed}");
+    let text = reference::text::text(design);
+    let different = difference(&text, tables, &mut card);
+    assert_eq!(different, None, "seed {seed}, its text again");
+    reference::measure(design).err().unwrap_or(0)
 }
 
 /// Generated and mutated files, and the written texts of those that are accepted.
@@ -46,25 +56,21 @@ fn every_vector() {
 fn generated_and_mutated_files() {
     let vectors = vectors();
     let mut tables = Tables::zeroed();
-    let (mut numbers, mut texts) = (BTreeMap::new(), 0);
+    let mut numbers = BTreeMap::new();
     for seed in 0..count(20_000) {
         let mut random = Random::new(!seed);
         tables.fill(&mut random);
-        let card = any_card(&mut random);
+        let mut card = any_card(&mut random);
         let file = generated_or_mutated(seed, &vectors);
-        assert_eq!(difference(&file, &mut tables, card), None, "seed {seed}");
+        let different = difference(&file, &mut tables, &mut card);
+        assert_eq!(different, None, "seed {seed}");
         let number = match reference::read(&file) {
-            Ok(netlist) => {
-                let text = reference::text::text(&netlist.design());
-                assert_eq!(difference(&text, &mut tables, card), None, "text of {seed}");
-                texts += 1;
-                0
-            }
+            Ok(netlist) => check_text(seed, &mut tables, card, &netlist.design()),
             Err(refusal) => refusal.number,
         };
         *numbers.entry(number).or_insert(0) += 1;
     }
-    println!("files by number: {numbers:?}; {texts} written texts");
+    println!("files by number, of reading or of writing: {numbers:?}");
 }
 
 /// Reading twice into the same memory: nothing of the first file stays.
@@ -74,8 +80,8 @@ fn one_file_after_another() {
     let mut card = Card::default();
     for seed in 0..1_000 {
         let file = generated(seed);
-        assert_eq!(difference(&file, &mut tables, card), None, "seed {seed}");
-        card = reading(&file, &tables, card).card;
+        let different = difference(&file, &mut tables, &mut card);
+        assert_eq!(different, None, "seed {seed}");
     }
 }
 
@@ -98,8 +104,9 @@ fn wrong_lengths_touch_nothing() {
                 _ => tables.rows.resize(lengthen(tables.rows.len()), 0),
             }
             tables.fill(&mut random);
-            let card = any_card(&mut random);
-            assert_eq!(difference(file, &mut tables, card), None, "case {wrong}");
+            let mut card = any_card(&mut random);
+            let different = difference(file, &mut tables, &mut card);
+            assert_eq!(different, None, "case {wrong}");
         }
     }
 }

@@ -1,7 +1,7 @@
 //! Random sessions through the exported calls, held to the plain session: every answer, and all memory at the end.
 //! SESSIONS=20000 asks for more of them than the default; `--nocapture` shows what was met.
 
-use library::oracle::right_lengths;
+use library::oracle::{right_lengths, text_is_of};
 use library::tables::any_card;
 use library::{
     index, layout, look_up, measure, read, rename, show, undo, write, Answer, Card, Tables,
@@ -131,22 +131,6 @@ impl Both {
         self.met.take(number);
     }
 
-    /// The text is the reference's, in room just long enough; room that is too short stays as it was.
-    fn check_text(&self) {
-        let design = self.plain.design_now();
-        let length = reference::measure(&design);
-        assert_eq!(measure(&self.tables, self.card), length);
-        let longest = length.unwrap_or(32_768);
-        for room in [longest, longest.saturating_sub(1)] {
-            let mut given = vec![7; room];
-            let written = write(&self.tables, self.card, &mut given);
-            match reference::write(&design, room) {
-                Ok(text) => assert!(written == length && given == text),
-                Err(number) => assert!(written == Err(number) && given == vec![7; room]),
-            }
-        }
-    }
-
     fn check_memory(&self) {
         let (tables, card) = layout(&self.statements, self.plain.renames());
         assert_eq!(self.card, card);
@@ -255,7 +239,11 @@ fn random_sessions() {
         };
         both.met = met;
         calls(&mut random, &mut both);
-        both.check_text();
+        assert!(text_is_of(
+            &both.tables,
+            both.card,
+            &both.plain.design_now()
+        ));
         both.check_memory();
         met = both.met;
         met.sessions += 1;

@@ -1,0 +1,197 @@
+//! Times of the calls on design memory with 64 renames at most, beside the plain session.
+
+use crate::{files, micros, shortest, RUNS};
+use library::{look_up, measure, read, rename, undo, valid, write, Card, Tables};
+use reference::session::Session;
+use reference::statements::{ModuleNumber, WireNumber};
+use std::hint::black_box;
+use std::time::{Duration, Instant};
+
+const HEAD: &str =
+    "design, call                        whole us    rest us  reference us  whole/ref  rest/ref";
+
+/// Memory and the plain session, 63 renames standing in both, and the wire to rename.
+struct Both {
+    tables: Tables,
+    card: Card,
+    plain: Session,
+    module: usize,
+    wire: usize,
+}
+
+/// A new name that no wire has.
+const NEW: &[u8] = b"\\the_last_rename";
+
+impl Both {
+    fn of(file: &[u8], module: usize, wire: usize) -> Both {
+        let mut both = Both {
+            tables: Tables::zeroed(),
+            card: Card::default(),
+            plain: Session::new(reference::read(file).expect("an accepted file").design()),
+            module,
+            wire,
+        };
+        assert_eq!(read(file, &mut both.tables, &mut both.card).number, 0);
+        for number in 0..63 {
+            assert_eq!(
+                both.rename(format!("\\renamed_{number}").as_bytes()),
+                (0, 0)
+            );
+        }
+        both
+    }
+
+    /// Both numbers.
+    fn rename(&mut self, name: &[u8]) -> (u32, u32) {
+        (self.rename_memory(name), self.rename_plain(name))
+    }
+
+    fn rename_memory(&mut self, name: &[u8]) -> u32 {
+        let (module, wire) = (self.module as u32, self.wire as u32);
+        rename(&mut self.tables, &mut self.card, module, wire, name).number
+    }
+
+    fn rename_plain(&mut self, name: &[u8]) -> u32 {
+        let (module, wire) = (ModuleNumber(self.module), WireNumber(self.wire));
+        self.plain.rename(module, wire, name)
+    }
+
+    /// The 64th rename and its undo, through memory: the shortest of each.
+    fn rename_undo_memory(&mut self) -> [Duration; 2] {
+        shortest_two(|| {
+            let start = Instant::now();
+            assert_eq!(black_box(self.rename_memory(black_box(NEW))), 0);
+            let renamed = start.elapsed();
+            let start = Instant::now();
+            assert_eq!(undo(&mut self.tables, &mut self.card).number, 0);
+            [renamed, start.elapsed()]
+        })
+    }
+
+    /// The same through the plain session.
+    fn rename_undo_plain(&mut self) -> [Duration; 2] {
+        shortest_two(|| {
+            let start = Instant::now();
+            assert_eq!(black_box(self.rename_plain(black_box(NEW))), 0);
+            let renamed = start.elapsed();
+            let start = Instant::now();
+            assert_eq!(black_box(self.plain.undo()), 0);
+            [renamed, start.elapsed()]
+        })
+    }
+
+    /// A look-up of the renamed wire by its name now, through memory and through the plain session.
+    fn look_up(&self) -> [Duration; 2] {
+        let module = ModuleNumber(self.module);
+        let now = self.plain.name_now(module, WireNumber(self.wire));
+        let name = now.expect("the wire is there");
+        assert_eq!(self.memory_look_up(self.module, name), Ok(self.wire as u32));
+        assert_eq!(self.plain.look_up(module, name), Ok(WireNumber(self.wire)));
+        [
+            shortest(|| {
+                let _ = black_box(self.memory_look_up(self.module, black_box(name)));
+            }),
+            shortest(|| {
+                let _ = black_box(self.plain.look_up(module, black_box(name)));
+            }),
+        ]
+    }
+
+    fn memory_look_up(&self, module: usize, name: &[u8]) -> Result<u32, u32> {
+        look_up(&self.tables, self.card, module as u32, name)
+    }
+
+    /// The text's length, by memory and by the reference from the design with the names now.
+    fn measure(&self) -> [Duration; 2] {
+        let design = self.plain.design_now();
+        assert_eq!(
+            measure(&self.tables, self.card),
+            reference::measure(&design)
+        );
+        [
+            shortest(|| {
+                let _ = black_box(measure(black_box(&self.tables), self.card));
+            }),
+            shortest(|| {
+                let _ = black_box(reference::measure(black_box(&design)));
+            }),
+        ]
+    }
+
+    /// The text, into room of 32,768 bytes, in the same way.
+    fn write(&self) -> [Duration; 2] {
+        let design = self.plain.design_now();
+        let mut room = vec![0; 32_768];
+        let length = write(&self.tables, self.card, &mut room).expect("a text");
+        assert_eq!(
+            reference::write(&design, 32_768).as_deref(),
+            Ok(&room[..length])
+        );
+        [
+            shortest(|| {
+                let _ = black_box(write(black_box(&self.tables), self.card, &mut room));
+            }),
+            shortest(|| {
+                let _ = black_box(reference::write(black_box(&design), 32_768));
+            }),
+        ]
+    }
+
+    /// Telling that the memory holds a design: a look-up in no module, and the tests' own decision.
+    fn judging(&self) -> [Duration; 2] {
+        assert_eq!(self.memory_look_up(32, b"\\none"), Err(8));
+        assert!(valid(&self.tables, self.card));
+        [
+            shortest(|| {
+                let _ = black_box(self.memory_look_up(black_box(32), b"\\none"));
+            }),
+            shortest(|| {
+                black_box(valid(black_box(&self.tables), self.card));
+            }),
+        ]
+    }
+}
+
+fn shortest_two(mut run: impl FnMut() -> [Duration; 2]) -> [Duration; 2] {
+    let least = |one: [Duration; 2], other: [Duration; 2]| [0, 1].map(|of| one[of].min(other[of]));
+    (0..RUNS).map(|_| run()).reduce(least).expect("some runs")
+}
+
+pub fn print() {
+    println!("\nCalls with 63 or 64 renames standing. A call clears nothing, and first tells that the memory holds a design.");
+    println!("The plain session holds a design and judges no memory: 'rest' is the call without judging. Beside judging stands tests/library's own decision.");
+    println!("{HEAD}");
+    let designs = [
+        ("1 KB", files::of_size(1_024), 0, 3),
+        ("32 KB", files::of_size(32_768), 29, 3),
+        ("512 wires", files::wires_in_one_module(), 0, 511),
+    ];
+    for (name, file, module, wire) in designs {
+        let mut both = Both::of(&file, module, wire);
+        let judging = both.judging();
+        row(name, "judging", judging, Duration::ZERO);
+        let (memory, plain) = (both.rename_undo_memory(), both.rename_undo_plain());
+        let calls = [
+            ("rename, the 64th", [memory[0], plain[0]]),
+            ("undo of the 64th", [memory[1], plain[1]]),
+            ("look-up", both.look_up()),
+            ("measure", both.measure()),
+            ("write", both.write()),
+        ];
+        for (call, times) in calls {
+            row(name, call, times, judging[0]);
+        }
+    }
+}
+
+/// One line of the table: through memory and by the reference.
+fn row(design: &str, call: &str, times: [Duration; 2], judging: Duration) {
+    let [whole, reference] = times.map(micros);
+    let rest = (whole - micros(judging)).max(0.0);
+    println!(
+        "{:<34} {whole:>9.1} {rest:>10.1} {reference:>13.2} {:>10.1} {:>9.1}",
+        format!("{design}, {call}"),
+        whole / reference,
+        rest / reference
+    );
+}
