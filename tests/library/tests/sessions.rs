@@ -1,11 +1,9 @@
-//! Random sessions through the exported calls, held to the plain session: every answer, and all memory at the end.
+//! Random sessions through the exported calls, held to the plain session: every answer, and all memory and the text at the end.
 //! SESSIONS=20000 asks for more of them than the default; `--nocapture` shows what was met.
 
 use library::oracle::{right_lengths, text_is_of};
 use library::tables::any_card;
-use library::{
-    index, layout, look_up, measure, read, rename, show, undo, write, Answer, Card, Tables,
-};
+use library::{index, layout, look_up, read, rename, show, undo, Answer, Card, Tables};
 use reference::generate::random::Random;
 use reference::generate::{self, SizeClass};
 use reference::session::Session;
