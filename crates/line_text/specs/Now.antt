@@ -13,6 +13,11 @@ use Rattle.line_text.specs.declared.Module.{Module}
 unfoldable pub renames : (rows : List ℕ) → (row m n : ℕ) → Bool
 renames rows r m n = eqb (column rows r 3) m && eqb (column rows r 4) n
 
+-- how many of count rename rows from a row on there are up to the last one of wire n of module m; 0 if there is none
+unfoldable pub lastRename : (rows : List ℕ) → (from count m n : ℕ) → ℕ
+lastRename rows from zero m n = 0
+lastRename rows from (suc c) m n = let r = lastRename rows from c m n in cond (renames rows (from + c) m n) (suc c) r
+
 -- the name now of wire n of module m, whose row in the table of wires is k: that of the last rename of it among count rows from a row on, else its own
 module _ (names wires rows : List ℕ) (from : ℕ) where
   unfoldable pub nameNow : (count m n k : ℕ) → Name

@@ -1,17 +1,20 @@
 -- The wires of a module by their names now: how many, and the wire of a number.
 -- Assumes nothing.
-use mathlib.Core.Path.{_≡_, refl, ap}
+use mathlib.Core.Path.{_≡_, refl, sym, ap, _∙_}
 use mathlib.Core.Bool.{Bool, true, false}
 use mathlib.Core.List.{List, [], _∷_}
 use Prim.Native.Nat.{ℕ, zero, suc, _+_, _-_}
 use native.Mathlib.Omega.{arith}
 use lib.ListN.{length, drop}
 use lib.Seq.{drop-nil}
+use Rattle.rules.specs.Tokens.{Name}
 use Rattle.rules.specs.Signals.{Wires}
+use Rattle.scanner.specs.Laws.{by-test}
 use Rattle.wires.specs.Rows.{nameOf, wireOf, wiresFrom}
 use Rattle.netlist.specs.Rows.{nameFrom}
+use Rattle.netlist.specs.Statements.{spanAt}
 use Rattle.line_text.specs.declared.Module.{Module}
-use Rattle.line_text.specs.Now.{renames, nameNow, wiresNow, wiresIn}
+use Rattle.line_text.specs.Now.{renames, lastRename, nameNow, wiresNow, wiresIn}
 
 module _ (names wires rows : List ℕ) (from count m first : ℕ) where
   pub length-now : (many : ℕ) → length (wiresNow names wires rows from count m first many) ≡ many
@@ -26,18 +29,39 @@ module _ (names wires rows : List ℕ) (from count m first : ℕ) where
   drop-now (suc d) j (suc many) e = drop-now d j many (omega arith)
 
 -- a turn of the search for the last rename: b tells whether row from + j is one of the wire
-module _ (names wires rows : List ℕ) (from m n k i j : ℕ) (e : i ≡ suc j) (b : Bool) (eb : b ≡ renames rows (from + j) m n) where
-  pub name-last : b ≡ true → nameNow names wires rows from i m n k ≡ nameFrom names rows (from + j) 1
-  unfolding nameNow
-  name-last t = rw (e, ← eb, t)
+module _ (rows : List ℕ) (from m n i : ℕ) where
+  pub rename-none : i ≡ 0 → lastRename rows from i m n ≡ 0
+  unfolding lastRename
+  rename-none e = rw e
 
-  pub name-before : b ≡ false → nameNow names wires rows from i m n k ≡ nameNow names wires rows from j m n k
-  unfolding nameNow
-  name-before t = rw (e, ← eb, t)
+  module _ (j : ℕ) (e : i ≡ suc j) (b : Bool) (eb : b ≡ renames rows (from + j) m n) where
+    pub rename-here : b ≡ true → lastRename rows from i m n ≡ i
+    unfolding lastRename
+    rename-here t = rw (e, ← eb, t)
 
-pub name-own : (names wires rows : List ℕ) (from m n k i : ℕ) → i ≡ 0 → nameNow names wires rows from i m n k ≡ nameOf names wires k
-unfolding nameNow
-name-own names wires rows from m n k i e = rw e
+    pub rename-before : b ≡ false → lastRename rows from i m n ≡ lastRename rows from j m n
+    unfolding lastRename
+    rename-before t = rw (e, ← eb, t)
+
+-- it gives the name now, and without one the wire's row does
+unfoldable nameBy : (names wires rows : List ℕ) → (from k last : ℕ) → Name
+nameBy names wires rows from k zero = spanAt names wires k 1
+nameBy names wires rows from k (suc j) = spanAt names rows (from + j) 1
+
+name-by : (names wires rows : List ℕ) (from m n k count : ℕ) → nameNow names wires rows from count m n k ≡ nameBy names wires rows from k (lastRename rows from count m n)
+unfolding nameNow lastRename nameBy nameOf nameFrom spanAt
+name-by names wires rows from m n k zero = refl
+name-by names wires rows from m n k (suc c) =
+    by-test (renames rows (from + c) m n) (λ e. rw e) (λ e. rw e (name-by names wires rows from m n k c))
+
+module _ (names wires rows : List ℕ) (from m n k count last : ℕ) (el : last ≡ lastRename rows from count m n) where
+  pub name-own : last ≡ 0 → spanAt names wires k 1 ≡ nameNow names wires rows from count m n k
+  unfolding nameBy
+  name-own e = sym (name-by names wires rows from m n k count ∙ ap (nameBy names wires rows from k) (sym el ∙ e))
+
+  pub name-given : (j : ℕ) → last ≡ suc j → spanAt names rows (from + j) 1 ≡ nameNow names wires rows from count m n k
+  unfolding nameBy
+  name-given j e = sym (name-by names wires rows from m n k count ∙ ap (nameBy names wires rows from k) (sym el ∙ e))
 
 -- a wire's number n in its module of so many wires; one past them is taken for the last
 pub wire-now : (names wires rows : List ℕ) (x : Module) (w n : ℕ) → x .wires ≡ (x .wires - (w + 1)) + suc n → drop (x .wires - (w + 1)) (wiresIn names wires rows x) ≡ (nameNow names wires rows (x .from) (x .renames) (x .number .0) n (x .first + n), wireOf wires (x .first + n)) ∷ wiresNow names wires rows (x .from) (x .renames) (x .number .0) (x .first) n

@@ -29,7 +29,7 @@ ghost use Rattle.wires.specs.Rows.{column, portOf, wireOf};
 ghost use Rattle.netlist.specs.Rows.{nameFrom};
 ghost use Rattle.netlist.specs.Statements.{spanAt, constantAt, optionalAt, signalAt, memoryAt, sortAt};
 ghost use Rattle.text.specs.Written.{Written};
-ghost use Rattle.line_text.specs.Now.{renames, nameNow, wiresIn, ownNow};
+ghost use Rattle.line_text.specs.Now.{renames, lastRename, nameNow, wiresIn, ownNow};
 ghost use Rattle.line_text.specs.Pieces.{spread};
 ghost use Rattle.line_text.specs.Runs.{bitsOf, joint, firstRun, runsText, Apart, Lowest};
 ghost use Rattle.line_text.specs.Lines.{portOptions, statementNow, bodyText, lineOf, PlainIs};
@@ -92,6 +92,21 @@ fn renames(rows: &[u32], row: usize, number: u32, wire: u32) -> bool
     column(rows, row, 4) == wire
 }
 
+// How many of the rename rows from a row on there are up to the last one of this wire; 0 if it has none.
+pub fn last_rename(rows: &[u32], from: u32, count: u32, m: ModuleNumber, wire: WireNumber) -> u32
+    ensures { λ r. ⌜ r ≡ lastRename (now (rows .entry)) from count (m .0) (wire .0) ⌝ }
+{
+    let mut i = count;
+    while 0 < i {
+        let last = i - 1;
+        if renames(rows, from as usize + last as usize, m.0, wire.0) {
+            return i;
+        }
+        i = last;
+    }
+    0
+}
+
 // The name now of a wire of the module whose row in the table of wires is k: the last rename of it, else its own.
 pub fn name_now<'a>(
     names: &'a [u8],
@@ -104,17 +119,11 @@ pub fn name_now<'a>(
     requires { ⌜ k < 8589934592 ⌝ }
     ensures { λ r. ⌜ now r ≡ nameNow (now (names .entry)) (now (wires .entry)) (now (rows .entry)) (m .from) (m .renames) (m .number .0) (wire .0) k ⌝ }
 {
-    let number = m.number;
-    let mut i = m.renames;
-    while 0 < i {
-        let last = i - 1;
-        let row = m.from as usize + last as usize;
-        if renames(rows, row, number.0, wire.0) {
-            return bytes_at(names, rows, row, 1);
-        }
-        i = last;
+    let last = last_rename(rows, m.from, m.renames, m.number, wire);
+    if last == 0 {
+        return bytes_at(names, wires, k, 1);
     }
-    bytes_at(names, wires, k, 1)
+    bytes_at(names, rows, m.from as usize + (last - 1) as usize, 1)
 }
 
 // A token behind a space.

@@ -1,12 +1,11 @@
 -- In tables that begin with statements, the rows found are the wire's statement and its attribute `\hdlname`.
 -- Assumes nothing.
-use Prim.Native.Nat.{ℕ, zero, suc, _+_, _<_}
+use Prim.Native.Nat.{ℕ, suc, _<_}
 use mathlib.Core.Path.{_≡_, refl, sym, ap, _∙_}
 use mathlib.Core.List.{List, [], _∷_, _++_, flatMap, zip, zipWith, append-nil, append-assoc}
-use mathlib.Core.Bool.{Bool, true, false, not, cond}
+use mathlib.Core.Bool.{false, not, cond}
 use native.Mathlib.Omega.{arith}
-use lib.Dec.{eqb}
-use lib.ListN.{length, take, drop}
+use lib.ListN.{length}
 use borrow.Author.Tests.{eq-eqb, ne-eqb, eqb-false}
 use Rattle.rules.specs.Bytes.{bytes, same, any}
 use Rattle.rules.specs.Tokens.{Name}
@@ -14,7 +13,7 @@ use Rattle.rules.specs.Statements.{Statement, Constant, value, integer, string,
 use Rattle.rules.specs.Judgement.{Past, until, sum, among, count, ofObject}
 use Rattle.rules.specs.Design.{Setting, settingIn}
 use Rattle.rules.specs.Session.{hdlname}
-use Rattle.rules.specs.Layout.{used, padded, row, nameBytes, stringBytes, constantColumns, columns, statementRow}
+use Rattle.rules.specs.Layout.{used, padded, row, stringBytes, constantColumns, columns, statementRow}
 use Rattle.scanner.specs.Laws.{by-test}
 use Rattle.past.specs.Place.{wiresIn}
 use Rattle.wires.specs.Rows.{column}

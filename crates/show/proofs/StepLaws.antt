@@ -1,23 +1,21 @@
 -- The turns of the searches for a row, and the parts that the rows found give.
 -- Assumes nothing.
-use Prim.Native.Nat.{ℕ, zero, suc, _+_, _-_, _≤_, _<_}
+use Prim.Native.Nat.{ℕ, suc, _+_, _-_, _≤_, _<_}
 use mathlib.Core.Path.{_≡_, refl, sym, ap, _∙_}
 use mathlib.Core.List.{List, [], _∷_}
-use mathlib.Core.Bool.{Bool, true, false, cond}
+use mathlib.Core.Bool.{Bool, true, false}
 use native.Mathlib.Numerals.{add-one}
 use native.Mathlib.Omega.{arith}
-use lib.Dec.{eqb}
 use lib.ListN.{length, getD, take, drop}
 use lib.Seq.{drop-cons, length-slice}
-use borrow.Author.Tests.{eq-eqb, ne-eqb}
+use borrow.Author.Tests.{ne-eqb}
 use Rattle.rules.specs.Session.{plainName, orElse}
-use Rattle.scanner.specs.Laws.{by-test}
 use Rattle.scanner.proofs.RunLaws.{slice-part}
-use Rattle.wires.specs.Rows.{column, nameOf}
-use Rattle.netlist.specs.Rows.{kindAt, nameFrom}
+use Rattle.wires.specs.Rows.{column}
+use Rattle.netlist.specs.Rows.{kindAt}
 use Rattle.netlist.specs.Statements.{spanAt}
-use Rattle.line_text.specs.Now.{renames, nameNow}
-use Rattle.show.specs.Rows.{declares, wireLine, isHdlname, hdlnameRow, textAt, lastRename, shownName}
+use Rattle.line_text.specs.Now.{nameNow}
+use Rattle.show.specs.Rows.{declares, wireLine, isHdlname, hdlnameRow, textAt, shownName}
 use Rattle.show.specs.Parts.{PartIs}
 use Rattle.show.specs.declared.Part.{Part}
 
@@ -69,43 +67,6 @@ module _ (strings rows : List ℕ) (behind : ℕ) where
     pub text-string : column rows j 3 ≡ 3 → spanAt strings rows j 4 ≡ textAt strings rows behind
     unfolding textAt
     text-string q = rw (e, q)
-
--- ITS LAST RENAME
-module _ (rows : List ℕ) (from m n i : ℕ) where
-  pub rename-end : i ≡ 0 → lastRename rows from m n i ≡ 0
-  unfolding lastRename
-  rename-end e = rw e
-
-  module _ (j : ℕ) (b : Bool) (e : i ≡ suc j) (eb : b ≡ renames rows (from + j) m n) where
-    pub rename-here : b ≡ true → lastRename rows from m n i ≡ i
-    unfolding lastRename
-    rename-here t = rw (e, ← eb, t)
-
-    pub rename-next : b ≡ false → lastRename rows from m n i ≡ lastRename rows from m n j
-    unfolding lastRename
-    rename-next t = rw (e, ← eb, t)
-
--- the name that the last rename gives
-unfoldable nameBy : (names wires rows : List ℕ) → (from k last : ℕ) → List ℕ
-nameBy names wires rows from k zero = spanAt names wires k 1
-nameBy names wires rows from k (suc j) = spanAt names rows (from + j) 1
-
-name-by :
-    (names wires rows : List ℕ) (from m n k count : ℕ) →
-    nameNow names wires rows from count m n k ≡ nameBy names wires rows from k (lastRename rows from m n count)
-unfolding nameNow lastRename nameBy nameOf nameFrom spanAt
-name-by names wires rows from m n k zero = refl
-name-by names wires rows from m n k (suc c) =
-    by-test (renames rows (from + c) m n) (λ e. rw e) (λ e. rw e (name-by names wires rows from m n k c))
-
-module _ (names wires rows : List ℕ) (from m n k count last : ℕ) (el : last ≡ lastRename rows from m n count) where
-  pub name-own : last ≡ 0 → spanAt names wires k 1 ≡ nameNow names wires rows from count m n k
-  unfolding nameBy
-  name-own e = sym (name-by names wires rows from m n k count ∙ ap (nameBy names wires rows from k) (sym el ∙ e))
-
-  pub name-given : (j : ℕ) → last ≡ suc j → spanAt names rows (from + j) 1 ≡ nameNow names wires rows from count m n k
-  unfolding nameBy
-  name-given j e = sym (name-by names wires rows from m n k count ∙ ap (nameBy names wires rows from k) (sym el ∙ e))
 
 -- ITS PLAIN NAME
 module _ (names : List ℕ) (start end : ℕ) where

@@ -1,5 +1,5 @@
--- The rows that the name to show of a wire stands in, for any tables: the wire's statement, its attribute `\hdlname` and its last rename.
-use Prim.Native.Nat.{ℕ, zero, suc, _+_}
+-- The rows that the name to show of a wire stands in, for any tables: the wire's statement and its attribute `\hdlname`.
+use Prim.Native.Nat.{ℕ, zero, suc}
 use mathlib.Core.List.{List, []}
 use mathlib.Core.Bool.{Bool, cond, _&&_}
 use lib.Dec.{eqb}
@@ -8,7 +8,7 @@ use Rattle.rules.specs.Session.{plainName, orElse}
 use Rattle.wires.specs.Rows.{column}
 use Rattle.netlist.specs.Rows.{kindAt, nameAt}
 use Rattle.netlist.specs.Statements.{spanAt}
-use Rattle.line_text.specs.Now.{renames, nameNow}
+use Rattle.line_text.specs.Now.{nameNow}
 
 -- whether a row is the statement of the wire in row w of the table of wires; and the last such row of the first k
 unfoldable pub declares : (rows : List ℕ) → (row w : ℕ) → Bool
@@ -32,11 +32,6 @@ hdlnameRow names rows (suc k) found =
 unfoldable pub textAt : (strings rows : List ℕ) → ℕ → List ℕ
 textAt strings rows zero = []
 textAt strings rows (suc k) = cond (eqb (column rows k 3) 3) (spanAt strings rows k 4) []
-
--- how many of the first renames, whose rows start at a row, there are up to the last one of wire n of module m
-unfoldable pub lastRename : (rows : List ℕ) → (from m n count : ℕ) → ℕ
-lastRename rows from m n zero = 0
-lastRename rows from m n (suc c) = let r = lastRename rows from m n c in cond (renames rows (from + c) m n) (suc c) r
 
 -- the name to show of wire n of module m, whose row in the table of wires is k, with the rows of the statements and behind them those of count renames
 unfoldable pub shownName : (names strings wires rows : List ℕ) → (statements count m n k : ℕ) → List ℕ

@@ -1,6 +1,7 @@
 // The name to show of a wire: its attribute `\hdlname` if that is a string that isn't empty, else its name now, without the `\` if public. It is a part of
 // the strings or of the names, not a copy.
 use designs::module_wires;
+use line_text::last_rename;
 use netlist::rows::row_kind;
 use netlist::rows::row_name;
 use numbers::kinds::ModuleNumber;
@@ -16,9 +17,9 @@ ghost use lib.Seq.{slice};
 ghost use Rattle.rules.specs.Session.{plainName};
 ghost use Rattle.wires.specs.Rows.{column};
 ghost use Rattle.netlist.specs.Statements.{spanAt};
-ghost use Rattle.line_text.specs.Now.{renames, nameNow};
+ghost use Rattle.line_text.specs.Now.{nameNow};
 ghost use Rattle.reader.specs.Read.{lent};
-ghost use Rattle.show.specs.Rows.{declares, wireLine, isHdlname, hdlnameRow, textAt, lastRename, shownName};
+ghost use Rattle.show.specs.Rows.{declares, wireLine, isHdlname, hdlnameRow, textAt, shownName};
 ghost use Rattle.show.specs.Parts.{PartIs, numberOf, bytesIn, InRange, ShownAs};
 
 // Where a shown name lies: a part of the names, a part of the strings, or neither, with the refusal's number.
@@ -129,32 +130,6 @@ fn text_part(strings: &[u8], rows: &[u32], behind: u32) -> Part
         return Part { start: 0, end: 0 };
     }
     span(strings, rows, row, 4)
-}
-
-// Whether a rename's row is of this wire.
-fn renames(rows: &[u32], row: usize, number: u32, wire: u32) -> bool
-    requires { ⌜ row < 8589934592 ⌝ }
-    ensures { λ r. ⌜ r ≡ renames (now (rows .entry)) row number wire ⌝ }
-{
-    if column(rows, row, 3) != number {
-        return false;
-    }
-    column(rows, row, 4) == wire
-}
-
-// How many of the renames, whose rows start at `from`, there are up to the last one of this wire.
-fn last_rename(rows: &[u32], from: u32, count: u32, m: ModuleNumber, w: WireNumber) -> u32
-    ensures { λ r. ⌜ r ≡ lastRename (now (rows .entry)) from (m .0) (w .0) count ⌝ }
-{
-    let mut i = count;
-    while 0 < i {
-        let last = i - 1;
-        if renames(rows, from as usize + last as usize, m.0, w.0) {
-            return i;
-        }
-        i = last;
-    }
-    0
 }
 
 // The name now of the wire in row k of the table of wires.

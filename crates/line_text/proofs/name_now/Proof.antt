@@ -1,80 +1,53 @@
--- The loop's invariant: the name by the first i renames is the name by all of them.
+-- The last rename's name, if there is one.
 -- Assumes nothing.
-use mathlib.Core.Path.{_≡_, refl, sym, _∙_}
-use Prim.Native.Nat.{suc, _-_, _≤_}
-use Rattle.wires.specs.Rows.{nameOf}
-use Rattle.netlist.specs.Rows.{nameFrom}
-use Rattle.netlist.specs.Statements.{spanAt}
-use Rattle.line_text.specs.Now.{nameNow}
-use Rattle.line_text.specs.NowLaws.{name-last, name-before, name-own}
+use Prim.Native.Nat.{suc, _-_}
+use mathlib.Core.Path.{_≡_, _∙_}
+use Rattle.line_text.specs.NowLaws.{name-own, name-given}
 use native.Mathlib.Omega.{arith}
 use denote.Ref.{now}
+use borrow.Author.Needs.{needs}
 use Rattle.line_text.proofs.name_now.Statement.{statement}
 use Rattle.line_text.proofs.name_now.Tie as tie
 
-abbrev Inv-loop : tie.InvT-loop
-Inv-loop names wires rows m wire k number i₀ i = (i ≤ m .renames) × (nameNow names wires rows (m .from) (m .renames) (m .number .0) (wire .0) k ≡ nameNow names wires rows (m .from) i (m .number .0) (wire .0) k)
+last-rename-requires : tie.Need-last-rename-requires
+last-rename-requires c κs = search needs
 
-abbrev μ-loop : tie.MeasureT-loop
-μ-loop names wires rows m wire k number i₀ i = i
+bytes-at-requires : tie.Need-bytes-at-requires
+bytes-at-requires c κs = search needs
 
-loop-holds : tie.Need-loop-holds Inv-loop μ-loop
-loop-holds c = (omega arith, refl)
+returns : tie.Need-returns
+returns c = c .bytes-at .ensures ∙ name-own (now (c .before .before .before .before .before .before .args .names)) (now (c .before .before .before .before .before .before .args .wires)) (now (c .before .before .before .before .before .before .args .rows)) (c .before .before .before .before .before .before .args .m .from) (c .before .before .before .before .before .before .args .m .number .0) (c .before .before .before .before .before .before .args .wire .0) (c .before .before .before .before .before .before .args .k) (c .before .before .before .before .before .before .args .m .renames) _ (c .before .before .last-rename .ensures) (c .before .if1 .taken)
 
-sub-last : tie.Need-sub-last Inv-loop μ-loop
-sub-last c = omega arith
+cast-bytes-at : tie.Need-cast-bytes-at
+cast-bytes-at c = search needs
 
-cast-row : tie.Need-cast-row Inv-loop μ-loop
-cast-row c = omega arith
+sub-bytes-at : tie.Need-sub-bytes-at
+sub-bytes-at c = search needs
 
-cast-row-2 : tie.Need-cast-row-2 Inv-loop μ-loop
-cast-row-2 c = omega arith
+cast-bytes-at-2 : tie.Need-cast-bytes-at-2
+cast-bytes-at-2 c = search needs
 
-add-row : tie.Need-add-row Inv-loop μ-loop
-add-row c = omega arith
+add-bytes-at : tie.Need-add-bytes-at
+add-bytes-at c = search needs
 
-renames-requires : tie.Need-renames-requires Inv-loop μ-loop
-renames-requires c κs = omega arith
+bytes-at-requires-2 : tie.Need-bytes-at-requires-2
+bytes-at-requires-2 c κs = search needs
 
-bytes-at-requires : tie.Need-bytes-at-requires Inv-loop μ-loop
-bytes-at-requires c κs = omega arith
-
-returns : tie.Need-returns Inv-loop μ-loop
-unfolding nameFrom spanAt
-returns c =
-    let e : c .before .before .before .before .before .loop .i ≡ suc (c .before .before .before .before .before .loop .i - 1) = omega arith in
-    c .bytes-at .ensures ∙ sym (c .before .before .before .before .before .loop .inv .1 ∙ name-last (now (c .before .before .before .before .before .before .before .before .before .before .args .names)) (now (c .before .before .before .before .before .before .before .before .before .before .args .wires)) (now (c .before .before .before .before .before .before .before .before .before .before .args .rows)) (c .before .before .before .before .before .before .before .before .before .before .args .m .from) (c .before .before .before .before .before .before .before .before .before .before .args .m .number .0) (c .before .before .before .before .before .before .before .before .before .before .args .wire .0) (c .before .before .before .before .before .before .before .before .before .before .args .k) (c .before .before .before .before .before .loop .i) (c .before .before .before .before .before .loop .i - 1) e _ (c .before .before .renames .ensures) (c .before .if1 .taken))
-
-loop-less : tie.Need-loop-less Inv-loop μ-loop
-loop-less c = omega arith
-
-loop-again : tie.Need-loop-again Inv-loop μ-loop
-loop-again c =
-    let e : c .before .before .before .before .loop .i ≡ suc (c .before .before .before .before .loop .i - 1) = omega arith in
-    (omega arith, c .before .before .before .before .loop .inv .1 ∙ name-before (now (c .before .before .before .before .before .before .before .before .before .args .names)) (now (c .before .before .before .before .before .before .before .before .before .args .wires)) (now (c .before .before .before .before .before .before .before .before .before .args .rows)) (c .before .before .before .before .before .before .before .before .before .args .m .from) (c .before .before .before .before .before .before .before .before .before .args .m .number .0) (c .before .before .before .before .before .before .before .before .before .args .wire .0) (c .before .before .before .before .before .before .before .before .before .args .k) (c .before .before .before .before .loop .i) (c .before .before .before .before .loop .i - 1) e _ (c .before .renames .ensures) (c .if1 .left))
-
-bytes-at-requires-2 : tie.Need-bytes-at-requires-2 Inv-loop μ-loop
-bytes-at-requires-2 c κs = omega arith
-
-returns-2 : tie.Need-returns-2 Inv-loop μ-loop
-unfolding nameOf spanAt
-returns-2 c = c .bytes-at2 .ensures ∙ sym (c .before .before .loop .inv .1 ∙ name-own (now (c .before .before .before .before .before .before .before .args .names)) (now (c .before .before .before .before .before .before .before .args .wires)) (now (c .before .before .before .before .before .before .before .args .rows)) (c .before .before .before .before .before .before .before .args .m .from) (c .before .before .before .before .before .before .before .args .m .number .0) (c .before .before .before .before .before .before .before .args .wire .0) (c .before .before .before .before .before .before .before .args .k) (c .before .before .loop .i) (omega arith))
+returns-2 : tie.Need-returns-2
+returns-2 c =
+    let e : c .before .before .before .last-rename .result ≡ suc (c .before .before .before .last-rename .result - 1) = omega arith in
+    c .bytes-at2 .ensures ∙ name-given (now (c .before .before .before .before .before .before .before .args .names)) (now (c .before .before .before .before .before .before .before .args .wires)) (now (c .before .before .before .before .before .before .before .args .rows)) (c .before .before .before .before .before .before .before .args .m .from) (c .before .before .before .before .before .before .before .args .m .number .0) (c .before .before .before .before .before .before .before .args .wire .0) (c .before .before .before .before .before .before .before .args .k) (c .before .before .before .before .before .before .before .args .m .renames) _ (c .before .before .before .last-rename .ensures) (c .before .before .before .last-rename .result - 1) e
 
 pub name-now-spec : {M : Type 1} → statement M
 name-now-spec =
     tie.close
     (tie.spec
-    Inv-loop
-    μ-loop
-    loop-holds
-    sub-last
-    cast-row
-    cast-row-2
-    add-row
-    renames-requires
+    last-rename-requires
     bytes-at-requires
     returns
-    loop-less
-    loop-again
+    cast-bytes-at
+    sub-bytes-at
+    cast-bytes-at-2
+    add-bytes-at
     bytes-at-requires-2
     returns-2)
