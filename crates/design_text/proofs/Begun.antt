@@ -122,10 +122,6 @@ module _ {t : Tables} where
   begun-past [] ps b = b
   begun-past (s ∷ qs) ps b = begun-before s ps (begun-past qs (s ∷ ps) b)
 
-pub admitted-past : (qs : List Statement) (ps : Past) → admitted (reverseAux qs ps) ≡ true → admitted ps ≡ true
-admitted-past [] ps e = e
-admitted-past (s ∷ qs) ps e = admitted-before s ps (admitted-past qs (s ∷ ps) e)
-
 no-process : (p : Scope) (f a : Bool) → all (λ k. not (eqb 11 (code k))) (kinds p f a) ≡ true
 unfolding all kinds code
 no-process top true a = refl

@@ -29,7 +29,7 @@ use Rattle.netlist.specs.Laid.{roomsOf}
 use Rattle.netlist.specs.LaidLaws.{length-rows, eights-rows}
 use Rattle.netlist.specs.WireLaws.{length-wire-rows}
 use Rattle.admitted.specs.Admitted.{admitted}
-use Rattle.admitted.specs.AdmitLaws.{fine-fits, admitted-last, admitted-standing, admitted-offsets}
+use Rattle.admitted.specs.AdmitLaws.{fine-fits, admitted-last, admitted-standing, admitted-offsets, admitted-past}
 use Rattle.designs.specs.Modules.{statementsOf, wiresOf, moduleCount, upTo}
 use Rattle.designs.specs.Now.{nameNow}
 use Rattle.designs.specs.Ranges.{wireRange}
@@ -46,7 +46,7 @@ use Rattle.module_text.specs.WireLaws.{wires-down}
 use Rattle.module_text.specs.StandLaws.{Follows, one-follows, follows, follows-until, autoidx-first}
 use Rattle.design_text.specs.declared.Counts.{Counts}
 use Rattle.design_text.specs.Rows.{Tables, nextRow, waitingFrom, rowLine, lineIf, kindRows, bodyRows, moduleAt, moduleIf, moduleRows, textRows}
-use Rattle.design_text.proofs.Begun.{Begun, begun-wired, begun-renames, begun-past, admitted-past, last-parts, last-kind, last-decodes, last-wire, name-is, wires-are}
+use Rattle.design_text.proofs.Begun.{Begun, begun-wired, begun-renames, begun-past, last-parts, last-kind, last-decodes, last-wire, name-is, wires-are}
 use Rattle.design_text.proofs.Passes.{Rowed, no-rows, one-row, rowed-more, Kinded, no-kinds, one-kind, next-until, eqb-back, more-behind, all-more, row-line, attribute-rows, body-rows}
 use Rattle.design_text.proofs.Named.{named-code, named-other, nowed, length-nowed, body-nowed}
 

@@ -12,7 +12,7 @@ use Rattle.rules.specs.Statements.{Statement}
 use Rattle.rules.specs.Judgement.{Past}
 use Rattle.rules.specs.Session.{Rename}
 use Rattle.rules.specs.Layout.{Memory, rooms}
-use Rattle.scanner.specs.Laws.{and-true-left}
+use Rattle.scanner.specs.Laws.{and-true-left, never}
 use Rattle.past.specs.Place.{placeOf}
 use Rattle.past.specs.Sizes.{sumsOf}
 use Rattle.past.specs.declared.place.Place.{Place}
@@ -20,7 +20,6 @@ use Rattle.past.specs.declared.sizes.Sizes.{Sizes}
 use Rattle.admitted.specs.Holds.{Holds}
 use Rattle.replay.specs.Begins.{Stored, Replays}
 use Rattle.replay.specs.declared.Replayed.{Replayed}
-use Rattle.replay.proofs.CodeLaws.{never}
 use Rattle.standing.specs.Judged.{Lies}
 use Rattle.held.specs.declared.Held.{Held}
 use Rattle.held.specs.declared.Renamed.{Renamed}

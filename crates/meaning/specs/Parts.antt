@@ -19,9 +19,9 @@ use Rattle.rules.specs.Signals.{Wires, literalWidth, wireBits, inside, span, wi
 use Rattle.rules.specs.Text.{Run, digits, runs, cut, runSig, runsSig, sig}
 use Rattle.admitted.specs.Admitted.{fineSignal}
 use Rattle.scanner.specs.Laws.{by-test, by-cond, and-true-left, and-true-right}
-use Rattle.admitted.specs.AdmitLaws.{all-append}
+use Rattle.scanner.specs.Lists.{all-append, length-wire}
 use Rattle.meaning.specs.Wires.{Sound, Located, located, at-past}
-use Rattle.meaning.specs.Bits.{runBits, allBits, runs-bits, widthAt, Inside, digits-in, span-in, AllInside, no-more, also, runs-inside, fill-all, length-wire, part-wire, lower-is}
+use Rattle.meaning.specs.Bits.{runBits, allBits, runs-bits, widthAt, Inside, digits-in, span-in, AllInside, no-more, also, runs-inside, fill-all, part-wire, lower-is}
 
 -- a part of a signal that no rule refuses
 unfoldable pub goodPart : Wires → Sig → Bool

@@ -13,7 +13,8 @@ use Rattle.rules.specs.Statements.{Statement, autoidx-stmt, attr-stmt, module-s
 use Rattle.rules.specs.Shapes.{Scope, top, inModule, inCell}
 use Rattle.rules.specs.Judgement.{Past, until, sum, outer, scope, context, ofModule, ofCell, ofObject, wires, among, count}
 use Rattle.past.specs.Place.{scopeCode, scopeOf, wiresIn, placeOf, contextOf, Bounds, scopeAfter, placeAfter}
-use Rattle.past.proofs.KindLaws.{by-test, is-code, count-one, count-le}
+use Rattle.scanner.specs.Laws.{by-test}
+use Rattle.past.proofs.KindLaws.{is-code, count-one, count-le}
 
 -- A measure of lists to which each element adds its own: over the last elements, and over those before them
 module _ {A : Type 0} (m : List A → ℕ) (g : A → ℕ) (none : m [] ≡ 0) (more : (x : A) (xs : List A) → m (x ∷ xs) ≡ m xs + g x) (f : A → Bool) where

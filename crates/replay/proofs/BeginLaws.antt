@@ -16,7 +16,8 @@ use Rattle.rules.specs.Signals.{Wires}
 use Rattle.rules.specs.Judgement.{Past, until, sum, among, count, ofModule, wires, signalSize, valueSize, stringSize, nameSize}
 use Rattle.rules.specs.Layout.{Rooms, Used, used, nameBytes, stringBytes, bitCodes, wireRows, statementRow, put}
 use Rattle.admitted.specs.Admitted.{fineWire, fineParts, admitted}
-use Rattle.admitted.specs.AdmitLaws.{fine-parts, admitted-before, admitted-last, all-append}
+use Rattle.scanner.specs.Lists.{all-append}
+use Rattle.admitted.specs.AdmitLaws.{fine-parts, admitted-before, admitted-last}
 use Rattle.tables.specs.Row.{rowAt}
 use Rattle.tables.specs.Flat.{flat, flat-append, flat-snoc, length-flat}
 use Rattle.scanner.specs.Laws.{by-test, and-true-left, and-true-right}

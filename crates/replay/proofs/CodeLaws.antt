@@ -4,7 +4,6 @@ use Prim.Native.Nat.{ℕ, _<_}
 use mathlib.Core.Path.{_≡_, refl, sym, ap, ap₂, _∙_}
 use mathlib.Core.List.{List, [], _∷_, _++_, map}
 use mathlib.Core.Bool.{Bool, true, false, _&&_}
-use native.Mathlib.Omega.{arith}
 use lib.Dec.{leb, ltb}
 use lib.ListN.{length, take, drop, getD, length-map}
 use borrow.Author.Tests.{ltb-true, lt-ltb, ne-eqb}
@@ -19,14 +18,11 @@ use Rattle.tables.specs.declared.Row.{Row}
 use Rattle.numbers.specs.Kinds.{digitOf, bitOf, bitAt}
 use Rattle.numbers.specs.KindLaws.{digit-code, code-digit, code-back}
 use Rattle.numbers.specs.SignedLaws.{word-signed, signed-int32}
-use Rattle.scanner.specs.Laws.{and-true-left, and-true-right}
+use Rattle.scanner.specs.Laws.{and-true-left, and-true-right, never}
 use Rattle.replay.specs.Parts.{span, whole, isDigit, digitsStand, textStands, signalOf, signalStands}
 use Rattle.replay.specs.Reads.{constantOf, TellsConstant}
 use Rattle.replay.specs.declared.statements.Held.{Held}
 use Rattle.replay.proofs.Spans.{whole-long, long-whole, has-none, has-span, span-has, has-whole}
-
-pub never : {P : Type 0} (b : Bool) → b ≡ true → b ≡ false → P
-never b t f = let z : _≡_ {A = ℕ} 0 1 = cc in absurd (omega arith)
 
 -- codes of digits are those of the digits that they mean, and digits have such codes
 pub digits-back : (cs : List ℕ) → all isDigit cs ≡ true → map digitCode (map digitOf cs) ≡ cs

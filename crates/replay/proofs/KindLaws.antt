@@ -19,12 +19,11 @@ use Rattle.admitted.specs.Admitted.{fineMemory, sameLength, fineParts}
 use Rattle.tables.specs.Row.{words}
 use Rattle.tables.specs.declared.Row.{Row}
 use Rattle.numbers.specs.SignedLaws.{word-signed, signed-int32}
-use Rattle.scanner.specs.Laws.{by-test, and-true-left, and-true-right}
+use Rattle.scanner.specs.Laws.{by-test, and-true-left, and-true-right, never}
 use Rattle.replay.specs.Parts.{span, nameStands}
 use Rattle.replay.specs.Reads.{Tables, tabled, constantOf, optionalOf, sortOf, memoryOf, statementBy, statementOf, Reads, Tells, TellsNamed, TellsValued, TellsAutoidx, TellsEnd, TellsMemory, TellsCell, TellsParameter, TellsCellParameter}
 use Rattle.replay.specs.declared.statements.Found.{Found}
 use Rattle.replay.proofs.Spans.{has-none, has-span, spans}
-use Rattle.replay.proofs.CodeLaws.{never}
 use Rattle.replay.proofs.ReadLaws.{settled, name-legal, name-long, name-not}
 
 -- ---- a statement without parts

@@ -13,7 +13,7 @@ use Rattle.rules.specs.Judgement.{Past}
 use Rattle.rules.specs.Layout.{used, statementRow}
 use Rattle.admitted.specs.Admitted.{admits, admitted, closes}
 use Rattle.admitted.specs.AdmitLaws.{admitted-before, admitted-few, admitted-within}
-use Rattle.scanner.specs.Laws.{and-true-right}
+use Rattle.scanner.specs.Laws.{and-true-right, never}
 use Rattle.wires.specs.Rows.{wordAt, column}
 use Rattle.wires.specs.RowLaws.{row-taken}
 use Rattle.netlist.specs.Rows.{kindAt}
@@ -30,7 +30,6 @@ use Rattle.replay.specs.Begins.{Fronts, isStatement, Stored, Replays}
 use Rattle.replay.specs.Turns.{closesAt, Ready, Reached, TurnIs}
 use Rattle.replay.specs.declared.Replayed.{Replayed}
 use Rattle.replay.specs.declared.turns.Turn.{Turn}
-use Rattle.replay.proofs.CodeLaws.{never}
 use Rattle.replay.proofs.BeginLaws.{fronts-before, fronts-stand}
 use Rattle.replay.proofs.TurnLaws.{closes-place}
 

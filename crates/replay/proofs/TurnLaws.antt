@@ -20,7 +20,7 @@ use Rattle.admitted.specs.Admitted.{stands, fineParts, admits, admitted, closes
 use Rattle.admitted.specs.AdmitLaws.{admits-all, admitted-offsets}
 use Rattle.tables.specs.Row.{words, rowAt}
 use Rattle.tables.specs.declared.Row.{Row}
-use Rattle.scanner.specs.Laws.{by-test, and-true-left, and-true-right}
+use Rattle.scanner.specs.Laws.{by-test, and-true-left, and-true-right, never}
 use Rattle.wires.specs.Rows.{wiresFrom}
 use Rattle.wires.specs.RowLaws.{RowIs, row-taken}
 use Rattle.netlist.specs.Rows.{nameAt, namesBetween}
@@ -43,7 +43,6 @@ use Rattle.replay.specs.Begins.{Fronts}
 use Rattle.replay.specs.Turns.{usedAt, standsAt, closesAt, Reached, TurnIs, Told, Rowed, CountsAs, Counted, smallParts}
 use Rattle.replay.specs.declared.statements.Found.{Found}
 use Rattle.replay.specs.declared.turns.Turn.{Turn}
-use Rattle.replay.proofs.CodeLaws.{never}
 use Rattle.replay.proofs.UniqueLaws.{narrow, read-only}
 use Rattle.replay.proofs.BeginLaws.{Stands, fronts-stand, stand-fronts, fronts-laid, fronts-wired, stand-long, stand-reads, reads-stand, used-past, narrow-past}
 

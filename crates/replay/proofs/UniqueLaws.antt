@@ -23,13 +23,13 @@ use Rattle.numbers.specs.Kinds.{digitOf, bitOf, bitAt}
 use Rattle.numbers.specs.KindLaws.{Within, digit-back, bit-back}
 use Rattle.numbers.specs.Signed.{signedOf}
 use Rattle.numbers.specs.SignedLaws.{signed-word}
-use Rattle.scanner.specs.Laws.{and-true-left, and-true-right}
+use Rattle.scanner.specs.Laws.{and-true-left, and-true-right, never}
 use Rattle.wires.specs.RowLaws.{row-taken, row-wire}
 use Rattle.wires.specs.StoreLaws.{length-wire-row}
 use Rattle.replay.specs.Parts.{span, signalOf}
 use Rattle.replay.specs.Reads.{Tables, Has, constantOf, optionalOf, sortOf, memoryOf, statementBy, statementOf, ReadsConstant, Reads}
 use Rattle.replay.proofs.Spans.{span-has, has-first, has-second}
-use Rattle.replay.proofs.CodeLaws.{never, columns-read}
+use Rattle.replay.proofs.CodeLaws.{columns-read}
 use Rattle.replay.proofs.KindLaws.{row-zero, sort-read}
 
 -- ---- bits

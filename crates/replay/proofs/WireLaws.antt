@@ -20,14 +20,14 @@ use Rattle.tables.specs.Row.{words, rowAt, words-rowAt}
 use Rattle.tables.specs.declared.Row.{Row}
 use Rattle.numbers.specs.Signed.{signedOf}
 use Rattle.numbers.specs.SignedLaws.{word-signed}
-use Rattle.scanner.specs.Laws.{by-test, same-refl, same-eq, and-true-left, and-true-right}
+use Rattle.scanner.specs.Laws.{by-test, same-refl, same-eq, and-true-left, and-true-right, never}
 use Rattle.wires.specs.Rows.{wordAt, column, portOf, wireOf, wiresFrom}
 use Rattle.wires.specs.StoreLaws.{length-wire-row}
 use Rattle.replay.specs.Parts.{span, nameStands, signalOf, signalStands}
 use Rattle.replay.specs.Reads.{tabled, Has, Decides, Reads, Tells, TellsWire, TellsCellConnection, TellsConnection, WireRowStands}
 use Rattle.replay.specs.declared.statements.Found.{Found}
 use Rattle.replay.proofs.Spans.{whole-long, has-none, has-span, spans}
-use Rattle.replay.proofs.CodeLaws.{never, codes-back, length-signal, signal-fine, signal-whole, signal-long}
+use Rattle.replay.proofs.CodeLaws.{codes-back, length-signal, signal-fine, signal-whole, signal-long}
 use Rattle.replay.proofs.ReadLaws.{settled, name-legal, name-long, name-not}
 
 -- a signal that stands there has as many bits as its row says, and keeps the rules

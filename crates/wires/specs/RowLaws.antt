@@ -19,6 +19,7 @@ use Rattle.tables.specs.Padded.{padded-getD}
 use Rattle.tables.specs.Row.{words-rowAt}
 use Rattle.tables.specs.Flat.{flat, Eights, length-flat, words-flat}
 use Rattle.scanner.specs.Laws.{by-test}
+use Rattle.scanner.specs.Lists.{element-behind}
 use Rattle.numbers.specs.SignedLaws.{signed-word}
 use Rattle.wires.specs.Rows.{wordAt, column, nameOf, portOf, wireOf, wiresFrom}
 
@@ -121,10 +122,6 @@ row-padded n rs k h l c b =
     ∙ row-taken (flat rs) k (getD rs k []) (sym (words-rowAt (flat rs) (8 * k) (omega arith)) ∙ words-flat rs k h l) c b
 
 -- wire j of the module, in the order of the rows, is row first + j
-behind-reverse : (l r : Wires) (i n : ℕ) → n ≡ length l + i → getElem? (reverseAux l r) n ≡ getElem? r i
-behind-reverse [] r i n e = let q : n ≡ i = omega arith in rw q
-behind-reverse (x ∷ l) r i n e = behind-reverse l (x ∷ r) (suc i) n (omega arith)
-
 module _ (names t : List ℕ) (first j : ℕ) where
   numbered : (count : ℕ) (r : Wires) → j < count → getElem? (reverseAux (wiresFrom names t first count) r) j ≡ some (nameOf names t (first + j), wireOf t (first + j))
   unfolding wiresFrom
@@ -132,7 +129,7 @@ module _ (names t : List ℕ) (first j : ℕ) where
   numbered (suc k) r h =
       by-test (ltb j k) (λ e. numbered k _ (ltb-true j k e))
       (λ e. let q : j ≡ k = omega (arith, ltb-false j k e) in
-      behind-reverse (wiresFrom names t first k) _ 0 j (omega (arith, length-wires names t first k)) ∙ rw q)
+      element-behind (wiresFrom names t first k) _ 0 j (omega (arith, length-wires names t first k)) ∙ rw q)
 
   pub wire-numbered : (count : ℕ) → j < count → getElem? (reverse (wiresFrom names t first count)) j ≡ some (nameOf names t (first + j), wireOf t (first + j))
   wire-numbered count h = numbered count [] h

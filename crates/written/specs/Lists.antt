@@ -1,7 +1,7 @@
 -- Tests over lists, and runs.
 -- Assumes nothing.
 use mathlib.Core.Path.{_≡_, refl}
-use mathlib.Core.Bool.{Bool, true, false, _&&_, false≢true}
+use mathlib.Core.Bool.{Bool, true, false, false≢true}
 use mathlib.Core.List.{List, [], _∷_, _++_, map}
 use Prim.Native.Nat.{ℕ, zero, suc, _<_, _≤_}
 use lib.Dec.{eqb, leb}
@@ -22,11 +22,6 @@ module _ {A : Type 0} (f : A → Bool) where
   pub all-later : (x : A) (xs : List A) → all f (x ∷ xs) ≡ true → all f xs ≡ true
   unfolding all
   all-later x xs h = and-true-right (f x) (all f xs) h
-
-  pub all-split : (xs ys : List A) → all f (xs ++ ys) ≡ all f xs && all f ys
-  unfolding all
-  all-split [] ys = refl
-  all-split (x ∷ xs) ys = by-test (f x) (λ e. rw (e, all-split xs ys)) (λ e. rw e)
 
   pub all-drop : (n : ℕ) (xs : List A) → all f xs ≡ true → all f (drop n xs) ≡ true
   all-drop zero xs h = h
