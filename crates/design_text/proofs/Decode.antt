@@ -16,16 +16,16 @@ use Rattle.rules.specs.Statements.{Sort, plain, signed, real, Statement, Consta
 use Rattle.rules.specs.Signals.{Wires, twosComplement}
 use Rattle.rules.specs.Numbers.{int32}
 use Rattle.rules.specs.Judgement.{Past, until, ofModule, wires}
-use Rattle.rules.specs.Layout.{Used, used, padded, row, digitCode, bitCode, nameBytes, stringBytes, bitCodes, wireRow, constantColumns, sortCode, columns, statementRow}
+use Rattle.rules.specs.Layout.{Used, padded, row, digitCode, bitCode, nameBytes, stringBytes, bitCodes, wireRow, constantColumns, sortCode, columns, statementRow}
 use Rattle.scanner.specs.Laws.{by-test, and-true-left, and-true-right}
 use Rattle.numbers.specs.Kinds.{digitOf, bitOf, bitAt}
 use Rattle.numbers.specs.KindLaws.{Within, digit-back, bit-back}
 use Rattle.numbers.specs.Signed.{signedOf}
 use Rattle.numbers.specs.SignedLaws.{signed-word}
-use Rattle.wires.specs.Rows.{column, wireOf}
+use Rattle.wires.specs.Rows.{column, wireOf, spanAt}
 use Rattle.wires.specs.RowLaws.{slice-span, RowIs, row-wire}
 use Rattle.netlist.specs.Rows.{kindAt, nameFrom}
-use Rattle.netlist.specs.Statements.{spanAt, constantAt, optionalAt, signalAt, memoryAt, sortAt, statementBy, statementAt}
+use Rattle.netlist.specs.Statements.{constantAt, optionalAt, signalAt, memoryAt, sortAt, statementBy, statementAt}
 use Rattle.admitted.specs.Admitted.{fineConstant, fineMemory, fineBit, fineSignal, fineWire, fineParts, admitted}
 use Rattle.admitted.specs.AdmitLaws.{fine-parts, fine-fits, admitted-before, admitted-last}
 use Rattle.design_text.specs.Rows.{Tables}
@@ -129,7 +129,7 @@ module _ (t rows : List ℕ) (k c at n : ℕ) (xs : List ℕ) (ea : column rows 
   span-has = rw (ea, en, e) (slice-span at (length xs) t ∙ h)
 
   pub name-has : nameFrom t rows k c ≡ xs
-  unfolding nameFrom
+  unfolding nameFrom spanAt
   name-has = rw (ea, en, e) (slice-span at (length xs) t ∙ h)
 
 -- ---- a statement's parts in the tables, behind what is used of them

@@ -11,3 +11,5 @@ pub mod SpaceLaws
 pub mod WireLaws
 pub mod Found
 pub mod FoundLaws
+pub mod Used
+pub mod UsedLaws

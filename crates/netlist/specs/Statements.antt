@@ -5,16 +5,11 @@ use mathlib.Core.List.{List, map}
 use mathlib.Core.Option.{Option, none, some}
 use mathlib.Core.Bool.{cond}
 use lib.Dec.{eqb}
-use lib.Seq.{slice}
 use Rattle.rules.specs.Statements.{Sort, Constant, value, integer, string, Signal, Memory, Statement, autoidx-stmt, attr-stmt, module-stmt, param-stmt, wire-stmt, memory-stmt, cell-stmt, cell-param-stmt, cell-conn-stmt, conn-stmt, end-stmt}
 use Rattle.numbers.specs.Kinds.{digitOf, bitOf, bitAt}
 use Rattle.numbers.specs.Signed.{signedOf}
-use Rattle.wires.specs.Rows.{column, wireOf}
+use Rattle.wires.specs.Rows.{column, spanAt, wireOf}
 use Rattle.netlist.specs.Rows.{kindAt, nameFrom}
-
--- what stands in a table from the place in column c on, as much as column c + 1 says
-unfoldable pub spanAt : (table rows : List ℕ) → (row c : ℕ) → List ℕ
-spanAt t rows k c = slice (column rows k c) (column rows k c + column rows k (c + 1)) t
 
 -- the constant of three columns: its kind, 1 a value, 2 an integer, else a string; then its span, or the integer
 unfoldable pub constantAt : (strings bits rows : List ℕ) → (row c : ℕ) → Constant

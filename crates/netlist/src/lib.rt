@@ -1,3 +1,4 @@
 // The statements of a design in the table of rows.
 pub mod rows;
 pub mod spaces;
+pub mod used;

@@ -35,9 +35,9 @@ use Rattle.past.proofs.PlaceLaws.{context-is}
 use Rattle.admitted.specs.AcceptedLaws.{none-accepted}
 use Rattle.netlist.specs.Laid.{roomsOf}
 use Rattle.netlist.specs.LaidLaws.{rooms-past}
+use Rattle.netlist.specs.UsedLaws.{used-past}
 use Rattle.layout.specs.Put.{Tables, tablesOf}
-use Rattle.layout.specs.Stored.{tabled, Sized, usedBy}
-use Rattle.layout.proofs.PastLaws.{used-past}
+use Rattle.layout.specs.Stored.{tabled, Sized}
 use Rattle.reader.specs.Read.{Result, result, lent, rightSizes, rightLengths, leaves, readInto}
 use Rattle.reader.specs.Steps.{lineOf, LineFits, Done, Goes, StepIs, StepAs, refusalOf, finishOf, Landed}
 use Rattle.reader.specs.declared.Step.{Step}
@@ -191,7 +191,7 @@ module _ {f tokens scratch : List ℕ} {p : Place} {u : Sizes} {t : Tables} {at 
   ends = rw (context-is (r .past), r .done .place-is, top-scope (p .scope))
 
   room-used : u .«name_bytes» ≡ length (putAll empty (reverse (r .past)) .names)
-  unfolding used usedBy
+  unfolding used
   room-used =
       rw (rooms-past (r .past), ← r .done .sums-are) (sym (ap (λ (v : layouts.Used). v .names) (used-past (r .past))))
 

@@ -2,9 +2,9 @@
 use judgement::Judged;
 use judgement::judge_line;
 use layout::put_statement;
-use layout::used_from;
 use lexer::Lexed;
 use lexer::lex_line;
+use netlist::used::used_from;
 use past::place::Place;
 use past::place::after;
 use past::place::start;

@@ -21,7 +21,7 @@ use Rattle.tables.specs.Flat.{flat, Eights, length-flat, words-flat}
 use Rattle.scanner.specs.Laws.{by-test}
 use Rattle.scanner.specs.Lists.{element-behind}
 use Rattle.numbers.specs.SignedLaws.{signed-word}
-use Rattle.wires.specs.Rows.{wordAt, column, nameOf, portOf, wireOf, wiresFrom}
+use Rattle.wires.specs.Rows.{wordAt, column, nameOf, portOf, wireOf, wiresFrom, spanAt}
 
 pub length-wires : (names t : List ℕ) (first count : ℕ) → length (wiresFrom names t first count) ≡ count
 unfolding wiresFrom
@@ -82,7 +82,7 @@ module _ (t : List ℕ) (k : ℕ) (u : Used) (n : Name) (w : Wire) (h : RowIs t 
       rw (h 3 (omega arith), h 4 (omega arith), h 6 (omega arith), flags-are, f .0, f .1, f .2, bool-code (w .upto), bool-code (w .signed), port-back, signed-word (w .offset) o)
 
   pub row-name : (names : List ℕ) → take (length n) (drop (u .names) names) ≡ n → nameOf names t k ≡ n
-  unfolding wireRow row padded nameOf
+  unfolding wireRow row padded nameOf spanAt
   row-name names e = rw (h 1 (omega arith), h 2 (omega arith)) (slice-span (u .names) (length n) names ∙ e)
 
 -- wires are the same where their names and their rows' wires are
@@ -104,7 +104,7 @@ module _ (names t t′ : List ℕ) (first count : ℕ) (h : (i : ℕ) → 8 * fi
   same-column k c l b = h (8 * (first + k) + c) (omega arith) (omega arith)
 
   pub wires-rows : wiresFrom names t first count ≡ wiresFrom names t′ first count
-  unfolding nameOf wireOf
+  unfolding nameOf spanAt wireOf
   wires-rows =
       wires-same names names t t′ first count (λ k l. rw (same-column k 1 l (omega arith), same-column k 2 l (omega arith)))
       (λ k l. rw (same-column k 3 l (omega arith), same-column k 4 l (omega arith), same-column k 5 l (omega arith), same-column k 6 l (omega arith)))

@@ -2,9 +2,8 @@
 -- Assumes nothing.
 use mathlib.Core.Path.{_≡_, refl, sym, _∙_}
 use Prim.Native.Nat.{suc, _-_, _≤_}
-use Rattle.wires.specs.Rows.{nameOf}
+use Rattle.wires.specs.Rows.{nameOf, spanAt}
 use Rattle.netlist.specs.Rows.{nameFrom}
-use Rattle.netlist.specs.Statements.{spanAt}
 use Rattle.line_text.specs.Now.{nameNow}
 use Rattle.line_text.specs.NowLaws.{name-last, name-before, name-own}
 use native.Mathlib.Omega.{arith}

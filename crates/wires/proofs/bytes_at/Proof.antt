@@ -1,9 +1,9 @@
--- A span is cut as the decoder cuts it.
+-- `bytes_at` meets its contract: the columns lie in the row.
 -- Assumes nothing.
-use Rattle.netlist.specs.Statements.{spanAt}
+use Rattle.wires.specs.Rows.{spanAt}
 use borrow.Author.Needs.{needs}
-use Rattle.line_text.proofs.bytes_at.Statement.{statement}
-use Rattle.line_text.proofs.bytes_at.Tie as tie
+use Rattle.wires.proofs.bytes_at.Statement.{statement}
+use Rattle.wires.proofs.bytes_at.Tie as tie
 
 column-requires : tie.Need-column-requires
 column-requires c κs = search needs
