@@ -31,12 +31,13 @@ use Rattle.admitted.specs.Holds.{Allowed, Holds}
 use Rattle.netlist.specs.Laid.{roomsOf, Laid, Wired}
 use Rattle.netlist.specs.LaidLaws.{laid-padded, laid-renames, eights-rows}
 use Rattle.netlist.specs.WireLaws.{wired-padded, wired-renames, eights-wires}
+use Rattle.netlist.specs.Used.{usedBy}
 use Rattle.replay.specs.Reads as tables
 use Rattle.replay.specs.Begins.{Fronts, isStatement, Stored}
-use Rattle.replay.specs.Turns.{usedAt}
-use Rattle.replay.proofs.BeginLaws.{used-past}
+use Rattle.netlist.specs.UsedLaws.{used-past}
 use Rattle.standing.specs.Judged.{Lies}
-use Rattle.standing.specs.RoomLaws.{rooms-file, room-used}
+use Rattle.netlist.specs.RoomLaws.{rooms-file, Kept, renames-keep}
+use Rattle.standing.specs.RoomLaws.{room-used}
 use Rattle.held.specs.Renamed.{isRename}
 use Rattle.held.specs.Held.{rightSizes, zeroFrom, restZero}
 use Rattle.held.specs.AllowedLaws.{allowed-few, allowed-room}
@@ -47,16 +48,6 @@ abbrev pub partsOf : layouts.Memory → tables.Tables
 partsOf m = tables.tabled (m .names) (m .strings) (m .bits) (m .wires)
 
 -- WHAT RENAMES LEAVE as it is
-record Kept (R S : Rooms) : Type 0 where
-  strings : S .strings ≡ R .strings
-  bits : S .bits ≡ R .bits
-  wires : S .wires ≡ R .wires
-
-renames-keep : (R : Rooms) (rs : List Rename) → Kept R (putRenames R rs)
-unfolding putRenames putRename
-renames-keep R [] = record { strings = refl; bits = refl; wires = refl }
-renames-keep R (r ∷ rs) = let k = renames-keep (putRename R r) rs in record { strings = k .strings; bits = k .bits; wires = k .wires }
-
 file-keeps : (ss : List Statement) (rs : List Rename) → Kept (roomsOf (reverse ss)) (rooms ss rs)
 file-keeps ss rs = subst (Kept (roomsOf (reverse ss))) (sym (rooms-file ss rs)) (renames-keep (roomsOf (reverse ss)) rs)
 
@@ -68,8 +59,8 @@ pub record Sized (S : Rooms) (p : Place) (u : Sizes) (many : ℕ) : Type 0 where
   pub rows : length (flat (S .rows)) ≡ 8 * (p .rows + many)
 
 module _ (ss : List Statement) (rs : List Rename) (p : Place) (u : Sizes) (many : ℕ) (ep : placeOf (reverse ss) ≡ p) (eu : sumsOf (reverse ss) ≡ u) where
-  used-is : used (roomsOf (reverse ss)) ≡ usedAt p u
-  used-is = used-past (reverse ss) ∙ ap₂ usedAt ep eu
+  used-is : used (roomsOf (reverse ss)) ≡ usedBy p u
+  used-is = used-past (reverse ss) ∙ ap₂ usedBy ep eu
 
   rows-is : length (reverse ss) ≡ p .rows
   unfolding placeOf

@@ -13,3 +13,5 @@ pub mod Found
 pub mod FoundLaws
 pub mod Used
 pub mod UsedLaws
+pub mod RoomLaws
+pub mod Spans

@@ -25,7 +25,8 @@ use Rattle.past.specs.Sizes.{sumsOf, Within}
 use Rattle.past.specs.declared.place.Place.{Place}
 use Rattle.past.specs.declared.sizes.Sizes.{Sizes}
 use Rattle.past.proofs.PlaceLaws.{bounds}
-use Rattle.replay.specs.Reads.{Tables, Has}
+use Rattle.netlist.specs.Spans.{Has}
+use Rattle.replay.specs.Reads.{Tables}
 use Rattle.replay.specs.Begins.{Fronts, isStatement, Stored, Replays}
 use Rattle.replay.specs.Turns.{closesAt, Ready, Reached, TurnIs}
 use Rattle.replay.specs.declared.Replayed.{Replayed}
@@ -91,7 +92,7 @@ statement-kind aProcess = refl
 statement-kind anEnd = refl
 
 -- behind the statements stands the row of the next
-next-kind : (t : Tables) (rows : List ℕ) (x : Statement) (ss : Past) → Fronts (roomsOf (x ∷ ss)) t rows → isStatement (wordAt rows (8 * length (roomsOf ss .rows))) ≡ true
+pub next-kind : (t : Tables) (rows : List ℕ) (x : Statement) (ss : Past) → Fronts (roomsOf (x ∷ ss)) t rows → isStatement (wordAt rows (8 * length (roomsOf ss .rows))) ≡ true
 unfolding Has used kindAt column
 next-kind t rows x ss f =
     let R = roomsOf ss in

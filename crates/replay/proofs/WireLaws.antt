@@ -24,7 +24,8 @@ use Rattle.scanner.specs.Laws.{by-test, same-refl, same-eq, and-true-left, and-
 use Rattle.wires.specs.Rows.{wordAt, column, portOf, wireOf, wiresFrom}
 use Rattle.wires.specs.StoreLaws.{length-wire-row}
 use Rattle.replay.specs.Parts.{span, nameStands, signalOf, signalStands}
-use Rattle.replay.specs.Reads.{tabled, Has, Decides, Reads, Tells, TellsWire, TellsCellConnection, TellsConnection, WireRowStands}
+use Rattle.netlist.specs.Spans.{Has}
+use Rattle.replay.specs.Reads.{tabled, Decides, Reads, Tells, TellsWire, TellsCellConnection, TellsConnection, WireRowStands}
 use Rattle.replay.specs.declared.statements.Found.{Found}
 use Rattle.replay.proofs.Spans.{whole-long, has-none, has-span, spans}
 use Rattle.replay.proofs.CodeLaws.{codes-back, length-signal, signal-fine, signal-whole, signal-long}

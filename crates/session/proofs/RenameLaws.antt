@@ -20,7 +20,7 @@ use Rattle.tables.specs.Flat.{flat, Eights, flat-snoc, length-flat, store-row}
 use Rattle.scanner.specs.Lists.{drop-last}
 use Rattle.scanner.specs.Laws.{or-false-left, or-false-right}
 use Rattle.reader.specs.Read.{lent}
-use Rattle.standing.specs.RoomLaws.{length-rename-row}
+use Rattle.netlist.specs.RoomLaws.{length-rename-row}
 use Rattle.standing.specs.JudgedLaws.{legal-short}
 use Rattle.held.specs.RenameLaws.{file-last}
 

@@ -16,7 +16,7 @@ use Rattle.netlist.specs.LaidLaws.{list-behind, row-behind, laid-rename}
 use Rattle.designs.specs.Now as designs
 use Rattle.designs.specs.NowLaws.{name-last}
 use Rattle.line_text.specs.Now as rows
-use Rattle.standing.specs.RoomLaws.{put-renames-last, length-rename-row, rename-rows, eights-renames}
+use Rattle.netlist.specs.RoomLaws.{put-renames-last, length-rename-row, rename-rows, eights-renames}
 
 -- what a rename's row holds
 module _ (t : List ℕ) (k at : ℕ) (r : Rename) (h : RowIs t k (renameRow at r)) where

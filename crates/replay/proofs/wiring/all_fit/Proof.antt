@@ -13,8 +13,8 @@ use Rattle.numbers.specs.Kinds.{bitOf, bitAt}
 use Rattle.wires.specs.Rows.{wiresFrom}
 use Rattle.replay.proofs.Spans.{all-more, all-stop, all-end}
 use borrow.Author.Needs.{needs}
-use Rattle.replay.proofs.signals.all_fit.Statement.{statement}
-use Rattle.replay.proofs.signals.all_fit.Tie as tie
+use Rattle.replay.proofs.wiring.all_fit.Statement.{statement}
+use Rattle.replay.proofs.wiring.all_fit.Tie as tie
 
 abbrev Inv-loop : tie.InvT-loop
 Inv-loop wires first count bits from to i₀ i = (names : List ℕ) → all (λ x. fineBit (wiresFrom names wires first count) (bitOf (bitAt x))) (slice from to bits) ≡ all (λ x. fineBit (wiresFrom names wires first count) (bitOf (bitAt x))) (slice i to bits)

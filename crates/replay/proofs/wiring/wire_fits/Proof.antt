@@ -6,8 +6,8 @@ use native.Mathlib.Omega.{arith}
 use borrow.Author.Tests.{not-true, not-false}
 use Rattle.replay.proofs.SignalLaws.{wire-wide, wire-far, wire-plain, wire-zero, wire-high, wire-port}
 use borrow.Author.Needs.{needs}
-use Rattle.replay.proofs.signals.wire_fits.Statement.{statement}
-use Rattle.replay.proofs.signals.wire_fits.Tie as tie
+use Rattle.replay.proofs.wiring.wire_fits.Statement.{statement}
+use Rattle.replay.proofs.wiring.wire_fits.Tie as tie
 
 mul-at : tie.Need-mul-at
 mul-at c = search needs

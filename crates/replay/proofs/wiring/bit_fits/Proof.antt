@@ -2,8 +2,8 @@
 -- Assumes nothing.
 use Rattle.replay.proofs.SignalLaws.{fits-digit, fits-past, fits-inside}
 use borrow.Author.Needs.{needs}
-use Rattle.replay.proofs.signals.bit_fits.Statement.{statement}
-use Rattle.replay.proofs.signals.bit_fits.Tie as tie
+use Rattle.replay.proofs.wiring.bit_fits.Statement.{statement}
+use Rattle.replay.proofs.wiring.bit_fits.Tie as tie
 
 decode-requires : tie.Need-decode-requires
 decode-requires c κs = search needs

@@ -7,8 +7,8 @@ use borrow.Author.Tests.{not-true, not-false}
 use Rattle.replay.proofs.Spans.{whole-inside}
 use Rattle.replay.proofs.PartLaws.{signal-out, signal-wide, signal-in, signal-none}
 use borrow.Author.Needs.{needs}
-use Rattle.replay.proofs.signals.signal_stands.Statement.{statement}
-use Rattle.replay.proofs.signals.signal_stands.Tie as tie
+use Rattle.replay.proofs.wiring.signal_stands.Statement.{statement}
+use Rattle.replay.proofs.wiring.signal_stands.Tie as tie
 
 is-whole-requires : tie.Need-is-whole-requires
 is-whole-requires c κs = search needs
