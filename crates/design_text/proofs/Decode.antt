@@ -10,7 +10,7 @@ use lib.Dec.{eqb, leb}
 use lib.ListN.{length, length-map}
 use Rattle.rules.specs.Bytes.{all, within}
 use Rattle.rules.specs.Tokens.{Name}
-use Rattle.rules.specs.Statements.{Sort, plain, signed, real, Statement, Constant, value, integer, string, digitsOf, bytesOf, Wire, Memory, Signal, aProcess, is, contents, holds, code, autoidx-stmt, attr-stmt, module-stmt, param-stmt, wire-stmt, memory-stmt, cell-stmt, cell-param-stmt, cell-conn-stmt, conn-stmt, proc-stmt, end-stmt}
+use Rattle.rules.specs.Statements.{Sort, Statement, Constant, value, integer, string, digitsOf, bytesOf, Wire, Memory, Signal, aProcess, is, contents, holds, code, autoidx-stmt, attr-stmt, module-stmt, param-stmt, wire-stmt, memory-stmt, cell-stmt, cell-param-stmt, cell-conn-stmt, conn-stmt, proc-stmt, end-stmt}
 use Rattle.rules.specs.Signals.{Wires, twosComplement}
 use Rattle.rules.specs.Numbers.{int32}
 use Rattle.rules.specs.Judgement.{wires}
@@ -19,6 +19,7 @@ use Rattle.scanner.specs.Laws.{and-true-left, and-true-right}
 use Rattle.numbers.specs.Kinds.{digitOf, bitOf, bitAt}
 use Rattle.numbers.specs.Signed.{signedOf}
 use Rattle.numbers.specs.SignedLaws.{signed-word}
+use Rattle.numbers.specs.KindLaws.{sort-back}
 use Rattle.wires.specs.Rows.{column, wireOf, spanAt}
 use Rattle.wires.specs.RowLaws.{slice-span, RowIs, row-wire}
 use Rattle.netlist.specs.Rows.{kindAt, nameFrom}
@@ -84,10 +85,8 @@ module _ (strings bits rows : List ℕ) (k : ℕ) (u : Used) where
   constant-there (string s) h = rw (h .0)
 
 sort-is : (rows : List ℕ) (k : ℕ) (o : Sort) → column rows k 6 ≡ sortCode o → sortAt rows k 6 ≡ o
-unfolding sortAt sortCode
-sort-is rows k plain e = rw e
-sort-is rows k signed e = rw e
-sort-is rows k real e = rw e
+unfolding sortAt
+sort-is rows k o e = rw e (sort-back o)
 
 -- ---- THE STATEMENT OF A ROW
 module _ (t : Tables) (u : Used) (ws : Wires) (wide : narrow ws ≡ true) (k : ℕ) where

@@ -150,7 +150,7 @@ module _ {t : Tables} (rs : List Rename) (F : Past) (b : Begun (putRenames (room
       statementNow (t .names) (t .strings) (t .bits) (t .wires) (t .rows) m (length ps) ≡ some (named (nameNow rs (m .number .0) n) s)
   unfolding named
   named-row s ps n (a-wire w x) bs e h = wire-row w x ps n bs e h
-  named-row s ps n (no-wire o) bs e h = plain-row m s ps bs e o ∙ ap some (sym (named-other (nameNow rs (m .number .0) n) s o))
+  named-row s ps n (no-wire o z) bs e h = plain-row m s ps bs e o ∙ ap some (sym (named-other (nameNow rs (m .number .0) n) s o))
 
   -- THE ROWS OF A MODULE
   rowed :

@@ -305,25 +305,14 @@ fn put_signal(
 }
 
 // Options, with defaults left out.
-fn put_width(out: &mut [u8], at: usize, n: u32) -> usize
+fn put_setting(out: &mut [u8], at: usize, w: &[u8], n: u32, usual: u32) -> usize
     requires { ⌜ at ≤ 32769 ⌝ }
-    ensures { λ r. ⌜ Written at (spread (optionTokens (unless (eqb n 1) (setting "width" (pos n))))) (now (out .entry)) (now (out .exit)) r ⌝ }
+    ensures { λ r. ⌜ Written at (spread (optionTokens (unless (eqb n usual) (now (w .entry), some (pos n))))) (now (out .entry)) (now (out .exit)) r ⌝ }
 {
-    if n == 1 {
+    if n == usual {
         return at;
     }
-    let end = put_bytes(out, at, b" width");
-    put_number(out, end, n)
-}
-
-fn put_size(out: &mut [u8], at: usize, n: u32) -> usize
-    requires { ⌜ at ≤ 32769 ⌝ }
-    ensures { λ r. ⌜ Written at (spread (optionTokens (unless (eqb n 0) (setting "size" (pos n))))) (now (out .entry)) (now (out .exit)) r ⌝ }
-{
-    if n == 0 {
-        return at;
-    }
-    let end = put_bytes(out, at, b" size");
+    let end = put_token(out, at, w);
     put_number(out, end, n)
 }
 
@@ -373,7 +362,7 @@ fn put_wire_options(wires: &[u32], row: usize, out: &mut [u8], at: usize) -> usi
     ensures { λ r. ⌜ Written at (spread (optionTokens (wireOptions (wireOf (now (wires .entry)) row)))) (now (out .entry)) (now (out .exit)) r ⌝ }
 {
     let flags = column(wires, row, 5);
-    let width = put_width(out, at, column(wires, row, 3));
+    let width = put_setting(out, at, b"width", column(wires, row, 3), 1);
     let offset = put_offset(out, width, column(wires, row, 4));
     let upto = put_flag(out, offset, flags % 2 == 1, b"upto");
     let port = put_port(out, upto, flags / 4, column(wires, row, 6));
@@ -384,8 +373,8 @@ fn put_memory_options(rows: &[u32], row: usize, out: &mut [u8], at: usize) -> us
     requires { ⌜ (at ≤ 32769) × (row < 8589934592) ⌝ }
     ensures { λ r. ⌜ Written at (spread (optionTokens (memoryOptions (memoryAt (now (rows .entry)) row)))) (now (out .entry)) (now (out .exit)) r ⌝ }
 {
-    let width = put_width(out, at, column(rows, row, 3));
-    let size = put_size(out, width, column(rows, row, 4));
+    let width = put_setting(out, at, b"width", column(rows, row, 3), 1);
+    let size = put_setting(out, width, b"size", column(rows, row, 4), 0);
     put_offset(out, size, column(rows, row, 5))
 }
 

@@ -90,3 +90,10 @@ row-own names t k u (cell-conn-stmt n s) h e p = first-name names t k n _ _ _ h 
 row-own names t k u (conn-stmt s r) h e p = cc
 row-own names t k u (proc-stmt n) h e p = first-name names t k n _ _ _ h refl p
 row-own names t k u end-stmt h e p = cc
+
+-- a column 0 behind a constant's is padding
+pub row-zero : (u : Used) (c : Constant) (kind a b : ℕ) → row (kind ∷ a ∷ b ∷ constantColumns u c ++ 0 ∷ []) ≡ row (kind ∷ a ∷ b ∷ constantColumns u c)
+unfolding row padded constantColumns
+row-zero u (value ds) kind a b = refl
+row-zero u (integer i) kind a b = refl
+row-zero u (string s) kind a b = refl

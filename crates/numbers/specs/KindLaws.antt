@@ -1,4 +1,4 @@
--- A bit is the one that its code stands for.
+-- A bit is the one that its code stands for, and so is a sort.
 use Prim.Native.Nat.{ℕ, zero, suc, _+_, _-_, _*_, _/_, _%_, _<_, _≤_}
 use mathlib.Core.Path.{_≡_, refl, ap}
 use mathlib.Core.Bool.{Bool, true, false, cond}
@@ -6,9 +6,9 @@ use native.Mathlib.Omega.{arith}
 use lib.Dec.{ltb}
 use borrow.Author.Tests.{lt-ltb, le-ltb, ltb-true, ltb-false}
 use Rattle.rules.specs.Tokens.{Digit, S0, S1, Sx, Sz, Sm, Sa}
-use Rattle.rules.specs.Statements.{Bit, digit, bit}
-use Rattle.rules.specs.Layout.{digitCode, bitCode}
-use Rattle.numbers.specs.Kinds.{digitOf, bitOf, bitAt, Valid}
+use Rattle.rules.specs.Statements.{Bit, digit, bit, Sort}
+use Rattle.rules.specs.Layout.{digitCode, bitCode, sortCode}
+use Rattle.numbers.specs.Kinds.{digitOf, bitOf, bitAt, Valid, sortOf}
 use Rattle.numbers.specs.declared.kinds.SignalBit.{SignalBit}
 
 pub digit-back : (d : Digit) → digitOf (digitCode d) ≡ d
@@ -86,3 +86,16 @@ pub valid-within : (b : SignalBit) → Valid b → Within 512 (bitOf b)
 unfolding Valid Within bitOf
 valid-within (SignalBit.Digit c) v = tt
 valid-within (SignalBit.Wire w i) v = v
+
+pub sort-back : (o : Sort) → sortOf (sortCode o) ≡ o
+unfolding sortOf sortCode
+sort-back Sort.plain = refl
+sort-back Sort.signed = refl
+sort-back Sort.real = refl
+
+pub sort-code : (c : ℕ) → c ≤ 2 → sortCode (sortOf c) ≡ c
+unfolding sortOf sortCode
+sort-code zero h = refl
+sort-code (suc zero) h = refl
+sort-code (suc (suc zero)) h = refl
+sort-code (suc (suc (suc c))) h = absurd (omega arith)

@@ -1,7 +1,7 @@
 -- A row and the parts that stand there make one statement only.
 -- Assumes nothing.
 use Prim.Native.Nat.{ℕ, _+_, _*_}
-use mathlib.Core.Path.{_≡_, refl, sym, ap, ap₂, _∙_}
+use mathlib.Core.Path.{_≡_, sym, ap, ap₂, _∙_}
 use mathlib.Core.List.{List, [], _∷_, _++_, map, flatMap, zip, zipWith, append-nil, Option·toList}
 use mathlib.Core.Option.{none, some, Option·elim}
 use mathlib.Core.Bool.{true, _&&_}
@@ -11,7 +11,7 @@ use lib.ListN.{length, take, drop, getD, length-map}
 use borrow.Author.Tests.{eq-eqb, ne-eqb}
 use Rattle.rules.specs.Bytes.{all, within}
 use Rattle.rules.specs.Tokens.{Name}
-use Rattle.rules.specs.Statements.{Sort, plain, signed, real, Statement, Constant, value, integer, string, digitsOf, bytesOf, Memory, Signal, contents, holds, code, autoidx-stmt, attr-stmt, module-stmt, param-stmt, wire-stmt, memory-stmt, cell-stmt, cell-param-stmt, cell-conn-stmt, conn-stmt, proc-stmt, end-stmt}
+use Rattle.rules.specs.Statements.{Statement, Constant, value, integer, string, digitsOf, bytesOf, Memory, Signal, contents, holds, code, autoidx-stmt, attr-stmt, module-stmt, param-stmt, wire-stmt, memory-stmt, cell-stmt, cell-param-stmt, cell-conn-stmt, conn-stmt, proc-stmt, end-stmt}
 use Rattle.rules.specs.Signals.{Wires}
 use Rattle.rules.specs.Numbers.{int32}
 use Rattle.rules.specs.Layout.{Used, padded, row, digitCode, bitCode, nameBytes, stringBytes, bitCodes, wireRow, wireRows, constantColumns, sortCode, columns, statementRow}
@@ -19,19 +19,21 @@ use Rattle.admitted.specs.Admitted.{fineConstant, fineMemory, fineSignal}
 use Rattle.admitted.specs.AdmitLaws.{fine-parts, fine-fits}
 use Rattle.tables.specs.Row.{words}
 use Rattle.tables.specs.declared.Row.{Row}
-use Rattle.numbers.specs.Kinds.{digitOf}
+use Rattle.numbers.specs.Kinds.{digitOf, sortOf}
 use Rattle.numbers.specs.Signed.{signedOf}
 use Rattle.numbers.specs.SignedLaws.{signed-word}
 use Rattle.scanner.specs.Laws.{and-true-left, and-true-right}
+use Rattle.numbers.specs.KindLaws.{sort-back}
 use Rattle.wires.specs.RowLaws.{row-taken, row-wire}
 use Rattle.wires.specs.StoreLaws.{length-wire-row}
 use Rattle.designs.specs.CodeLaws.{digits-back, narrow, signal-back}
 use Rattle.replay.specs.Parts.{span, signalOf}
 use Rattle.netlist.specs.Spans.{Has, has-first, has-second}
-use Rattle.replay.specs.Reads.{Tables, constantOf, optionalOf, sortOf, memoryOf, statementBy, statementOf, ReadsConstant, Reads}
+use Rattle.netlist.specs.RowLaws.{row-zero}
+use Rattle.replay.specs.Reads.{Tables, constantOf, optionalOf, memoryOf, statementBy, statementOf, ReadsConstant, Reads}
 use Rattle.replay.proofs.Spans.{span-has}
 use Rattle.replay.proofs.CodeLaws.{columns-read}
-use Rattle.replay.proofs.KindLaws.{row-zero, sort-read}
+use Rattle.replay.proofs.KindLaws.{sort-read}
 
 -- ---- signals
 
@@ -61,12 +63,6 @@ unfolding constantColumns
 some-kind u (value ds) kind a b e z = let q : 1 ≡ kind = ap (λ (l : List ℕ). getD l 0 0) e in omega arith
 some-kind u (integer i) kind a b e z = let q : 2 ≡ kind = ap (λ (l : List ℕ). getD l 0 0) e in omega arith
 some-kind u (string s) kind a b e z = let q : 3 ≡ kind = ap (λ (l : List ℕ). getD l 0 0) e in omega arith
-
-sort-of : (o : Sort) → sortOf (sortCode o) ≡ o
-unfolding sortOf sortCode
-sort-of plain = refl
-sort-of signed = refl
-sort-of real = refl
 
 -- ---- statements
 
@@ -106,7 +102,7 @@ module _ (t : Tables) (u : Used) (ws : Wires) (wide : narrow ws ≡ true) (r : R
       kind-of 2 (ap (λ (l : List ℕ). getD l 0 0) (d .row))
       ∙ ap₂ attr-stmt (one-name n (d .names) (ap (λ (l : List ℕ). getD l 2 0) (d .row)))
       (constant-only (t .strings) (t .bits) u (r .c) (r .d) (r .e) c
-      (one-constant c 2 (u .names) (length n) 0 (d .row ∙ row-zero u c 2 (u .names) (length n)) (d .strings) (d .bits) (and-true-left (fineConstant c) true (f .constants))))
+      (one-constant c 2 (u .names) (length n) 0 (d .row ∙ sym (row-zero u c 2 (u .names) (length n))) (d .strings) (d .bits) (and-true-left (fineConstant c) true (f .constants))))
   read-only (module-stmt n) d =
       kind-of 3 (ap (λ (l : List ℕ). getD l 0 0) (d .row)) ∙ ap module-stmt (one-name n (d .names) (ap (λ (l : List ℕ). getD l 2 0) (d .row)))
   read-only (param-stmt n none) d =
@@ -114,7 +110,7 @@ module _ (t : Tables) (u : Used) (ws : Wires) (wide : narrow ws ≡ true) (r : R
       ∙ ap₂ param-stmt (one-name n (d .names) (ap (λ (l : List ℕ). getD l 2 0) (d .row))) (rw (eq-eqb (r .c) 0 (ap (λ (l : List ℕ). getD l 3 0) (d .row))))
   read-only (param-stmt n (some c)) d =
       let f = fine-parts ws (param-stmt n (some c)) (d .fine) in
-      let q = one-constant c 4 (u .names) (length n) 0 (d .row ∙ row-zero u c 4 (u .names) (length n)) (d .strings) (d .bits) (and-true-left (fineConstant c) true (f .constants)) in
+      let q = one-constant c 4 (u .names) (length n) 0 (d .row ∙ sym (row-zero u c 4 (u .names) (length n))) (d .strings) (d .bits) (and-true-left (fineConstant c) true (f .constants)) in
       kind-of 4 (ap (λ (l : List ℕ). getD l 0 0) (d .row))
       ∙ ap₂ param-stmt (one-name n (d .names) (ap (λ (l : List ℕ). getD l 2 0) (d .row)))
       (rw (ne-eqb (r .c) 0 (some-kind u c (r .c) (r .d) (r .e) (q .columns))) (ap some (constant-only (t .strings) (t .bits) u (r .c) (r .d) (r .e) c q)))
@@ -140,7 +136,7 @@ module _ (t : Tables) (u : Used) (ws : Wires) (wide : narrow ws ≡ true) (r : R
       (ap (λ (l : List ℕ). getD l 4 0) (d .row)))
   read-only (cell-param-stmt o n c) d =
       let f = fine-parts ws (cell-param-stmt o n c) (d .fine) in
-      let x : sortOf (r .f) ≡ o = ap sortOf (sort-read u c r 8 (u .names) (length n) (sortCode o) (d .row)) ∙ sort-of o in
+      let x : sortOf (r .f) ≡ o = ap sortOf (sort-read u c r 8 (u .names) (length n) (sortCode o) (d .row)) ∙ sort-back o in
       let y : span (t .names) (u .names) (r .b) ≡ n = one-name n (d .names) (ap (λ (l : List ℕ). getD l 2 0) (d .row)) in
       let z : constantOf (t .strings) (t .bits) u (r .c) (r .d) (r .e) ≡ c =
       constant-only (t .strings) (t .bits) u (r .c) (r .d) (r .e) c (one-constant c 8 (u .names) (length n) (sortCode o) (d .row) (d .strings) (d .bits) (and-true-left (fineConstant c) true (f .constants))) in

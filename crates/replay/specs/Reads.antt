@@ -7,7 +7,7 @@ use mathlib.Core.Bool.{Bool, true, false, cond}
 use lib.Dec.{eqb}
 use lib.ListN.{length}
 use Rattle.rules.specs.Tokens.{Name}
-use Rattle.rules.specs.Statements.{Sort, plain, signed, real, Constant, value, integer, string, digitsOf, bytesOf, Statement, Memory, autoidx-stmt, attr-stmt, module-stmt, param-stmt, wire-stmt, memory-stmt, cell-stmt, cell-param-stmt, cell-conn-stmt, conn-stmt, proc-stmt, end-stmt, Kind, contents, holds}
+use Rattle.rules.specs.Statements.{Sort, Constant, value, integer, string, digitsOf, bytesOf, Statement, Memory, autoidx-stmt, attr-stmt, module-stmt, param-stmt, wire-stmt, memory-stmt, cell-stmt, cell-param-stmt, cell-conn-stmt, conn-stmt, proc-stmt, end-stmt, Kind, contents, holds}
 use Rattle.rules.specs.Signals.{Wires}
 use Rattle.rules.specs.Judgement.{signalSize, valueSize, stringSize, nameSize}
 use Rattle.rules.specs.Layout.{Used, row, digitCode, nameBytes, stringBytes, bitCodes, wireRow, wireRows, constantColumns, statementRow}
@@ -16,7 +16,7 @@ use Rattle.tables.specs.Row.{words}
 use Rattle.tables.specs.Flat.{flat}
 use Rattle.tables.specs.declared.Row.{Row}
 use Rattle.numbers.specs.Signed.{signedOf}
-use Rattle.numbers.specs.Kinds.{digitOf}
+use Rattle.numbers.specs.Kinds.{digitOf, sortOf}
 use Rattle.wires.specs.Rows.{wireOf, wiresFrom}
 use Rattle.netlist.specs.Spans.{Has}
 use Rattle.replay.specs.Parts.{span, signalOf}
@@ -60,9 +60,6 @@ TellsConstant strings bits u kind a b c Held.Nothing = ReadsConstant strings bit
 
 unfoldable pub optionalOf : (strings bits : List ℕ) → Used → (kind a b : ℕ) → Option Constant
 optionalOf strings bits u kind a b = cond (eqb kind 0) none (some (constantOf strings bits u kind a b))
-
-unfoldable pub sortOf : ℕ → Sort
-sortOf n = cond (eqb n 0) plain (cond (eqb n 1) signed real)
 
 unfoldable pub memoryOf : Row → Memory
 memoryOf r = record { width = r .c; size = r .d; offset = signedOf (r .e) }

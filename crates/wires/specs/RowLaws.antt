@@ -63,6 +63,13 @@ port-flag (some (input, n)) = refl
 port-flag (some (output, n)) = refl
 port-flag (some (inout, n)) = refl
 
+pub port-small : (p : Option (Direction × ℕ)) → Option·elim p 0 (λ q. directionCode (q .0)) ≤ 12
+unfolding Option·elim directionCode
+port-small none = omega arith
+port-small (some (input, n)) = omega arith
+port-small (some (output, n)) = omega arith
+port-small (some (inout, n)) = omega arith
+
 port-back : (p : Option (Direction × ℕ)) → portOf (portCode p) (Option·elim p 0 (λ q. q .1)) ≡ p
 unfolding Option·elim portOf
 port-back none = refl
