@@ -25,7 +25,8 @@ use Rattle.tokens.specs.declared.Constant.the-variants as constant
 use Rattle.literals.proofs.Laws.{literal-long}
 use Rattle.syntax.specs.Statements.{signalIn}
 use Rattle.layout.specs.Put.{WireHas}
-use Rattle.layout.specs.SignalLaws.{signal-codes, signal-words}
+use Rattle.syntax.specs.SignalLaws.{signal-words}
+use Rattle.layout.specs.SignalLaws.{signal-codes}
 use Rattle.layout.specs.PartLaws.{one-name, two-names, one-signal, two-signals, one-wire}
 
 -- values stored highest first, read from the last on

@@ -32,7 +32,7 @@ use Rattle.syntax.specs.declared.Statement.the-variants.{Autoidx, Attribute, Mo
 use Rattle.syntax.proofs.Statement.{the-type}
 use Rattle.layout.specs.Put.{namesPut, bitsPut, rowsPut, Tables, Puts, RoomFor, Fits, constantIn, optionalIn, optionalColumns, optionalBytes, optionalDigits, valuedRow, OptionalFits, WireHas, WirePut}
 use Rattle.layout.specs.PartLaws.{no-string, one-string, no-bits, one-value}
-use Rattle.layout.specs.SignalLaws.{signal-long}
+use Rattle.syntax.specs.SignalLaws.{signal-long}
 use Rattle.layout.specs.RoomLaws.{names-same, strings-same, bits-same, wires-same, name-fits, names-fit, string-fits, value-fits, signal-fits, signals-fit, wire-fits, row-fits}
 use Rattle.layout.specs.Stored.{tabled, Storable, PutIs, ValuedHas, Plain, PlainStorable, PlainPut}
 use Rattle.netlist.specs.declared.used.Used.{Used}

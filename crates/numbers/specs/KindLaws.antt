@@ -1,10 +1,11 @@
 -- A bit is the one that its code stands for, and so is a sort.
 use Prim.Native.Nat.{ℕ, zero, suc, _+_, _-_, _*_, _/_, _%_, _<_, _≤_}
-use mathlib.Core.Path.{_≡_, refl, ap}
+use mathlib.Core.Path.{_≡_, refl, ap, ap₂}
 use mathlib.Core.Bool.{Bool, true, false, cond}
 use native.Mathlib.Omega.{arith}
 use lib.Dec.{ltb}
 use borrow.Author.Tests.{lt-ltb, le-ltb, ltb-true, ltb-false}
+use mathlib.Core.List.{List, [], _∷_, map}
 use Rattle.rules.specs.Tokens.{Digit, S0, S1, Sx, Sz, Sm, Sa}
 use Rattle.rules.specs.Statements.{Bit, digit, bit, Sort}
 use Rattle.rules.specs.Layout.{digitCode, bitCode, sortCode}
@@ -77,6 +78,10 @@ by-code P c low high = pick (ltb c 6) refl
 pub code-back : (c : ℕ) → bitCode (bitOf (bitAt c)) ≡ c
 unfolding bitOf bitCode
 code-back c = by-code (λ b. bitCode (bitOf b) ≡ c) c (λ l. code-digit c l) (λ l. omega arith)
+
+pub codes-back : (cs : List ℕ) → map bitCode (map (λ c. bitOf (bitAt c)) cs) ≡ cs
+codes-back [] = refl
+codes-back (c ∷ cs) = ap₂ (λ (x : ℕ) (l : List ℕ). x ∷ l) (code-back c) (codes-back cs)
 
 pub valid-at : (c : ℕ) → c < 1048582 → Valid (bitAt c)
 unfolding Valid

@@ -269,7 +269,7 @@ unfolding now
 now-more d [] r = refl
 now-more d (q ∷ rs) r = now-more (renamed q d) rs r
 
-room-more : (d : Design) (rs : List Rename) (r : Rename) → roomUsed d (rs ++ r ∷ []) ≡ roomUsed d rs + length (r .newName)
+pub room-more : (d : Design) (rs : List Rename) (r : Rename) → roomUsed d (rs ++ r ∷ []) ≡ roomUsed d rs + length (r .newName)
 unfolding roomUsed sum
 room-more d rs r = omega (arith, sum-append (λ (q : Rename). length (q .newName)) rs (r ∷ []))
 

@@ -37,7 +37,7 @@ module _ {A : Type 0} where
   unfolding sum
   sum-more g x xs = omega arith
 
-  until-take : (f : A → Bool) (xs : List A) → until f xs ≡ take (length (until f xs)) xs
+  pub until-take : (f : A → Bool) (xs : List A) → until f xs ≡ take (length (until f xs)) xs
   unfolding until
   until-take f [] = refl
   until-take f (x ∷ xs) = by-test (f x) (λ e. rw e) (λ e. rw e (ap (λ (l : List A). x ∷ l) (until-take f xs)))
@@ -168,7 +168,7 @@ cond-not true m n = refl
 cond-not false m n = refl
 
 module _ (ss : Past) (s : Statement) where
-  scope-step : scopeCode (scope (s ∷ ss)) ≡ scopeAfter (scopeCode (scope ss)) (code (contents s .kind))
+  pub scope-step : scopeCode (scope (s ∷ ss)) ≡ scopeAfter (scopeCode (scope ss)) (code (contents s .kind))
   unfolding scope scopeCode scopeAfter code
   scope-step = rw (is-code s aModule, is-code s aCell, is-code s anEnd, code-cond, code-cond, code-cond, outer-code)
 

@@ -6,11 +6,11 @@ use mathlib.Core.List.{List, [], _∷_, _++_}
 use Prim.Native.Nat.{ℕ, suc, _+_, _<_, _≤_}
 use native.Mathlib.Numerals.{add-one}
 use native.Mathlib.Omega.{arith}
-use lib.Dec.{eqb, eqb·zero-suc, eqb·suc-suc}
+use lib.Dec.{eqb, eqb·zero-suc, eqb·suc-suc, leb}
 use lib.ListN.{length, getD, take, drop, length-append, drop-of-length-le}
 use lib.Seq.{drop-cons, take-append-seam, drop-append-seam}
-use borrow.Author.Tests.{eq-eqb, ne-eqb, eqb-true, eqb-false}
-use Rattle.rules.specs.Bytes.{same, all, run, rest}
+use borrow.Author.Tests.{eq-eqb, ne-eqb, eqb-true, eqb-false, le-leb, lt-leb, leb-true}
+use Rattle.rules.specs.Bytes.{same, all, run, rest, within}
 
 -- what holds of both branches, each under its test, holds of the choice
 pub by-cond : {A : Type 0} (P : A → Type 0) (b : Bool) {x y : A} → (b ≡ true → P x) → (b ≡ false → P y) → P (cond b x y)
@@ -55,6 +55,23 @@ eqb-sym m n =
 pub one-le : (b : Bool) → cond b 1 0 ≤ 1
 one-le true = omega arith
 one-le false = omega arith
+
+module _ (lo hi b : ℕ) where
+  pub within-yes : lo ≤ b → b ≤ hi → within lo hi b ≡ true
+  unfolding within
+  within-yes h k = rw (le-leb lo b, le-leb b hi)
+
+  pub within-below : b < lo → within lo hi b ≡ false
+  unfolding within
+  within-below h = rw (lt-leb lo b)
+
+  pub within-low : within lo hi b ≡ true → lo ≤ b
+  unfolding within
+  within-low e = leb-true lo b (and-true-left (leb lo b) (leb b hi) e)
+
+  pub within-high : within lo hi b ≡ true → b ≤ hi
+  unfolding within
+  within-high e = leb-true b hi (and-true-right (leb lo b) (leb b hi) e)
 
 module _ (f : ℕ → Bool) where
   module _ (b : ℕ) (bs : List ℕ) where

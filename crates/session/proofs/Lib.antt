@@ -1,5 +1,5 @@
 mod RenameLaws
 mod HoldLaws
-mod OpenLaws
+pub mod OpenLaws
 mod CallLaws
 mod AskLaws

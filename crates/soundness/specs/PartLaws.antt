@@ -15,12 +15,12 @@ use Rattle.rules.specs.Statements.{Sig, constant, wire, slice, bundle, Opt, Dir
 use Rattle.rules.specs.Numbers.{inRange, goodLiteral, goodNumbers, numberOr, ports, portOf, wireOf, memoryOf, once, goodOptions, goodWire, goodMemory}
 use Rattle.rules.specs.Signals.{Wires, kept, valueBits, literalBits, literalWidth, width, bits, goodSlice, parts, partsOf}
 use Rattle.rules.specs.Judgement.{portNumbers, newPort, equalWidths}
-use Rattle.scanner.specs.Laws.{and-true-left, and-true-right}
+use Rattle.scanner.specs.Laws.{and-true-left, and-true-right, within-high}
 use Rattle.scanner.specs.Lists.{all-left, all-right}
 use Rattle.literals.proofs.Laws.{literal-long}
 use Rattle.admitted.specs.Admitted.{fineConstant, newPorts, fineWire, fineMemory, fineSignal, sameLength}
 use Rattle.admitted.specs.AcceptedLaws.{number-fits, good-offset}
-use Rattle.written.specs.Lists.{all-cons, all-first, all-later, within-high}
+use Rattle.written.specs.Lists.{all-cons, all-first, all-later}
 use Rattle.written.specs.TokenLaws.{fineLiteral}
 use Rattle.soundness.specs.SignalLaws.{bits-fine, bits-long}
 

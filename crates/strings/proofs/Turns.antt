@@ -10,7 +10,7 @@ use lib.Dec.{leb, ltb, eqb}
 use borrow.Author.Tests.{leb-true, le-leb, lt-leb}
 use Rattle.rules.specs.Bytes.{byte, all, within, isOctal, isLineEnd, isStringByte}
 use Rattle.rules.specs.Tokens.{Inside, plain, escape, octal, Turn, goes, ends, breaks, plainTurn, escapeTurn, onto, octalByte, octalTurn, turn}
-use Rattle.scanner.specs.Laws.{by-cond, and-true-left}
+use Rattle.scanner.specs.Laws.{by-cond, and-true-left, within-yes}
 
 -- a digit of an octal can be counted from `0`
 pub octal-digit : (b : ℕ) → isOctal b ≡ true → byte "0" ≤ b
@@ -19,8 +19,7 @@ octal-digit b e = leb-true 48 b (and-true-left (leb 48 b) (leb b 55) e)
 
 -- a byte that is not 0, and a number that is no byte
 pub byte-in : (n : ℕ) → (n ≡ 0 → ⊥) → n ≤ 255 → within 1 255 n ≡ true
-unfolding within
-byte-in n h k = rw (le-leb 1 n (omega arith), le-leb n 255 k)
+byte-in n h k = within-yes 1 255 n (omega arith) k
 
 pub byte-above : (n : ℕ) → 255 < n → within 1 255 n ≡ false
 unfolding within

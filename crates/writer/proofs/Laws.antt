@@ -22,7 +22,7 @@ use Rattle.reader.specs.Read.{rightSizes, rightLengths}
 use Rattle.session.specs.Called.{Called, wrong-lengths, damaged, holding, answer}
 use Rattle.session.specs.Steps.{Holding, NotOpen, wrong-sizes, none-held, OpenedIs}
 use Rattle.session.specs.declared.Opened.{Opened}
-use Rattle.session.specs.declared.Opened.the-variants.{Open, Refused}
+use Rattle.session.specs.declared.Opened.the-variants.{Refused}
 use Rattle.design_text.specs.Rows.{tabled, textRows}
 use Rattle.design_text.specs.declared.Counts.{Counts}
 use Rattle.design_text.proofs.Text.{text-held}
@@ -69,9 +69,6 @@ module _ (t : List ℕ) (r : ℕ) (e : r ≡ moved 0 (length t)) where
 
 -- ---- memory that is open, and memory that is not
 module _ (m : Memory) (r : Opened) (is : OpenedIs m r) where
-  pub opened : (p : Place) → r ≡ Open p → Holding m p
-  opened p q = subst (λ (x : Opened). OpenedIs m x) q is
-
   pub not-opened : {A : Type 0} (refuse : ℕ → A) (says : List Statement → List Rename → A) (n : ℕ) → r ≡ Refused n → Called m refuse says (refuse n)
   not-opened refuse says n q = refused-by (subst (λ (x : Opened). OpenedIs m x) q is)
     where
