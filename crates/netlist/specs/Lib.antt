@@ -15,3 +15,4 @@ pub mod Used
 pub mod UsedLaws
 pub mod RoomLaws
 pub mod Spans
+pub mod Lengths

@@ -1,9 +1,9 @@
--- Table by table.
+-- `right_lengths` meets its contract, table by table.
 -- Assumes nothing.
 use borrow.Author.Tests.{eq-eqb, ne-eqb}
-use Rattle.held.specs.Held.{rightSizes}
-use Rattle.held.proofs.right_sizes.Statement.{statement}
-use Rattle.held.proofs.right_sizes.Tie as tie
+use Rattle.netlist.specs.Lengths.{rightSizes}
+use Rattle.netlist.proofs.lengths.right_lengths.Statement.{statement}
+use Rattle.netlist.proofs.lengths.right_lengths.Tie as tie
 
 returns : tie.Need-returns
 unfolding rightSizes
@@ -25,5 +25,5 @@ returns-5 : tie.Need-returns-5
 unfolding rightSizes
 returns-5 c = rw (eq-eqb _ _ (c .before .before .before .if1 .left), eq-eqb _ _ (c .before .before .if2 .left), eq-eqb _ _ (c .before .if3 .left), eq-eqb _ _ (c .if4 .left))
 
-pub right-sizes-spec : {M : Type 1} → statement M
-right-sizes-spec = tie.close (tie.spec returns returns-2 returns-3 returns-4 returns-5)
+pub right-lengths-spec : {M : Type 1} → statement M
+right-lengths-spec = tie.close (tie.spec returns returns-2 returns-3 returns-4 returns-5)
