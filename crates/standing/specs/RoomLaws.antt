@@ -20,6 +20,7 @@ use Rattle.order.specs.BodySums.{canonical-sum}
 use Rattle.order.specs.Apart.{admitted-apart}
 use Rattle.order.specs.Parse.{parsed}
 use Rattle.netlist.specs.UsedLaws.{used-names}
+use Rattle.netlist.specs.RoomLaws.{rename-names, rooms-file}
 
 -- what is summed over a design's statements doesn't depend on their order
 pub sum-design : (f : Statement → ℕ) (ss : List Statement) → admitted (reverse ss) ≡ true → closes (reverse ss) ≡ true → sum f (flatten (design ss)) ≡ sum f ss
