@@ -29,6 +29,7 @@ use Rattle.netlist.specs.LaidLaws.{length-rows, eights-rows}
 use Rattle.admitted.specs.Admitted.{admitted}
 use Rattle.admitted.specs.AdmitLaws.{fine-fits, admitted-last, admitted-standing, admitted-offsets, admitted-past}
 use Rattle.netlist.specs.UsedLaws.{used-wires}
+use Rattle.netlist.specs.Spans.{Has}
 use Rattle.designs.specs.Modules.{statementsOf, wiresOf, moduleCount, upTo}
 use Rattle.designs.specs.Now.{nameNow}
 use Rattle.designs.specs.Ranges.{wireRange}
@@ -133,7 +134,7 @@ module _ {t : Tables} (rs : List Rename) (F : Past) (b : Begun (putRenames (room
   wire-row :
       (w : Wire) (x : Name) (ps : Past) (n : ℕ) → Begun (roomsOf (wire-stmt w x ∷ ps)) t → admitted (wire-stmt w x ∷ ps) ≡ true → m .first + n ≡ wiresIn ps →
       statementNow (t .names) (t .strings) (t .bits) (t .wires) (t .rows) m (length ps) ≡ some (wire-stmt w (nameNow rs (m .number .0) n x))
-  unfolding statementNow line.ownNow used nameBytes flatMap all statementsOpen
+  unfolding statementNow line.ownNow used nameBytes flatMap all statementsOpen Has
   wire-row w x ps n bs e h =
       let p = last-parts (wire-stmt w x) ps bs in
       let k : ℕ = length (roomsOf ps .wires) in
