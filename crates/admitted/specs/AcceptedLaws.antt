@@ -3,14 +3,15 @@
 -- Assumes nothing.
 use Prim.Native.Nat.{ℕ, _≤_}
 use Prim.Native.String.{String}
-use mathlib.Core.Path.{_≡_, refl, sym, ap, _∙_}
+use mathlib.Core.Path.{_≡_, refl}
 use mathlib.Core.List.{List, [], _∷_, Option·toList}
 use mathlib.Core.Option.{Option, none, some, Option·getD}
-use mathlib.Core.Bool.{Bool, true, false, not, _&&_, _||_, Bool·not-not}
+use mathlib.Core.Bool.{Bool, true, false, _&&_}
 use native.Mathlib.Omega.{arith}
 use lib.Dec.{leb}
 use lib.IntN.{ℤ, pos}
 use lib.ListN.{length}
+use borrow.Author.Tests.{not-false}
 use Rattle.rules.specs.Bytes.{bytes, same, all}
 use Rattle.rules.specs.Lines.{Line, place}
 use Rattle.rules.specs.Tokens.{Token, Lexed, bad, good, tokens}
@@ -20,7 +21,7 @@ use Rattle.rules.specs.Numbers.{int32, inRange, goodLiteral, goodNumbers, numbe
 use Rattle.rules.specs.Signals.{Wires}
 use Rattle.rules.specs.Judgement.{Past, context, wires, newPort, allParts, breaksNumber, exceedsSize, partTooWide, Verdict, meaning}
 use Rattle.rules.specs.Reading.{states, shaped, stated, judged, lexed, outcome}
-use Rattle.scanner.specs.Laws.{by-test, and-true-left, and-true-right}
+use Rattle.scanner.specs.Laws.{by-test, and-true-left, and-true-right, or-false-right}
 use Rattle.past.specs.Sizes.{sumsOf, Within}
 use Rattle.past.specs.Offsets.{fitsOffset, Offsets, no-offsets, more-offsets}
 use Rattle.past.proofs.SizeLaws.{within-past, within-none}
@@ -91,17 +92,6 @@ meaning-fits ws (cell-conn-stmt n x) e = refl
 meaning-fits ws (conn-stmt x y) e = refl
 meaning-fits ws (proc-stmt n) e = refl
 meaning-fits ws end-stmt e = refl
-
-not-false : (b : Bool) → not b ≡ false → b ≡ true
-not-false b e = sym (Bool·not-not b) ∙ ap not e
-
-pub or-false-left : (a b : Bool) → a || b ≡ false → a ≡ false
-or-false-left true b e = e
-or-false-left false b e = refl
-
-pub or-false-right : (a b : Bool) → a || b ≡ false → b ≡ false
-or-false-right true b e = cc
-or-false-right false b e = e
 
 -- a shape's wires keep their rules where no number is broken
 good-wires : (ws : Wires) (sh : Shape) → breaksNumber ws sh ≡ false → all (λ os. goodWire os && newPort ws os) (contents sh .wires) ≡ true

@@ -2,12 +2,13 @@
 -- their wires fit in 32 bits.
 -- Assumes nothing.
 use Prim.Native.Nat.{_-_, _≤_}
-use mathlib.Core.Path.{_≡_, refl, sym, ap, _∙_}
-use mathlib.Core.List.{List, [], _∷_, _++_}
-use mathlib.Core.Bool.{Bool, true, false, not, _&&_, _||_, Bool·not-not}
+use mathlib.Core.Path.{_≡_, refl}
+use mathlib.Core.List.{List, [], _∷_, reverseAux}
+use mathlib.Core.Bool.{Bool, true, false, not, _&&_, _||_}
 use lib.Dec.{leb, eqb}
 use lib.IntN.{pos, _+ℤ_}
 use lib.ListN.{length}
+use borrow.Author.Tests.{not-true}
 use Rattle.rules.specs.Bytes.{all, within, legal}
 use Rattle.rules.specs.Statements.{Statement, Wire, contents}
 use Rattle.rules.specs.Numbers.{int32}
@@ -25,11 +26,6 @@ pub all-implied : {A : Type 0} (f g : A → Bool) → ((x : A) → f x ≡ true 
 unfolding all
 all-implied f g h [] e = refl
 all-implied f g h (x ∷ xs) e = rw (h x (and-true-left (f x) _ e)) (all-implied f g h xs (and-true-right (f x) _ e))
-
-pub all-append : {A : Type 0} (f : A → Bool) (xs ys : List A) → all f xs ≡ true → all f ys ≡ true → all f (xs ++ ys) ≡ true
-unfolding all
-all-append f [] ys h k = k
-all-append f (x ∷ xs) ys h k = rw (and-true-left (f x) _ h) (all-append f xs ys (and-true-right (f x) _ h) k)
 
 -- the parts, one by one
 pub record FineParts (ws : Wires) (s : Statement) : Type 0 where
@@ -85,9 +81,6 @@ pub record Admits (ss : Past) (s : Statement) : Type 0 where
   pub new-name : takesName ss s ≡ false
   pub room : exceedsSize (s ∷ ss) ≡ false
 
-not-true : (b : Bool) → not b ≡ true → b ≡ false
-not-true b e = sym (Bool·not-not b) ∙ ap not e
-
 pub admits-all : (ss : Past) (s : Statement) → admits ss s ≡ true → Admits ss s
 unfolding admits
 admits-all ss s e =
@@ -112,6 +105,11 @@ module _ (s : Statement) (ss : Past) (e : admitted (s ∷ ss) ≡ true) where
   pub admitted-last : Admits ss s
   unfolding admitted
   admitted-last = admits-all ss s (and-true-right (admitted ss) _ e)
+
+-- the statements behind which others were admitted
+pub admitted-past : (more : List Statement) (ss : Past) → admitted (reverseAux more ss) ≡ true → admitted ss ≡ true
+admitted-past [] ss a = a
+admitted-past (s ∷ more) ss a = admitted-before s ss (admitted-past more (s ∷ ss) a)
 
 pub admitted-standing : (ss : Past) → admitted ss ≡ true → Standing ss
 admitted-standing [] e = none-stand

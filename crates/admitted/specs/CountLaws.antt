@@ -13,12 +13,11 @@ use Rattle.rules.specs.Bytes.{any, all}
 use Rattle.rules.specs.Statements.{Statement, Kind, anAutoidx, anAttribute, aModule, aParameter, aWire, aMemory, aCell, aCellParameter, aCellConnection, aConnection, anEnd, code, contents, is}
 use Rattle.rules.specs.Shapes.{Scope, top, inModule, inCell}
 use Rattle.rules.specs.Judgement.{Past, sum, scope, context, among, count}
-use Rattle.past.specs.Place.{scopeCode, placeOf, scopeAfter, placeAfter}
+use Rattle.past.specs.Place.{scopeCode, scopeAfter}
 use Rattle.past.specs.Sizes.{sizesBy, sumsOf, Within}
-use Rattle.past.specs.declared.place.Place.{Place}
 use Rattle.scanner.specs.Laws.{by-test, and-true-left, and-true-right}
 use Rattle.past.proofs.KindLaws.{count-one, count-two}
-use Rattle.past.proofs.PlaceLaws.{place-step}
+use Rattle.past.proofs.PlaceLaws.{scope-step}
 use Rattle.admitted.specs.Admitted.{kinds, stands}
 
 -- each statement stands after those before it
@@ -93,10 +92,6 @@ unfolding stands
 stands-counts ss s e =
     rw (← context-scope ss)
     (among-test (counts (scopeCode (context ss .scope)) (context ss .first)) _ s (kinds-count (context ss .scope) (context ss .first) (context ss .attributed)) e)
-
-scope-step : (ss : Past) (s : Statement) → scopeCode (scope (s ∷ ss)) ≡ scopeAfter (scopeCode (scope ss)) (code (contents s .kind))
-unfolding placeOf placeAfter
-scope-step ss s = ap (λ (p : Place). p .scope) (place-step ss s)
 
 module _ (s : Statement) (ss : Past) where
   number-more : (k : Kind) → number k (s ∷ ss) ≡ one (code k) (code (contents s .kind)) + number k ss

@@ -20,7 +20,8 @@ use Rattle.session.specs.Called.{wrong-lengths, damaged, holding, after, Called
 use Rattle.theorems.specs.StandingLaws.{allowed-session}
 use Rattle.calls.specs.Calls.{callWord, renameAt, callAt, callsFrom, callsIn, answered}
 use Rattle.calls.specs.Steps.{Opened, MadeAs}
-use Rattle.calls.proofs.OneLaws.{never, holds-one}
+use Rattle.scanner.specs.Laws.{never}
+use Rattle.calls.proofs.OneLaws.{holds-one}
 
 -- THE ANSWERS
 pub set-past : (l : List ℕ) (i n : ℕ) → length l ≤ i → set l i n ≡ l

@@ -2,12 +2,12 @@
 -- Assumes nothing.
 use Prim.Native.Nat.{ℕ, zero, suc, _+_}
 use mathlib.Core.Path.{_≡_, refl, sym, ap, ap₂, _∙_}
-use mathlib.Core.List.{List, [], _∷_, _++_, zip, zipWith, reverse, reverseAux, reverse-cons, reverse-reverse, append-assoc}
+use mathlib.Core.List.{List, [], _∷_, _++_, zip, zipWith, reverseAux, append-assoc}
 use mathlib.Core.Option.{some}
-use mathlib.Core.Bool.{Bool, true, false, not, cond}
+use mathlib.Core.Bool.{Bool, true, false, not}
 use native.Mathlib.Omega.{arith}
 use lib.Dec.{eqb}
-use lib.ListN.{length, length-append, length-reverse}
+use lib.ListN.{length}
 use borrow.Author.Tests.{not-true}
 use Rattle.rules.specs.Bytes.{all}
 use Rattle.rules.specs.Tokens.{Name}
@@ -17,29 +17,27 @@ use Rattle.rules.specs.Signals.{Wires}
 use Rattle.rules.specs.Judgement.{Past, context, wires}
 use Rattle.rules.specs.Session.{Rename}
 use Rattle.rules.specs.Layout.{Rooms, used, padded, row, columns, nameBytes, stringBytes, bitCodes, wireRow, wireRows, statementRow, put, renameRow, putRename, putRenames}
-use Rattle.tables.specs.Flat.{flat, Eights, eights-none, eights-more, eights-append, flat-append, flat-snoc}
-use Rattle.tables.specs.Padded.{length-row}
+use Rattle.tables.specs.Flat.{flat, Eights, flat-append, flat-snoc}
 use Rattle.wires.specs.Rows.{column, nameOf, wireOf, wiresFrom}
 use Rattle.wires.specs.RowLaws.{RowIs, length-wires}
 use Rattle.wires.specs.StoreLaws.{length-wire-row}
-use Rattle.netlist.specs.Rows.{kindAt, nameFrom}
+use Rattle.netlist.specs.Rows.{kindAt}
 use Rattle.netlist.specs.RowLaws.{length-statement-row, row-kind}
 use Rattle.netlist.specs.Statements.{statementAt}
 use Rattle.netlist.specs.Laid.{roomsOf, Laid, Wired}
-use Rattle.netlist.specs.LaidLaws.{list-behind, row-behind, length-rows, eights-rows}
+use Rattle.netlist.specs.LaidLaws.{row-behind, length-rows, eights-rows}
 use Rattle.netlist.specs.WireLaws.{eights-wires}
 use Rattle.admitted.specs.Admitted.{kinds, stands, admitted}
 use Rattle.admitted.specs.CountLaws.{among-test}
 use Rattle.admitted.specs.AdmitLaws.{admitted-before, admitted-last}
+use Rattle.netlist.specs.Spans.{Starts, starts-first, starts-has}
 use Rattle.designs.specs.Now as design
-use Rattle.designs.specs.NowLaws.{name-last}
-use Rattle.line_text.specs.Now.{renames, nameNow, wiresNow}
+use Rattle.line_text.specs.Now.{nameNow, wiresNow}
 use Rattle.module_text.specs.Passes.{declaredNow, wiresDown}
 use Rattle.design_text.specs.Rows.{Tables}
-use Rattle.design_text.proofs.Decode.{Has, Parts, narrow-past, name-has, decodes}
-
-abbrev pub Starts : List ℕ → List ℕ → Type 0
-Starts t xs = (more : List ℕ) × (t ≡ xs ++ more)
+use Rattle.designs.specs.CodeLaws.{narrow-past}
+use Rattle.standing.specs.NowLaws.{name-now-laid}
+use Rattle.design_text.proofs.Decode.{Parts, decodes}
 
 pub record Begun (R : Rooms) (t : Tables) : Type 0 where
   pub names-start : Starts (t .names) (R .names)
@@ -47,13 +45,6 @@ pub record Begun (R : Rooms) (t : Tables) : Type 0 where
   pub bits-start : Starts (t .bits) (R .bits)
   pub wires-start : Starts (t .wires) (flat (R .wires))
   pub rows-start : Starts (t .rows) (flat (R .rows))
-
-module _ (t xs ys : List ℕ) where
-  starts-first : Starts t (xs ++ ys) → Starts t xs
-  starts-first s = (ys ++ s .0, s .1 ∙ append-assoc xs ys (s .0))
-
-  starts-has : Starts t (xs ++ ys) → Has t (length xs) ys
-  starts-has s = list-behind t xs ys (s .0) (s .1 ∙ append-assoc xs ys (s .0))
 
 -- rows that stand behind others
 starts-row : (t : List ℕ) (rs : List (List ℕ)) (r : List ℕ) → Eights rs → length r ≡ 8 → Starts t (flat (rs ++ r ∷ [])) → RowIs t (length rs) r
@@ -99,9 +90,9 @@ module _ {t : Tables} (R : Rooms) where
   unfolding put used
   begun-parts s hw hr b =
       record {
-        names-has = starts-has (t .names) (R .names) (nameBytes s) (b .names-start);
-        strings-has = starts-has (t .strings) (R .strings) (stringBytes s) (b .strings-start);
-        bits-has = starts-has (t .bits) (R .bits) (bitCodes s) (b .bits-start);
+        names-has = starts-has (t .names) (R .names) (nameBytes s) _ refl (b .names-start);
+        strings-has = starts-has (t .strings) (R .strings) (stringBytes s) _ refl (b .strings-start);
+        bits-has = starts-has (t .bits) (R .bits) (bitCodes s) _ refl (b .bits-start);
         wire-is = λ w n e. begun-wire w n hw (rw e at b);
         row-is = starts-row (t .rows) (R .rows) (statementRow (used R) s) hr (length-statement-row (used R) s) (b .rows-start);
       }
@@ -121,10 +112,6 @@ module _ {t : Tables} where
   pub begun-past : (qs : List Statement) (ps : Past) → Begun (roomsOf (reverseAux qs ps)) t → Begun (roomsOf ps) t
   begun-past [] ps b = b
   begun-past (s ∷ qs) ps b = begun-before s ps (begun-past qs (s ∷ ps) b)
-
-pub admitted-past : (qs : List Statement) (ps : Past) → admitted (reverseAux qs ps) ≡ true → admitted ps ≡ true
-admitted-past [] ps e = e
-admitted-past (s ∷ qs) ps e = admitted-before s ps (admitted-past qs (s ∷ ps) e)
 
 no-process : (p : Scope) (f a : Bool) → all (λ k. not (eqb 11 (code k))) (kinds p f a) ≡ true
 unfolding all kinds code
@@ -159,61 +146,11 @@ pub last-wire : {t : Tables} (w : Wire) (n : Name) (ss : Past) → Begun (roomsO
 unfolding statementRow row padded used columns statementsOpen
 last-wire w n ss b = last-parts (wire-stmt w n) ss b .row-is 3 (omega arith)
 
--- ---- renames
-
-length-rename : (at : ℕ) (r : Rename) → length (renameRow at r) ≡ 8
-unfolding renameRow
-length-rename at r = length-row _ (omega arith)
-
-rename-last : (R : Rooms) (rs : List Rename) (r : Rename) → putRenames R (rs ++ r ∷ []) ≡ putRename (putRenames R rs) r
-unfolding putRenames
-rename-last R [] r = refl
-rename-last R (q ∷ rs) r = rename-last (putRename R q) rs r
-
-renamed-rows : (R : Rooms) (rs : List Rename) → Eights (R .rows) → Eights (putRenames R rs .rows) × (length (putRenames R rs .rows) ≡ length (R .rows) + length rs)
-unfolding putRenames putRename
-renamed-rows R [] h = (h, omega arith)
-renamed-rows R (r ∷ rs) h =
-    let q = renamed-rows (putRename R r) rs (eights-append (R .rows) _ h (eights-more (length-rename (length (R .names)) r) eights-none)) in
-    (q .0, omega (arith, q .1, length-append (R .rows) (renameRow (length (R .names)) r ∷ [])))
-
--- the last rename's row
-last-rename :
-    {t : Tables} (R : Rooms) → Eights (R .rows) → (r : Rename) → Begun (putRename R r) t → (k m n : ℕ) → k ≡ length (R .rows) →
-    (renames (t .rows) k m n ≡ design.renames r m n) × (nameFrom (t .names) (t .rows) k 1 ≡ r .newName)
-unfolding putRename renames design.renames renameRow row padded
-last-rename {t} R h r b k m n e =
-    let q : RowIs (t .rows) k (renameRow (length (R .names)) r) = rw e (starts-row (t .rows) (R .rows) _ h (length-rename (length (R .names)) r) (b .rows-start)) in (
-      rw (q 3 (omega arith), q 4 (omega arith)),
-      name-has (t .names) (t .rows) k 1 (length (R .names)) (length (r .newName)) (r .newName) (q 1 (omega arith)) (q 2 (omega arith)) refl
-          (starts-has (t .names) (R .names) (r .newName) (b .names-start)),
-    )
-
 -- THE NAME NOW of a wire: that of its last rename, else the one read
 module _ {t : Tables} (R : Rooms) (h : Eights (R .rows)) where
-  names-back :
-      (qs : List Rename) → Begun (putRenames R (reverse qs)) t → (m n k : ℕ) →
-      nameNow (t .names) (t .wires) (t .rows) (length (R .rows)) (length qs) m n k ≡ design.nameNow (reverse qs) m n (nameOf (t .names) (t .wires) k)
-  unfolding nameNow design.nameNow
-  names-back [] b m n k = refl
-  names-back (r ∷ qs) b m n k =
-      let e : putRenames R (reverse (r ∷ qs)) ≡ putRename (putRenames R (reverse qs)) r = ap (putRenames R) (reverse-cons r qs) ∙ rename-last R (reverse qs) r in
-      let b′ : Begun (putRename (putRenames R (reverse qs)) r) t = rw e at b in
-      let rows = renamed-rows R (reverse qs) h in
-      let k′ : length (R .rows) + length qs ≡ length (putRenames R (reverse qs) .rows) = omega (arith, rows .1, length-reverse qs) in
-      let l = last-rename (putRenames R (reverse qs)) (rows .0) r b′ (length (R .rows) + length qs) m n k′ in
-      let i = names-back qs (begun-rename (putRenames R (reverse qs)) r b′) m n k in
-      ap₂ (λ (c : Bool) (x : Name). cond c x (nameNow (t .names) (t .wires) (t .rows) (length (R .rows)) (length qs) m n k)) (l .0) (l .1)
-      ∙ ap (λ (x : Name). cond (design.renames r m n) (r .newName) x) i
-      ∙ sym (ap (λ (rs : List Rename). design.nameNow rs m n (nameOf (t .names) (t .wires) k)) (reverse-cons r qs) ∙ name-last (reverse qs) r m n (nameOf (t .names) (t .wires) k))
-
   module _ (rs : List Rename) (b : Begun (putRenames R rs) t) where
     pub name-is : (m n k : ℕ) → nameNow (t .names) (t .wires) (t .rows) (length (R .rows)) (length rs) m n k ≡ design.nameNow rs m n (nameOf (t .names) (t .wires) k)
-    name-is m n k =
-        let b′ : Begun (putRenames R (reverse (reverse rs))) t = rw reverse-reverse b in
-        ap (λ (c : ℕ). nameNow (t .names) (t .wires) (t .rows) (length (R .rows)) c m n k) (sym (length-reverse rs))
-        ∙ names-back (reverse rs) b′ m n k
-        ∙ ap (λ (qs : List Rename). design.nameNow qs m n (nameOf (t .names) (t .wires) k)) (reverse-reverse rs)
+    name-is m n k = name-now-laid (t .wires) R h m n k rs (begun-laid (putRenames R rs) b)
 
     pub wires-are : (m first many : ℕ) → wiresNow (t .names) (t .wires) (t .rows) (length (R .rows)) (length rs) m first many ≡ wiresDown rs m (wiresFrom (t .names) (t .wires) first many)
     unfolding wiresNow wiresDown wiresFrom declaredNow

@@ -1,136 +1,45 @@
 -- A row of tables that begin with admitted statements decodes to its statement.
 -- Assumes nothing.
-use Prim.Native.Nat.{ℕ, zero, suc, _+_, _-_, _≤_, _<_}
+use Prim.Native.Nat.{ℕ, _+_, _-_}
 use mathlib.Core.Path.{_≡_, refl, sym, ap, ap₂, _∙_}
-use mathlib.Core.List.{List, [], _∷_, _++_, map, flatMap, zip, zipWith, reverse, reverseAux, append-nil, Option·toList}
+use mathlib.Core.List.{List, [], _∷_, _++_, map, flatMap, append-nil, Option·toList}
 use mathlib.Core.Option.{Option, none, some, Option·elim}
-use mathlib.Core.Bool.{Bool, true, false, _&&_, false≢true}
+use mathlib.Core.Bool.{true, false, _&&_, false≢true}
 use native.Mathlib.Omega.{arith}
-use lib.Dec.{eqb, leb, ltb}
-use lib.ListN.{length, take, drop, getElem?, length-append, length-map}
-use lib.Seq.{drop-drop, drop-append-seam, take-append-seam}
-use borrow.Author.Tests.{leb-true, ltb-true}
+use lib.Dec.{eqb, leb}
+use lib.ListN.{length, length-map}
 use Rattle.rules.specs.Bytes.{all, within}
-use Rattle.rules.specs.Tokens.{Name, Digit}
-use Rattle.rules.specs.Statements.{Sort, plain, signed, real, Statement, Constant, value, integer, string, digitsOf, bytesOf, Bit, digit, bit, Wire, Memory, Signal, aModule, aProcess, is, contents, holds, code, autoidx-stmt, attr-stmt, module-stmt, param-stmt, wire-stmt, memory-stmt, cell-stmt, cell-param-stmt, cell-conn-stmt, conn-stmt, proc-stmt, end-stmt}
+use Rattle.rules.specs.Tokens.{Name}
+use Rattle.rules.specs.Statements.{Sort, Statement, Constant, value, integer, string, digitsOf, bytesOf, Wire, Memory, Signal, aProcess, is, contents, holds, code, autoidx-stmt, attr-stmt, module-stmt, param-stmt, wire-stmt, memory-stmt, cell-stmt, cell-param-stmt, cell-conn-stmt, conn-stmt, proc-stmt, end-stmt}
 use Rattle.rules.specs.Signals.{Wires, twosComplement}
 use Rattle.rules.specs.Numbers.{int32}
-use Rattle.rules.specs.Judgement.{Past, until, ofModule, wires}
-use Rattle.rules.specs.Layout.{Used, used, padded, row, digitCode, bitCode, nameBytes, stringBytes, bitCodes, wireRow, constantColumns, sortCode, columns, statementRow}
-use Rattle.scanner.specs.Laws.{by-test, and-true-left, and-true-right}
+use Rattle.rules.specs.Judgement.{wires}
+use Rattle.rules.specs.Layout.{Used, padded, row, digitCode, bitCode, nameBytes, stringBytes, bitCodes, wireRow, constantColumns, sortCode, columns, statementRow}
+use Rattle.scanner.specs.Laws.{and-true-left, and-true-right}
 use Rattle.numbers.specs.Kinds.{digitOf, bitOf, bitAt}
-use Rattle.numbers.specs.KindLaws.{Within, digit-back, bit-back}
 use Rattle.numbers.specs.Signed.{signedOf}
 use Rattle.numbers.specs.SignedLaws.{signed-word}
-use Rattle.wires.specs.Rows.{column, wireOf}
+use Rattle.numbers.specs.KindLaws.{sort-back}
+use Rattle.wires.specs.Rows.{column, wireOf, spanAt}
 use Rattle.wires.specs.RowLaws.{slice-span, RowIs, row-wire}
 use Rattle.netlist.specs.Rows.{kindAt, nameFrom}
-use Rattle.netlist.specs.Statements.{spanAt, constantAt, optionalAt, signalAt, memoryAt, sortAt, statementBy, statementAt}
-use Rattle.admitted.specs.Admitted.{fineConstant, fineMemory, fineBit, fineSignal, fineWire, fineParts, admitted}
-use Rattle.admitted.specs.AdmitLaws.{fine-parts, fine-fits, admitted-before, admitted-last}
+use Rattle.netlist.specs.Statements.{constantAt, optionalAt, signalAt, memoryAt, sortAt, statementBy, statementAt}
+use Rattle.admitted.specs.Admitted.{fineConstant, fineMemory, fineSignal, fineParts}
+use Rattle.admitted.specs.AdmitLaws.{fine-parts, fine-fits}
+use Rattle.netlist.specs.Spans.{Has, has-first, has-second}
+use Rattle.designs.specs.CodeLaws.{digits-back, narrow, signal-back}
 use Rattle.design_text.specs.Rows.{Tables}
-
--- ---- bits of signals: a wire is at most 2,048 wide
-
-unfoldable pub narrow : Wires → Bool
-narrow ws = all (λ v. leb (v .1 .width) 2048) ws
-
-all-append : {A : Type 0} (f : A → Bool) (xs ys : List A) → all f xs ≡ true → all f ys ≡ true → all f (xs ++ ys) ≡ true
-unfolding all
-all-append f [] ys h k = k
-all-append f (x ∷ xs) ys h k = rw (and-true-left (f x) _ h) (all-append f xs ys (and-true-right (f x) _ h) k)
-
-fine-narrow : (ws : Wires) (w : Wire) → fineWire ws w ≡ true → leb (w .width) 2048 ≡ true
-unfolding fineWire
-fine-narrow ws w h = and-true-left _ _ (and-true-left _ _ (and-true-left _ _ (and-true-left _ _ h)))
-
-zip-narrow : (ws : Wires) (ns : List Name) (vs : List Wire) → all (fineWire ws) vs ≡ true → all (λ v. leb (v .1 .width) 2048) (zip ns vs) ≡ true
-unfolding all zip zipWith
-zip-narrow ws [] vs h = refl
-zip-narrow ws (n ∷ ns) [] h = refl
-zip-narrow ws (n ∷ ns) (v ∷ vs) h = rw (fine-narrow ws v (and-true-left (fineWire ws v) _ h)) (zip-narrow ws ns vs (and-true-right (fineWire ws v) _ h))
-
-narrow-until : (f : Statement → Bool) (ss : Past) → admitted ss ≡ true → all (λ v. leb (v .1 .width) 2048) (flatMap (λ s. zip (contents s .names) (contents s .wires)) (until f ss)) ≡ true
-unfolding until flatMap all
-narrow-until f [] h = refl
-narrow-until f (s ∷ ss) h =
-    by-test (f s) (λ e. rw e)
-    (λ e. rw e
-    (all-append _ (zip (contents s .names) (contents s .wires)) _
-    (zip-narrow (wires ss) (contents s .names) (contents s .wires) (fine-parts (wires ss) s (admitted-last s ss h .parts) .wires))
-    (narrow-until f ss (admitted-before s ss h))))
-
-pub narrow-past : (ss : Past) → admitted ss ≡ true → narrow (wires ss) ≡ true
-unfolding narrow wires ofModule
-narrow-past ss h = narrow-until (is aModule) ss h
-
-all-back : {A : Type 0} (f : A → Bool) (xs ys : List A) → all f xs ≡ true → all f ys ≡ true → all f (reverseAux xs ys) ≡ true
-unfolding all
-all-back f [] ys h k = k
-all-back f (x ∷ xs) ys h k = all-back f xs (x ∷ ys) (and-true-right (f x) _ h) (rw (and-true-left (f x) _ h) k)
-
-all-at : {A : Type 0} (f : A → Bool) (l : List A) (i : ℕ) (v : A) → all f l ≡ true → getElem? l i ≡ some v → f v ≡ true
-unfolding all
-all-at f [] i v h e = cc
-all-at f (x ∷ l) zero v h e = let q : x ≡ v = cc in rw q at (and-true-left (f x) _ h)
-all-at f (x ∷ l) (suc i) v h e = all-at f l i v (and-true-right (f x) _ h) e
-
-fine-index : (o : Option (Name × Wire)) (i : ℕ) → ((v : Name × Wire) → o ≡ some v → leb (v .1 .width) 2048 ≡ true) → Option·elim o false (λ v. ltb i (v .1 .width)) ≡ true → i < 2048
-unfolding Option·elim
-fine-index none i h e = absurd (false≢true e)
-fine-index (some v) i h e = omega (arith, ltb-true i (v .1 .width) e, leb-true (v .1 .width) 2048 (h v refl))
-
-module _ (ws : Wires) (wide : narrow ws ≡ true) where
-  bit-within : (b : Bit) → fineBit ws b ≡ true → bitOf (bitAt (bitCode b)) ≡ b
-  unfolding fineBit narrow Within all
-  bit-within (digit d) h = bit-back 0 (digit d) tt
-  bit-within (bit w i) h =
-      let f : Name × Wire → Bool = λ (v : Name × Wire). leb (v .1 .width) 2048 in
-      let k : i < 2048 = fine-index (getElem? (reverse ws) w) i (λ v e. all-at f (reverse ws) w v (all-back f ws [] wide refl) e) h in
-      bit-back (suc w) (bit w i) (omega arith, k)
-
-  bits-within : (x : Signal) → all (fineBit ws) x ≡ true → map (λ c. bitOf (bitAt c)) (map bitCode x) ≡ x
-  unfolding all
-  bits-within [] h = refl
-  bits-within (b ∷ x) h = ap₂ (λ (y : Bit) (l : Signal). y ∷ l) (bit-within b (and-true-left (fineBit ws b) _ h)) (bits-within x (and-true-right (fineBit ws b) _ h))
-
-  pub signal-within : (x : Signal) → fineSignal ws x ≡ true → map (λ c. bitOf (bitAt c)) (map bitCode x) ≡ x
-  unfolding fineSignal
-  signal-within x h = bits-within x (and-true-right (leb (length x) 2048) _ h)
-
-digits-back : (ds : List Digit) → map digitOf (map digitCode ds) ≡ ds
-digits-back [] = refl
-digits-back (d ∷ ds) = ap₂ (λ (x : Digit) (l : List Digit). x ∷ l) (digit-back d) (digits-back ds)
 
 -- ---- what a table has from a place on
 
-abbrev pub Has : List ℕ → ℕ → List ℕ → Type 0
-Has t at xs = take (length xs) (drop at t) ≡ xs
-
-take-taken : (m n : ℕ) (l : List ℕ) → m ≤ n → take m (take n l) ≡ take m l
-take-taken zero n l k = refl
-take-taken (suc m) zero l k = absurd (omega arith)
-take-taken (suc m) (suc n) [] k = refl
-take-taken (suc m) (suc n) (x ∷ l) k = ap (λ (r : List ℕ). x ∷ r) (take-taken m n l (omega arith))
-
-has-first : (t : List ℕ) (at : ℕ) (xs ys : List ℕ) → Has t at (xs ++ ys) → Has t at xs
-has-first t at xs ys h =
-    sym (ap (take (length xs)) (sym h) ∙ take-taken (length xs) (length (xs ++ ys)) (drop at t) (omega (arith, length-append xs ys))) ∙ take-append-seam xs ys
-
-has-second : (t : List ℕ) (at : ℕ) (xs ys : List ℕ) → Has t at (xs ++ ys) → Has t (at + length xs) ys
-has-second t at xs ys h =
-    let k : length (xs ++ ys) ≡ length xs + length ys = length-append xs ys in
-    rw (← drop-drop (length xs) at t)
-    (sym (ap (drop (length xs)) (sym h) ∙ ap (λ (n : ℕ). drop (length xs) (take n (drop at t))) k ∙ slice-span (length xs) (length ys) (drop at t)) ∙ drop-append-seam xs ys)
-
 module _ (t rows : List ℕ) (k c at n : ℕ) (xs : List ℕ) (ea : column rows k c ≡ at) (en : column rows k (c + 1) ≡ n) (e : n ≡ length xs) (h : Has t at xs) where
   span-has : spanAt t rows k c ≡ xs
-  unfolding spanAt
+  unfolding spanAt Has
   span-has = rw (ea, en, e) (slice-span at (length xs) t ∙ h)
 
   pub name-has : nameFrom t rows k c ≡ xs
   unfolding nameFrom
-  name-has = rw (ea, en, e) (slice-span at (length xs) t ∙ h)
+  name-has = span-has
 
 -- ---- a statement's parts in the tables, behind what is used of them
 
@@ -176,10 +85,8 @@ module _ (strings bits rows : List ℕ) (k : ℕ) (u : Used) where
   constant-there (string s) h = rw (h .0)
 
 sort-is : (rows : List ℕ) (k : ℕ) (o : Sort) → column rows k 6 ≡ sortCode o → sortAt rows k 6 ≡ o
-unfolding sortAt sortCode
-sort-is rows k plain e = rw e
-sort-is rows k signed e = rw e
-sort-is rows k real e = rw e
+unfolding sortAt
+sort-is rows k o e = rw e (sort-back o)
 
 -- ---- THE STATEMENT OF A ROW
 module _ (t : Tables) (u : Used) (ws : Wires) (wide : narrow ws ≡ true) (k : ℕ) where
@@ -193,7 +100,7 @@ module _ (t : Tables) (u : Used) (ws : Wires) (wide : narrow ws ≡ true) (k : �
   signal-is : (c at : ℕ) (x : Signal) → column (t .rows) k c ≡ at → column (t .rows) k (c + 1) ≡ length x → Has (t .bits) at (map bitCode x) → fineSignal ws x ≡ true → signalAt (t .bits) (t .rows) k c ≡ x
   unfolding signalAt
   signal-is c at x ea en h f =
-      ap (map (λ c. bitOf (bitAt c))) (span-has (t .bits) (t .rows) k c at (length x) (map bitCode x) ea en (sym (length-map x bitCode)) h) ∙ signal-within ws wide x f
+      ap (map (λ c. bitOf (bitAt c))) (span-has (t .bits) (t .rows) k c at (length x) (map bitCode x) ea en (sym (length-map x bitCode)) h) ∙ signal-back ws wide x f
 
   valued : (c : Constant) → Columned (t .rows) k u c → Has (t .strings) (u .strings) (bytesOf c ++ []) → Has (t .bits) (u .bits) ((map digitCode (digitsOf c) ++ []) ++ []) → fineConstant c ≡ true → constantAt (t .strings) (t .bits) (t .rows) k 3 ≡ c
   valued c h hs hb f = constant-is (t .strings) (t .bits) (t .rows) k u c h (rw append-nil at hs) (rw (append-nil, append-nil) at hb) f
@@ -238,7 +145,7 @@ module _ (t : Tables) (u : Used) (ws : Wires) (wide : narrow ws ≡ true) (k : �
       by-kind 7 (d .row-is 0 (omega arith))
       ∙ ap₂ (λ (x z : Name). some (cell-stmt x z))
       (name-has (t .names) (t .rows) k 1 (u .names) (length y) y (d .row-is 1 (omega arith)) (d .row-is 2 (omega arith)) refl (has-first (t .names) (u .names) y (n ++ []) (d .names-has)))
-      (name-has (t .names) (t .rows) k 3 (u .names + length y) (length n) n (d .row-is 3 (omega arith)) (d .row-is 4 (omega arith)) refl (rw append-nil at (has-second (t .names) (u .names) y (n ++ []) (d .names-has))))
+      (name-has (t .names) (t .rows) k 3 (u .names + length y) (length n) n (d .row-is 3 (omega arith)) (d .row-is 4 (omega arith)) refl (rw append-nil at (has-second (t .names) (u .names) y (n ++ []) (u .names + length y) refl (d .names-has))))
   decodes (cell-param-stmt o n c) d g p =
       let f = fine-parts ws (cell-param-stmt o n c) g in
       let h = columned-more (t .rows) k u 8 (u .names) (length n) c (sortCode o) (d .row-is) in
@@ -254,7 +161,7 @@ module _ (t : Tables) (u : Used) (ws : Wires) (wide : narrow ws ≡ true) (k : �
   decodes (conn-stmt x y) d g p =
       let f = fine-parts ws (conn-stmt x y) g in
       let q : Has (t .bits) (u .bits + length x) (map bitCode y) =
-      rw (length-map, append-nil) at (has-second (t .bits) (u .bits) (map bitCode x) (map bitCode y ++ []) (d .bits-has)) in
+      rw append-nil at (has-second (t .bits) (u .bits) (map bitCode x) (map bitCode y ++ []) (u .bits + length x) (ap (λ (n : ℕ). u .bits + n) (sym (length-map x bitCode))) (d .bits-has)) in
       by-kind 10 (d .row-is 0 (omega arith))
       ∙ ap₂ (λ (a b : Signal). some (conn-stmt a b))
       (signal-is 1 (u .bits) x (d .row-is 1 (omega arith)) (d .row-is 2 (omega arith)) (has-first (t .bits) (u .bits) (map bitCode x) (map bitCode y ++ []) (d .bits-has)) (and-true-left (fineSignal ws x) _ (f .signals)))

@@ -2,12 +2,13 @@
 -- Assumes nothing.
 use Prim.Native.Nat.{ℕ, suc, _+_, _-_, _≤_, _<_}
 use mathlib.Core.Path.{_≡_, refl, sym, ap, _∙_}
-use mathlib.Core.Bool.{Bool, true, false, cond}
+use mathlib.Core.Bool.{cond}
 use mathlib.Core.List.{List, [], _++_, append-assoc, append-nil}
 use native.Mathlib.Omega.{arith}
 use lib.Dec.{eqb}
 use borrow.Author.Tests.{eq-eqb, ne-eqb}
 use Rattle.rules.specs.Bytes.{bytes}
+use Rattle.scanner.specs.Laws.{one-le}
 use Rattle.netlist.specs.Rows.{kindAt}
 use Rattle.line_text.specs.Now.{wiresIn}
 use Rattle.line_text.specs.Lines.{statementNow, lineOf}
@@ -134,9 +135,5 @@ modules-start t C at o h =
     let e : C .statements - 0 ≡ C .statements = omega arith in
     rw e (reaches-start at (moduleRows t C 0 0 0 (C .statements)) o h)
 
-one-most : (b : Bool) → cond b 1 0 ≤ 1
-one-most true = omega arith
-one-most false = omega arith
-
 pub one-at-most : (x y : ℕ) → y ≡ cond (eqb x 3) 1 0 → y ≤ 1
-one-at-most x y e = rw e (one-most (eqb x 3))
+one-at-most x y e = rw e (one-le (eqb x 3))

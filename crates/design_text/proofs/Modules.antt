@@ -9,33 +9,33 @@ use native.Mathlib.Omega.{arith}
 use lib.Dec.{eqb, leb, eqb·suc-zero}
 use lib.ListN.{length, length-reverse}
 use borrow.Author.Tests.{eqb-true}
-use Rattle.rules.specs.Bytes.{all, any, bytes}
+use Rattle.rules.specs.Bytes.{all, bytes}
 use Rattle.rules.specs.Tokens.{Name}
 use Rattle.rules.specs.Numbers.{int32}
 use Rattle.rules.specs.Statements.{Statement, Wire, autoidx-stmt, attr-stmt, module-stmt, param-stmt, wire-stmt, memory-stmt, cell-stmt, cell-param-stmt, cell-conn-stmt, conn-stmt, proc-stmt, end-stmt, anAutoidx, anAttribute, aModule, aWire, code, contents, is, statementsOpen}
 use Rattle.rules.specs.Shapes.{Scope}
 use Rattle.rules.specs.Signals.{Wires}
-use Rattle.rules.specs.Judgement.{Past, until, sum, among, count, ofModule, wires}
+use Rattle.rules.specs.Judgement.{Past, until, sum, count, ofModule, wires}
 use Rattle.rules.specs.Session.{Rename}
 use Rattle.rules.specs.Text.{textOpen}
 use Rattle.rules.specs.Layout.{used, nameBytes, putRenames}
-use Rattle.scanner.specs.Laws.{by-test, and-true-left, and-true-right}
+use Rattle.scanner.specs.Laws.{by-test, and-true-left, and-true-right, eqb-sym}
 use Rattle.wires.specs.Rows.{column, nameOf, wireOf}
 use Rattle.wires.specs.RowLaws.{row-wire, row-name}
-use Rattle.past.specs.Place.{wiresIn, placeOf}
-use Rattle.past.proofs.PlaceLaws.{length-all-wires}
+use Rattle.past.specs.Place.{wiresIn}
 use Rattle.netlist.specs.Rows.{kindAt}
 use Rattle.netlist.specs.Laid.{roomsOf}
 use Rattle.netlist.specs.LaidLaws.{length-rows, eights-rows}
-use Rattle.netlist.specs.WireLaws.{length-wire-rows}
 use Rattle.admitted.specs.Admitted.{admitted}
-use Rattle.admitted.specs.AdmitLaws.{fine-fits, admitted-last, admitted-standing, admitted-offsets}
+use Rattle.admitted.specs.AdmitLaws.{fine-fits, admitted-last, admitted-standing, admitted-offsets, admitted-past}
+use Rattle.netlist.specs.UsedLaws.{used-wires}
+use Rattle.netlist.specs.Spans.{Has}
 use Rattle.designs.specs.Modules.{statementsOf, wiresOf, moduleCount, upTo}
 use Rattle.designs.specs.Now.{nameNow}
 use Rattle.designs.specs.Ranges.{wireRange}
 use Rattle.designs.specs.PastLaws.{module-counts, other-counts, count-step, module-first, module-more, module-past, none-counts, up-to-all, up-to-back}
 use Rattle.designs.specs.HeadLaws.{standing-headed}
-use Rattle.designs.specs.WireLaws.{wires-back, wire-range-there, wires-range}
+use Rattle.designs.specs.WireLaws.{wires-back, wire-range-there, wires-range, Adds, a-wire, no-wire, adds, wires-more}
 use Rattle.line_text.specs.Now as line
 use Rattle.line_text.specs.Lines.{statementNow}
 use Rattle.line_text.specs.declared.Module.{Module}
@@ -46,49 +46,22 @@ use Rattle.module_text.specs.WireLaws.{wires-down}
 use Rattle.module_text.specs.StandLaws.{Follows, one-follows, follows, follows-until, autoidx-first}
 use Rattle.design_text.specs.declared.Counts.{Counts}
 use Rattle.design_text.specs.Rows.{Tables, nextRow, waitingFrom, rowLine, lineIf, kindRows, bodyRows, moduleAt, moduleIf, moduleRows, textRows}
-use Rattle.design_text.proofs.Begun.{Begun, begun-wired, begun-renames, begun-past, admitted-past, last-parts, last-kind, last-decodes, last-wire, name-is, wires-are}
-use Rattle.design_text.proofs.Passes.{Rowed, no-rows, one-row, rowed-more, Kinded, no-kinds, one-kind, next-until, eqb-back, more-behind, all-more, row-line, attribute-rows, body-rows}
-use Rattle.design_text.proofs.Named.{named-code, named-other, nowed, length-nowed, body-nowed}
+use Rattle.design_text.proofs.Begun.{Begun, begun-wired, begun-renames, begun-past, last-parts, last-kind, last-decodes, last-wire, name-is, wires-are}
+use Rattle.design_text.proofs.Passes.{Rowed, no-rows, one-row, rowed-more, Kinded, no-kinds, one-kind, next-until, more-behind, all-more, row-line, attribute-rows, body-rows}
+use Rattle.design_text.proofs.Named.{named-code, named-other, nowed, length-nowed, body-nowed, attribute-only}
 
 -- ---- how many wires
-
-wires-more : (s : Statement) (ss : Past) → wiresIn (s ∷ ss) ≡ wiresIn ss + cond (is aWire s) 1 0
-unfolding wiresIn sum count among any
-wires-more s ss = by-test (is aWire s) (λ e. rw e (omega arith)) (λ e. rw e (omega arith))
 
 wires-onto : (xs : List Statement) (base : Past) → wiresIn (reverseAux xs base) ≡ wiresIn xs + wiresIn base
 unfolding wiresIn sum
 wires-onto [] base = omega arith
 wires-onto (x ∷ xs) base = omega (arith, wires-onto xs (x ∷ base))
 
-rooms-wires : (ss : Past) → length (roomsOf ss .wires) ≡ wiresIn ss
-unfolding placeOf
-rooms-wires ss = length-wire-rows ss ∙ length-all-wires ss
-
 no-wires : wiresIn [] ≡ 0
 unfolding wiresIn sum
 no-wires = refl
 
 -- ---- the rows of a statement
-
-data Adds : Statement → Type 0 where
-  a-wire : (w : Wire) (n : Name) → Adds (wire-stmt w n)
-  no-wire : {s : Statement} → is aWire s ≡ false → Adds s
-
-adds : (s : Statement) → Adds s
-unfolding statementsOpen
-adds (autoidx-stmt i) = no-wire refl
-adds (attr-stmt n c) = no-wire refl
-adds (module-stmt n) = no-wire refl
-adds (param-stmt n c) = no-wire refl
-adds (wire-stmt w n) = a-wire w n
-adds (memory-stmt m n) = no-wire refl
-adds (cell-stmt y n) = no-wire refl
-adds (cell-param-stmt o n c) = no-wire refl
-adds (cell-conn-stmt n x) = no-wire refl
-adds (conn-stmt x y) = no-wire refl
-adds (proc-stmt n) = no-wire refl
-adds end-stmt = no-wire refl
 
 -- lines that name no wire
 module-only : (s : Statement) → is aModule s ≡ true → is aWire s ≡ false
@@ -105,11 +78,7 @@ autoidx-only s h = rw (← eqb-true 1 (code (contents s .kind)) h)
 
 autoidx-kind : {t : Tables} (s : Statement) → Begun (roomsOf (s ∷ [])) t → eqb (kindAt (t .rows) 0) 1 ≡ is anAutoidx s
 unfolding is code
-autoidx-kind s k = rw (last-kind s [] k) (eqb-back (code (contents s .kind)) 1)
-
-attribute-only : (s : Statement) → is anAttribute s ≡ true → is aWire s ≡ false
-unfolding is code
-attribute-only s h = rw (← eqb-true 2 (code (contents s .kind)) h)
+autoidx-kind s k = rw (last-kind s [] k) (eqb-sym (code (contents s .kind)) 1)
 
 -- of a kind whose lines have no signal
 plain-kinds : (s : Statement) → leb (code (contents s .kind)) 8 ≡ true → contents s .signals ≡ []
@@ -156,7 +125,7 @@ end-top = refl
 plain-row : {t : Tables} (m : Module) (s : Statement) (ps : Past) → Begun (roomsOf (s ∷ ps)) t → admitted (s ∷ ps) ≡ true → is aWire s ≡ false → statementNow (t .names) (t .strings) (t .bits) (t .wires) (t .rows) m (length ps) ≡ some s
 unfolding statementNow is code
 plain-row {t} m s ps b e h =
-    rw (last-kind s ps b, eqb-back (code (contents s .kind)) 5, h) (last-decodes s ps b e)
+    rw (last-kind s ps b, eqb-sym (code (contents s .kind)) 5, h) (last-decodes s ps b e)
 
 module _ {t : Tables} (rs : List Rename) (F : Past) (b : Begun (putRenames (roomsOf F) rs) t) (m : Module) (from-is : m .from ≡ length F) (renames-are : m .renames ≡ length rs) where
   now-is : (n k : ℕ) → line.nameNow (t .names) (t .wires) (t .rows) (m .from) (m .renames) (m .number .0) n k ≡ nameNow rs (m .number .0) n (nameOf (t .names) (t .wires) k)
@@ -165,12 +134,12 @@ module _ {t : Tables} (rs : List Rename) (F : Past) (b : Begun (putRenames (room
   wire-row :
       (w : Wire) (x : Name) (ps : Past) (n : ℕ) → Begun (roomsOf (wire-stmt w x ∷ ps)) t → admitted (wire-stmt w x ∷ ps) ≡ true → m .first + n ≡ wiresIn ps →
       statementNow (t .names) (t .strings) (t .bits) (t .wires) (t .rows) m (length ps) ≡ some (wire-stmt w (nameNow rs (m .number .0) n x))
-  unfolding statementNow line.ownNow used nameBytes flatMap all statementsOpen
+  unfolding statementNow line.ownNow used nameBytes flatMap all statementsOpen Has
   wire-row w x ps n bs e h =
       let p = last-parts (wire-stmt w x) ps bs in
       let k : ℕ = length (roomsOf ps .wires) in
       let c : column (t .rows) (length ps) 3 ≡ k = last-wire w x ps bs in
-      let d : k - m .first ≡ n = omega (arith, rooms-wires ps) in
+      let d : k - m .first ≡ n = omega (arith, used-wires ps) in
       let r = p .wire-is w x refl in
       let o : int32 (w .offset) ≡ true = and-true-left (int32 (w .offset)) true (fine-fits (wires ps) (wire-stmt w x) (admitted-last (wire-stmt w x) ps e .parts)) in
       let wi : wireOf (t .wires) k ≡ w = row-wire (t .wires) k (used (roomsOf ps)) x w r o in
@@ -182,7 +151,7 @@ module _ {t : Tables} (rs : List Rename) (F : Past) (b : Begun (putRenames (room
       statementNow (t .names) (t .strings) (t .bits) (t .wires) (t .rows) m (length ps) ≡ some (named (nameNow rs (m .number .0) n) s)
   unfolding named
   named-row s ps n (a-wire w x) bs e h = wire-row w x ps n bs e h
-  named-row s ps n (no-wire o) bs e h = plain-row m s ps bs e o ∙ ap some (sym (named-other (nameNow rs (m .number .0) n) s o))
+  named-row s ps n (no-wire o z) bs e h = plain-row m s ps bs e o ∙ ap some (sym (named-other (nameNow rs (m .number .0) n) s o))
 
   -- THE ROWS OF A MODULE
   rowed :
@@ -310,7 +279,7 @@ module _
         let c : Begun (roomsOf (reverseAux qs (s ∷ ps))) t = rw is-F F-begun in
         let a : admitted (reverseAux qs (s ∷ ps)) ≡ true = ap admitted is-F ∙ e in
         let k : kindAt (t .rows) (length ps) ≡ code (contents s .kind) = last-kind s ps (begun-past qs (s ∷ ps) c) in
-        let x : eqb (kindAt (t .rows) (length ps)) 3 ≡ true = rw k (eqb-back (code (contents s .kind)) 3 ∙ line-is) in
+        let x : eqb (kindAt (t .rows) (length ps)) 3 ≡ true = rw k (eqb-sym (code (contents s .kind)) 3 ∙ line-is) in
         let j : length ps + 1 ≡ suc (length ps) = omega arith in
         let y : nextRow (t .rows) 3 (length ps + 1) (length qs) - (length ps + 1) ≡ length own =
         rw j (let z : nextRow (t .rows) 3 (suc (length ps)) (length qs) ≡ suc (length ps) + length own = next-until (t .rows) aModule 3 refl (kinded qs (s ∷ ps) c) in omega arith) in
@@ -326,12 +295,12 @@ module _
   -- rows that are no module line
   module-not : (s : Statement) (ps : Past) (n first c : ℕ) → Begun (roomsOf (s ∷ ps)) t → is aModule s ≡ false → moduleIf t C n first (length ps) c ≡ []
   unfolding moduleIf is code
-  module-not s ps n first c k h = rw (last-kind s ps k, eqb-back (code (contents s .kind)) 3, h)
+  module-not s ps n first c k h = rw (last-kind s ps k, eqb-sym (code (contents s .kind)) 3, h)
 
   more-modules : (s : Statement) (ps : Past) (n : ℕ) → Begun (roomsOf (s ∷ ps)) t → n ≡ moduleCount ps → n + cond (eqb (kindAt (t .rows) (length ps)) 3) 1 0 ≡ moduleCount (s ∷ ps)
   unfolding is code
   more-modules s ps n k h =
-      rw (last-kind s ps k, eqb-back (code (contents s .kind)) 3)
+      rw (last-kind s ps k, eqb-sym (code (contents s .kind)) 3)
       (by-test (eqb 3 (code (contents s .kind))) (λ x. rw x (omega (arith, module-counts s ps x))) (λ x. rw x (omega (arith, other-counts s ps x))))
 
   waits : (s : Statement) (ps : Past) (first : ℕ) → Begun (roomsOf (s ∷ ps)) t → is anAttribute s ≡ true → waitingFrom (kindAt (t .rows) (length ps)) first (length ps) ≡ first
@@ -340,7 +309,7 @@ module _
 
   passes : (s : Statement) (ps : Past) (first : ℕ) → Begun (roomsOf (s ∷ ps)) t → is anAttribute s ≡ false → waitingFrom (kindAt (t .rows) (length ps)) first (length ps) ≡ suc (length ps)
   unfolding waitingFrom is code
-  passes s ps first k h = rw (last-kind s ps k, eqb-back (code (contents s .kind)) 2, h) (omega arith)
+  passes s ps first k h = rw (last-kind s ps k, eqb-sym (code (contents s .kind)) 2, h) (omega arith)
 
   -- ALL MODULES
   modules-rows :

@@ -65,7 +65,7 @@ attribute-not : eqb (code anAttribute) 5 ≡ false
 unfolding code
 attribute-not = refl
 
-attribute-only : (s : Statement) → is anAttribute s ≡ true → is aWire s ≡ false
+pub attribute-only : (s : Statement) → is anAttribute s ≡ true → is aWire s ≡ false
 unfolding is code
 attribute-only s h = rw (← eqb-true 2 (code (contents s .kind)) h)
 

@@ -1,20 +1,21 @@
 -- Passes over rows write what the passes over the statements that stand there do.
 -- Assumes nothing.
 use Prim.Native.Nat.{ℕ, suc, _+_, _-_}
-use mathlib.Core.Path.{_≡_, refl, sym, ap, ap₂, _∙_}
+use mathlib.Core.Path.{_≡_, refl, ap, ap₂, _∙_}
 use mathlib.Core.List.{List, [], _∷_, _++_, flatMap, append-assoc}
 use mathlib.Core.Option.{some}
 use mathlib.Core.Bool.{Bool, true, false, cond}
 use native.Mathlib.Omega.{arith}
 use lib.Dec.{eqb}
 use lib.ListN.{length, length-append}
-use borrow.Author.Tests.{eq-eqb, ne-eqb, eqb-true, eqb-false}
+use borrow.Author.Tests.{eqb-true}
 use Rattle.rules.specs.Bytes.{all, bytes}
 use Rattle.rules.specs.Statements.{Statement, Kind, anAttribute, aParameter, aWire, aMemory, aCell, aCellParameter, aCellConnection, aConnection, anEnd, end-stmt, code, contents, is, statementsOpen}
 use Rattle.rules.specs.Signals.{Wires}
 use Rattle.rules.specs.Judgement.{until}
 use Rattle.rules.specs.Text.{textOpen}
-use Rattle.scanner.specs.Laws.{by-test, and-true-left, and-true-right}
+use Rattle.scanner.specs.Laws.{by-test, and-true-left, and-true-right, eqb-sym}
+use Rattle.scanner.specs.Lists.{all-append}
 use Rattle.netlist.specs.Rows.{kindAt}
 use Rattle.line_text.specs.Now.{wiresIn}
 use Rattle.line_text.specs.Lines as line
@@ -24,13 +25,9 @@ use Rattle.module_text.specs.Blocks.{lineOf}
 use Rattle.module_text.specs.Passes.{linesOf, kindLines, Print, objectLines, printMemory, cellBlock, printToEnd}
 use Rattle.design_text.specs.Rows.{Tables, nextRow, waitingFrom, rowLine, lineIf, kindRows, cellRows, objectIf, objectRows, bodyRows}
 
-pub eqb-back : (a b : ℕ) → eqb a b ≡ eqb b a
-eqb-back a b = by-test (eqb a b) (λ e. rw e (sym (eq-eqb b a (sym (eqb-true a b e))))) (λ e. rw e (sym (ne-eqb b a (λ h. eqb-false a b e (sym h)))))
-
 pub all-more : {A : Type 0} (f : A → Bool) (xs : List A) (x : A) → all f xs ≡ true → f x ≡ true → all f (xs ++ x ∷ []) ≡ true
 unfolding all
-all-more f [] x h e = rw e
-all-more f (y ∷ xs) x h e = rw (and-true-left (f y) _ h) (all-more f xs x (and-true-right (f y) _ h) e)
+all-more f xs x h e = all-append f xs (x ∷ []) h (rw e)
 
 pub more-behind : (k first : ℕ) (at : List Statement) (s : Statement) → k ≡ first + length at → suc k ≡ first + length (at ++ s ∷ [])
 more-behind k first at s e = omega (arith, length-append at (s ∷ []))
@@ -52,7 +49,7 @@ pub next-until : (rows : List ℕ) (K : Kind) (kind : ℕ) → code K ≡ kind �
 unfolding nextRow until is
 next-until rows K kind ek no-kinds = omega arith
 next-until rows K kind ek {k} (one-kind {s = s} {ss} q r) =
-    let h : eqb (kindAt rows k) kind ≡ eqb (code K) (code (contents s .kind)) = rw (q, ← ek) (eqb-back (code (contents s .kind)) (code K)) in
+    let h : eqb (kindAt rows k) kind ≡ eqb (code K) (code (contents s .kind)) = rw (q, ← ek) (eqb-sym (code (contents s .kind)) (code K)) in
     by-test (eqb (code K) (code (contents s .kind)))
     (λ f. rw (h, f) (omega arith))
     (λ f. rw (h, f) (next-until rows K kind ek r ∙ (omega arith)))
@@ -84,7 +81,7 @@ module _ (t : Tables) (m : Module) where
       (K : Kind) (kind l k : ℕ) (s : Statement) → code K ≡ kind → statementNow (t .names) (t .strings) (t .bits) (t .wires) (t .rows) m k ≡ some s →
       kindAt (t .rows) k ≡ code (contents s .kind) → lineIf t m kind l k ≡ cond (is K s) (lineOf l seen s) []
   unfolding lineIf is
-  line-if K kind l k s ek e q = rw (q, ← ek, eqb-back (code (contents s .kind)) (code K), row-line l k s e)
+  line-if K kind l k s ek e q = rw (q, ← ek, eqb-sym (code (contents s .kind)) (code K), row-line l k s e)
 
   -- THE LINES OF A KIND
   pub kind-rows : (K : Kind) (kind l : ℕ) → code K ≡ kind → {k : ℕ} {ss : List Statement} → Rowed t m k ss → kindRows t m kind l k (length ss) ≡ kindLines K l seen ss
@@ -132,12 +129,12 @@ module _ (t : Tables) (m : Module) where
     -- a row of another kind writes nothing
     object-not : (first k c : ℕ) (s : Statement) → kindAt (t .rows) k ≡ code (contents s .kind) → is K s ≡ false → objectIf t m kind first k c ≡ []
     unfolding objectIf is
-    object-not first k c s q h = rw (q, ← ek, eqb-back (code (contents s .kind)) (code K), h)
+    object-not first k c s q h = rw (q, ← ek, eqb-sym (code (contents s .kind)) (code K), h)
 
     object-here : (first k c : ℕ) (s : Statement) → kindAt (t .rows) k ≡ code (contents s .kind) → is K s ≡ true → objectIf t m kind first k c ≡ kindRows t m 2 1 first (k - first) ++ cond (eqb kind 7) (cellRows t m k c) (rowLine t m 1 k)
     unfolding objectIf is
     object-here first k c s q h =
-        let z : eqb (kindAt (t .rows) k) kind ≡ true = rw (q, ← ek) (eqb-back (code (contents s .kind)) (code K) ∙ h) in
+        let z : eqb (kindAt (t .rows) k) kind ≡ true = rw (q, ← ek) (eqb-sym (code (contents s .kind)) (code K) ∙ h) in
         rw z
 
     attribute-other : (s : Statement) → is anAttribute s ≡ true → is K s ≡ false
@@ -150,7 +147,7 @@ module _ (t : Tables) (m : Module) where
 
     passes : (first k : ℕ) (s : Statement) → kindAt (t .rows) k ≡ code (contents s .kind) → is anAttribute s ≡ false → waitingFrom (kindAt (t .rows) k) first k ≡ suc k
     unfolding waitingFrom is code
-    passes first k s q h = rw (q, eqb-back (code (contents s .kind)) 2, h) (omega arith)
+    passes first k s q h = rw (q, eqb-sym (code (contents s .kind)) 2, h) (omega arith)
 
     pub object-rows :
         (n first k : ℕ) (at : List Statement) {ss : List Statement} → k ≡ first + length at → all (is anAttribute) at ≡ true → Rowed t m first at → Rowed t m k ss →

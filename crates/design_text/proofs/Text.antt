@@ -1,23 +1,24 @@
 -- The rows of memory that holds a design write the text of the design with its names now.
 -- Assumes nothing.
 use Prim.Native.Nat.{ℕ, _-_, _*_}
-use mathlib.Core.Path.{_≡_, refl, sym, ap, _∙_}
-use mathlib.Core.List.{List, reverse, reverse-reverse}
+use mathlib.Core.Path.{_≡_, refl, sym, _∙_}
+use mathlib.Core.List.{List, reverse}
 use lib.ListN.{length, replicate, length-reverse}
 use Rattle.rules.specs.Statements.{Statement}
 use Rattle.rules.specs.Design.{design}
 use Rattle.rules.specs.Session.{Rename, now}
 use Rattle.rules.specs.Text.{text}
-use Rattle.rules.specs.Layout.{Memory, Rooms, empty, padded, putAll, putRenames, rooms, memory, layout}
+use Rattle.rules.specs.Layout.{Memory, Rooms, padded, putRenames, rooms, memory, layout}
 use Rattle.tables.specs.Flat.{flat}
 use Rattle.past.specs.Place.{wiresIn}
 use Rattle.netlist.specs.Laid.{roomsOf}
-use Rattle.netlist.specs.LaidLaws.{rooms-past}
 use Rattle.admitted.specs.Holds.{Holds}
 use Rattle.module_text.specs.PassLaws.{text-file}
 use Rattle.design_text.specs.declared.Counts.{Counts}
 use Rattle.design_text.specs.Rows.{Tables, tabled, textRows}
-use Rattle.design_text.proofs.Begun.{Starts, Begun}
+use Rattle.netlist.specs.Spans.{Starts}
+use Rattle.netlist.specs.RoomLaws.{rooms-file}
+use Rattle.design_text.proofs.Begun.{Begun}
 use Rattle.design_text.proofs.Modules.{text-of}
 
 abbrev tablesIn : Memory → Tables
@@ -38,14 +39,9 @@ begun-memory R k =
       rows-start = starts-padded (8 * 4769) (flat (R .rows));
     }
 
--- the rooms, with the statements from the last one on
-rooms-back : (ss : List Statement) (rs : List Rename) → rooms ss rs ≡ putRenames (roomsOf (reverse ss)) rs
-unfolding rooms
-rooms-back ss rs = ap (λ (R : Rooms). putRenames R rs) (ap (putAll empty) (sym (reverse-reverse ss)) ∙ rooms-past (reverse ss))
-
 layout-begun : (ss : List Statement) (rs : List Rename) → Begun (putRenames (roomsOf (reverse ss)) rs) (tablesIn (layout ss rs))
 unfolding layout
-layout-begun ss rs = rw (← rooms-back ss rs) (begun-memory (rooms ss rs) (length rs))
+layout-begun ss rs = rw (← rooms-file ss rs) (begun-memory (rooms ss rs) (length rs))
 
 -- THE TEXT
 pub text-held :

@@ -23,10 +23,11 @@ use Rattle.wires.specs.RowLaws.{RowIs}
 use Rattle.netlist.specs.Rows.{kindAt}
 use Rattle.netlist.specs.Laid.{roomsOf, Laid, Wired}
 use Rattle.netlist.specs.LaidLaws.{length-rows, eights-rows, laid-row}
+use Rattle.netlist.specs.UsedLaws.{used-wires}
 use Rattle.designs.specs.Modules.{statementsOf, wiresOf, moduleCount, upTo, Headed}
 use Rattle.designs.specs.PastLaws.{other-counts, module-first, module-more, none-counts, module-past, no-module, up-to-split, up-to-count}
 use Rattle.designs.specs.AttributeLaws.{settingsBefore, wire-in-file}
-use Rattle.designs.specs.WireLaws.{rooms-wires, Adds, a-wire, no-wire, adds, wires-back, range-number}
+use Rattle.designs.specs.WireLaws.{Adds, a-wire, no-wire, adds, wires-back, range-number}
 use Rattle.designs.specs.RowLaws.{laid-before}
 use Rattle.designs.specs.Ranges.{wireRange}
 
@@ -148,7 +149,7 @@ module _ {names rows : List ℕ} where
   statement-row b n before k e l =
       let q : k ≡ length (roomsOf before .rows) = e ∙ sym (length-rows before) in
       let r : RowIs rows k (statementRow (used (roomsOf before)) (wire-stmt b n)) = rw q (laid-row (roomsOf before) (wire-stmt b n) (eights-rows before) l) in
-      (r 0 (omega arith), r 3 (omega arith) ∙ rooms-wires before)
+      (r 0 (omega arith), r 3 (omega arith) ∙ used-wires before)
 
 module _ (ss : Past) (m w : ℕ) (d : Declared ss m w) where
   pub declared-number : {names t : List ℕ} → Headed ss → Wired (roomsOf ss) names t → wiresIn (d .before) ≡ wireRange t (wiresIn ss) m .first + w

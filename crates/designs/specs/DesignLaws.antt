@@ -6,7 +6,7 @@ use mathlib.Core.List.{List, [], _∷_, _++_, map, map-map, map-id, flatMap, zip
 use mathlib.Core.Option.{Option, none, some, Option·elim}
 use mathlib.Core.Bool.{Bool, true, false, cond, _||_, or-assoc}
 use native.Mathlib.Omega.{arith}
-use lib.ListN.{length, getD, getElem?, length-map}
+use lib.ListN.{length, getD, getElem?, length-map, List·getD-map}
 use Rattle.rules.specs.Bytes.{same, any}
 use Rattle.rules.specs.Tokens.{Name}
 use Rattle.rules.specs.Statements.{Statement, Wire, Kind, anAttribute, aModule, aMemory, aCell, autoidx-stmt, attr-stmt, module-stmt, param-stmt, wire-stmt, memory-stmt, cell-stmt, cell-param-stmt, cell-conn-stmt, conn-stmt, proc-stmt, end-stmt, contents, is, ownName, statementsOpen}
@@ -14,9 +14,10 @@ use Rattle.rules.specs.Judgement.{until, only, sum, among, count}
 use Rattle.rules.specs.Design.{Setting, Object, object, Module, Item, Inside, settingIn, items, blocks, objectsIn, pair, each, cellOf, moduleOf, Design, design}
 use Rattle.rules.specs.Session.{wiresAt, names, taken}
 use Rattle.scanner.specs.Laws.{by-test}
+use Rattle.scanner.specs.Lists.{zip-none, flatMap-same}
 use Rattle.netlist.specs.NameLaws.{ownNames}
 use Rattle.designs.specs.Modules.{modulesIn, statementsOf, wiresOf, memoriesAt, cellsAt}
-use Rattle.designs.specs.ListLaws.{elim-at, getD-map, map-same, flatMap-same, map-flatMap, chosen, any-append}
+use Rattle.designs.specs.ListLaws.{elim-at, map-same, map-flatMap, chosen, any-append}
 
 -- an attribute is of no other kind
 pub record OnlyAttribute (s : Statement) : Type 0 where
@@ -81,7 +82,7 @@ module _ {A : Type 0} (g : Module → List A) (h : List Item → List A) (none :
       elim-at moduleOf (λ o. g (o .body)) [] bs m
       ∙ ap (λ (l : List (List A)). getD l m []) (map-same (λ b. g (moduleOf b .body)) (λ b. h (b .1)) from bs ∙ sym (map-map h (λ b. b .1) bs) ∙ ap (map h) (blocks-items [] ss) ∙ map-map h (items []) (modulesIn ss))
       ∙ ap (λ (z : List A). getD (map (λ qs. h (items [] qs)) (modulesIn ss)) m z) (sym none)
-      ∙ getD-map (λ qs. h (items [] qs)) [] (modulesIn ss) m
+      ∙ List·getD-map (λ qs. h (items [] qs)) (modulesIn ss) m []
 
 -- WHAT STATEMENTS GIVE TO ITEMS. What an attribute has no part in is taken from the statements themselves
 each-items : {A : Type 0} (f : Statement → List A) → ((s : Statement) → is anAttribute s ≡ true → f s ≡ []) → (at : List Setting) (ss : List Statement) → each f (items at ss) ≡ flatMap f ss
@@ -94,11 +95,6 @@ each-items f h at (s ∷ ss) =
 pairs-in : {A : Type 0} (f : Inside → List A) (i : Item) → map (λ o. (o .name, o .body)) (objectsIn f i) ≡ zip (contents (i .statement) .names) (f (contents (i .statement)))
 unfolding objectsIn
 pairs-in f i = let l : List (Name × _) = zip (contents (i .statement) .names) (f (contents (i .statement))) in map-map (λ o. (o .name, o .body)) (λ x. object (i .attributes) (x .0) (x .1)) l ∙ map-id l
-
-zip-none : {A : Type 0} (ns : List Name) → zip {B = A} ns [] ≡ []
-unfolding zip zipWith
-zip-none [] = refl
-zip-none (n ∷ ns) = refl
 
 pub wires-pairs : (at : List Setting) (qs : List Statement) → map (λ o. (o .name, o .body)) (flatMap (objectsIn (λ c. c .wires)) (items at qs)) ≡ wiresOf qs
 unfolding each

@@ -10,7 +10,7 @@ use Rattle.rules.specs.Tokens.{Name}
 use Rattle.rules.specs.Statements.{Statement, Wire, autoidx-stmt, attr-stmt, module-stmt, param-stmt, wire-stmt, memory-stmt, cell-stmt, cell-param-stmt, cell-conn-stmt, conn-stmt, proc-stmt, end-stmt, aModule, aWire, aCell, anEnd, is, statementsOpen}
 use Rattle.rules.specs.Shapes.{Scope, top, inModule, inCell}
 use Rattle.rules.specs.Judgement.{Past, outer, scope, context, among}
-use Rattle.scanner.specs.Laws.{by-test}
+use Rattle.scanner.specs.Laws.{by-test, or-true-right}
 use Rattle.past.specs.Place.{scopeCode}
 use Rattle.admitted.specs.Admitted.{kinds, stands}
 use Rattle.admitted.specs.CountLaws.{Standing, none-stand, one-stands, context-scope}
@@ -63,10 +63,6 @@ outer-le top = omega arith
 outer-le inModule = omega arith
 outer-le inCell = omega arith
 
-or-right : (a b : Bool) → b ≡ true → a || b ≡ true
-or-right true b e = refl
-or-right false b e = e
-
 scope-headed : (ss : Past) → Standing ss → scopeCode (scope ss) ≤ 2 * moduleCount ss
 unfolding scope scopeCode
 scope-headed [] none-stand = omega arith
@@ -76,7 +72,7 @@ scope-headed (s ∷ ss) (one-stands e h) =
     by-test (is aModule s)
     (λ a. rw a (omega (arith, module-counts s ss a)))
     (λ a. by-test (is aCell s)
-    (λ b. rw (a, b) (omega (arith, stands-inside ss s e (or-right (is aWire s) (is aCell s) b))))
+    (λ b. rw (a, b) (omega (arith, stands-inside ss s e (or-true-right (is aWire s) (is aCell s) b))))
     (λ b. by-test (is anEnd s) (λ d. rw (a, b, d) (omega (arith, outer-le (scope ss)))) (λ d. rw (a, b, d) (omega arith))))
 
 or-left : (a b : Bool) → a ≡ true → a || b ≡ true

@@ -12,3 +12,4 @@ pub mod WireLaws
 pub mod HeadLaws
 pub mod LayoutLaws
 pub mod DeclaredLaws
+pub mod CodeLaws

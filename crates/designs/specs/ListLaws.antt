@@ -2,13 +2,14 @@
 -- Assumes nothing.
 use Prim.Native.Nat.{ℕ, zero, suc}
 use mathlib.Core.Path.{_≡_, refl, sym, ap, _∙_}
-use mathlib.Core.List.{List, [], _∷_, _++_, map, map-append, flatMap, reverse, reverse-cons, append-assoc, append-nil}
+use mathlib.Core.List.{List, [], _∷_, _++_, map, map-append, flatMap, reverse, reverse-cons, append-nil}
 use mathlib.Core.Option.{Option·elim}
 use mathlib.Core.Bool.{Bool, cond, _||_, or-assoc}
 use lib.ListN.{getD, getElem?}
 use Rattle.rules.specs.Bytes.{any}
 use Rattle.rules.specs.Judgement.{only}
 use Rattle.scanner.specs.Laws.{by-test}
+use Rattle.scanner.specs.Lists.{flatMap-append}
 
 module _ {A B : Type 0} where
   -- the element of that number, or a value given for none
@@ -18,24 +19,9 @@ module _ {A B : Type 0} where
   elim-at f g z (x ∷ xs) zero = refl
   elim-at f g z (x ∷ xs) (suc i) = elim-at f g z xs i
 
-  pub getD-map : (f : A → B) (d : A) (xs : List A) (i : ℕ) → getD (map f xs) i (f d) ≡ f (getD xs i d)
-  getD-map f d [] i = refl
-  getD-map f d (x ∷ xs) zero = refl
-  getD-map f d (x ∷ xs) (suc i) = getD-map f d xs i
-
   pub map-same : (f g : A → B) → ((x : A) → f x ≡ g x) → (xs : List A) → map f xs ≡ map g xs
   map-same f g h [] = refl
   map-same f g h (x ∷ xs) = rw (h x, map-same f g h xs)
-
-  pub flatMap-same : (f g : A → List B) → ((x : A) → f x ≡ g x) → (xs : List A) → flatMap f xs ≡ flatMap g xs
-  unfolding flatMap
-  flatMap-same f g h [] = refl
-  flatMap-same f g h (x ∷ xs) = rw (h x, flatMap-same f g h xs)
-
-  pub flatMap-append : (f : A → List B) (xs ys : List A) → flatMap f (xs ++ ys) ≡ flatMap f xs ++ flatMap f ys
-  unfolding flatMap
-  flatMap-append f [] ys = refl
-  flatMap-append f (x ∷ xs) ys = ap (λ (l : List B). f x ++ l) (flatMap-append f xs ys) ∙ sym (append-assoc (f x) (flatMap f xs) (flatMap f ys))
 
   -- with one element more in front, read from the end
   pub flatMap-back : (f : A → List B) (x : A) (xs : List A) → flatMap f (reverse (x ∷ xs)) ≡ flatMap f (reverse xs) ++ f x

@@ -3,17 +3,13 @@
 use Prim.Native.Nat.{ℕ, zero, suc, _+_, _-_, _≤_, _<_}
 use mathlib.Core.Path.{_≡_, refl, sym, ap, _∙_}
 use mathlib.Core.List.{List}
-use mathlib.Core.Bool.{Bool, true, false, cond}
+use mathlib.Core.Bool.{Bool, cond}
 use native.Mathlib.Omega.{arith}
 use lib.Dec.{eqb, leb, ltb}
 use borrow.Author.Tests.{eq-eqb, ne-eqb, leb-true, leb-false, eqb-true, eqb-false, ltb-true, ltb-false}
 use Rattle.wires.specs.Rows.{column}
-use Rattle.scanner.specs.Laws.{by-cond, by-test}
+use Rattle.scanner.specs.Laws.{by-cond, by-test, one-le}
 use Rattle.designs.specs.Ranges.{rowsWhere, linesIn, lineOf, rowRange}
-
-one-at-most : (b : Bool) → cond b 1 0 ≤ 1
-one-at-most true = omega arith
-one-at-most false = omega arith
 
 below-of-other : {a b : ℕ} → a ≤ b → (a ≡ b → ⊥) → a < b
 below-of-other {a} {b} h n = by-test (ltb a b) (λ e. ltb-true a b e) (λ e. absurd (n (omega (arith, ltb-false a b e))))
@@ -26,7 +22,7 @@ where-more f t k = let e : k + 1 ≡ suc k = omega arith in rw e
 pub where-le : (f : ℕ → Bool) (t : List ℕ) (k : ℕ) → rowsWhere f t k ≤ k
 unfolding rowsWhere
 where-le f t zero = omega arith
-where-le f t (suc k) = omega (arith, where-le f t k, one-at-most (f (column t k 0)))
+where-le f t (suc k) = omega (arith, where-le f t k, one-le (f (column t k 0)))
 
 -- the same of numbers that count them
 module _ (f : ℕ → Bool) (t : List ℕ) (k n : ℕ) (e : n ≡ rowsWhere f t k) where
@@ -56,7 +52,7 @@ where-next t m (suc k) = omega (arith, where-next t m k, below-next (column t k 
 module _ (rows : List ℕ) where
   pub lines-more : (k : ℕ) → (linesIn rows k ≤ linesIn rows (suc k)) × (linesIn rows (suc k) ≤ linesIn rows k + 1)
   unfolding linesIn rowsWhere
-  lines-more k = (omega arith, omega (arith, one-at-most (eqb (column rows k 0) 3)))
+  lines-more k = (omega arith, omega (arith, one-le (eqb (column rows k 0) 3)))
 
   pub line-le : (k m : ℕ) → lineOf rows k m ≤ k
   unfolding lineOf

@@ -18,13 +18,13 @@ use Rattle.wires.specs.Rows.{column}
 use Rattle.wires.specs.RowLaws.{RowIs}
 use Rattle.scanner.specs.Laws.{by-test}
 use Rattle.past.proofs.KindLaws.{count-one}
+use Rattle.past.proofs.PlaceLaws.{until-take}
 use Rattle.netlist.specs.Rows.{kindAt, namesBetween}
 use Rattle.netlist.specs.Kinds.{Tests, hasName}
 use Rattle.netlist.specs.RowLaws.{row-kind}
 use Rattle.netlist.specs.Laid.{roomsOf, Laid}
 use Rattle.netlist.specs.LaidLaws.{length-rows, eights-rows, laid-put, laid-row}
 use Rattle.netlist.specs.NameLaws.{ownNames, names-laid}
-use Rattle.netlist.specs.SpaceLaws.{until-last}
 use Rattle.designs.specs.Modules.{statementsOf, moduleCount, upTo}
 use Rattle.designs.specs.PastLaws.{module-counts, other-counts, count-step, module-first, module-more, none-counts, module-past, no-module, up-to-all, up-to-back, up-to-holds, up-to-le, up-to-split}
 use Rattle.designs.specs.Ranges.{rowsWhere, linesIn, lineOf, rowRange}
@@ -113,7 +113,7 @@ module _ {names rows : List ℕ} where
         let p = range-there b in
         names-laid ks h test t q (laid-up-to m ss l) (r .first) (r .count) (p .0)
         ∙ ap (λ (n : ℕ). ownNames ks (take n q)) (p .1)
-        ∙ ap (ownNames ks) (sym (until-last (is aModule) q) ∙ sym (reverse-reverse (ofModule q)) ∙ ap reverse (sym (module-past ss m b))))
+        ∙ ap (ownNames ks) (sym (until-take (is aModule) q) ∙ sym (reverse-reverse (ofModule q)) ∙ ap reverse (sym (module-past ss m b))))
         (λ e.
         let b : moduleCount ss ≤ m = ltb-false m (moduleCount ss) e in
         ap (namesBetween names rows test (r .first)) (range-none b .1) ∙ ap (λ (qs : List Statement). ownNames ks (reverse qs)) (sym (no-module ss m b)))
@@ -143,7 +143,7 @@ module _ {names rows : List ℕ} where
         ∙ ap (take c) (drop-at early (own ++ reverse xs) (r .first) le)
         ∙ take-at own (reverse xs) c lo
         ∙ ap (λ (n : ℕ). reverse (take n q)) (p .1)
-        ∙ ap reverse (sym (until-last (is aModule) q))
+        ∙ ap reverse (sym (until-take (is aModule) q))
         ∙ sym (module-past ss m b))
         (λ e.
         let b : moduleCount ss ≤ m = ltb-false m (moduleCount ss) e in

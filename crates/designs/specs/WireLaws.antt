@@ -3,7 +3,7 @@
 use Prim.Native.Nat.{ℕ, suc, _+_, _-_, _≤_, _<_}
 use mathlib.Core.Path.{_≡_, refl, sym, ap, ap₂, _∙_}
 use mathlib.Core.List.{List, [], _∷_, _++_, map, flatMap, zip, zipWith, reverse, reverse-append, reverse-reverse, append-assoc}
-use mathlib.Core.Bool.{Bool, true, false, cond, _&&_}
+use mathlib.Core.Bool.{Bool, true, false, cond, _&&_, true≢false}
 use native.Mathlib.Omega.{arith}
 use lib.Dec.{eqb, leb, ltb}
 use lib.ListN.{length}
@@ -23,10 +23,10 @@ use Rattle.wires.specs.StoreLaws.{length-wire-row}
 use Rattle.scanner.specs.Laws.{by-test}
 use Rattle.past.specs.Place.{wiresIn, placeOf}
 use Rattle.past.specs.Offsets.{Offsets, more-offsets}
-use Rattle.past.proofs.PlaceLaws.{length-all-wires}
 use Rattle.netlist.specs.Laid.{roomsOf, Wired}
 use Rattle.netlist.specs.LaidLaws.{row-behind}
-use Rattle.netlist.specs.WireLaws.{length-wire-rows, eights-wires, wired-put, wires-laid}
+use Rattle.netlist.specs.WireLaws.{eights-wires, wired-put, wires-laid}
+use Rattle.netlist.specs.UsedLaws.{used-wires, used-modules}
 use Rattle.designs.specs.Modules.{statementsOf, wiresOf, moduleCount, upTo, Headed, none-headed, one-headed}
 use Rattle.designs.specs.ListLaws.{flatMap-back}
 use Rattle.designs.specs.DesignLaws.{pairs-at}
@@ -35,15 +35,6 @@ use Rattle.designs.specs.Ranges.{rowsWhere, wireRange}
 use Rattle.designs.specs.RangeLaws.{where-next}
 
 -- A WIRE'S ROW HOLDS ITS MODULE
-rooms-modules : (ss : Past) → roomsOf ss .modules ≡ moduleCount ss
-unfolding roomsOf put sum
-rooms-modules [] = refl
-rooms-modules (s ∷ ss) = omega (arith, rooms-modules ss)
-
-pub rooms-wires : (ss : Past) → length (roomsOf ss .wires) ≡ wiresIn ss
-unfolding placeOf
-rooms-wires ss = length-wire-rows ss ∙ length-all-wires ss
-
 module _ {names t : List ℕ} where
   pub wired-before : (s : Statement) (ss : Past) → Wired (roomsOf (s ∷ ss)) names t → Wired (roomsOf ss) names t
   unfolding roomsOf
@@ -59,12 +50,9 @@ module _ {names t : List ℕ} where
   last-module : (w : Wire) (n : Name) (ss : Past) → Wired (roomsOf (wire-stmt w n ∷ ss)) names t → column t (wiresIn ss) 0 ≡ moduleCount ss - 1
   unfolding roomsOf wireRow row padded used
   last-module w n ss l =
-      ap (λ (k : ℕ). column t k 0) (sym (rooms-wires ss))
+      ap (λ (k : ℕ). column t k 0) (sym (used-wires ss))
       ∙ last-row (roomsOf ss) w n (eights-wires ss) l 0 (omega arith)
-      ∙ ap (λ (k : ℕ). k - 1) (rooms-modules ss)
-
-true-not-false : true ≡ false → ⊥
-true-not-false e = let z : _≡_ {A = ℕ} 0 1 = cc in omega arith
+      ∙ ap (λ (k : ℕ). k - 1) (used-modules ss)
 
 -- WHAT A STATEMENT ADDS to the wires
 pub data Adds : Statement → Type 0 where
@@ -91,7 +79,7 @@ unfolding statementsOpen
 wire-alone s (a-wire w n) e = refl
 wire-alone s (no-wire h z) e = cc
 
-wires-more : (s : Statement) (ss : Past) → wiresIn (s ∷ ss) ≡ wiresIn ss + cond (is aWire s) 1 0
+pub wires-more : (s : Statement) (ss : Past) → wiresIn (s ∷ ss) ≡ wiresIn ss + cond (is aWire s) 1 0
 unfolding wiresIn sum count among any
 wires-more s ss = by-test (is aWire s) (λ e. rw e (omega arith)) (λ e. rw e (omega arith))
 
@@ -172,7 +160,7 @@ module _ {names t : List ℕ} (m : ℕ) where
       (λ f.
       let c : moduleCount (s ∷ ss) ≡ suc (moduleCount ss) = module-counts s ss f in
       rw (module-first s ss f)
-      (where-same (λ c. eqb c m) s ss l (λ w n. absurd (true-not-false (sym f ∙ n))) ∙ none-laid ss q l′ (omega arith) ∙ sym none-wires))
+      (where-same (λ c. eqb c m) s ss l (λ w n. absurd (true≢false (sym f ∙ n))) ∙ none-laid ss q l′ (omega arith) ∙ sym none-wires))
       (λ f.
       let c : moduleCount (s ∷ ss) ≡ moduleCount ss = other-counts s ss f in
       let i : rowsWhere (λ c. eqb c m) t (wiresIn ss) ≡ wiresIn (ofModule (upTo m ss)) = own-laid ss q l′ (omega arith) in

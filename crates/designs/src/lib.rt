@@ -1,7 +1,7 @@
 // A module of the design by its number: its wires in the table of wires, and its statements in the table of rows.
 // All of it is total: a word past a table's end counts as 0.
 use numbers::kinds::ModuleNumber;
-use tables::word;
+use wires::column;
 ghost use mathlib.Core.Path.{_≡_};
 ghost use mathlib.Core.Bool.{cond};
 ghost use lib.Dec.{eqb, ltb};
@@ -18,7 +18,7 @@ pub struct Range {
 fn first_column(table: &[u32], k: u32) -> u32
     ensures { λ r. ⌜ r ≡ column (now (table .entry)) k 0 ⌝ }
 {
-    word(table, 8 * k as usize)
+    column(table, k as usize, 0)
 }
 
 fn one_if_below(a: u32, b: u32) -> u32

@@ -3,13 +3,13 @@ use Prim.Native.Nat.{ℕ, _≤_}
 use mathlib.Core.Path.{_≡_}
 use mathlib.Core.List.{List}
 use mathlib.Core.Option.{Option, none, some}
-use mathlib.Core.Bool.{Bool, cond}
-use lib.Dec.{eqb}
+use mathlib.Core.Bool.{Bool}
 use lib.Seq.{slice}
 use Rattle.rules.specs.Tokens as rules
-use Rattle.rules.specs.Statements.{Sort, Shape, autoidx-stmt, attr-stmt, module-stmt, param-stmt, wire-stmt, memory-stmt, cell-stmt, cell-param-stmt, cell-conn-stmt, conn-stmt, proc-stmt, end-stmt}
+use Rattle.rules.specs.Statements.{Shape, autoidx-stmt, attr-stmt, module-stmt, param-stmt, wire-stmt, memory-stmt, cell-stmt, cell-param-stmt, cell-conn-stmt, conn-stmt, proc-stmt, end-stmt}
 use Rattle.rules.specs.Shapes as shapes
 use Rattle.rules.specs.Shapes.{Parse, of₂, id, sigspec, options, wireOptionForms, memoryOptionForms, top, inModule, inCell, whole, wholeBy, shape}
+use Rattle.numbers.specs.Kinds.{sortOf}
 use Rattle.tokens.specs.Rows.{integerIn, literalIn, line, tokenAt}
 use Rattle.tokens.specs.declared.Constant.{Constant}
 use Rattle.tokens.specs.declared.Token.the-variants.{Constant as Constantly}
@@ -23,10 +23,6 @@ use Rattle.forms.specs.declared.Kind.{Kind}
 use Rattle.forms.specs.declared.Kind.the-variants as kind
 use Rattle.forms.specs.declared.CellKind.{CellKind}
 use Rattle.forms.specs.declared.CellKind.the-variants as cellKind
-
--- a cell parameter's sort by its number
-unfoldable pub sortOf : ℕ → Sort
-sortOf k = cond (eqb k 0) Sort.plain (cond (eqb k 1) Sort.signed Sort.real)
 
 -- the name at a span
 unfoldable pub nameIn : List ℕ → Span → rules.Name

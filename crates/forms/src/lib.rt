@@ -12,7 +12,8 @@ use tokens::token_at;
 ghost use Rattle.rules.specs.Statements.{autoidx-stmt, attr-stmt, module-stmt, param-stmt, cell-stmt, cell-param-stmt, proc-stmt};
 ghost use Rattle.rules.specs.Shapes.{of₁, of₂, of₃, id, int, const, orEnd, sort, objectForms};
 ghost use Rattle.forms.specs.Words.{WordIs};
-ghost use Rattle.forms.specs.Forms.{sortOf, FinishedIs, LineIs, SortedIs, TopIs, AnnouncedIs, ModuleIs, CellIs};
+ghost use Rattle.numbers.specs.Kinds.{sortOf};
+ghost use Rattle.forms.specs.Forms.{FinishedIs, LineIs, SortedIs, TopIs, AnnouncedIs, ModuleIs, CellIs};
 
 // A name's place in the file.
 pub struct Span {

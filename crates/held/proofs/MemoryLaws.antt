@@ -5,14 +5,12 @@ use mathlib.Core.Path.{_≡_, sym, ap, _∙_, subst}
 use mathlib.Core.List.{List, [], _∷_, _++_, reverse, reverse-reverse, append-nil}
 use mathlib.Core.Bool.{Bool, true, false}
 use native.Mathlib.Omega.{arith}
-use lib.Dec.{eqb}
 use lib.ListN.{length, length-append}
-use borrow.Author.Tests.{eqb-true}
 use Rattle.rules.specs.Statements.{Statement}
 use Rattle.rules.specs.Judgement.{Past}
 use Rattle.rules.specs.Session.{Rename}
 use Rattle.rules.specs.Layout.{Memory, rooms}
-use Rattle.scanner.specs.Laws.{and-true-left}
+use Rattle.scanner.specs.Laws.{never}
 use Rattle.past.specs.Place.{placeOf}
 use Rattle.past.specs.Sizes.{sumsOf}
 use Rattle.past.specs.declared.place.Place.{Place}
@@ -20,12 +18,12 @@ use Rattle.past.specs.declared.sizes.Sizes.{Sizes}
 use Rattle.admitted.specs.Holds.{Holds}
 use Rattle.replay.specs.Begins.{Stored, Replays}
 use Rattle.replay.specs.declared.Replayed.{Replayed}
-use Rattle.replay.proofs.CodeLaws.{never}
 use Rattle.standing.specs.Judged.{Lies}
 use Rattle.held.specs.declared.Held.{Held}
 use Rattle.held.specs.declared.Renamed.{Renamed}
 use Rattle.held.specs.Renamed.{RenamesAre}
-use Rattle.held.specs.Held.{rightSizes, restZero, HeldIs}
+use Rattle.netlist.specs.Lengths.{rightSizes, sizes-exact}
+use Rattle.held.specs.Held.{restZero, HeldIs}
 use Rattle.held.specs.RenameLaws.{file-only}
 use Rattle.held.specs.HeldLaws.{partsOf, holds-many, holds-room, holds-laid, holds-sizes, holds-rest, holds-stored, stored-lies, lies-holds}
 
@@ -33,8 +31,7 @@ abbrev sizesFit : Memory → Bool
 sizesFit m = rightSizes (length (m .names)) (length (m .strings)) (length (m .bits)) (length (m .wires)) (length (m .rows))
 
 pub names-short : (names strings bits wires rows : ℕ) → rightSizes names strings bits wires rows ≡ true → names ≤ 16384
-unfolding rightSizes
-names-short names strings bits wires rows e = omega (arith, eqb-true names 16384 (and-true-left (eqb names 16384) _ e))
+names-short names strings bits wires rows e = omega (arith, sizes-exact names strings bits wires rows e .0)
 
 none-more : {A : Type 0} (xs ys more : List A) → xs ≡ ys ++ more → length xs ≡ length ys → xs ≡ ys
 none-more xs ys [] e l = e ∙ append-nil ys

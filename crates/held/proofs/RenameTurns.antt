@@ -20,7 +20,7 @@ use Rattle.past.specs.Place.{placeOf}
 use Rattle.past.specs.declared.place.Place.{Place}
 use Rattle.admitted.specs.Holds.{Allowed, no-renames}
 use Rattle.netlist.specs.Laid.{Laid, Wired}
-use Rattle.replay.proofs.CodeLaws.{never}
+use Rattle.scanner.specs.Laws.{never}
 use Rattle.standing.specs.Judged.{Lies, JudgedIs}
 use Rattle.held.specs.declared.Renamed.{Renamed}
 use Rattle.held.specs.Renamed.{isRename, RenameIs, RenamesAre}

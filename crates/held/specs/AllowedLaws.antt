@@ -8,12 +8,11 @@ use native.Mathlib.Omega.{arith}
 use lib.Dec.{leb}
 use lib.ListN.{length, length-append}
 use borrow.Author.Tests.{leb-false}
-use Rattle.rules.specs.Judgement.{sum, lowest, accepted, verdict}
+use Rattle.rules.specs.Judgement.{lowest, accepted, verdict}
 use Rattle.rules.specs.Design.{Design}
 use Rattle.rules.specs.Session.{Rename, roomUsed, renameCall, numberOf}
 use Rattle.admitted.specs.Holds.{Allowed, no-renames, one-rename}
-use Rattle.order.specs.Sums.{sum-append}
-use Rattle.order.specs.RenamedFine.{accepted-keeps}
+use Rattle.order.specs.RenamedFine.{accepted-keeps, room-more}
 
 -- LISTS WITH A LAST ELEMENT
 last-same : {A : Type 0} (xs ys : List A) (x y : A) → xs ++ x ∷ [] ≡ ys ++ y ∷ [] → (xs ≡ ys) × (x ≡ y)
@@ -78,11 +77,6 @@ module _ (d : Design) (rs : List Rename) (r : Rename) where
   pub accepted-number : renameCall d rs r ≡ accepted (rs ++ r ∷ []) → numberOf (renameCall d rs r) ≡ 0
   unfolding numberOf
   accepted-number e = ap numberOf e
-
-  -- HOW MANY, and the room used
-  pub room-more : roomUsed d (rs ++ r ∷ []) ≡ roomUsed d rs + length (r .newName)
-  unfolding roomUsed sum
-  room-more = omega (arith, sum-append (λ (q : Rename). length (q .newName)) rs (r ∷ []))
 
 last-test : (rs qs : List Rename) (a b c d e f : Bool) → verdict rs (lowest ((4, a) ∷ (6, b) ∷ (8, c) ∷ (9, d) ∷ (11, e || f) ∷ [])) ≡ accepted qs → e ≡ false
 unfolding verdict lowest

@@ -20,11 +20,6 @@ abbrev pub tabled : (names strings bits wires rows : List ℕ) → (renames room
 tabled names strings bits wires rows renames room =
     record { names = names; strings = strings; bits = bits; wires = wires; rows = rows; renames = renames; room = room }
 
--- the lengths of the tables
-unfoldable pub rightSizes : (names strings bits wires rows : ℕ) → Bool
-rightSizes names strings bits wires rows =
-    eqb names 16384 && (eqb strings 8192 && (eqb bits 16384 && (eqb wires 4096 && eqb rows 38152)))
-
 unfoldable pub zeroFrom : List ℕ → ℕ → Bool
 zeroFrom t at = all (eqb 0) (drop at t)
 

@@ -31,14 +31,16 @@ use Rattle.admitted.specs.Holds.{Allowed, Holds}
 use Rattle.netlist.specs.Laid.{roomsOf, Laid, Wired}
 use Rattle.netlist.specs.LaidLaws.{laid-padded, laid-renames, eights-rows}
 use Rattle.netlist.specs.WireLaws.{wired-padded, wired-renames, eights-wires}
+use Rattle.netlist.specs.Used.{usedBy}
 use Rattle.replay.specs.Reads as tables
 use Rattle.replay.specs.Begins.{Fronts, isStatement, Stored}
-use Rattle.replay.specs.Turns.{usedAt}
-use Rattle.replay.proofs.BeginLaws.{used-past}
+use Rattle.netlist.specs.UsedLaws.{used-past}
 use Rattle.standing.specs.Judged.{Lies}
-use Rattle.standing.specs.RoomLaws.{rooms-file, room-used}
+use Rattle.netlist.specs.RoomLaws.{rooms-file, Kept, renames-keep}
+use Rattle.standing.specs.RoomLaws.{room-used}
 use Rattle.held.specs.Renamed.{isRename}
-use Rattle.held.specs.Held.{rightSizes, zeroFrom, restZero}
+use Rattle.netlist.specs.Lengths.{rightSizes, sizes-exact}
+use Rattle.held.specs.Held.{zeroFrom, restZero}
 use Rattle.held.specs.AllowedLaws.{allowed-few, allowed-room}
 use Rattle.held.specs.RenameLaws.{RowOf, words-rename, laid-next, eights-file, length-file}
 
@@ -47,16 +49,6 @@ abbrev pub partsOf : layouts.Memory → tables.Tables
 partsOf m = tables.tabled (m .names) (m .strings) (m .bits) (m .wires)
 
 -- WHAT RENAMES LEAVE as it is
-record Kept (R S : Rooms) : Type 0 where
-  strings : S .strings ≡ R .strings
-  bits : S .bits ≡ R .bits
-  wires : S .wires ≡ R .wires
-
-renames-keep : (R : Rooms) (rs : List Rename) → Kept R (putRenames R rs)
-unfolding putRenames putRename
-renames-keep R [] = record { strings = refl; bits = refl; wires = refl }
-renames-keep R (r ∷ rs) = let k = renames-keep (putRename R r) rs in record { strings = k .strings; bits = k .bits; wires = k .wires }
-
 file-keeps : (ss : List Statement) (rs : List Rename) → Kept (roomsOf (reverse ss)) (rooms ss rs)
 file-keeps ss rs = subst (Kept (roomsOf (reverse ss))) (sym (rooms-file ss rs)) (renames-keep (roomsOf (reverse ss)) rs)
 
@@ -68,8 +60,8 @@ pub record Sized (S : Rooms) (p : Place) (u : Sizes) (many : ℕ) : Type 0 where
   pub rows : length (flat (S .rows)) ≡ 8 * (p .rows + many)
 
 module _ (ss : List Statement) (rs : List Rename) (p : Place) (u : Sizes) (many : ℕ) (ep : placeOf (reverse ss) ≡ p) (eu : sumsOf (reverse ss) ≡ u) where
-  used-is : used (roomsOf (reverse ss)) ≡ usedAt p u
-  used-is = used-past (reverse ss) ∙ ap₂ usedAt ep eu
+  used-is : used (roomsOf (reverse ss)) ≡ usedBy p u
+  used-is = used-past (reverse ss) ∙ ap₂ usedBy ep eu
 
   rows-is : length (reverse ss) ≡ p .rows
   unfolding placeOf
@@ -265,33 +257,26 @@ module _ (m : layouts.Memory) (ss : List Statement) (p : Place) (u : Sizes)
       (rs : List Rename) → Lies (m .names) (m .wires) (m .rows) p (m .renames) (m .room) ss rs → Allowed (design ss) rs →
       rightSizes (length (m .names)) (length (m .strings)) (length (m .bits)) (length (m .wires)) (length (m .rows)) ≡ true →
       restZero m p u ≡ true → Holds m ss rs
-  unfolding rightSizes restZero layout memory
+  unfolding restZero layout memory
   lies-holds rs l a s r =
       let z = sized ss rs p u (m .renames) ep eu (l .standing) in
       let k = file-keeps ss rs in
       let f = h .begins .fronts in
       let R : Rooms = rooms ss rs in
-      let s₁ = and-true-right (eqb (length (m .names)) 16384) _ s in
-      let s₂ = and-true-right (eqb (length (m .strings)) 8192) _ s₁ in
-      let s₃ = and-true-right (eqb (length (m .bits)) 16384) _ s₂ in
-      let ln = eqb-true _ _ (and-true-left (eqb (length (m .names)) 16384) _ s) in
-      let ls = eqb-true _ _ (and-true-left (eqb (length (m .strings)) 8192) _ s₁) in
-      let lb = eqb-true _ _ (and-true-left (eqb (length (m .bits)) 16384) _ s₂) in
-      let lw = eqb-true _ _ (and-true-left (eqb (length (m .wires)) 4096) _ s₃) in
-      let lr = eqb-true _ _ (and-true-right (eqb (length (m .wires)) 4096) _ s₃) in
+      let e = sizes-exact (length (m .names)) (length (m .strings)) (length (m .bits)) (length (m .wires)) (length (m .rows)) s in
       let r₁ = and-true-right (zeroFrom (m .names) (m .room)) _ r in
       let r₂ = and-true-right (zeroFrom (m .strings) (u .«string_bytes»)) _ r₁ in
       let r₃ = and-true-right (zeroFrom (m .bits) (u .«value_bits» + u .«signal_bits»)) _ r₂ in
       let en : padded 16384 (R .names) ≡ m .names =
-      table-is (m .names) (R .names) (l .laid .more-names) 16384 (m .room) (l .room) ln (l .laid .names-are) (and-true-left _ _ r) in
+      table-is (m .names) (R .names) (l .laid .more-names) 16384 (m .room) (l .room) (e .0) (l .laid .names-are) (and-true-left _ _ r) in
       let es : padded 8192 (R .strings) ≡ m .strings =
-      table-is (m .strings) (R .strings) (f .strings-start .0) 8192 (u .«string_bytes») (z .strings) ls (rw (k .strings) (f .strings-start .1)) (and-true-left _ _ r₁) in
+      table-is (m .strings) (R .strings) (f .strings-start .0) 8192 (u .«string_bytes») (z .strings) (e .1) (rw (k .strings) (f .strings-start .1)) (and-true-left _ _ r₁) in
       let eb : padded 16384 (R .bits) ≡ m .bits =
-      table-is (m .bits) (R .bits) (f .bits-start .0) 16384 (u .«value_bits» + u .«signal_bits») (z .bits) lb (rw (k .bits) (f .bits-start .1)) (and-true-left _ _ r₂) in
+      table-is (m .bits) (R .bits) (f .bits-start .0) 16384 (u .«value_bits» + u .«signal_bits») (z .bits) (e .2) (rw (k .bits) (f .bits-start .1)) (and-true-left _ _ r₂) in
       let ew : padded (8 * 512) (flat (R .wires)) ≡ m .wires =
-      table-is (m .wires) (flat (R .wires)) (l .wired .more-wires) (8 * 512) (8 * p .wires) (z .wires) lw (l .wired .wires-are) (and-true-left _ _ r₃) in
+      table-is (m .wires) (flat (R .wires)) (l .wired .more-wires) (8 * 512) (8 * p .wires) (z .wires) (e .3) (l .wired .wires-are) (and-true-left _ _ r₃) in
       let er : padded (8 * 4769) (flat (R .rows)) ≡ m .rows =
-      table-is (m .rows) (flat (R .rows)) (l .laid .more-rows) (8 * 4769) (8 * (p .rows + m .renames)) (z .rows) lr (l .laid .rows-are) (and-true-right (zeroFrom (m .wires) (8 * p .wires)) _ r₃) in
+      table-is (m .rows) (flat (R .rows)) (l .laid .more-rows) (8 * 4769) (8 * (p .rows + m .renames)) (z .rows) (e .4) (l .laid .rows-are) (and-true-right (zeroFrom (m .wires) (8 * p .wires)) _ r₃) in
       record {
         admitted = h .admits;
         closes = h .closed;

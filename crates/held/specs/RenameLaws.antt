@@ -19,7 +19,7 @@ use Rattle.tables.specs.declared.Row.{Row}
 use Rattle.scanner.specs.Laws.{and-true-left, and-true-right}
 use Rattle.netlist.specs.Laid.{roomsOf, Laid}
 use Rattle.netlist.specs.LaidLaws.{list-behind, laid-renames, eights-rows, length-rows}
-use Rattle.standing.specs.RoomLaws.{put-renames-last, length-rename-row, rename-rows, eights-renames, rooms-file}
+use Rattle.netlist.specs.RoomLaws.{put-renames-last, length-rename-row, rename-rows, eights-renames, rooms-file}
 use Rattle.held.specs.Renamed.{isRename}
 
 -- A TABLE THAT BEGINS with a list, and with more behind it

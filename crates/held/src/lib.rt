@@ -1,4 +1,5 @@
 // Whether design memory, whatever it contains, holds a design with its standing renames: refusal 3 otherwise.
+use netlist::lengths::right_lengths;
 use numbers::kinds::ModuleNumber;
 use numbers::kinds::WireNumber;
 use past::place::Place;
@@ -15,7 +16,7 @@ ghost use mathlib.Core.Path.{_≡_};
 ghost use Prim.Native.Nat.{_≤_};
 ghost use lib.ListN.{length};
 ghost use Rattle.held.specs.Renamed.{isRename, RenameIs, RenamesAre};
-ghost use Rattle.held.specs.Held.{tabled, rightSizes, restZero, HeldIs};
+ghost use Rattle.held.specs.Held.{tabled, restZero, HeldIs};
 
 // The place and the sums behind the statements that the memory holds.
 pub enum Held {
@@ -113,24 +114,6 @@ fn all_renames(
     Renamed::Used(room)
 }
 
-fn right_sizes(names: &[u8], strings: &[u8], bits: &[u32], wires: &[u32], rows: &[u32]) -> bool
-    ensures { λ r. ⌜ r ≡ rightSizes (length (now (names .entry))) (length (now (strings .entry))) (length (now (bits .entry))) (length (now (wires .entry))) (length (now (rows .entry))) ⌝ }
-{
-    if names.len() != 16384 {
-        return false;
-    }
-    if strings.len() != 8192 {
-        return false;
-    }
-    if bits.len() != 16384 {
-        return false;
-    }
-    if wires.len() != 4096 {
-        return false;
-    }
-    rows.len() == 38152
-}
-
 // Unused room is zero.
 fn rest_is_zero(
     names: &[u8],
@@ -173,7 +156,13 @@ pub fn judge_memory(
 ) -> Held
     ensures { λ r. ⌜ HeldIs (tabled (now (names .entry)) (now (strings .entry)) (now (bits .entry)) (now (wires .entry)) (now (rows .entry)) renames room) r ⌝ }
 {
-    if !right_sizes(names, strings, bits, wires, rows) {
+    if !right_lengths(
+        names.len(),
+        strings.len(),
+        bits.len(),
+        wires.len(),
+        rows.len(),
+    ) {
         return Held::Damaged;
     }
     let r = replay(names, strings, bits, wires, rows);

@@ -3,13 +3,13 @@
 use Prim.Native.Nat.{ℕ, _+_, _≤_}
 use mathlib.Core.Path.{_≡_, refl, sym, ap, ap₂, _∙_}
 use mathlib.Core.Bool.{true, cond}
-use mathlib.Core.List.{List, map, reverse}
+use mathlib.Core.List.{List, map}
 use mathlib.Core.Option.{Option, none, some}
 use native.Mathlib.Omega.{arith}
 use borrow.Author.Tests.{leb-true}
 use lib.Dec.{eqb, leb}
-use lib.ListN.{length, take, drop, replicate, length-map, length-reverse, length-take, length-drop, length-replicate}
-use lib.Seq.{slice, length-slice}
+use lib.ListN.{length, take, drop, replicate, length-take, length-drop, length-replicate}
+use lib.Seq.{slice}
 use Rattle.rules.specs.Tokens.{decimal, digit}
 use Rattle.rules.specs.Statements as rules
 use Rattle.rules.specs.Statements.{statementsOpen, code, contents, ownName}
@@ -21,7 +21,6 @@ use Rattle.scanner.specs.Numbers.{capped}
 use Rattle.scanner.proofs.NumberLaws.{capped-small}
 use Rattle.strings.specs.Decoded.{decoded}
 use Rattle.strings.proofs.Laws.{decoded-length}
-use Rattle.numbers.specs.Kinds.{bitOf, bitAt}
 use Rattle.tokens.specs.Rows.{literalIn}
 use Rattle.tokens.specs.declared.Constant.the-variants as constant
 use Rattle.tokens.specs.declared.Literal.{Literal}
@@ -29,12 +28,13 @@ use Rattle.tokens.specs.declared.Literal.the-variants as literal
 use Rattle.literals.proofs.Laws.{literal-long}
 use Rattle.forms.specs.Forms.{nameIn, valueIn}
 use Rattle.forms.specs.declared.Span.{Span}
-use Rattle.syntax.specs.Statements.{numberOf, lateOf, signalIn, statementIn, kindIn, namesIn, Sound, GoodOptional}
+use Rattle.syntax.specs.Statements.{numberOf, lateOf, statementIn, kindIn, namesIn, Sound, GoodOptional}
 use Rattle.syntax.specs.declared.Statement.{Statement}
 use Rattle.syntax.specs.declared.Statement.the-variants.{Autoidx, Attribute, Module, Parameter, Wire, Memory, Cell, CellParameter, CellConnection, Connection, End, NoShape, Process, BadNumber, MissingWire}
 use Rattle.past.specs.Sizes.{KindSizesAre, sizesOf, AtMost}
 use Rattle.past.specs.declared.sizes.Sizes.{Sizes}
 use Rattle.past.proofs.SizeLaws.{sizes-small}
+use Rattle.syntax.specs.SignalLaws.{signal-long}
 use Rattle.judgement.specs.Parts.{namedParts, refusalParts, connectionParts, partsOf, constantsIn, digitsIn, bytesIn, SizesAre}
 use Rattle.judgement.specs.declared.Parts.{Parts}
 
@@ -208,11 +208,6 @@ bytes-few f literal.Nothing = omega arith
 bytes-few f (literal.Read (constant.Integer z)) = omega arith
 bytes-few f (literal.Read (constant.Value i j e)) = omega arith
 bytes-few f (literal.Read (constant.Text i)) = omega (arith, text-few f i)
-
-signal-long : (s : List ℕ) (o w : ℕ) → o + w ≤ length s → length (signalIn s o w) ≡ w
-unfolding signalIn
-signal-long s o w h =
-    length-map (reverse (slice o (o + w) s)) (λ c. bitOf (bitAt c)) ∙ length-reverse (slice o (o + w) s) ∙ length-slice o (o + w) s h ∙ omega arith
 
 -- ---- the statement that an answer stands for has these parts
 

@@ -11,10 +11,10 @@ use lib.Dec.{leb}
 use lib.ListN.{length, take, drop, length-map, length-reverse}
 use lib.Seq.{slice, take-at}
 use Rattle.rules.specs.Tokens.{Name, decimal, digit}
-use Rattle.rules.specs.Statements.{Statement, Constant, value, integer, string, Wire, wire-stmt, contents, holds}
+use Rattle.rules.specs.Statements.{Statement, Wire, wire-stmt, contents, holds}
 use Rattle.rules.specs.Numbers.{goodLiteral}
 use Rattle.rules.specs.Signals.{literalBits, literalWidth}
-use Rattle.rules.specs.Layout.{Used, padded, row, digitCode, nameBytes, bitCodes, wireRow, wireRows, constantColumns}
+use Rattle.rules.specs.Layout.{Used, row, digitCode, nameBytes, bitCodes, wireRow, wireRows}
 use Rattle.tables.specs.Store.{store, store-eq, store-store}
 use Rattle.tables.specs.Flat.{flat}
 use Rattle.scanner.specs.Laws.{and-true-left}
@@ -25,7 +25,8 @@ use Rattle.tokens.specs.declared.Constant.the-variants as constant
 use Rattle.literals.proofs.Laws.{literal-long}
 use Rattle.syntax.specs.Statements.{signalIn}
 use Rattle.layout.specs.Put.{WireHas}
-use Rattle.layout.specs.SignalLaws.{signal-codes, signal-words}
+use Rattle.syntax.specs.SignalLaws.{signal-words}
+use Rattle.layout.specs.SignalLaws.{signal-codes}
 use Rattle.layout.specs.PartLaws.{one-name, two-names, one-signal, two-signals, one-wire}
 
 -- values stored highest first, read from the last on
@@ -100,10 +101,3 @@ pub wire-put :
 unfolding contents holds flatMap wireRow
 wire-put u n w width offset flags′ port size at t t′ h e g =
     rw (one-wire (wire-stmt w n) u n w refl refl, append-nil, h .flags-are, h .port-is, h .offset-is, h .width-is, ← e) g
-
--- a column 0 behind a constant's is padding
-pub row-zero : (u : Used) (c : Constant) (kind a b : ℕ) → row (kind ∷ a ∷ b ∷ constantColumns u c ++ 0 ∷ []) ≡ row (kind ∷ a ∷ b ∷ constantColumns u c)
-unfolding row padded constantColumns
-row-zero u (value ds) kind a b = refl
-row-zero u (integer i) kind a b = refl
-row-zero u (string s) kind a b = refl

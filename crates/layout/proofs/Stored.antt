@@ -14,7 +14,7 @@ use Rattle.rules.specs.Tokens.{Name}
 use Rattle.rules.specs.Statements as rules
 use Rattle.rules.specs.Statements.{autoidx-stmt, attr-stmt, module-stmt, param-stmt, wire-stmt, memory-stmt, cell-stmt, cell-param-stmt, cell-conn-stmt, conn-stmt, end-stmt, code, holds, contents}
 use Rattle.rules.specs.Layout as rooms
-use Rattle.rules.specs.Layout.{padded, row, digitCode, directionCode, flags, sortCode, stringBytes, bitCodes, columns, statementRow}
+use Rattle.rules.specs.Layout.{padded, row, digitCode, directionCode, flags, stringBytes, bitCodes, columns, statementRow}
 use Rattle.tables.specs.Store.{store}
 use Rattle.numbers.specs.Signed.{signedOf}
 use Rattle.numbers.specs.SignedLaws.{word-signed}
@@ -22,19 +22,23 @@ use Rattle.tokens.specs.declared.Constant.{Constant}
 use Rattle.tokens.specs.declared.Literal.{Literal}
 use Rattle.tokens.specs.declared.Literal.the-variants as literal
 use Rattle.wires.specs.Rows.{wordAt, column, portOf, wireOf}
-use Rattle.forms.specs.Forms.{sortOf, nameIn, valueIn}
+use Rattle.numbers.specs.Kinds.{sortOf}
+use Rattle.numbers.specs.KindLaws.{sort-code}
+use Rattle.forms.specs.Forms.{nameIn, valueIn}
 use Rattle.forms.specs.declared.Span.{Span}
 use Rattle.syntax.specs.Statements.{lateOf, wireFrom, memoryFrom, signalIn, statementIn, GoodConstant, GoodOptional, Sound}
 use Rattle.syntax.specs.declared.Statement.{Statement}
 use Rattle.syntax.specs.declared.Statement.the-variants.{Autoidx, Attribute, Module, Parameter, Wire as WireOf, Memory as MemoryOf, Cell, CellParameter, CellConnection, Connection, End, NoShape, Process, BadNumber, MissingWire}
 use Rattle.syntax.proofs.Statement.{the-type}
-use Rattle.layout.specs.Put.{usedOf, namesPut, bitsPut, rowsPut, Tables, Puts, RoomFor, Fits, constantIn, optionalIn, optionalColumns, optionalBytes, optionalDigits, valuedRow, OptionalFits, WireHas, WirePut}
+use Rattle.layout.specs.Put.{namesPut, bitsPut, rowsPut, Tables, Puts, RoomFor, Fits, constantIn, optionalIn, optionalColumns, optionalBytes, optionalDigits, valuedRow, OptionalFits, WireHas, WirePut}
 use Rattle.layout.specs.PartLaws.{no-string, one-string, no-bits, one-value}
-use Rattle.layout.specs.SignalLaws.{signal-long}
+use Rattle.syntax.specs.SignalLaws.{signal-long}
 use Rattle.layout.specs.RoomLaws.{names-same, strings-same, bits-same, wires-same, name-fits, names-fit, string-fits, value-fits, signal-fits, signals-fit, wire-fits, row-fits}
 use Rattle.layout.specs.Stored.{tabled, Storable, PutIs, ValuedHas, Plain, PlainStorable, PlainPut}
-use Rattle.layout.specs.declared.Used.{Used}
-use Rattle.layout.proofs.Laws.{name-put, row-zero}
+use Rattle.netlist.specs.declared.used.Used.{Used}
+use Rattle.netlist.specs.Used.{usedOf}
+use Rattle.netlist.specs.RowLaws.{row-zero}
+use Rattle.layout.proofs.Laws.{name-put}
 
 -- what is put for the statement that the answer stands for
 puts-is : (f s : List ℕ) (r : Statement) (u : Used) (t t′ : Tables) (y : rules.Statement) → statementIn f s r ≡ some y → Puts (usedOf u) y t t′ → PutIs f s r u t t′
@@ -76,13 +80,6 @@ wire-has w t k p ht hk hp =
       flags-are = rw (one, two, port) (omega arith);
       port-is = port-number (k / 4) p d (λ e. hp (omega arith));
     }
-
-sort-code : (z : ℕ) → z ≤ 2 → sortCode (sortOf z) ≡ z
-unfolding sortOf sortCode
-sort-code zero h = refl
-sort-code (suc zero) h = refl
-sort-code (suc (suc zero)) h = refl
-sort-code (suc (suc (suc z))) h = absurd (omega arith)
 
 -- ---- answers without a constant or a wire's row
 

@@ -1,16 +1,12 @@
 -- What a statement puts into the tables, by what stands in it.
 -- Assumes nothing.
 use Prim.Native.Nat.{ℕ}
-use mathlib.Core.Path.{_≡_, refl, ap, _∙_}
+use mathlib.Core.Path.{_≡_, ap, _∙_}
 use mathlib.Core.List.{List, [], _∷_, _++_, map, flatMap, zip, zipWith, append-nil}
 use Rattle.rules.specs.Tokens.{Name}
 use Rattle.rules.specs.Statements.{Statement, Constant, Signal, Wire, contents, digitsOf, bytesOf}
 use Rattle.rules.specs.Layout.{Used, nameBytes, stringBytes, digitCode, bitCode, bitCodes, wireRow, wireRows}
-
-zip-none : {A B : Type 0} (xs : List A) → zip {A = A} {B = B} xs [] ≡ []
-unfolding zip zipWith
-zip-none [] = refl
-zip-none (x ∷ xs) = refl
+use Rattle.scanner.specs.Lists.{zip-none}
 
 module _ (s : Statement) where
   pub no-names : contents s .names ≡ [] → nameBytes s ≡ []

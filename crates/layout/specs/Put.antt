@@ -15,25 +15,14 @@ use Rattle.rules.specs.Layout as layout
 use Rattle.rules.specs.Layout.{row, flags, nameBytes, stringBytes, bitCodes, wireRows, constantColumns, statementRow}
 use Rattle.tables.specs.Store.{store}
 use Rattle.tables.specs.Flat.{flat}
+use Rattle.netlist.specs.Used.{usedOf}
+use Rattle.netlist.specs.declared.used.Used.{Used}
 use Rattle.tokens.specs.Rows.{literalIn}
 use Rattle.tokens.specs.declared.Constant.{Constant}
 use Rattle.tokens.specs.declared.Literal.{Literal}
 use Rattle.tokens.specs.declared.Literal.the-variants as literal
 use Rattle.literals.specs.Codes.{Whole}
 use Rattle.forms.specs.Forms.{valueIn}
-use Rattle.layout.specs.declared.Used.{Used}
-
--- how much is used, in the rules' words
-abbrev pub usedOf : Used → layout.Used
-usedOf u =
-    record {
-      names = u .names;
-      strings = u .strings;
-      bits = u .bits;
-      wires = u .wires;
-      rows = u .rows;
-      modules = u .modules;
-    }
 
 -- each table with one statement more
 module _ (u : layout.Used) (s : Statement) (t : List ℕ) where

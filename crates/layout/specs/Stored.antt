@@ -20,8 +20,9 @@ use Rattle.forms.specs.declared.Span.{Span}
 use Rattle.syntax.specs.Statements.{lateOf, statementIn, GoodOptional, Sound}
 use Rattle.syntax.specs.declared.Statement.{Statement}
 use Rattle.syntax.specs.declared.Statement.the-variants.{Autoidx, Attribute, Module, Parameter, Wire as WireOf, Memory as MemoryOf, Cell, CellParameter, CellConnection, Connection, End, NoShape, Process, BadNumber, MissingWire}
-use Rattle.layout.specs.Put.{usedOf, Tables, Puts, RoomFor, optionalIn, valuedRow}
-use Rattle.layout.specs.declared.Used.{Used}
+use Rattle.layout.specs.Put.{Tables, Puts, RoomFor, optionalIn, valuedRow}
+use Rattle.netlist.specs.declared.used.Used.{Used}
+use Rattle.netlist.specs.Used.{usedOf}
 use Rattle.layout.specs.declared.put.Valued.{Valued}
 use Rattle.layout.specs.declared.put.Valued.the-variants.{Named, Nothing}
 
@@ -95,18 +96,3 @@ pub record PlainStorable (f s : List ℕ) (r : Statement) (u : Used) (names bits
 abbrev pub PlainPut : (f s : List ℕ) → Statement → Used → (names names′ bits bits′ wires wires′ rows rows′ : List ℕ) → Type 0
 PlainPut f s r u names names′ bits bits′ wires wires′ rows rows′ =
     Plain r → (strings : List ℕ) → PutIs f s r u (tabled names strings bits wires rows) (tabled names′ strings bits′ wires′ rows′)
-
--- how much the statements before a line use, by its place and their sums; and that a record says so of every such past
-unfoldable pub usedBy : Place → Sizes → rooms.Used
-usedBy p z =
-    record {
-      names = z .«name_bytes»;
-      strings = z .«string_bytes»;
-      bits = z .«value_bits» + z .«signal_bits»;
-      wires = p .wires;
-      rows = p .rows;
-      modules = p .modules;
-    }
-
-abbrev pub UsedIs : Place → Sizes → Used → Type 0
-UsedIs p z r = (ss : Past) → placeOf ss ≡ p → sumsOf ss ≡ z → usedOf r ≡ used (roomsOf ss)

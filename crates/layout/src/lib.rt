@@ -1,40 +1,13 @@
 // Statements in design memory: each is stored behind those before it.
 mod put;
 
-use past::place::Place;
-use past::sizes::Sizes;
+use netlist::used::Used;
 use put::Valued;
 use put::as_valued;
 use put::put_plain;
 use put::put_valued;
 use syntax::Statement;
-ghost use Rattle.past.specs.Sizes.{Within};
-ghost use Rattle.layout.specs.Stored.{tabled, Storable, PutIs, UsedIs};
-
-// How much of each table is used: bytes, bytes, bits, rows, rows; and how many modules the rows open.
-pub struct Used {
-    pub names: u32,
-    pub strings: u32,
-    pub bits: u32,
-    pub wires: u32,
-    pub rows: u32,
-    pub modules: u32,
-}
-
-// How much the statements before a line use, by its place and their sizes.
-pub fn used_from(place: Place, sums: Sizes) -> Used
-    requires { ⌜ Within sums ⌝ }
-    ensures { λ r. ⌜ UsedIs place sums r ⌝ }
-{
-    Used {
-        names: sums.name_bytes,
-        strings: sums.string_bytes,
-        bits: sums.value_bits + sums.signal_bits,
-        wires: place.wires,
-        rows: place.rows,
-        modules: place.modules,
-    }
-}
+ghost use Rattle.layout.specs.Stored.{tabled, Storable, PutIs};
 
 // Stores a statement behind what is used. A refusing answer stores nothing.
 pub fn put_statement(

@@ -1,8 +1,8 @@
 // The parts of a statement in design memory: names, string, bits and a wire's row behind what is used of their tables, and the statement's row of columns.
-use crate::Used;
 use forms::Span;
 use literals::literal_width;
 use literals::put_literal;
+use netlist::used::Used;
 use numbers::signed::word_of;
 use scanner::decimals::decimal;
 use scanner::parts::part;
@@ -29,7 +29,8 @@ ghost use Rattle.strings.specs.Decoded.{decoded, closes};
 ghost use Rattle.tokens.specs.Rows.{integerIn, literalIn};
 ghost use Rattle.forms.specs.Forms.{nameIn};
 ghost use Rattle.syntax.specs.Statements.{signalIn};
-ghost use Rattle.layout.specs.Put.{usedOf, namesPut, bitsPut, rowsPut, Fits, constantIn, optionalIn, optionalColumns, optionalBytes, optionalDigits, valuedRow, ConstantFits, OptionalFits, WirePut};
+ghost use Rattle.netlist.specs.Used.{usedOf};
+ghost use Rattle.layout.specs.Put.{namesPut, bitsPut, rowsPut, Fits, constantIn, optionalIn, optionalColumns, optionalBytes, optionalDigits, valuedRow, ConstantFits, OptionalFits, WirePut};
 ghost use Rattle.layout.specs.Stored.{ValuedIs, PlainStorable, PlainPut};
 
 // The kinds of statement, by the code in the first column of a row.

@@ -9,12 +9,12 @@ use native.Mathlib.Omega.{arith}
 use lib.Dec.{eqb, leb, leb→le}
 use lib.ListN.{length, getD, drop, replicate, length-replicate}
 use lib.Seq.{slice, drop-cons}
-use borrow.Author.Tests.{ne-eqb, le-leb, lt-leb}
+use borrow.Author.Tests.{ne-eqb}
 use Rattle.rules.specs.Bytes.{within, isBlank, run, rest, bytesOpen}
 use Rattle.rules.specs.Tokens.{Step, token, done, wrong, mark, decimal, quoted, plain, nameStep, wordStep, numberStep, minusStep, stringStep, stepAt, step}
 use Rattle.scanner.specs.Class.{classOf, inClass, classOpen}
 use Rattle.scanner.specs.Runs.{endOf}
-use Rattle.scanner.specs.Laws.{by-test, run-more, rest-more}
+use Rattle.scanner.specs.Laws.{by-test, run-more, rest-more, within-yes, within-below}
 use Rattle.scanner.proofs.Table.{at}
 use Rattle.scanner.proofs.ClassLaws.{inside, class-one, class-blank, class-mark, class-hash, class-name-start, class-quote, class-digit, class-minus, class-lower, class-name-byte}
 use Rattle.scanner.proofs.RunLaws.{endOf-low, endOf-more, endOf-slice, endOf-rest}
@@ -68,15 +68,6 @@ unfolding stepAt stepBy inClass
 step-class b bs =
     rw (one _ 7 b class-name-start, class-name-byte, class-lower, class-digit, one _ 12 b class-minus, one _ 8 b class-quote, one _ 4 b class-mark, one _ 5 b class-hash)
 
-module _ (lo hi k : ℕ) where
-  within-yes : lo ≤ k → k ≤ hi → within lo hi k ≡ true
-  unfolding within
-  within-yes h j = rw (le-leb lo k, le-leb k hi)
-
-  within-low : k < lo → within lo hi k ≡ false
-  unfolding within
-  within-low h = rw (lt-leb lo k)
-
 module _ (s : List ℕ) (p : ℕ) (h : p < length s) where
   head : drop p s ≡ getD s p 0 ∷ drop (p + 1) s
   head = rw add-one (drop-cons s p 0 h)
@@ -123,7 +114,7 @@ module _ (s : List ℕ) (p : ℕ) where
   at-number c e q =
       let k : ℕ = classOf (getD s p 0) in
       at-class s p (c .inside) k refl (ne-eqb k 3 (λ z. omega (arith, c .low)))
-      ∙ rw (ne-eqb k 7 (λ z. omega (arith, c .low)), within-low 13 14 k (omega (arith, c .high)), within-yes 9 11 k (c .low) (c .high))
+      ∙ rw (ne-eqb k 7 (λ z. omega (arith, c .low)), within-below 13 14 k (omega (arith, c .high)), within-yes 9 11 k (c .low) (c .high))
       (span s p (c .inside) (inClass 9 11) (started s p 9 11 c 9 11 (omega arith) (omega arith)) (λ from w l. numberStep from (decimal w) l) e q)
 
   pub at-minus : Starts s p 12 12 → (e : ℕ) → e ≡ endOf (inClass 9 11) s (p + 1) → step (drop p s) ≡ minusStep (drop p s) (slice (p + 1) e s) (drop e s)
@@ -152,5 +143,5 @@ module _ (s : List ℕ) (p : ℕ) where
     unfolding stepBy
     at-other n l m o =
         at-class s p h k (sym c) (ap (λ (j : ℕ). eqb j 3) c ∙ n)
-        ∙ rw (ne-eqb k 7 (λ z. omega arith), within-low 13 14 k (omega arith), within-low 9 11 k (omega arith), ne-eqb k 12 (λ z. omega arith), ne-eqb k 8 (λ z. omega arith), ne-eqb k 4 m, ne-eqb k 5 o)
+        ∙ rw (ne-eqb k 7 (λ z. omega arith), within-below 13 14 k (omega arith), within-below 9 11 k (omega arith), ne-eqb k 12 (λ z. omega arith), ne-eqb k 8 (λ z. omega arith), ne-eqb k 4 m, ne-eqb k 5 o)
         (ap wrong (sym (head s p h)))

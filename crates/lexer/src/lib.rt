@@ -150,7 +150,7 @@ fn string_step(s: &[u8], p: usize) -> Lexeme
 }
 
 // What stands at `at`, blanks left out.
-pub fn step(s: &[u8], at: usize) -> Lexeme
+fn step(s: &[u8], at: usize) -> Lexeme
     ensures { λ r. ⌜ StepIs (now (s .entry)) at r ⌝ }
 {
     let p = run_end(s, at, 3, 3);

@@ -19,9 +19,9 @@ use Rattle.rules.specs.Numbers.{inRange}
 use Rattle.rules.specs.Text.{cut, sig, literalOf, setting, unless, wireOptions, memoryOptions, written, wordToken, numberToken, lowTokens, sigTokens, optionTokens, sortTokens, shapeTokens, decimalText, integerText, literalText, tokenText, tight, behind, spaced}
 use Rattle.numbers.specs.Kinds.{digitOf}
 use Rattle.numbers.specs.Signed.{signedOf}
-use Rattle.wires.specs.Rows.{column, portOf, wireOf}
+use Rattle.wires.specs.Rows.{column, portOf, wireOf, spanAt}
 use Rattle.netlist.specs.Rows.{kindAt, nameFrom}
-use Rattle.netlist.specs.Statements.{spanAt, constantAt, optionalAt, signalAt, memoryAt, statementBy, statementAt}
+use Rattle.netlist.specs.Statements.{constantAt, optionalAt, signalAt, memoryAt, statementBy, statementAt}
 use Rattle.line_text.specs.Pieces.{spread, Piece, piece-none, piece-name, piece-word, piece-literal, piece-sig, piece-bounds, spread-name, spread-literal, spread-append, spaced-word, spaced-two, spaced-three}
 use Rattle.line_text.specs.Options.{piece-options, spread-options}
 use Rattle.line_text.specs.declared.Module.{Module}

@@ -1,7 +1,7 @@
 -- The runs of a signal from its highest bit down, and their text.
 -- Assumes nothing.
 use mathlib.Core.Path.{_≡_, refl, sym, ap, _∙_}
-use mathlib.Core.Bool.{true, false, _&&_}
+use mathlib.Core.Bool.{true, false, _&&_, false≢true}
 use mathlib.Core.List.{List, [], _∷_, _++_, map, reverse}
 use Prim.Native.Nat.{ℕ, zero, suc, _+_, _-_, _/_, _%_, _≤_, _<_}
 use native.Mathlib.Numerals.{add-one}
@@ -20,9 +20,6 @@ use Rattle.numbers.specs.Kinds.{digitOf, bitOf, bitAt}
 use Rattle.line_text.specs.Pieces.{spread, spread-literal, spread-append, piece-append, piece-sig, piece-sigs, piece-open, piece-close}
 use Rattle.line_text.specs.Runs.{bitsOf, joint, firstRun, runsText, Apart, Lowest}
 
-never : {A : Type 0} → false ≡ true → A
-never e = let z : _≡_ {A = ℕ} 0 1 = cc in absurd (omega arith)
-
 -- one bit
 run-one : (c : ℕ) → runs (bitsOf (c ∷ [])) ≡ firstRun (c ∷ []) 1 ∷ []
 unfolding runs join bitsOf bitOf bitAt firstRun
@@ -35,7 +32,7 @@ module _ (c d : ℕ) (ds : List ℕ) (n : ℕ) (rest : List Run) (h : runs (bits
   run-longer t =
       ap (join (bitOf (bitAt c))) h
       ∙ by-test (ltb c 6) (λ e. let q : ltb d 6 ≡ true = rw e at t in rw (e, q, add-one n))
-      (λ e. by-test (ltb d 6) (λ q. never (rw (e, q) at t))
+      (λ e. by-test (ltb d 6) (λ q. absurd (false≢true (rw (e, q) at t)))
       (λ q. let j : eqb ((c - 6) / 2048) ((d - 6) / 2048) && eqb ((c - 6) % 2048 + 1) ((d - 6) % 2048) ≡ true = rw (e, q) at t in rw (e, q, j)))
 
   -- a bit below a run that it does not join

@@ -2,8 +2,6 @@
 // All of it is total: a word past a table's end counts as 0, and a span past its end is cut.
 use numbers::kinds::ModuleNumber;
 use numbers::kinds::WireNumber;
-use scanner::parts::part;
-use tables::word;
 use text::put_byte;
 use text::put_bytes;
 use text::put_decimal;
@@ -11,6 +9,8 @@ use text::put_integer;
 use text::put_spaces;
 use text::put_string;
 use text::put_value;
+use wires::bytes_at;
+use wires::column;
 ghost use mathlib.Core.Path.{_≡_};
 ghost use mathlib.Core.Bool.{cond, not};
 ghost use mathlib.Core.List.{[], _∷_, _++_};
@@ -25,9 +25,9 @@ ghost use Rattle.rules.specs.Statements.{autoidx-stmt, attr-stmt, module-stmt, 
 ghost use Rattle.rules.specs.Text.{cut, runSig, sig, literalOf, setting, unless, wireOptions, memoryOptions, numberToken, lowTokens, sigTokens, optionTokens, sortTokens, shapeTokens, decimalText, integerText, spaced};
 ghost use Rattle.rules.specs.Numbers.{inRange};
 ghost use Rattle.numbers.specs.Signed.{signedOf};
-ghost use Rattle.wires.specs.Rows.{column, portOf, wireOf};
+ghost use Rattle.wires.specs.Rows.{column, spanAt, portOf, wireOf};
 ghost use Rattle.netlist.specs.Rows.{nameFrom};
-ghost use Rattle.netlist.specs.Statements.{spanAt, constantAt, optionalAt, signalAt, memoryAt, sortAt};
+ghost use Rattle.netlist.specs.Statements.{constantAt, optionalAt, signalAt, memoryAt, sortAt};
 ghost use Rattle.text.specs.Written.{Written};
 ghost use Rattle.line_text.specs.Now.{renames, lastRename, nameNow, wiresIn, ownNow};
 ghost use Rattle.line_text.specs.Pieces.{spread};
@@ -41,24 +41,6 @@ pub struct Module {
     pub wires: u32,
     pub from: u32,
     pub renames: u32,
-}
-
-// A row's number is the sum of two words at most, so that it may pass 32 bits.
-fn column(t: &[u32], row: usize, c: usize) -> u32
-    requires { ⌜ (row < 8589934592) × (c < 8) ⌝ }
-    ensures { λ r. ⌜ r ≡ column (now (t .entry)) row c ⌝ }
-{
-    word(t, 8 * row + c)
-}
-
-// The bytes whose start stands in column c, and their number behind it.
-fn bytes_at<'a>(s: &'a [u8], rows: &[u32], row: usize, c: usize) -> &'a [u8]
-    requires { ⌜ (row < 8589934592) × (c < 7) ⌝ }
-    ensures { λ r. ⌜ now r ≡ spanAt (now (s .entry)) (now (rows .entry)) row c ⌝ }
-{
-    let start = column(rows, row, c) as usize;
-    let size = column(rows, row, c + 1) as usize;
-    part(s, start, start + size)
 }
 
 // The words from start up to end, cut to those that are there.
@@ -332,25 +314,14 @@ fn put_signal(
 }
 
 // Options, with defaults left out.
-fn put_width(out: &mut [u8], at: usize, n: u32) -> usize
+fn put_setting(out: &mut [u8], at: usize, w: &[u8], n: u32, usual: u32) -> usize
     requires { ⌜ at ≤ 32769 ⌝ }
-    ensures { λ r. ⌜ Written at (spread (optionTokens (unless (eqb n 1) (setting "width" (pos n))))) (now (out .entry)) (now (out .exit)) r ⌝ }
+    ensures { λ r. ⌜ Written at (spread (optionTokens (unless (eqb n usual) (now (w .entry), some (pos n))))) (now (out .entry)) (now (out .exit)) r ⌝ }
 {
-    if n == 1 {
+    if n == usual {
         return at;
     }
-    let end = put_bytes(out, at, b" width");
-    put_number(out, end, n)
-}
-
-fn put_size(out: &mut [u8], at: usize, n: u32) -> usize
-    requires { ⌜ at ≤ 32769 ⌝ }
-    ensures { λ r. ⌜ Written at (spread (optionTokens (unless (eqb n 0) (setting "size" (pos n))))) (now (out .entry)) (now (out .exit)) r ⌝ }
-{
-    if n == 0 {
-        return at;
-    }
-    let end = put_bytes(out, at, b" size");
+    let end = put_token(out, at, w);
     put_number(out, end, n)
 }
 
@@ -400,7 +371,7 @@ fn put_wire_options(wires: &[u32], row: usize, out: &mut [u8], at: usize) -> usi
     ensures { λ r. ⌜ Written at (spread (optionTokens (wireOptions (wireOf (now (wires .entry)) row)))) (now (out .entry)) (now (out .exit)) r ⌝ }
 {
     let flags = column(wires, row, 5);
-    let width = put_width(out, at, column(wires, row, 3));
+    let width = put_setting(out, at, b"width", column(wires, row, 3), 1);
     let offset = put_offset(out, width, column(wires, row, 4));
     let upto = put_flag(out, offset, flags % 2 == 1, b"upto");
     let port = put_port(out, upto, flags / 4, column(wires, row, 6));
@@ -411,8 +382,8 @@ fn put_memory_options(rows: &[u32], row: usize, out: &mut [u8], at: usize) -> us
     requires { ⌜ (at ≤ 32769) × (row < 8589934592) ⌝ }
     ensures { λ r. ⌜ Written at (spread (optionTokens (memoryOptions (memoryAt (now (rows .entry)) row)))) (now (out .entry)) (now (out .exit)) r ⌝ }
 {
-    let width = put_width(out, at, column(rows, row, 3));
-    let size = put_size(out, width, column(rows, row, 4));
+    let width = put_setting(out, at, b"width", column(rows, row, 3), 1);
+    let size = put_setting(out, width, b"size", column(rows, row, 4), 0);
     put_offset(out, size, column(rows, row, 5))
 }
 

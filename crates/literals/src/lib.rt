@@ -31,7 +31,7 @@ pub enum Number {
 }
 
 // The code of the digit that a byte writes.
-pub fn digit_code(b: u8) -> u32
+fn digit_code(b: u8) -> u32
     ensures { λ r. ⌜ r ≡ digitCode (digit b) ⌝ }
 {
     if b == b'0' {

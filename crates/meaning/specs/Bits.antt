@@ -105,11 +105,6 @@ fill-all ds =
     let e : length ds - length ds ≡ 0 = omega arith in
     rw (length-reverse, e, reverse-reverse)
 
-pub length-wire : (n i k : ℕ) → length (wireBits n i k) ≡ k
-unfolding wireBits
-length-wire n i zero = refl
-length-wire n i (suc k) = ap suc (length-wire n (i + 1) k)
-
 take-wire : (w a n m : ℕ) → take n (wireBits w a (n + m)) ≡ wireBits w a n
 unfolding wireBits
 take-wire w a zero m = refl

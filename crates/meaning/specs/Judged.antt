@@ -19,7 +19,8 @@ use Rattle.rules.specs.Reading.{shaped}
 use Rattle.rules.specs.Text.{sig, literalOf, wireOptions, memoryOptions, written, shapeTokens}
 use Rattle.admitted.specs.Admitted.{kinds, stands, fineConstant, fineWire, fineMemory, fineSignal, sameLength, admits, admitted}
 use Rattle.scanner.specs.Laws.{and-true-left, and-true-right}
-use Rattle.admitted.specs.AdmitLaws.{all-append, all-implied, FineParts, fine-parts, Admits, admits-all}
+use Rattle.scanner.specs.Lists.{all-append}
+use Rattle.admitted.specs.AdmitLaws.{all-implied, FineParts, fine-parts, Admits, admits-all}
 use Rattle.meaning.specs.Shapes.{shape-written}
 use Rattle.meaning.specs.Wires.{Sound}
 use Rattle.meaning.specs.Bits.{fill-all}

@@ -11,9 +11,8 @@ use Rattle.rules.specs.Statements.{Constant, Signal, Wire, Memory, Statement, a
 use Rattle.rules.specs.Signals.{Wires, find}
 use Rattle.rules.specs.Judgement.{Past, until, only, ofModule, wires, among, space, namesIn, nameSpaces, takesName}
 use Rattle.admitted.specs.Admitted.{fineWire, admitted}
-use Rattle.scanner.specs.Laws.{by-test, and-true-left, and-true-right, same-refl, same-eq}
+use Rattle.scanner.specs.Laws.{by-test, and-true-left, and-true-right, same-refl, same-eq, or-false-left, or-false-right}
 use Rattle.admitted.specs.AdmitLaws.{FineParts, fine-parts, Admits, admits-all}
-use Rattle.admitted.specs.AcceptedLaws.{or-false-left, or-false-right}
 use Rattle.meaning.specs.Wires.{Sound, no-wire, one-more}
 use Rattle.meaning.specs.Settings.{wire-width}
 

@@ -19,9 +19,9 @@ use Rattle.rules.specs.Signals.{Wires, literalWidth, wireBits, inside, span, wi
 use Rattle.rules.specs.Text.{Run, digits, runs, cut, runSig, runsSig, sig}
 use Rattle.admitted.specs.Admitted.{fineSignal}
 use Rattle.scanner.specs.Laws.{by-test, by-cond, and-true-left, and-true-right}
-use Rattle.admitted.specs.AdmitLaws.{all-append}
-use Rattle.meaning.specs.Wires.{Sound, Located, located, at-past}
-use Rattle.meaning.specs.Bits.{runBits, allBits, runs-bits, widthAt, Inside, digits-in, span-in, AllInside, no-more, also, runs-inside, fill-all, length-wire, part-wire, lower-is}
+use Rattle.scanner.specs.Lists.{all-append, length-wire, element-none}
+use Rattle.meaning.specs.Wires.{Sound, Located, located}
+use Rattle.meaning.specs.Bits.{runBits, allBits, runs-bits, widthAt, Inside, digits-in, span-in, AllInside, no-more, also, runs-inside, fill-all, part-wire, lower-is}
 
 -- a part of a signal that no rule refuses
 unfoldable pub goodPart : Wires → Sig → Bool
@@ -125,7 +125,7 @@ module _ (ws : Wires) (sound : Sound ws) where
   there w h =
       by-test (ltb w (length ws)) (λ t. ltb-true w (length ws) t)
       (λ t. let p : length (reverse ws) ≤ w = omega (arith, ltb-false w (length ws) t, length-reverse ws) in
-      let e : widthAt ws w ≡ 0 = rw (at-past (reverse ws) w p) in
+      let e : widthAt ws w ≡ 0 = rw (element-none (reverse ws) w p) in
       absurd (omega arith))
 
   run-means : {r : Run} → Inside ws r → length (runBits r) ≤ 2048 → Means ws (runSig ws r) (runBits r)

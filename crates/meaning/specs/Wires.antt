@@ -36,11 +36,6 @@ module _ {A : Type 0} where
   at-seam (x ∷ xs) y zero h = absurd (omega arith)
   at-seam (x ∷ xs) y (suc n) h = at-seam xs y n (omega arith)
 
-  pub at-past : (xs : List A) (n : ℕ) → length xs ≤ n → getElem? xs n ≡ none
-  at-past [] n h = refl
-  at-past (x ∷ xs) zero h = absurd (omega arith)
-  at-past (x ∷ xs) (suc n) h = at-past xs n (omega arith)
-
 -- a wire's number and name lead to the same wire
 pub record Located (ws : Wires) (n : ℕ) : Type 0 where
   pub wire : Name × Wire

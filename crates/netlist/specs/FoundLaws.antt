@@ -14,10 +14,11 @@ use Rattle.rules.specs.Judgement.{Past, until, only, space, nameSpaces, ofModul
 use Rattle.netlist.specs.Rows.{namesBetween}
 use Rattle.netlist.specs.Kinds.{isKind, ofKinds}
 use Rattle.netlist.specs.Spaces.{spacesOf, kindsOf}
-use Rattle.netlist.specs.SpaceLaws.{until-last, takes-in-rows}
+use Rattle.netlist.specs.SpaceLaws.{takes-in-rows}
 use Rattle.netlist.specs.Laid.{roomsOf, Laid}
 use Rattle.past.specs.Place.{placeOf, Bounds}
 use Rattle.past.specs.declared.place.Place.{Place}
+use Rattle.past.proofs.PlaceLaws.{until-take}
 use Rattle.netlist.specs.Found.{spaceFrom, kindsFrom, foundIn}
 
 -- a name space begins at one of the rows so far
@@ -34,7 +35,7 @@ space-within p k b =
     (pick-le (eqb k 3) _ _ _ z (pick-le (ltb k 4) _ _ _ r (pick-le (ltb k 8) _ _ _ (b .module-from) (pick-le (ltb k 10) _ _ _ (b .cell-from) r))))
 
 last-le : {A : Type 0} (f : A → Bool) (xs : List A) → length (until f xs) ≤ length xs
-last-le f xs = omega (arith, ap length (until-last f xs), length-take (length (until f xs)) xs)
+last-le f xs = omega (arith, ap length (until-take f xs), length-take (length (until f xs)) xs)
 
 -- the search for a name in count rows from a row on
 module _ (names rows : List ℕ) (n : Name) where

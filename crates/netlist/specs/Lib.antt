@@ -11,3 +11,8 @@ pub mod SpaceLaws
 pub mod WireLaws
 pub mod Found
 pub mod FoundLaws
+pub mod Used
+pub mod UsedLaws
+pub mod RoomLaws
+pub mod Spans
+pub mod Lengths

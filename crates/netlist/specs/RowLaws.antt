@@ -13,7 +13,7 @@ use Rattle.rules.specs.Tokens.{Name}
 use Rattle.rules.specs.Statements.{Statement, Constant, value, integer, string, autoidx-stmt, attr-stmt, module-stmt, param-stmt, wire-stmt, memory-stmt, cell-stmt, cell-param-stmt, cell-conn-stmt, conn-stmt, proc-stmt, end-stmt, code, holds, contents, ownName}
 use Rattle.rules.specs.Layout.{Used, padded, row, nameBytes, constantColumns, columns, statementRow}
 use Rattle.tables.specs.Padded.{length-row}
-use Rattle.wires.specs.Rows.{column}
+use Rattle.wires.specs.Rows.{column, spanAt}
 use Rattle.wires.specs.RowLaws.{slice-span, RowIs}
 use Rattle.netlist.specs.Rows.{kindAt, nameColumn, nameFrom, nameAt}
 use Rattle.netlist.specs.Kinds.{ofKinds, hasName}
@@ -61,7 +61,7 @@ second-part xs ys l at e =
 -- a name that stands where the columns of its kind say, and one that starts at the second column
 module _ (names t : List ℕ) (k : ℕ) (n : Name) where
   named-at : (c at : ℕ) → nameColumn (kindAt t k) ≡ c → column t k c ≡ at → column t k (c + 1) ≡ length n → take (length n) (drop at names) ≡ n → nameAt names t k ≡ n
-  unfolding nameFrom nameAt
+  unfolding nameFrom nameAt spanAt
   named-at c at ec ea en e = rw (ec, ea, en) (slice-span at (length n) names ∙ e)
 
   first-name : (kind at : ℕ) (rest : List ℕ) → RowIs t k (row (kind ∷ at ∷ length n ∷ rest)) → nameColumn kind ≡ 1 → take (length (n ++ [])) (drop at names) ≡ n ++ [] → nameAt names t k ≡ n
@@ -90,3 +90,10 @@ row-own names t k u (cell-conn-stmt n s) h e p = first-name names t k n _ _ _ h 
 row-own names t k u (conn-stmt s r) h e p = cc
 row-own names t k u (proc-stmt n) h e p = first-name names t k n _ _ _ h refl p
 row-own names t k u end-stmt h e p = cc
+
+-- a column 0 behind a constant's is padding
+pub row-zero : (u : Used) (c : Constant) (kind a b : ℕ) → row (kind ∷ a ∷ b ∷ constantColumns u c ++ 0 ∷ []) ≡ row (kind ∷ a ∷ b ∷ constantColumns u c)
+unfolding row padded constantColumns
+row-zero u (value ds) kind a b = refl
+row-zero u (integer i) kind a b = refl
+row-zero u (string s) kind a b = refl

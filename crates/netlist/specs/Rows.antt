@@ -4,9 +4,8 @@ use Prim.Native.Nat.{ℕ, zero, suc, _+_}
 use mathlib.Core.List.{List, [], _∷_}
 use mathlib.Core.Bool.{Bool, cond}
 use lib.Dec.{eqb}
-use lib.Seq.{slice}
 use Rattle.rules.specs.Tokens.{Name}
-use Rattle.wires.specs.Rows.{column}
+use Rattle.wires.specs.Rows.{column, spanAt}
 
 unfoldable pub kindAt : List ℕ → ℕ → ℕ
 kindAt rows k = column rows k 0
@@ -15,9 +14,8 @@ kindAt rows k = column rows k 0
 unfoldable pub nameColumn : ℕ → ℕ
 nameColumn kind = cond (eqb kind 7) 3 1
 
--- a name's span is its start and its length
 unfoldable pub nameFrom : List ℕ → List ℕ → (row first : ℕ) → Name
-nameFrom names rows k c = slice (column rows k c) (column rows k c + column rows k (c + 1)) names
+nameFrom names rows k c = spanAt names rows k c
 
 unfoldable pub nameAt : List ℕ → List ℕ → ℕ → Name
 nameAt names rows k = nameFrom names rows k (nameColumn (kindAt rows k))

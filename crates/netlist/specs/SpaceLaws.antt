@@ -9,8 +9,9 @@ use lib.ListN.{length, take, length-take}
 use lib.Seq.{take-length}
 use Rattle.rules.specs.Bytes.{same, any, all}
 use Rattle.rules.specs.Statements.{Kind, anAutoidx, anAttribute, aModule, aParameter, aWire, aMemory, aCell, aCellParameter, aCellConnection, aConnection, aProcess, anEnd, Stmt, code, contents, is, ownName}
-use Rattle.rules.specs.Judgement.{Past, until, only, ofModule, ofCell, ofObject, among, Space, space, namesIn, nameSpaces, takesName}
+use Rattle.rules.specs.Judgement.{Past, only, ofModule, ofCell, ofObject, among, Space, space, namesIn, nameSpaces, takesName}
 use Rattle.scanner.specs.Laws.{by-test}
+use Rattle.past.proofs.PlaceLaws.{until-take}
 use Rattle.netlist.specs.Rows.{namesBetween}
 use Rattle.netlist.specs.Kinds.{isKind, ofKinds, hasName, oneKind, threeKinds}
 use Rattle.netlist.specs.KindLaws.{one-kind, three-kinds}
@@ -18,12 +19,6 @@ use Rattle.netlist.specs.declared.rows.Kinds.{Kinds}
 use Rattle.netlist.specs.Laid.{roomsOf, Laid}
 use Rattle.netlist.specs.NameLaws.{ownNames, names-laid}
 use Rattle.netlist.specs.Spaces.{Ranged, spacesOf, kindsOf}
-
--- what stands since the last statement that passes a test is the last of them
-pub until-last : {A : Type 0} (f : A → Bool) (xs : List A) → until f xs ≡ take (length (until f xs)) xs
-unfolding until
-until-last f [] = refl
-until-last f (x ∷ xs) = by-test (f x) (λ e. rw e) (λ e. rw e (ap (λ (r : List _). x ∷ r) (until-last f xs)))
 
 -- a name is looked for in the spaces of its kind
 any-only : {A : Type 0} (f g : A → Bool) (xs : List A) → any (λ x. f x && g x) xs ≡ any g (only f xs)
@@ -93,21 +88,21 @@ one-in-rows f ss e k q h = one-space k (oneKind k) ss (space (k ∷ []) f) q (ra
 three-in-rows : (k : Kind) (ss : Past) → kindsOf k ≡ threeKinds aWire aMemory aCell → Every (InRows k ss) (space (aWire ∷ aMemory ∷ aCell ∷ []) ofModule ∷ [])
 unfolding space ofModule hasName ofKinds any code
 three-in-rows k ss q =
-    let e : ofModule ss ≡ take (length (ofModule ss)) ss = until-last _ ss in
+    let e : ofModule ss ≡ take (length (ofModule ss)) ss = until-take _ ss in
     one-space k (threeKinds aWire aMemory aCell) ss (space (aWire ∷ aMemory ∷ aCell ∷ []) ofModule) q
     (ranged-three ofModule ss _ _ e (last-ends (ofModule ss) ss e) aWire aMemory aCell refl)
 
 spaces-in-rows : (k : Kind) (ss : Past) → Every (InRows k ss) (spacesOf k)
 unfolding spacesOf nameSpaces space only ofKinds any code kindsOf hasName ofModule ofCell ofObject
 spaces-in-rows anAutoidx ss = every-none
-spaces-in-rows anAttribute ss = one-in-rows ofObject ss (until-last _ ss) anAttribute refl refl
+spaces-in-rows anAttribute ss = one-in-rows ofObject ss (until-take _ ss) anAttribute refl refl
 spaces-in-rows aModule ss = one-in-rows (λ qs. qs) ss (sym (take-length ss)) aModule refl refl
-spaces-in-rows aParameter ss = one-in-rows ofModule ss (until-last _ ss) aParameter refl refl
+spaces-in-rows aParameter ss = one-in-rows ofModule ss (until-take _ ss) aParameter refl refl
 spaces-in-rows aWire ss = three-in-rows aWire ss refl
 spaces-in-rows aMemory ss = three-in-rows aMemory ss refl
 spaces-in-rows aCell ss = three-in-rows aCell ss refl
-spaces-in-rows aCellParameter ss = one-in-rows ofCell ss (until-last _ ss) aCellParameter refl refl
-spaces-in-rows aCellConnection ss = one-in-rows ofCell ss (until-last _ ss) aCellConnection refl refl
+spaces-in-rows aCellParameter ss = one-in-rows ofCell ss (until-take _ ss) aCellParameter refl refl
+spaces-in-rows aCellConnection ss = one-in-rows ofCell ss (until-take _ ss) aCellConnection refl refl
 spaces-in-rows aConnection ss = every-none
 spaces-in-rows aProcess ss = every-none
 spaces-in-rows anEnd ss = every-none

@@ -5,16 +5,11 @@ use mathlib.Core.List.{List, map}
 use mathlib.Core.Option.{Option, none, some}
 use mathlib.Core.Bool.{cond}
 use lib.Dec.{eqb}
-use lib.Seq.{slice}
 use Rattle.rules.specs.Statements.{Sort, Constant, value, integer, string, Signal, Memory, Statement, autoidx-stmt, attr-stmt, module-stmt, param-stmt, wire-stmt, memory-stmt, cell-stmt, cell-param-stmt, cell-conn-stmt, conn-stmt, end-stmt}
-use Rattle.numbers.specs.Kinds.{digitOf, bitOf, bitAt}
+use Rattle.numbers.specs.Kinds.{digitOf, bitOf, bitAt, sortOf}
 use Rattle.numbers.specs.Signed.{signedOf}
-use Rattle.wires.specs.Rows.{column, wireOf}
+use Rattle.wires.specs.Rows.{column, spanAt, wireOf}
 use Rattle.netlist.specs.Rows.{kindAt, nameFrom}
-
--- what stands in a table from the place in column c on, as much as column c + 1 says
-unfoldable pub spanAt : (table rows : List ℕ) → (row c : ℕ) → List ℕ
-spanAt t rows k c = slice (column rows k c) (column rows k c + column rows k (c + 1)) t
 
 -- the constant of three columns: its kind, 1 a value, 2 an integer, else a string; then its span, or the integer
 unfoldable pub constantAt : (strings bits rows : List ℕ) → (row c : ℕ) → Constant
@@ -33,7 +28,7 @@ unfoldable pub memoryAt : (rows : List ℕ) → (row : ℕ) → Memory
 memoryAt rows k = record { width = column rows k 3; size = column rows k 4; offset = signedOf (column rows k 5) }
 
 unfoldable pub sortAt : (rows : List ℕ) → (row c : ℕ) → Sort
-sortAt rows k c = cond (eqb (column rows k c) 0) Sort.plain (cond (eqb (column rows k c) 1) Sort.signed Sort.real)
+sortAt rows k c = sortOf (column rows k c)
 
 -- by the kind in the first column; of kind 11, a process, and above 12 there is none
 module _ (names strings bits wires rows : List ℕ) (k : ℕ) where

@@ -1,3 +1,5 @@
 // The statements of a design in the table of rows.
+pub mod lengths;
 pub mod rows;
 pub mod spaces;
+pub mod used;

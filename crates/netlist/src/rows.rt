@@ -1,13 +1,12 @@
 // A row of eight words for each statement: its kind, then where its parts start and their lengths.
 // All of it is total: a word past the table's end counts as 0, and a span past the names' end is cut.
 use scanner::names::same_bytes;
-use scanner::parts::part;
-use tables::word;
+use wires::bytes_at;
+use wires::column;
 ghost use mathlib.Core.Path.{_≡_};
 ghost use mathlib.Core.Bool.{_&&_};
 ghost use Prim.Native.Nat.{_<_};
 ghost use Rattle.rules.specs.Bytes.{same, any};
-ghost use Rattle.wires.specs.Rows.{column};
 ghost use Rattle.netlist.specs.Rows.{nameColumn, kindAt, nameAt, namesBetween};
 ghost use Rattle.netlist.specs.Kinds.{isKind};
 
@@ -16,14 +15,6 @@ pub struct Kinds {
     pub a: u32,
     pub b: u32,
     pub c: u32,
-}
-
-// A row's number is the sum of two words at most, so that it may pass 32 bits.
-fn column(rows: &[u32], row: usize, c: usize) -> u32
-    requires { ⌜ (row < 8589934592) × (c < 8) ⌝ }
-    ensures { λ r. ⌜ r ≡ column (now (rows .entry)) row c ⌝ }
-{
-    word(rows, 8 * row + c)
 }
 
 fn kind_at(rows: &[u32], row: usize) -> u32
@@ -48,9 +39,7 @@ fn name_at<'a>(names: &'a [u8], rows: &[u32], row: usize) -> &'a [u8]
     ensures { λ r. ⌜ now r ≡ nameAt (now (names .entry)) (now (rows .entry)) row ⌝ }
 {
     let c = name_column(kind_at(rows, row));
-    let start = column(rows, row, c) as usize;
-    let size = column(rows, row, c + 1) as usize;
-    part(names, start, start + size)
+    bytes_at(names, rows, row, c)
 }
 
 pub fn row_kind(rows: &[u32], k: u32) -> u32

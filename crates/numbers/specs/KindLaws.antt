@@ -1,14 +1,15 @@
--- A bit is the one that its code stands for.
+-- A bit is the one that its code stands for, and so is a sort.
 use Prim.Native.Nat.{ℕ, zero, suc, _+_, _-_, _*_, _/_, _%_, _<_, _≤_}
-use mathlib.Core.Path.{_≡_, refl, ap}
+use mathlib.Core.Path.{_≡_, refl, ap, ap₂}
 use mathlib.Core.Bool.{Bool, true, false, cond}
 use native.Mathlib.Omega.{arith}
 use lib.Dec.{ltb}
 use borrow.Author.Tests.{lt-ltb, le-ltb, ltb-true, ltb-false}
+use mathlib.Core.List.{List, [], _∷_, map}
 use Rattle.rules.specs.Tokens.{Digit, S0, S1, Sx, Sz, Sm, Sa}
-use Rattle.rules.specs.Statements.{Bit, digit, bit}
-use Rattle.rules.specs.Layout.{digitCode, bitCode}
-use Rattle.numbers.specs.Kinds.{digitOf, bitOf, bitAt, Valid}
+use Rattle.rules.specs.Statements.{Bit, digit, bit, Sort}
+use Rattle.rules.specs.Layout.{digitCode, bitCode, sortCode}
+use Rattle.numbers.specs.Kinds.{digitOf, bitOf, bitAt, Valid, sortOf}
 use Rattle.numbers.specs.declared.kinds.SignalBit.{SignalBit}
 
 pub digit-back : (d : Digit) → digitOf (digitCode d) ≡ d
@@ -78,6 +79,10 @@ pub code-back : (c : ℕ) → bitCode (bitOf (bitAt c)) ≡ c
 unfolding bitOf bitCode
 code-back c = by-code (λ b. bitCode (bitOf b) ≡ c) c (λ l. code-digit c l) (λ l. omega arith)
 
+pub codes-back : (cs : List ℕ) → map bitCode (map (λ c. bitOf (bitAt c)) cs) ≡ cs
+codes-back [] = refl
+codes-back (c ∷ cs) = ap₂ (λ (x : ℕ) (l : List ℕ). x ∷ l) (code-back c) (codes-back cs)
+
 pub valid-at : (c : ℕ) → c < 1048582 → Valid (bitAt c)
 unfolding Valid
 valid-at c h = by-code Valid c (λ l. l) (λ l. (omega arith, omega arith))
@@ -86,3 +91,16 @@ pub valid-within : (b : SignalBit) → Valid b → Within 512 (bitOf b)
 unfolding Valid Within bitOf
 valid-within (SignalBit.Digit c) v = tt
 valid-within (SignalBit.Wire w i) v = v
+
+pub sort-back : (o : Sort) → sortOf (sortCode o) ≡ o
+unfolding sortOf sortCode
+sort-back Sort.plain = refl
+sort-back Sort.signed = refl
+sort-back Sort.real = refl
+
+pub sort-code : (c : ℕ) → c ≤ 2 → sortCode (sortOf c) ≡ c
+unfolding sortOf sortCode
+sort-code zero h = refl
+sort-code (suc zero) h = refl
+sort-code (suc (suc zero)) h = refl
+sort-code (suc (suc (suc c))) h = absurd (omega arith)

@@ -1,9 +1,9 @@
--- A bit of a signal as code holds it, and the bit that it means.
+-- A bit of a signal as code holds it, and the bit that it means; the sort of a code.
 use Prim.Native.Nat.{ℕ, _-_, _/_, _%_, _<_}
 use mathlib.Core.Bool.{cond}
 use lib.Dec.{eqb, ltb}
 use Rattle.rules.specs.Tokens.{Digit, S0, S1, Sx, Sz, Sm, Sa}
-use Rattle.rules.specs.Statements.{Bit, digit, bit}
+use Rattle.rules.specs.Statements.{Bit, digit, bit, Sort}
 use Rattle.numbers.specs.declared.kinds.SignalBit.{SignalBit}
 
 -- the digit of a code; one above 5 is taken for 5
@@ -22,3 +22,7 @@ bitAt c = cond (ltb c 6) (SignalBit.Digit c) (SignalBit.Wire (record { 0 = (c - 
 unfoldable pub Valid : SignalBit → Type 0
 Valid (SignalBit.Digit c) = c < 6
 Valid (SignalBit.Wire w i) = (w .0 < 512) × (i < 2048)
+
+-- the sort of a cell parameter's code; one above 2 is taken for 2
+unfoldable pub sortOf : ℕ → Sort
+sortOf c = cond (eqb c 0) Sort.plain (cond (eqb c 1) Sort.signed Sort.real)

@@ -15,7 +15,7 @@ pub enum Index {
 }
 
 // The integer that a word stands for.
-pub fn signed_of(w: u32) -> i64
+fn signed_of(w: u32) -> i64
     ensures { λ r. ⌜ r ≡ signedOf w ⌝ }
 {
     if w < 2147483648 {

@@ -1,17 +1,13 @@
 -- What holds of each number of a list holds of a number that is found in it.
 -- Assumes nothing.
 use mathlib.Core.Path.{_≡_}
-use mathlib.Core.Bool.{true, false}
+use mathlib.Core.Bool.{true, false≢true}
 use mathlib.Core.List.{List, [], _∷_}
 use Prim.Native.Nat.{ℕ}
-use native.Mathlib.Omega.{arith}
 use lib.Dec.{eqb}
 use borrow.Author.Tests.{eqb-true}
 use Rattle.rules.specs.Bytes.{any}
 use Rattle.scanner.specs.Laws.{by-test}
-
-pub never : {A : Type 0} → false ≡ true → A
-never e = let z : _≡_ {A = ℕ} 0 1 = cc in absurd (omega arith)
 
 infixr 20 _then_
 pub data Each (P : ℕ → Type 0) : List ℕ → Type 0 where
@@ -21,7 +17,7 @@ pub data Each (P : ℕ → Type 0) : List ℕ → Type 0 where
 module _ (P : ℕ → Type 0) (c : ℕ) where
   found : {ds : List ℕ} → Each P ds → any (eqb c) ds ≡ true → P c
   unfolding any
-  found done h = never h
+  found done h = absurd (false≢true h)
   found (_then_ {d = d} p ps) h = by-test (eqb c d) (λ q. rw (eqb-true c d q) p) (λ q. found ps (rw q at h))
 
 pub each : (P : ℕ → Type 0) {ds : List ℕ} → Each P ds → (c : ℕ) → any (eqb c) ds ≡ true → P c

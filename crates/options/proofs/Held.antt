@@ -1,7 +1,7 @@
 -- The options that the code holds, and one more of them.
 -- Assumes nothing.
 use mathlib.Core.Path.{_≡_, refl, sym, ap, _∙_}
-use mathlib.Core.Bool.{Bool, true, false, cond, not, _&&_, _||_}
+use mathlib.Core.Bool.{Bool, true, false, cond, not, _&&_, _||_, false≢true}
 use mathlib.Core.List.{List, [], _∷_, Option·toList}
 use mathlib.Core.Option.{Option, none, some}
 use Prim.Native.Nat.{ℕ, _<_, _≤_}
@@ -13,7 +13,7 @@ use Rattle.rules.specs.Bytes.{same, any, all}
 use Rattle.rules.specs.Statements.{Opt}
 use Rattle.rules.specs.Numbers.{once}
 use Rattle.scanner.specs.Words.{keywordAt}
-use Rattle.scanner.specs.Laws.{by-test}
+use Rattle.scanner.specs.Laws.{by-test, or-false-right}
 use Rattle.tokens.specs.Rows.{integerIn}
 use Rattle.tokens.specs.declared.Integer.{Integer}
 use Rattle.tokens.specs.declared.Slot.{Slot}
@@ -22,7 +22,7 @@ use Rattle.tokens.proofs.Words.{keyword-same}
 use Rattle.options.specs.Forms.{isFlag, numberCodes, optionCodes, isOption}
 use Rattle.options.specs.Holds.{first, isGiven, slotOf, flagOf, slotAt, at, given, isSome, fits, allFit, Holds, noOptions, Took}
 use Rattle.options.specs.declared.Options.{Options}
-use Rattle.options.proofs.Each.{never, each, done, _then_}
+use Rattle.options.proofs.Each.{each, done, _then_}
 
 -- ---- what the code holds of an option
 
@@ -58,7 +58,7 @@ flag-pick x false false e = rw e
 
 pub flag-not : (c : ℕ) → isFlag c ≡ false → (c ≡ 12 → ⊥) × (c ≡ 13 → ⊥)
 unfolding isFlag
-flag-not c h = by-test (eqb c 12) (λ e. never (sym (rw e at h))) (λ e. (eqb-false c 12 e, eqb-false c 13 (rw e at h)))
+flag-not c h = by-test (eqb c 12) (λ e. absurd (false≢true (sym (rw e at h)))) (λ e. (eqb-false c 12 e, eqb-false c 13 (rw e at h)))
 
 pub flag-range : (c : ℕ) → isFlag c ≡ true → (12 ≤ c) × (c ≤ 13)
 unfolding isFlag
@@ -139,14 +139,10 @@ or-left : (a b : Bool) → (a || b) ≡ false → a ≡ false
 or-left true b h = h
 or-left false b h = refl
 
-or-right : (a b : Bool) → (a || b) ≡ false → b ≡ false
-or-right true b h = never (sym h)
-or-right false b h = h
-
 allFit-none : (x : Option (Option ℤ)) → isSome x ≡ false → allFit x ≡ true
 unfolding isSome allFit
 allFit-none none h = refl
-allFit-none (some v) h = never (sym h)
+allFit-none (some v) h = absurd (false≢true (sym h))
 
 all-by : (e a v p x : Bool) → (e ≡ true → p ≡ true) → (cond e v p && (cond a v true && x)) ≡ (cond (e || a) v true && (p && x))
 all-by true true true p x h = rw (h refl)
@@ -207,7 +203,7 @@ module _ (f : List ℕ) (o r : Options) (os : List Opt) (c : ℕ) (v : Option �
             ap (λ (b : Bool). fits v && b) (H .numbers (or-left (o .twice) (isSome (at f o c)) t))
             ∙ ap (λ (b : Bool). b && all p numberCodes) (sym n)
             ∙ sym (all-pick p q c (fits v) numberCodes
-            (allFit-none (at f o c) (or-right (o .twice) (isSome (at f o c)) t))
+            (allFit-none (at f o c) (or-false-right (o .twice) (isSome (at f o c)) t))
             (λ d l. ap allFit (T .fields d (number-option d l)) ∙ fit-by (eqb c d) (at f o d)));
       }
     where

@@ -1,7 +1,7 @@
 -- Integers and their words, and the numbers that options give.
 -- Assumes nothing.
 use mathlib.Core.Path.{_≡_, refl, sym, ap, _∙_}
-use mathlib.Core.Bool.{Bool, true, false, not, _&&_, and-true, and-false}
+use mathlib.Core.Bool.{Bool, true, false, not, _&&_, and-true, and-false, false≢true}
 use mathlib.Core.List.{List, [], _∷_, Option·toList}
 use mathlib.Core.Option.{Option, none, some, Option·getD}
 use Prim.Native.Nat.{ℕ, _<_}
@@ -17,14 +17,12 @@ use Rattle.rules.specs.Signals.{twosComplement}
 use Rattle.scanner.specs.Words.{keywordAt}
 use Rattle.scanner.specs.Laws.{by-test, and-true-left, and-true-right}
 use Rattle.tokens.specs.Rows.{integerIn}
-use Rattle.tokens.specs.declared.Integer.{Integer}
 use Rattle.tokens.specs.declared.Slot.{Slot}
 use Rattle.tokens.specs.declared.Slot.the-variants.{Given, Absent}
 use Rattle.options.specs.Forms.{numberCodes, isOption}
 use Rattle.options.specs.Holds.{first, slotOf, slotAt, at, isSome, fits, allFit, Holds}
 use Rattle.options.specs.Numbers.{valueOr, slotFits, optionsGood}
 use Rattle.options.specs.declared.Options.{Options}
-use Rattle.options.proofs.Each.{never}
 use Rattle.options.proofs.Held.{any-first}
 
 -- ---- a range of integers is one of words
@@ -42,7 +40,7 @@ range-outside lo hi (negsuc n) k h = refl
 pub range-abs : (lo hi : ℕ) (z : ℤ) → inRange lo hi z ≡ true → natAbs z ≡ twosComplement z
 unfolding inRange twosComplement
 range-abs lo hi (pos n) h = refl
-range-abs lo hi (negsuc n) h = never h
+range-abs lo hi (negsuc n) h = absurd (false≢true h)
 
 -- ---- the number of an option, and whether it is given
 

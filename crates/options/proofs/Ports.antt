@@ -1,7 +1,7 @@
 -- The port of a wire: at most one is given.
 -- Assumes nothing.
 use mathlib.Core.Path.{_≡_, refl, sym}
-use mathlib.Core.Bool.{false, and-true}
+use mathlib.Core.Bool.{false, and-true, false≢true}
 use mathlib.Core.List.{[], _∷_}
 use mathlib.Core.Option.{Option·elim}
 use Prim.Native.Nat.{ℕ, suc, _≤_}
@@ -14,7 +14,6 @@ use Rattle.rules.specs.Statements.{Direction, input, output, inout}
 use Rattle.rules.specs.Numbers.{inRange, portOf}
 use Rattle.rules.specs.Layout.{directionCode}
 use Rattle.options.specs.Limits.{Ports, portsGood, portCode}
-use Rattle.options.proofs.Each.{never}
 
 pub code-range : (d : Direction) → (4 ≤ directionCode d) × (directionCode d ≤ 12)
 unfolding directionCode
@@ -35,7 +34,7 @@ module _ (q : Direction × ℤ) where
 
   pub port-bad : (ps : Ports) → portsGood ps ≡ false → portsGood (q ∷ ps) ≡ false
   unfolding portsGood all
-  port-bad [] h = never (sym h)
+  port-bad [] h = absurd (false≢true (sym h))
   port-bad (p ∷ ps) h = crowded p ps
 
   pub port-alone : portsGood (q ∷ []) ≡ inRange 1 1023 (q .1)

@@ -12,16 +12,11 @@ use Rattle.rules.specs.Bytes.{all}
 use Rattle.rules.specs.Judgement.{until}
 use Rattle.rules.specs.Design.{Setting, Object, object, Cell, Module, Design, Item, settingIn, items, blocks, objectsIn, parameterIn, portIn, pair, connectionIn, cellParameterIn, each, cellOf, moduleOf, design, flatten, objects, cellLines, moduleLines, designOpen}
 use Rattle.scanner.specs.Laws.{and-true-left, and-true-right}
-use Rattle.admitted.specs.AdmitLaws.{all-append}
+use Rattle.scanner.specs.Lists.{all-append, flatMap-append, flatMap-same}
 use Rattle.order.specs.Nesting.{CellEntry, parameter-entry, port-entry, Entry, param-entry, wire-entry, memory-entry, cell-entry, connection-entry, File, settings, lineIn, linesOf, linesOfModule, linesOfFile, parameterOf, portOf, parametersOf, wiresOf, memoriesOf, cellsOf, connectionsOf, bodyOf, moduleIn, designOf, cellEntries, entries, fileOf, nestingOpen}
 
 -- lists
 module _ {A B : Type 0} (f : A → List B) where
-  pub flatMap-append : (xs ys : List A) → flatMap f (xs ++ ys) ≡ flatMap f xs ++ flatMap f ys
-  unfolding flatMap
-  flatMap-append [] ys = refl
-  flatMap-append (x ∷ xs) ys = ap (λ (l : List B). f x ++ l) (flatMap-append xs ys) ∙ sym (append-assoc (f x) (flatMap f xs) (flatMap f ys))
-
   pub flatMap-map : {C : Type 0} (g : C → A) (xs : List C) → flatMap f (map g xs) ≡ flatMap (λ x. f (g x)) xs
   unfolding flatMap
   flatMap-map g [] = refl
@@ -30,17 +25,12 @@ module _ {A B : Type 0} (f : A → List B) where
   pub flatMap-flatMap : {C : Type 0} (g : C → List A) (xs : List C) → flatMap f (flatMap g xs) ≡ flatMap (λ x. flatMap f (g x)) xs
   unfolding flatMap
   flatMap-flatMap g [] = refl
-  flatMap-flatMap g (x ∷ xs) = flatMap-append (g x) (flatMap g xs) ∙ ap (λ (l : List B). flatMap f (g x) ++ l) (flatMap-flatMap g xs)
+  flatMap-flatMap g (x ∷ xs) = flatMap-append f (g x) (flatMap g xs) ∙ ap (λ (l : List B). flatMap f (g x) ++ l) (flatMap-flatMap g xs)
 
   pub flatMap-none : ((x : A) → f x ≡ []) → (xs : List A) → flatMap f xs ≡ []
   unfolding flatMap
   flatMap-none h [] = refl
   flatMap-none h (x ∷ xs) = rw (h x) (flatMap-none h xs)
-
-  pub flatMap-same : (g : A → List B) → ((x : A) → f x ≡ g x) → (xs : List A) → flatMap f xs ≡ flatMap g xs
-  unfolding flatMap
-  flatMap-same g h [] = refl
-  flatMap-same g h (x ∷ xs) = ap₂ (λ (a b : List B). a ++ b) (h x) (flatMap-same g h xs)
 
 -- each element by itself
 pub flatMap-one : {A B : Type 0} (f : A → List B) (g : A → B) → ((x : A) → f x ≡ g x ∷ []) → (xs : List A) → flatMap f xs ≡ map g xs

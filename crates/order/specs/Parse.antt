@@ -3,7 +3,7 @@
 use mathlib.Core.Path.{_≡_, refl, sym, ap, _∙_}
 use mathlib.Core.List.{List, [], _∷_, _++_, map, flatMap, reverse, reverse-cons, append-assoc, append-nil, map-append}
 use mathlib.Core.Option.{none, some}
-use mathlib.Core.Bool.{Bool, true, false, _||_, false≢true}
+use mathlib.Core.Bool.{Bool, true, false, false≢true}
 use borrow.Author.Tests.{not-true}
 use lib.IntN.{ℤ}
 use Rattle.rules.specs.Bytes.{any}
@@ -14,10 +14,10 @@ use Rattle.rules.specs.Judgement.{Past, outer, scope, context, among}
 use Rattle.rules.specs.Reading.{isTop}
 use Rattle.rules.specs.Design.{Setting, object}
 use Rattle.admitted.specs.Admitted.{kinds, stands, closes}
-use Rattle.scanner.specs.Laws.{and-true-left, and-true-right}
+use Rattle.scanner.specs.Laws.{and-true-left, and-true-right, or-true-right}
+use Rattle.scanner.specs.Lists.{flatMap-append}
 use Rattle.admitted.specs.CountLaws.{context-scope}
 use Rattle.order.specs.Nesting.{CellEntry, parameter-entry, port-entry, Entry, param-entry, wire-entry, memory-entry, cell-entry, connection-entry, File, settings, lineIn, linesOf, linesOfFile, nestingOpen}
-use Rattle.order.specs.DesignLaws.{flatMap-append}
 use Rattle.order.specs.Tally.{Through}
 
 -- What is read: whole modules; and if a module or a cell is open, its attributes, its name and its entries so far. Last the attributes that
@@ -59,19 +59,15 @@ allowed z first attributed s = among (kinds z first attributed) s
 abbrev of : List Kind → Statement → Bool
 of ks s = among ks s
 
-or-right : (a b : Bool) → b ≡ true → a || b ≡ true
-or-right true b e = refl
-or-right false b e = e
-
 top-kinds : (s : Statement) (f a : Bool) → allowed top f a s ≡ true → of (anAutoidx ∷ anAttribute ∷ aModule ∷ []) s ≡ true
 unfolding kinds among any
 top-kinds s true a e = e
-top-kinds s false a e = or-right (is anAutoidx s) _ e
+top-kinds s false a e = or-true-right (is anAutoidx s) _ e
 
 module-kinds :
     (s : Statement) (f a : Bool) → allowed inModule f a s ≡ true → of (aParameter ∷ aConnection ∷ anEnd ∷ anAttribute ∷ aWire ∷ aMemory ∷ aCell ∷ []) s ≡ true
 unfolding kinds among any
-module-kinds s f true e = or-right (is aParameter s) _ (or-right (is aConnection s) _ (or-right (is anEnd s) _ e))
+module-kinds s f true e = or-true-right (is aParameter s) _ (or-true-right (is aConnection s) _ (or-true-right (is anEnd s) _ e))
 module-kinds s f false e = e
 
 -- where an attribute waits, no parameter, connection or end stands

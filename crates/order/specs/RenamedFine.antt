@@ -17,11 +17,10 @@ use Rattle.rules.specs.Judgement.{sum, among, count, signalSize, valueSize, str
 use Rattle.rules.specs.Design.{Object, object, Module, Design, flatten}
 use Rattle.rules.specs.Session.{Rename, change, renameWire, renamed, now, roomUsed, names, taken, renameCall}
 use Rattle.admitted.specs.Admitted.{fineBit, fineSignal}
-use Rattle.scanner.specs.Laws.{by-test, same-eq}
+use Rattle.scanner.specs.Laws.{by-test, same-eq, or-false-right}
 use Rattle.past.specs.Sizes.{sizesBy, sumsOf}
 use Rattle.past.proofs.SizeLaws.{within-past, limits-within, exceeds-sums}
 use Rattle.admitted.specs.Holds.{Allowed, no-renames, one-rename}
-use Rattle.admitted.specs.AcceptedLaws.{or-false-right}
 use Rattle.admitted.specs.StandLaws.{next-test}
 use Rattle.order.specs.Nesting.{settings, linesOfModule, linesOfFile, entries, fileOf}
 use Rattle.order.specs.DesignLaws.{flatMap-map, body-entries, flatten-file}
@@ -270,7 +269,7 @@ unfolding now
 now-more d [] r = refl
 now-more d (q ∷ rs) r = now-more (renamed q d) rs r
 
-room-more : (d : Design) (rs : List Rename) (r : Rename) → roomUsed d (rs ++ r ∷ []) ≡ roomUsed d rs + length (r .newName)
+pub room-more : (d : Design) (rs : List Rename) (r : Rename) → roomUsed d (rs ++ r ∷ []) ≡ roomUsed d rs + length (r .newName)
 unfolding roomUsed sum
 room-more d rs r = omega (arith, sum-append (λ (q : Rename). length (q .newName)) rs (r ∷ []))
 

@@ -17,9 +17,9 @@ use Rattle.rules.specs.Judgement.{Past, sum, wires}
 use Rattle.rules.specs.Design.{Setting, Object, object, Cell, Module}
 use Rattle.admitted.specs.Admitted.{fineBit, fineSignal}
 use Rattle.scanner.specs.Laws.{and-true-left, and-true-right}
-use Rattle.admitted.specs.AdmitLaws.{all-append}
+use Rattle.scanner.specs.Lists.{all-append, all-right, flatMap-append}
 use Rattle.order.specs.Nesting.{CellEntry, parameter-entry, port-entry, Entry, param-entry, wire-entry, memory-entry, cell-entry, connection-entry, settings, lineIn, linesOf, wiresOf, bodyOf, linesOfModule, cellEntries, entries}
-use Rattle.order.specs.DesignLaws.{flatMap-append, flatMap-map, all-flatMap, cellEntry, body-entries}
+use Rattle.order.specs.DesignLaws.{flatMap-map, all-flatMap, cellEntry, body-entries}
 use Rattle.order.specs.Fine.{wiresIn, signalsIn}
 use Rattle.order.specs.Tally.{Through, through-before, by-wire, wires-none, wires-one, wires-reset}
 use Rattle.order.specs.Apart.{sees}
@@ -206,11 +206,6 @@ unfolding any all
 by-none f [] e = refl
 by-none f (x ∷ xs) e = cc
 
-all-back : {A : Type 0} (f : A → Bool) (xs ys : List A) → all f (xs ++ ys) ≡ true → all f ys ≡ true
-unfolding all
-all-back f [] ys e = e
-all-back f (x ∷ xs) ys e = all-back f xs ys (and-true-right (f x) _ e)
-
 mute-sees : (s : Statement) (p : Past) → mute s ≡ true → sees p s ≡ true
 unfolding mute sees
 mute-sees s p e = by-none (fineSignal (wires p)) (contents s .signals) e
@@ -276,7 +271,7 @@ module _ (m : Module) where
       ∙ body-wires n (entries m) p
       ∙ ap wiresIn (body-entries m) in
       rw (entries-apart, reverseAux-append (flatMap linesOf declares))
-      (sound-sees (wiresIn m) (flatMap linesOf connects) r w connects-quiet (all-back (sound (wiresIn m)) (flatMap linesOf declares) _ s)
+      (sound-sees (wiresIn m) (flatMap linesOf connects) r w connects-quiet (all-right (sound (wiresIn m)) (flatMap linesOf declares) _ s)
       (mute-through (flatMap linesOf declares) (module-stmt n ∷ p) declares-mute h))
 
 pub module-sees :

@@ -10,8 +10,7 @@ use lib.Dec.{ltb}
 use Rattle.rules.specs.Bytes.{any, all}
 use Rattle.rules.specs.Statements.{Statement}
 use Rattle.rules.specs.Judgement.{sum, sizes, exceedsSize}
-use Rattle.scanner.specs.Laws.{by-test, and-true-left, and-true-right}
-use Rattle.admitted.specs.AcceptedLaws.{or-false-left, or-false-right}
+use Rattle.scanner.specs.Laws.{by-test, and-true-left, and-true-right, or-false-left, or-false-right}
 use Rattle.order.specs.Fine.{times}
 
 module _ {A : Type 0} (f : A → ℕ) where

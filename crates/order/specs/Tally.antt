@@ -13,9 +13,9 @@ use Rattle.rules.specs.Tokens.{Name}
 use Rattle.rules.specs.Statements.{Wire, Direction, Statement, autoidx-stmt, attr-stmt, module-stmt, param-stmt, wire-stmt, memory-stmt, cell-stmt, cell-param-stmt, cell-conn-stmt, conn-stmt, proc-stmt, end-stmt, statementsOpen, Kind, anAttribute, aModule, aParameter, aWire, aMemory, aCell, aCellParameter, aCellConnection, code, contents, is, ownName}
 use Rattle.rules.specs.Signals.{Wires}
 use Rattle.rules.specs.Judgement.{Past, sum, wires, portNumbers, among, Space, space, namesIn, only, until, ofModule, ofCell, ofObject}
-use Rattle.scanner.specs.Laws.{by-test, and-true-left, and-true-right, same-refl, same-eq}
+use Rattle.scanner.specs.Laws.{by-test, and-true-left, and-true-right, same-refl, same-eq, or-false-left, or-false-right}
+use Rattle.scanner.specs.Lists.{zip-none}
 use Rattle.admitted.specs.Admitted.{newPorts}
-use Rattle.admitted.specs.AcceptedLaws.{or-false-left, or-false-right}
 use Rattle.order.specs.Fine.{times}
 
 -- a test of each statement after those before it
@@ -271,11 +271,6 @@ by-wire P f g (cell-conn-stmt n x) = g (cell-conn-stmt n x) refl
 by-wire P f g (conn-stmt x y) = g (conn-stmt x y) refl
 by-wire P f g (proc-stmt n) = g (proc-stmt n) refl
 by-wire P f g end-stmt = g end-stmt refl
-
-zip-none : {A B : Type 0} (xs : List A) → zip {B = B} xs [] ≡ []
-unfolding zip zipWith
-zip-none [] = refl
-zip-none (x ∷ xs) = refl
 
 -- the wires behind a statement
 pub wires-none : (s : Statement) (p : Past) → is aModule s ≡ false → contents s .wires ≡ [] → wires (s ∷ p) ≡ wires p

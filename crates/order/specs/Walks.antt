@@ -14,9 +14,8 @@ use Rattle.rules.specs.Statements.{Constant, Signal, Wire, Memory, Statement, a
 use Rattle.rules.specs.Judgement.{Past, sum, among, space}
 use Rattle.rules.specs.Design.{Setting, Object}
 use Rattle.rules.specs.Session.{names}
-use Rattle.scanner.specs.Laws.{and-true-left, and-true-right}
-use Rattle.admitted.specs.AcceptedLaws.{or-false-left, or-false-right}
-use Rattle.admitted.specs.AdmitLaws.{all-append}
+use Rattle.scanner.specs.Laws.{and-true-left, and-true-right, or-false-left, or-false-right}
+use Rattle.scanner.specs.Lists.{all-append}
 use Rattle.order.specs.Nesting.{CellEntry, parameter-entry, port-entry, Entry, param-entry, wire-entry, memory-entry, cell-entry, connection-entry, File, settings, lineIn, linesOf, linesOfModule, linesOfFile, wiresOf, memoriesOf, cellsOf, bodyOf, moduleIn, nestingOpen}
 use Rattle.order.specs.DesignLaws.{all-flatMap}
 use Rattle.order.specs.Fine.{Differ, Each, settingNames, FineCell, FineModule}

@@ -13,7 +13,8 @@ use Rattle.rules.specs.Statements.{Statement, autoidx-stmt, attr-stmt, module-s
 use Rattle.rules.specs.Shapes.{Scope, top, inModule, inCell}
 use Rattle.rules.specs.Judgement.{Past, until, sum, outer, scope, context, ofModule, ofCell, ofObject, wires, among, count}
 use Rattle.past.specs.Place.{scopeCode, scopeOf, wiresIn, placeOf, contextOf, Bounds, scopeAfter, placeAfter}
-use Rattle.past.proofs.KindLaws.{by-test, is-code, count-one, count-le}
+use Rattle.scanner.specs.Laws.{by-test}
+use Rattle.past.proofs.KindLaws.{is-code, count-one, count-le}
 
 -- A measure of lists to which each element adds its own: over the last elements, and over those before them
 module _ {A : Type 0} (m : List A → ℕ) (g : A → ℕ) (none : m [] ≡ 0) (more : (x : A) (xs : List A) → m (x ∷ xs) ≡ m xs + g x) (f : A → Bool) where
@@ -36,7 +37,7 @@ module _ {A : Type 0} where
   unfolding sum
   sum-more g x xs = omega arith
 
-  until-take : (f : A → Bool) (xs : List A) → until f xs ≡ take (length (until f xs)) xs
+  pub until-take : (f : A → Bool) (xs : List A) → until f xs ≡ take (length (until f xs)) xs
   unfolding until
   until-take f [] = refl
   until-take f (x ∷ xs) = by-test (f x) (λ e. rw e) (λ e. rw e (ap (λ (l : List A). x ∷ l) (until-take f xs)))
@@ -167,7 +168,7 @@ cond-not true m n = refl
 cond-not false m n = refl
 
 module _ (ss : Past) (s : Statement) where
-  scope-step : scopeCode (scope (s ∷ ss)) ≡ scopeAfter (scopeCode (scope ss)) (code (contents s .kind))
+  pub scope-step : scopeCode (scope (s ∷ ss)) ≡ scopeAfter (scopeCode (scope ss)) (code (contents s .kind))
   unfolding scope scopeCode scopeAfter code
   scope-step = rw (is-code s aModule, is-code s aCell, is-code s anEnd, code-cond, code-cond, code-cond, outer-code)
 

@@ -2,7 +2,7 @@
 -- Assumes nothing.
 use Prim.Native.Nat.{ℕ, _≤_}
 use mathlib.Core.Path.{_≡_, refl, _∙_}
-use mathlib.Core.Bool.{true, false, true≢false}
+use mathlib.Core.Bool.{false, true≢false}
 use mathlib.Core.List.{List, [], _∷_}
 use native.Mathlib.Nat.{le-trans}
 use native.Mathlib.Omega.{arith}
@@ -14,7 +14,8 @@ use Rattle.rules.specs.Judgement.{Past, sum, signalSize, valueSize, stringSize,
 use Rattle.past.specs.Place.{placeOf, wiresIn}
 use Rattle.past.specs.Sizes.{sizesBy, sizesOf, sumsOf, plusOf, limits, exceeds, Within, AtMost}
 use Rattle.past.specs.declared.sizes.Sizes.{Sizes}
-use Rattle.past.proofs.KindLaws.{by-test, count-le}
+use Rattle.scanner.specs.Laws.{by-test}
+use Rattle.past.proofs.KindLaws.{count-le}
 
 -- the sums with one statement more
 pub sums-step : (ss : Past) (s : Statement) → sumsOf (s ∷ ss) ≡ plusOf (sumsOf ss) (sizesOf s)

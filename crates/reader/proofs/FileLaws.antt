@@ -8,7 +8,7 @@ use native.Mathlib.Omega.{arith}
 use lib.Dec.{ltb, eqb}
 use lib.ListN.{length, take, drop, drop-of-length-le, replicate}
 use lib.Seq.{length-take-le}
-use borrow.Author.Tests.{eq-eqb, ltb-false, lt-ltb, le-ltb, eqb-true}
+use borrow.Author.Tests.{ltb-false, lt-ltb, le-ltb}
 use Rattle.rules.specs.Lines as rules
 use Rattle.rules.specs.Lines.{linesFrom, lines, place}
 use Rattle.rules.specs.Tokens.{tokensFrom}
@@ -22,7 +22,7 @@ use Rattle.tables.specs.Padded.{padded-nil}
 use Rattle.scanner.specs.Class.{inClass}
 use Rattle.scanner.specs.Runs.{endOf}
 use Rattle.scanner.specs.Lines.{lineFrom}
-use Rattle.scanner.specs.Laws.{by-test, by-cond, and-true-left, and-true-right}
+use Rattle.scanner.specs.Laws.{by-test, by-cond}
 use Rattle.scanner.specs.declared.lines.Line.{Line}
 use Rattle.scanner.proofs.ClassLaws.{class-blank}
 use Rattle.scanner.proofs.RunLaws.{endOf-low, endOf-high}
@@ -35,10 +35,11 @@ use Rattle.past.proofs.PlaceLaws.{context-is}
 use Rattle.admitted.specs.AcceptedLaws.{none-accepted}
 use Rattle.netlist.specs.Laid.{roomsOf}
 use Rattle.netlist.specs.LaidLaws.{rooms-past}
+use Rattle.netlist.specs.UsedLaws.{used-past}
+use Rattle.netlist.specs.Lengths.{sizes-exact, rightSizes}
 use Rattle.layout.specs.Put.{Tables, tablesOf}
-use Rattle.layout.specs.Stored.{tabled, Sized, usedBy}
-use Rattle.layout.proofs.PastLaws.{used-past}
-use Rattle.reader.specs.Read.{Result, result, lent, rightSizes, rightLengths, leaves, readInto}
+use Rattle.layout.specs.Stored.{tabled, Sized}
+use Rattle.reader.specs.Read.{Result, result, lent, rightLengths, leaves, readInto}
 use Rattle.reader.specs.Steps.{lineOf, LineFits, Done, Goes, StepIs, StepAs, refusalOf, finishOf, Landed}
 use Rattle.reader.specs.declared.Step.{Step}
 use Rattle.reader.specs.declared.Step.the-variants.{Next, Stop}
@@ -191,7 +192,7 @@ module _ {f tokens scratch : List ℕ} {p : Place} {u : Sizes} {t : Tables} {at 
   ends = rw (context-is (r .past), r .done .place-is, top-scope (p .scope))
 
   room-used : u .«name_bytes» ≡ length (putAll empty (reverse (r .past)) .names)
-  unfolding used usedBy
+  unfolding used
   room-used =
       rw (rooms-past (r .past), ← r .done .sums-are) (sym (ap (λ (v : layouts.Used). v .names) (used-past (r .past))))
 
@@ -277,35 +278,10 @@ read-any f h = rw (le-ltb _ _ h)
 
 -- ---- lengths
 
-sizes-exact : (n s b w r : ℕ) → rightSizes n s b w r ≡ true → (n ≡ 16384) × (s ≡ 8192) × (b ≡ 16384) × (w ≡ 8 * 512) × (r ≡ 8 * 4769)
-unfolding rightSizes
-sizes-exact n s b w r e =
-    let en : Bool = eqb n 16384 in
-    let es : Bool = eqb s 8192 in
-    let eb : Bool = eqb b 16384 in
-    let ew : Bool = eqb w (8 * 512) in
-    let er : Bool = eqb r (8 * 4769) in
-    let e₃ = and-true-left (en && es && eb && ew) er e in
-    let e₂ = and-true-left (en && es && eb) ew e₃ in
-    let e₁ = and-true-left (en && es) eb e₂ in (
-      eqb-true _ _ (and-true-left en es e₁),
-      eqb-true _ _ (and-true-right en es e₁),
-      eqb-true _ _ (and-true-right (en && es) eb e₂),
-      eqb-true _ _ (and-true-right (en && es && eb) ew e₃),
-      eqb-true _ _ (and-true-right (en && es && eb && ew) er e),
-    )
-
 pub right-sized : (n s b w r : List ℕ) → rightSizes (length n) (length s) (length b) (length w) (length r) ≡ true → Sized (tabled n s b w r)
 right-sized n s b w r e =
     let h = sizes-exact (length n) (length s) (length b) (length w) (length r) e in
     record { names = h .0; strings = h .1; bits = h .2; wires = h .3; rows = h .4 }
-
-pub wrong-sizes : (n s b w r : ℕ) → ((n ≡ 16384) × (s ≡ 8192) × (b ≡ 16384) × (w ≡ 8 * 512) × (r ≡ 8 * 4769) → ⊥) → false ≡ rightSizes n s b w r
-wrong-sizes n s b w r h = by-test (rightSizes n s b w r) (λ e. absurd (h (sizes-exact n s b w r e))) (λ e. sym e)
-
-pub last-size : (n s b w r : ℕ) → n ≡ 16384 → s ≡ 8192 → b ≡ 16384 → w ≡ 8 * 512 → eqb r (8 * 4769) ≡ rightSizes n s b w r
-unfolding rightSizes
-last-size n s b w r en es eb ew = rw (eq-eqb _ _ en, eq-eqb _ _ es, eq-eqb _ _ eb, eq-eqb _ _ ew)
 
 module _ (f n s b w r : List ℕ) (k m : ℕ) (t : Bool) (e : t ≡ rightSizes (length n) (length s) (length b) (length w) (length r)) where
   pub into-right : t ≡ true → (x : Result) → x ≡ leaves (read f) → x ≡ readInto f (lent n s b w r k m)

@@ -1,7 +1,7 @@
 -- The statements so far: what they give the next line, and what its statement adds to them.
 -- Assumes nothing.
 use Prim.Native.Nat.{ℕ, _*_, _≤_, _<_}
-use mathlib.Core.Path.{_≡_, refl, sym, ap, _∙_, subst}
+use mathlib.Core.Path.{_≡_, refl, sym, ap, _∙_, subst, ap₂}
 use mathlib.Core.List.{List, _∷_}
 use mathlib.Core.Option.{Option, some}
 use native.Mathlib.Omega.{arith}
@@ -30,12 +30,14 @@ use Rattle.netlist.specs.WireLaws.{eights-wires, wires-past}
 use Rattle.syntax.specs.Statements.{lateOf, statementIn, kindIn, Sound}
 use Rattle.syntax.specs.declared.Statement.{Statement}
 use Rattle.syntax.specs.declared.Statement.the-variants.{Autoidx, Attribute, Module, Parameter, Wire, Memory, Cell, CellParameter, CellConnection, Connection, End, NoShape, Process, BadNumber, MissingWire}
-use Rattle.layout.specs.Put.{Tables, tablesOf, usedOf, RoomFor}
+use Rattle.layout.specs.Put.{Tables, tablesOf, RoomFor}
 use Rattle.layout.specs.RoomLaws.{tables-put}
 use Rattle.layout.specs.Stored as stored
-use Rattle.layout.specs.Stored.{Sized, PutIs, UsedIs, usedBy}
-use Rattle.layout.specs.declared.Used.{Used}
-use Rattle.layout.proofs.PastLaws.{used-past, room-past}
+use Rattle.layout.specs.Stored.{Sized, PutIs}
+use Rattle.netlist.specs.declared.used.Used.{Used}
+use Rattle.netlist.specs.Used.{usedOf, usedBy}
+use Rattle.netlist.specs.UsedLaws.{used-past}
+use Rattle.layout.proofs.PastLaws.{room-past}
 use Rattle.judgement.specs.Judged.{Stands}
 use Rattle.reader.specs.Steps.{PlaceFits, States, OutcomeIs, Storable, Done, Goes}
 use Rattle.reader.specs.declared.Outcome.{Outcome}
@@ -55,7 +57,7 @@ flat-long : (n k : ℕ) (rs : List (List ℕ)) → Eights rs → length rs ≤ k
 flat-long n k rs h l e = length-padded n (flat rs) (omega (arith, length-flat rs h))
 
 pub sized-past : (ss : Past) → Accepted ss → Sized (tablesOf (memory (roomsOf ss) 0))
-unfolding tablesOf memory used usedBy placeOf
+unfolding tablesOf memory used placeOf
 sized-past ss a =
     let w : Within (sumsOf ss) = all-within a in
     let q : used (roomsOf ss) ≡ usedBy (placeOf ss) (sumsOf ss) = used-past ss in
@@ -119,17 +121,21 @@ module _ {ss : Past} {p : Place} {u : Sizes} {t : Tables} (d : Done ss p u t) (l
   storable : Sound f r × (lateOf r ≡ 0) × Within more
   storable = subst (Storable f) is sound
 
-  room : (v : Used) → UsedIs p u v → (y : statements.Statement) → statementIn f s r ≡ some y → RoomFor (usedOf v) y
+  -- what is used by the place and the sums is what the rooms hold
+  used-rooms : (v : Used) → usedOf v ≡ usedBy p u → usedOf v ≡ used (roomsOf ss)
+  used-rooms v us = us ∙ sym (used-past ss ∙ ap₂ usedBy (d .place-is) (d .sums-are))
+
+  room : (v : Used) → usedOf v ≡ usedBy p u → (y : statements.Statement) → statementIn f s r ≡ some y → RoomFor (usedOf v) y
   room v us y e =
       let q : states .statement ≡ y = same-some (statementIn f s r) _ y (states .stated) e in
-      rw (us ss (d .place-is) (d .sums-are))
+      rw (used-rooms v us)
       (room-past ss y (rw (← q, states .sums-are) (storable .2)) (omega (arith, all-few (d .accepted))))
 
-  pub put-storable : (v : Used) → UsedIs p u v → length s ≡ 36864 → stored.Storable f s r v t
+  pub put-storable : (v : Used) → usedOf v ≡ usedBy p u → length s ≡ 36864 → stored.Storable f s r v t
   put-storable v us k =
       record { sound = storable .0; settled = storable .1; room = room v us; sized = done-sized d; scratch = omega arith }
 
-  pub step-stated : (v : Used) (t′ : Tables) (k : ℕ) (q : Place) → UsedIs p u v → PutIs f s r v t t′ → k ≡ code (kindIn r) → AfterIs p k q → Goes ss l q more t′
+  pub step-stated : (v : Used) (t′ : Tables) (k : ℕ) (q : Place) → usedOf v ≡ usedBy p u → PutIs f s r v t t′ → k ≡ code (kindIn r) → AfterIs p k q → Goes ss l q more t′
   unfolding next roomsOf
   step-stated v t′ k q us put e after =
       let y : statements.Statement = states .statement in
@@ -140,7 +146,7 @@ module _ {ss : Past} {p : Place} {u : Sizes} {t : Tables} (d : Done ss p u t) (l
           place-is = after ss y (sym (d .place-is)) (e ∙ ap code (kind-is f s r y (states .stated)));
           sums-are = states .sums-are;
           tables-are =
-              tables-put (roomsOf ss) y 0 (usedOf v) t t′ (d .tables-are) (us ss (d .place-is) (d .sums-are)) (record { wires = eights-wires ss; rows = eights-rows ss })
+              tables-put (roomsOf ss) y 0 (usedOf v) t t′ (d .tables-are) (used-rooms v us) (record { wires = eights-wires ss; rows = eights-rows ss })
               (room v us y (states .stated)) (put y (states .stated));
         };
         goes = λ m. ap (next m ss) (states .is);

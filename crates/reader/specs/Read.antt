@@ -1,11 +1,11 @@
 -- Reading a file into design memory: what each outcome leaves.
-use Prim.Native.Nat.{ℕ, _*_}
+use Prim.Native.Nat.{ℕ}
 use mathlib.Core.List.{List, []}
-use mathlib.Core.Bool.{Bool, cond, _&&_}
+use mathlib.Core.Bool.{Bool, cond}
 use lib.ListN.{length}
-use lib.Dec.{eqb}
 use Rattle.rules.specs.Reading.{Answer, accepted, refused, read}
 use Rattle.rules.specs.Layout.{Memory, empty, memory, layout}
+use Rattle.netlist.specs.Lengths.{rightSizes}
 
 -- number, place, and all memory lent
 pub record Result : Type 0 where
@@ -21,9 +21,6 @@ abbrev pub lent : (names strings bits wires rows : List ℕ) (renames room : ℕ
 lent n s b w r k m = record { names = n; strings = s; bits = b; wires = w; rows = r; renames = k; room = m }
 
 -- 1: a table or the card is lent at the wrong length
-unfoldable pub rightSizes : (names strings bits wires rows : ℕ) → Bool
-rightSizes n s b w r = eqb n 16384 && eqb s 8192 && eqb b 16384 && eqb w (8 * 512) && eqb r (8 * 4769)
-
 unfoldable pub rightLengths : Memory → Bool
 rightLengths m = rightSizes (length (m .names)) (length (m .strings)) (length (m .bits)) (length (m .wires)) (length (m .rows))
 

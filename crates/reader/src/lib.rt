@@ -2,10 +2,11 @@
 use judgement::Judged;
 use judgement::judge_line;
 use layout::put_statement;
-use layout::used_from;
 use lexer::Lexed;
 use lexer::lex_line;
 use line_reader::line_at;
+use netlist::lengths::right_lengths;
+use netlist::used::used_from;
 use past::place::Place;
 use past::place::after;
 use past::place::start;
@@ -25,7 +26,7 @@ ghost use Rattle.rules.specs.Layout.{empty, memory};
 ghost use Rattle.syntax.specs.Statements.{kindIn};
 ghost use Rattle.layout.specs.Put.{tablesOf};
 ghost use Rattle.layout.specs.Stored.{tabled, Sized};
-ghost use Rattle.reader.specs.Read.{result, lent, rightSizes, leaves, readInto};
+ghost use Rattle.reader.specs.Read.{result, lent, leaves, readInto};
 ghost use Rattle.reader.specs.Steps.{LineFits, PlaceFits, judgedAs, OutcomeAs, Storable, SomeDone, StepAs, refusalOf, finishOf, Landed};
 
 // Number 0 is none. The counts of the session card go in and out by value.
@@ -252,24 +253,6 @@ fn clear_tables(
     clear_words(bits);
     clear_words(wires);
     clear_words(rows);
-}
-
-pub fn right_lengths(names: usize, strings: usize, bits: usize, wires: usize, rows: usize) -> bool
-    ensures { λ r. ⌜ r ≡ rightSizes names strings bits wires rows ⌝ }
-{
-    if names != 16384 {
-        return false;
-    }
-    if strings != 8192 {
-        return false;
-    }
-    if bits != 16384 {
-        return false;
-    }
-    if wires != 4096 {
-        return false;
-    }
-    rows == 38152
 }
 
 // A file of at most 32,768 bytes into zero tables.

@@ -4,7 +4,6 @@ use Prim.Native.Nat.{ℕ, _<_}
 use mathlib.Core.Path.{_≡_, refl, sym, ap, ap₂, _∙_}
 use mathlib.Core.List.{List, [], _∷_, _++_, map}
 use mathlib.Core.Bool.{Bool, true, false, _&&_}
-use native.Mathlib.Omega.{arith}
 use lib.Dec.{leb, ltb}
 use lib.ListN.{length, take, drop, getD, length-map}
 use borrow.Author.Tests.{ltb-true, lt-ltb, ne-eqb}
@@ -12,21 +11,19 @@ use Rattle.rules.specs.Bytes.{all, within}
 use Rattle.rules.specs.Tokens.{Digit}
 use Rattle.rules.specs.Statements.{Constant, value, integer, string, digitsOf, bytesOf}
 use Rattle.rules.specs.Signals.{Wires}
-use Rattle.rules.specs.Layout.{Used, padded, row, digitCode, bitCode, constantColumns}
+use Rattle.rules.specs.Layout.{Used, padded, row, digitCode, constantColumns, bitCode}
 use Rattle.admitted.specs.Admitted.{fineBit, fineSignal, fineConstant}
 use Rattle.tables.specs.Row.{words}
 use Rattle.tables.specs.declared.Row.{Row}
+use Rattle.numbers.specs.KindLaws as kinds
 use Rattle.numbers.specs.Kinds.{digitOf, bitOf, bitAt}
-use Rattle.numbers.specs.KindLaws.{digit-code, code-digit, code-back}
+use Rattle.numbers.specs.KindLaws.{digit-code, code-digit}
 use Rattle.numbers.specs.SignedLaws.{word-signed, signed-int32}
-use Rattle.scanner.specs.Laws.{and-true-left, and-true-right}
+use Rattle.scanner.specs.Laws.{and-true-left, and-true-right, never}
 use Rattle.replay.specs.Parts.{span, whole, isDigit, digitsStand, textStands, signalOf, signalStands}
 use Rattle.replay.specs.Reads.{constantOf, TellsConstant}
 use Rattle.replay.specs.declared.statements.Held.{Held}
 use Rattle.replay.proofs.Spans.{whole-long, long-whole, has-none, has-span, span-has, has-whole}
-
-pub never : {P : Type 0} (b : Bool) → b ≡ true → b ≡ false → P
-never b t f = let z : _≡_ {A = ℕ} 0 1 = cc in absurd (omega arith)
 
 -- codes of digits are those of the digits that they mean, and digits have such codes
 pub digits-back : (cs : List ℕ) → all isDigit cs ≡ true → map digitCode (map digitOf cs) ≡ cs
@@ -42,8 +39,7 @@ all-digit (d ∷ ds) = rw (lt-ltb (digitCode d) 6 (digit-code d)) (all-digit ds)
 
 pub codes-back : (cs : List ℕ) → map bitCode (signalOf cs) ≡ cs
 unfolding signalOf
-codes-back [] = refl
-codes-back (c ∷ cs) = ap₂ (λ (x : ℕ) (l : List ℕ). x ∷ l) (code-back c) (codes-back cs)
+codes-back cs = kinds.codes-back cs
 
 pub length-signal : (cs : List ℕ) → length (signalOf cs) ≡ length cs
 unfolding signalOf

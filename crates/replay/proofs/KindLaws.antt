@@ -6,9 +6,9 @@ use mathlib.Core.List.{List, [], _∷_, _++_, flatMap, zip, zipWith, append-nil,
 use mathlib.Core.Option.{Option·elim}
 use mathlib.Core.Bool.{true, false, cond, _&&_, and-true}
 use native.Mathlib.Omega.{arith}
-use lib.Dec.{eqb, leb}
+use lib.Dec.{leb}
 use lib.ListN.{length, getD}
-use borrow.Author.Tests.{eq-eqb, ne-eqb, eqb-true}
+use borrow.Author.Tests.{eq-eqb, ne-eqb}
 use Rattle.rules.specs.Bytes.{same, all, within, legal}
 use Rattle.rules.specs.Tokens.{Name}
 use Rattle.rules.specs.Statements.{Sort, plain, signed, real, Statement, Constant, value, integer, string, Memory, contents, holds, code, attr-stmt, module-stmt, memory-stmt, cell-stmt, proc-stmt, end-stmt}
@@ -19,12 +19,14 @@ use Rattle.admitted.specs.Admitted.{fineMemory, sameLength, fineParts}
 use Rattle.tables.specs.Row.{words}
 use Rattle.tables.specs.declared.Row.{Row}
 use Rattle.numbers.specs.SignedLaws.{word-signed, signed-int32}
-use Rattle.scanner.specs.Laws.{by-test, and-true-left, and-true-right}
+use Rattle.scanner.specs.Laws.{and-true-left, and-true-right, never}
 use Rattle.replay.specs.Parts.{span, nameStands}
-use Rattle.replay.specs.Reads.{Tables, tabled, constantOf, optionalOf, sortOf, memoryOf, statementBy, statementOf, Reads, Tells, TellsNamed, TellsValued, TellsAutoidx, TellsEnd, TellsMemory, TellsCell, TellsParameter, TellsCellParameter}
+use Rattle.numbers.specs.Kinds.{sortOf}
+use Rattle.numbers.specs.KindLaws.{sort-code}
+use Rattle.netlist.specs.RowLaws.{row-zero}
+use Rattle.replay.specs.Reads.{Tables, tabled, constantOf, optionalOf, memoryOf, statementBy, statementOf, Reads, Tells, TellsNamed, TellsValued, TellsAutoidx, TellsEnd, TellsMemory, TellsCell, TellsParameter, TellsCellParameter}
 use Rattle.replay.specs.declared.statements.Found.{Found}
 use Rattle.replay.proofs.Spans.{has-none, has-span, spans}
-use Rattle.replay.proofs.CodeLaws.{never}
 use Rattle.replay.proofs.ReadLaws.{settled, name-legal, name-long, name-not}
 
 -- ---- a statement without parts
@@ -148,12 +150,6 @@ module _ (names : List ℕ) (u : Used) (r : Row) where
 
 -- ---- parameters
 
-pub row-zero : (u : Used) (c : Constant) (kind a b : ℕ) → row (kind ∷ a ∷ b ∷ constantColumns u c) ≡ row (kind ∷ a ∷ b ∷ constantColumns u c ++ 0 ∷ [])
-unfolding row padded constantColumns
-row-zero u (value ds) kind a b = refl
-row-zero u (integer i) kind a b = refl
-row-zero u (string s) kind a b = refl
-
 pub sort-read : (u : Used) (c : Constant) (r : Row) (kind a n sort : ℕ) → words r ≡ row (kind ∷ a ∷ n ∷ constantColumns u c ++ sort ∷ []) → r .f ≡ sort
 unfolding constantColumns words row padded
 sort-read u (value ds) r kind a n sort e = ap (λ (l : List ℕ). getD l 6 0) e
@@ -166,24 +162,12 @@ sort-few plain = omega arith
 sort-few signed = omega arith
 sort-few real = omega arith
 
-sort-code : (n : ℕ) → n ≤ 2 → sortCode (sortOf n) ≡ n
-unfolding sortCode sortOf
-sort-code n h =
-    by-test (eqb n 0) (λ e. rw e (sym (eqb-true n 0 e)))
-    (λ e. rw e (by-test (eqb n 1) (λ q. rw q (sym (eqb-true n 1 q))) (λ q. rw q (two n h e q))))
-  where
-    two : (n : ℕ) → n ≤ 2 → eqb n 0 ≡ false → eqb n 1 ≡ false → 2 ≡ n
-    two n h e q = omega (arith, below n 0 e, below n 1 q)
-      where
-        below : (n k : ℕ) → eqb n k ≡ false → n ≡ k → ⊥
-        below n k e q = never (eqb n k) (eq-eqb n k q) e
-
 module _ (names strings bits : List ℕ) (u : Used) (r : Row) (f : Found) where
   pub attribute-told :
       TellsValued names strings bits u r 2 0 f → (wires : List ℕ) (ws : Wires) →
       Tells (tabled names strings bits wires) u ws r (attr-stmt (span names (u .names) (r .b)) (constantOf strings bits u (r .c) (r .d) (r .e))) f
   unfolding statementRow columns code contents holds
-  attribute-told h wires ws = h wires ws _ _ _ refl (row-zero u (constantOf strings bits u (r .c) (r .d) (r .e)) 2 (u .names) (length (span names (u .names) (r .b))))
+  attribute-told h wires ws = h wires ws _ _ _ refl (sym (row-zero u (constantOf strings bits u (r .c) (r .d) (r .e)) 2 (u .names) (length (span names (u .names) (r .b)))))
 
   pub parameter-none : r .c ≡ 0 → TellsNamed names u r 4 f → TellsParameter names strings bits u r f
   unfolding optionalOf statementRow columns code contents holds Option·toList Option·elim
@@ -193,7 +177,7 @@ module _ (names strings bits : List ℕ) (u : Used) (r : Row) (f : Found) where
   unfolding optionalOf statementRow columns code contents holds Option·toList Option·elim
   parameter-some e h wires ws =
       rw (ne-eqb (r .c) 0 e)
-      (h wires ws _ _ _ refl (row-zero u (constantOf strings bits u (r .c) (r .d) (r .e)) 4 (u .names) (length (span names (u .names) (r .b)))))
+      (h wires ws _ _ _ refl (sym (row-zero u (constantOf strings bits u (r .c) (r .d) (r .e)) 4 (u .names) (length (span names (u .names) (r .b))))))
 
   pub cell-parameter-told : r .f ≤ 2 → TellsValued names strings bits u r 8 (r .f) f → TellsCellParameter names strings bits u r f
   unfolding statementRow columns code contents holds

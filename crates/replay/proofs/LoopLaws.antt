@@ -13,7 +13,7 @@ use Rattle.rules.specs.Judgement.{Past}
 use Rattle.rules.specs.Layout.{used, statementRow}
 use Rattle.admitted.specs.Admitted.{admits, admitted, closes}
 use Rattle.admitted.specs.AdmitLaws.{admitted-before, admitted-few, admitted-within}
-use Rattle.scanner.specs.Laws.{and-true-right}
+use Rattle.scanner.specs.Laws.{and-true-right, never}
 use Rattle.wires.specs.Rows.{wordAt, column}
 use Rattle.wires.specs.RowLaws.{row-taken}
 use Rattle.netlist.specs.Rows.{kindAt}
@@ -25,12 +25,12 @@ use Rattle.past.specs.Sizes.{sumsOf, Within}
 use Rattle.past.specs.declared.place.Place.{Place}
 use Rattle.past.specs.declared.sizes.Sizes.{Sizes}
 use Rattle.past.proofs.PlaceLaws.{bounds}
-use Rattle.replay.specs.Reads.{Tables, Has}
+use Rattle.netlist.specs.Spans.{Has}
+use Rattle.replay.specs.Reads.{Tables}
 use Rattle.replay.specs.Begins.{Fronts, isStatement, Stored, Replays}
 use Rattle.replay.specs.Turns.{closesAt, Ready, Reached, TurnIs}
 use Rattle.replay.specs.declared.Replayed.{Replayed}
 use Rattle.replay.specs.declared.turns.Turn.{Turn}
-use Rattle.replay.proofs.CodeLaws.{never}
 use Rattle.replay.proofs.BeginLaws.{fronts-before, fronts-stand}
 use Rattle.replay.proofs.TurnLaws.{closes-place}
 
@@ -92,7 +92,7 @@ statement-kind aProcess = refl
 statement-kind anEnd = refl
 
 -- behind the statements stands the row of the next
-next-kind : (t : Tables) (rows : List ℕ) (x : Statement) (ss : Past) → Fronts (roomsOf (x ∷ ss)) t rows → isStatement (wordAt rows (8 * length (roomsOf ss .rows))) ≡ true
+pub next-kind : (t : Tables) (rows : List ℕ) (x : Statement) (ss : Past) → Fronts (roomsOf (x ∷ ss)) t rows → isStatement (wordAt rows (8 * length (roomsOf ss .rows))) ≡ true
 unfolding Has used kindAt column
 next-kind t rows x ss f =
     let R = roomsOf ss in

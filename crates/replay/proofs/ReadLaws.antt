@@ -16,13 +16,14 @@ use Rattle.admitted.specs.Admitted.{fineConstant, sameLength, fineParts}
 use Rattle.tables.specs.Row.{words}
 use Rattle.tables.specs.Flat.{flat}
 use Rattle.tables.specs.declared.Row.{Row}
-use Rattle.scanner.specs.Laws.{by-test, same-refl, same-eq, and-true-left, and-true-right}
+use Rattle.scanner.specs.Laws.{by-test, same-refl, same-eq, and-true-left, and-true-right, never}
 use Rattle.replay.specs.Parts.{span, whole, nameStands}
-use Rattle.replay.specs.Reads.{Tables, tabled, Has, constantOf, ReadsConstant, TellsConstant, Reads, Counts, Tells, TellsNamed, TellsValued}
+use Rattle.netlist.specs.Spans.{Has}
+use Rattle.replay.specs.Reads.{Tables, tabled, constantOf, ReadsConstant, TellsConstant, Reads, Counts, Tells, TellsNamed, TellsValued}
 use Rattle.replay.specs.declared.statements.Found.{Found}
 use Rattle.replay.specs.declared.statements.Held.{Held}
 use Rattle.replay.proofs.Spans.{whole-long, long-whole, has-none, has-span}
-use Rattle.replay.proofs.CodeLaws.{never, columns-read}
+use Rattle.replay.proofs.CodeLaws.{columns-read}
 
 -- the parts alone
 pub record Parts (t : Tables) (u : Used) (ws : Wires) (s : Statement) : Type 0 where

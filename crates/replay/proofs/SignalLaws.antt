@@ -8,13 +8,14 @@ use mathlib.Core.Bool.{Bool, true, false, not, _&&_, _||_, and-true}
 use native.Mathlib.Omega.{arith}
 use lib.IntN.{pos, _+ℤ_}
 use lib.Dec.{eqb, leb, ltb}
-use lib.ListN.{length, getD, getElem?, length-reverse}
+use lib.ListN.{length, getD, length-reverse}
 use borrow.Author.Tests.{le-leb, lt-leb, ne-eqb}
 use Rattle.rules.specs.Bytes.{all, any, within}
 use Rattle.rules.specs.Statements.{Wire}
 use Rattle.rules.specs.Signals.{Wires}
 use Rattle.rules.specs.Numbers.{int32}
 use Rattle.rules.specs.Judgement.{portNumbers}
+use Rattle.scanner.specs.Lists.{element-none}
 use Rattle.admitted.specs.Admitted.{fineBit, newPorts, fineWire}
 use Rattle.numbers.specs.Kinds.{bitOf, bitAt}
 use Rattle.numbers.specs.Signed.{signedOf}
@@ -23,11 +24,6 @@ use Rattle.numbers.specs.declared.kinds.SignalBit.{SignalBit}
 use Rattle.numbers.specs.declared.kinds.WireNumber.{WireNumber}
 use Rattle.wires.specs.Rows.{wordAt, column, portOf, wireOf, wiresFrom}
 use Rattle.wires.specs.RowLaws.{length-wires, wire-numbered}
-
-element-none : {A : Type 0} (l : List A) (i : ℕ) → length l ≤ i → getElem? l i ≡ none
-element-none [] i h = refl
-element-none (x ∷ l) zero h = absurd (omega arith)
-element-none (x ∷ l) (suc i) h = element-none l i (omega arith)
 
 -- ---- bits
 

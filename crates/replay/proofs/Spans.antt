@@ -6,13 +6,13 @@ use mathlib.Core.List.{List, [], _∷_, _++_}
 use mathlib.Core.Bool.{Bool, true, false}
 use native.Mathlib.Numerals.{add-one}
 use native.Mathlib.Omega.{arith}
-use lib.ListN.{length, getD, take, drop, length-append, length-take, length-drop, drop-of-length-le}
-use lib.Seq.{slice, slice-cons, take-add, take-append-seam, drop-append-seam, drop-drop}
+use lib.ListN.{length, getD, take, drop, length-take, length-drop, drop-of-length-le}
+use lib.Seq.{slice, slice-cons, take-add, drop-drop}
 use borrow.Author.Tests.{eq-eqb, ne-eqb, eqb-true}
 use Rattle.rules.specs.Bytes.{all}
 use Rattle.wires.specs.RowLaws.{slice-span}
 use Rattle.replay.specs.Parts.{span, whole}
-use Rattle.replay.specs.Reads.{Has}
+use Rattle.netlist.specs.Spans.{Has}
 
 pub span-is : (t : List ℕ) (at n : ℕ) → span t at n ≡ take n (drop at t)
 unfolding span
@@ -92,20 +92,3 @@ module _ (t : List ℕ) (at : ℕ) where
       ap₂ (λ (x y : List ℕ). x ++ y) (span-is t at m) (span-is t (at + m) n ∙ ap (take n) (sym (drop-drop m at t)))
       ∙ sym (take-add m n (drop at t))
       ∙ sym (span-is t at (m + n))
-
-  pub has-first : (xs ys : List ℕ) → Has t at (xs ++ ys) → Has t at xs
-  unfolding Has
-  has-first xs ys h = sym (ap (take (length xs)) (sym h) ∙ first (length xs) (length (xs ++ ys)) (drop at t) (omega (arith, length-append xs ys))) ∙ take-append-seam xs ys
-    where
-      first : (m n : ℕ) (l : List ℕ) → m ≤ n → take m (take n l) ≡ take m l
-      first zero n l k = refl
-      first (suc m) zero l k = absurd (omega arith)
-      first (suc m) (suc n) [] k = refl
-      first (suc m) (suc n) (x ∷ l) k = ap (λ (r : List ℕ). x ∷ r) (first m n l (omega arith))
-
-  pub has-second : (xs ys : List ℕ) (i : ℕ) → i ≡ at + length xs → Has t at (xs ++ ys) → Has t i ys
-  unfolding Has
-  has-second xs ys i e h =
-      let k : length (xs ++ ys) ≡ length xs + length ys = length-append xs ys in
-      rw (e, ← drop-drop (length xs) at t)
-      (sym (ap (drop (length xs)) (sym h) ∙ ap (λ (n : ℕ). drop (length xs) (take n (drop at t))) k ∙ slice-span (length xs) (length ys) (drop at t)) ∙ drop-append-seam xs ys)

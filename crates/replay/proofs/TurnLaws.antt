@@ -20,7 +20,7 @@ use Rattle.admitted.specs.Admitted.{stands, fineParts, admits, admitted, closes
 use Rattle.admitted.specs.AdmitLaws.{admits-all, admitted-offsets}
 use Rattle.tables.specs.Row.{words, rowAt}
 use Rattle.tables.specs.declared.Row.{Row}
-use Rattle.scanner.specs.Laws.{by-test, and-true-left, and-true-right}
+use Rattle.scanner.specs.Laws.{by-test, and-true-left, and-true-right, never}
 use Rattle.wires.specs.Rows.{wiresFrom}
 use Rattle.wires.specs.RowLaws.{RowIs, row-taken}
 use Rattle.netlist.specs.Rows.{nameAt, namesBetween}
@@ -38,14 +38,17 @@ use Rattle.past.specs.declared.sizes.Sizes.{Sizes}
 use Rattle.past.proofs.PlaceLaws.{context-is}
 use Rattle.past.proofs.SizeLaws.{sums-step, exceeds-sums, within-past, sizes-small}
 use Rattle.admitted.specs.CountLaws.{context-scope}
-use Rattle.replay.specs.Reads.{Tables, tabled, Has, Reads, Counts, Tells, statementOf, Small}
+use Rattle.netlist.specs.Used.{usedBy}
+use Rattle.netlist.specs.Spans.{Has}
+use Rattle.replay.specs.Reads.{Tables, tabled, Reads, Counts, Tells, statementOf, Small}
 use Rattle.replay.specs.Begins.{Fronts}
-use Rattle.replay.specs.Turns.{usedAt, standsAt, closesAt, Reached, TurnIs, Told, Rowed, CountsAs, Counted, smallParts}
+use Rattle.replay.specs.Turns.{standsAt, closesAt, Reached, TurnIs, Told, Rowed, CountsAs, Counted, smallParts}
 use Rattle.replay.specs.declared.statements.Found.{Found}
 use Rattle.replay.specs.declared.turns.Turn.{Turn}
-use Rattle.replay.proofs.CodeLaws.{never}
-use Rattle.replay.proofs.UniqueLaws.{narrow, read-only}
-use Rattle.replay.proofs.BeginLaws.{Stands, fronts-stand, stand-fronts, fronts-laid, fronts-wired, stand-long, stand-reads, reads-stand, used-past, narrow-past}
+use Rattle.designs.specs.CodeLaws.{narrow, narrow-past}
+use Rattle.replay.proofs.UniqueLaws.{read-only}
+use Rattle.netlist.specs.UsedLaws.{used-past}
+use Rattle.replay.proofs.BeginLaws.{Stands, fronts-stand, stand-fronts, fronts-laid, fronts-wired, stand-long, stand-reads, reads-stand}
 
 -- ---- the place
 
@@ -184,8 +187,8 @@ module _ (t : Tables) (rows : List ℕ) (p : Place) (u : Sizes) where
   next = rowAt rows (8 * p .rows)
 
   module _ (ss : Past) (at : Reached t rows ss p u) where
-    used-is : used (roomsOf ss) ≡ usedAt p u
-    used-is = used-past ss ∙ ap₂ usedAt (at .place) (at .sums)
+    used-is : used (roomsOf ss) ≡ usedBy p u
+    used-is = used-past ss ∙ ap₂ usedBy (at .place) (at .sums)
 
     wires-are : wires ss ≡ here
     wires-are =
@@ -197,20 +200,20 @@ module _ (t : Tables) (rows : List ℕ) (p : Place) (u : Sizes) where
 
     -- a statement that can stand there is read there
     module _ (x : Statement) (f : Fronts (roomsOf (x ∷ ss)) t rows) (h : admits ss x ≡ true) where
-      standing : Stands t rows (usedAt p u) x
+      standing : Stands t rows (usedBy p u) x
       standing = subst (λ (y : Used). Stands t rows y x) used-is (fronts-stand t rows x ss f)
 
-      read : Reads t (usedAt p u) here next x
-      read = stand-reads t rows (usedAt p u) here x standing (ap (λ (y : Wires). fineParts y x) (sym wires-are) ∙ admits-all ss x h .parts)
+      read : Reads t (usedBy p u) here next x
+      read = stand-reads t rows (usedBy p u) here x standing (ap (λ (y : Wires). fineParts y x) (sym wires-are) ∙ admits-all ss x h .parts)
 
       long : 8 * p .rows + 8 ≤ length rows
-      long = stand-long t rows (usedAt p u) here x standing
+      long = stand-long t rows (usedBy p u) here x standing
 
       stands-there : standsAt p (code (contents x .kind)) ≡ true
       stands-there = ap (λ (q : Place). standsAt q (code (contents x .kind))) (sym (at .place)) ∙ sym (stands-place ss x) ∙ admits-all ss x h .standing
 
   -- the first column is the kind
-  kind-read : {ws : Wires} (x : Statement) → Reads t (usedAt p u) ws next x → next .kind ≡ code (contents x .kind)
+  kind-read : {ws : Wires} (x : Statement) → Reads t (usedBy p u) ws next x → next .kind ≡ code (contents x .kind)
   unfolding words statementRow row padded rowAt
   kind-read x d = ap (λ (l : List ℕ). getD l 0 0) (d .row)
 
@@ -224,26 +227,26 @@ module _ (t : Tables) (rows : List ℕ) (p : Place) (u : Sizes) where
     turn-kind e ss at x f h =
         never (standsAt p (r .kind)) (ap (standsAt p) (ap (λ (y : Row). y .kind) er ∙ kind-read x (read ss at x f h)) ∙ stands-there ss at x f h) e
 
-    module _ (U : Used) (eU : U ≡ usedAt p u) (f : Found) (h : Tells t U (wiresFrom (t .names) (t .wires) (p .«wires_from») (U .wires - p .«wires_from»)) r (statementOf t U r) f) where
+    module _ (U : Used) (eU : U ≡ usedBy p u) (f : Found) (h : Tells t U (wiresFrom (t .names) (t .wires) (p .«wires_from») (U .wires - p .«wires_from»)) r (statementOf t U r) f) where
       abbrev found : Statement
-      found = statementOf t (usedAt p u) next
+      found = statementOf t (usedBy p u) next
 
-      told : Tells t (usedAt p u) here next found f
+      told : Tells t (usedBy p u) here next found f
       told =
-          subst (λ (y : Row). Tells t (usedAt p u) here y (statementOf t (usedAt p u) y) f) er
+          subst (λ (y : Row). Tells t (usedBy p u) here y (statementOf t (usedBy p u) y) f) er
           (subst (λ (w : Used). Tells t w (wiresFrom (t .names) (t .wires) (p .«wires_from») (w .wires - p .«wires_from»)) r (statementOf t w r) f) eU h)
 
       only-found : (ss : Past) → Reached t rows ss p u → (x : Statement) → Fronts (roomsOf (x ∷ ss)) t rows → admits ss x ≡ true → found ≡ x
-      only-found ss at x fr ad = read-only t (usedAt p u) here (narrow-here ss at) next x (read ss at x fr ad)
+      only-found ss at x fr ad = read-only t (usedBy p u) here (narrow-here ss at) next x (read ss at x fr ad)
 
       pub turn-not : f ≡ Found.Nothing → TurnIs t rows p u Turn.Nothing
       unfolding TurnIs Tells
       turn-not e ss at x fr ad =
           let n = rw e at told in
-          n (subst (λ (s : Statement). Reads t (usedAt p u) here next s) (sym (only-found ss at x fr ad)) (read ss at x fr ad))
+          n (subst (λ (s : Statement). Reads t (usedBy p u) here next s) (sym (only-found ss at x fr ad)) (read ss at x fr ad))
 
       module _ (g v z n : ℕ) (ef : f ≡ Found.Statement g v z n) where
-        reads-found : Reads t (usedAt p u) here next found
+        reads-found : Reads t (usedBy p u) here next found
         unfolding Tells
         reads-found = let q = rw ef at told in q .0
 
@@ -258,8 +261,8 @@ module _ (t : Tables) (rows : List ℕ) (p : Place) (u : Sizes) where
         turn-told = record { statement = found; kind-is = kind-found; counts = counts-found }
 
         module _ (l : 8 * p .rows + 8 ≤ length rows) where
-          stands-found : Stands t rows (usedAt p u) found
-          stands-found = reads-stand t rows (usedAt p u) here found l reads-found
+          stands-found : Stands t rows (usedBy p u) found
+          stands-found = reads-stand t rows (usedBy p u) here found l reads-found
 
           module _ (ss : Past) (at : Reached t rows ss p u) where
             stands-past : Stands t rows (used (roomsOf ss)) found
@@ -312,8 +315,8 @@ module _ (t : Tables) (rows : List ℕ) (p : Place) (u : Sizes) where
               c ss found at (rowed-found ss at) (ap (takesName ss) (sym q) ∙ a .new-name) (ap (λ (y : Statement). exceedsSize (y ∷ ss)) (sym q) ∙ a .room)
 
 -- what is used of the tables is little, and the module's wires are the last ones
-pub small-used : (w : Used) (p : Place) (u : Sizes) → w ≡ usedAt p u → Within u → Small w
+pub small-used : (w : Used) (p : Place) (u : Sizes) → w ≡ usedBy p u → Within u → Small w
 small-used w p u e h = rw e (record { names = h .name-bytes; bits = omega (arith, h .value-bits, h .signal-bits) })
 
-pub wires-fit : (w : Used) (p : Place) (u : Sizes) → w ≡ usedAt p u → Bounds p → p .«wires_from» ≤ w .wires
+pub wires-fit : (w : Used) (p : Place) (u : Sizes) → w ≡ usedBy p u → Bounds p → p .«wires_from» ≤ w .wires
 wires-fit w p u e b = rw e (b .wires-from)

@@ -1,82 +1,47 @@
 -- A row and the parts that stand there make one statement only.
 -- Assumes nothing.
-use Prim.Native.Nat.{ℕ, zero, suc, _+_, _*_, _<_}
-use mathlib.Core.Path.{_≡_, refl, sym, ap, ap₂, _∙_}
-use mathlib.Core.List.{List, [], _∷_, _++_, map, flatMap, zip, zipWith, reverse, reverseAux, append-nil, Option·toList}
-use mathlib.Core.Option.{Option, none, some, Option·elim}
-use mathlib.Core.Bool.{Bool, true, false, _&&_}
+use Prim.Native.Nat.{ℕ, _+_, _*_}
+use mathlib.Core.Path.{_≡_, sym, ap, ap₂, _∙_}
+use mathlib.Core.List.{List, [], _∷_, _++_, map, flatMap, zip, zipWith, append-nil, Option·toList}
+use mathlib.Core.Option.{none, some, Option·elim}
+use mathlib.Core.Bool.{true, _&&_}
 use native.Mathlib.Omega.{arith}
-use lib.Dec.{leb, ltb}
-use lib.ListN.{length, take, drop, getD, getElem?, length-map}
-use borrow.Author.Tests.{eq-eqb, ne-eqb, leb-true, ltb-true}
+use lib.Dec.{leb}
+use lib.ListN.{length, take, drop, getD, length-map}
+use borrow.Author.Tests.{eq-eqb, ne-eqb}
 use Rattle.rules.specs.Bytes.{all, within}
-use Rattle.rules.specs.Tokens.{Name, Digit}
-use Rattle.rules.specs.Statements.{Sort, plain, signed, real, Statement, Constant, value, integer, string, digitsOf, bytesOf, Bit, digit, bit, Wire, Memory, Signal, contents, holds, code, autoidx-stmt, attr-stmt, module-stmt, param-stmt, wire-stmt, memory-stmt, cell-stmt, cell-param-stmt, cell-conn-stmt, conn-stmt, proc-stmt, end-stmt}
+use Rattle.rules.specs.Tokens.{Name}
+use Rattle.rules.specs.Statements.{Statement, Constant, value, integer, string, digitsOf, bytesOf, Memory, Signal, contents, holds, code, autoidx-stmt, attr-stmt, module-stmt, param-stmt, wire-stmt, memory-stmt, cell-stmt, cell-param-stmt, cell-conn-stmt, conn-stmt, proc-stmt, end-stmt}
 use Rattle.rules.specs.Signals.{Wires}
 use Rattle.rules.specs.Numbers.{int32}
 use Rattle.rules.specs.Layout.{Used, padded, row, digitCode, bitCode, nameBytes, stringBytes, bitCodes, wireRow, wireRows, constantColumns, sortCode, columns, statementRow}
-use Rattle.admitted.specs.Admitted.{fineConstant, fineMemory, fineBit, fineSignal}
+use Rattle.admitted.specs.Admitted.{fineConstant, fineMemory, fineSignal}
 use Rattle.admitted.specs.AdmitLaws.{fine-parts, fine-fits}
 use Rattle.tables.specs.Row.{words}
 use Rattle.tables.specs.declared.Row.{Row}
-use Rattle.numbers.specs.Kinds.{digitOf, bitOf, bitAt}
-use Rattle.numbers.specs.KindLaws.{Within, digit-back, bit-back}
+use Rattle.numbers.specs.Kinds.{digitOf, sortOf}
 use Rattle.numbers.specs.Signed.{signedOf}
 use Rattle.numbers.specs.SignedLaws.{signed-word}
 use Rattle.scanner.specs.Laws.{and-true-left, and-true-right}
+use Rattle.numbers.specs.KindLaws.{sort-back}
 use Rattle.wires.specs.RowLaws.{row-taken, row-wire}
 use Rattle.wires.specs.StoreLaws.{length-wire-row}
+use Rattle.designs.specs.CodeLaws.{digits-back, narrow, signal-back}
 use Rattle.replay.specs.Parts.{span, signalOf}
-use Rattle.replay.specs.Reads.{Tables, Has, constantOf, optionalOf, sortOf, memoryOf, statementBy, statementOf, ReadsConstant, Reads}
-use Rattle.replay.proofs.Spans.{span-has, has-first, has-second}
-use Rattle.replay.proofs.CodeLaws.{never, columns-read}
-use Rattle.replay.proofs.KindLaws.{row-zero, sort-read}
+use Rattle.netlist.specs.Spans.{Has, has-first, has-second}
+use Rattle.netlist.specs.RowLaws.{row-zero}
+use Rattle.replay.specs.Reads.{Tables, constantOf, optionalOf, memoryOf, statementBy, statementOf, ReadsConstant, Reads}
+use Rattle.replay.proofs.Spans.{span-has}
+use Rattle.replay.proofs.CodeLaws.{columns-read}
+use Rattle.replay.proofs.KindLaws.{sort-read}
 
--- ---- bits
-
-digits-of : (ds : List Digit) → map digitOf (map digitCode ds) ≡ ds
-digits-of [] = refl
-digits-of (d ∷ ds) = ap₂ (λ (x : Digit) (l : List Digit). x ∷ l) (digit-back d) (digits-of ds)
-
--- wires that are not wider than the rules allow
-unfoldable pub narrow : Wires → Bool
-narrow ws = all (λ v. leb (v .1 .width) 2048) ws
-
-all-aux : {A : Type 0} (f : A → Bool) (xs ys : List A) → all f xs ≡ true → all f ys ≡ true → all f (reverseAux xs ys) ≡ true
-unfolding all
-all-aux f [] ys h k = k
-all-aux f (x ∷ xs) ys h k = all-aux f xs (x ∷ ys) (and-true-right (f x) _ h) (rw (and-true-left (f x) _ h) k)
-
-element-all : {A : Type 0} (f : A → Bool) (l : List A) (i : ℕ) (v : A) → all f l ≡ true → getElem? l i ≡ some v → f v ≡ true
-unfolding all
-element-all f [] i v h e = cc
-element-all f (x ∷ l) zero v h e = let q : x ≡ v = cc in rw q at (and-true-left (f x) _ h)
-element-all f (x ∷ l) (suc i) v h e = element-all f l i v (and-true-right (f x) _ h) e
-
-fine-index : (o : Option (Name × Wire)) (i : ℕ) → ((v : Name × Wire) → o ≡ some v → leb (v .1 .width) 2048 ≡ true) → Option·elim o false (λ v. ltb i (v .1 .width)) ≡ true → i < 2048
-unfolding Option·elim
-fine-index none i h e = never false e refl
-fine-index (some v) i h e = omega (arith, ltb-true i (v .1 .width) e, leb-true (v .1 .width) 2048 (h v refl))
+-- ---- signals
 
 module _ (ws : Wires) (wide : narrow ws ≡ true) where
-  bit-within : (b : Bit) → fineBit ws b ≡ true → bitOf (bitAt (bitCode b)) ≡ b
-  unfolding fineBit narrow Within all
-  bit-within (digit d) h = bit-back 0 (digit d) tt
-  bit-within (bit w i) h =
-      let f : Name × Wire → Bool = λ (v : Name × Wire). leb (v .1 .width) 2048 in
-      let k : i < 2048 = fine-index (getElem? (reverse ws) w) i (λ v e. element-all f (reverse ws) w v (all-aux f ws [] wide refl) e) h in
-      bit-back (suc w) (bit w i) (omega arith, k)
-
-  signal-of : (x : Signal) → all (fineBit ws) x ≡ true → signalOf (map bitCode x) ≡ x
-  unfolding signalOf all
-  signal-of [] h = refl
-  signal-of (b ∷ x) h = ap₂ (λ (y : Bit) (l : Signal). y ∷ l) (bit-within b (and-true-left (fineBit ws b) _ h)) (signal-of x (and-true-right (fineBit ws b) _ h))
-
   -- a signal's codes stand there
   signal-only : (bits : List ℕ) (at n : ℕ) (x : Signal) → fineSignal ws x ≡ true → Has bits at (map bitCode x) → n ≡ length x → signalOf (span bits at n) ≡ x
-  unfolding fineSignal
-  signal-only bits at n x f h e =
-      ap signalOf (span-has bits at n (map bitCode x) h (e ∙ sym (length-map x bitCode))) ∙ signal-of x (and-true-right (leb (length x) 2048) _ f)
+  unfolding signalOf
+  signal-only bits at n x f h e = ap signalOf (span-has bits at n (map bitCode x) h (e ∙ sym (length-map x bitCode))) ∙ signal-back ws wide x f
 
 -- ---- constants
 
@@ -85,7 +50,7 @@ unfolding constantOf constantColumns digitsOf bytesOf fineConstant
 constant-only strings bits u kind a b (value ds) d =
     let e : kind ≡ 1 = sym (ap (λ (l : List ℕ). getD l 0 0) (d .columns)) in
     let l : b ≡ length (map digitCode ds) = sym (ap (λ (l : List ℕ). getD l 2 0) (d .columns)) ∙ sym (length-map ds digitCode) in
-    rw e (ap value (ap (map digitOf) (span-has bits (u .bits) b (map digitCode ds) (d .bits-has) l) ∙ digits-of ds))
+    rw e (ap value (ap (map digitOf) (span-has bits (u .bits) b (map digitCode ds) (d .bits-has) l) ∙ digits-back ds))
 constant-only strings bits u kind a b (integer i) d =
     let e : kind ≡ 2 = sym (ap (λ (l : List ℕ). getD l 0 0) (d .columns)) in
     rw e (ap integer (ap signedOf (sym (ap (λ (l : List ℕ). getD l 1 0) (d .columns))) ∙ signed-word i (d .fine)))
@@ -98,12 +63,6 @@ unfolding constantColumns
 some-kind u (value ds) kind a b e z = let q : 1 ≡ kind = ap (λ (l : List ℕ). getD l 0 0) e in omega arith
 some-kind u (integer i) kind a b e z = let q : 2 ≡ kind = ap (λ (l : List ℕ). getD l 0 0) e in omega arith
 some-kind u (string s) kind a b e z = let q : 3 ≡ kind = ap (λ (l : List ℕ). getD l 0 0) e in omega arith
-
-sort-of : (o : Sort) → sortOf (sortCode o) ≡ o
-unfolding sortOf sortCode
-sort-of plain = refl
-sort-of signed = refl
-sort-of real = refl
 
 -- ---- statements
 
@@ -143,7 +102,7 @@ module _ (t : Tables) (u : Used) (ws : Wires) (wide : narrow ws ≡ true) (r : R
       kind-of 2 (ap (λ (l : List ℕ). getD l 0 0) (d .row))
       ∙ ap₂ attr-stmt (one-name n (d .names) (ap (λ (l : List ℕ). getD l 2 0) (d .row)))
       (constant-only (t .strings) (t .bits) u (r .c) (r .d) (r .e) c
-      (one-constant c 2 (u .names) (length n) 0 (d .row ∙ row-zero u c 2 (u .names) (length n)) (d .strings) (d .bits) (and-true-left (fineConstant c) true (f .constants))))
+      (one-constant c 2 (u .names) (length n) 0 (d .row ∙ sym (row-zero u c 2 (u .names) (length n))) (d .strings) (d .bits) (and-true-left (fineConstant c) true (f .constants))))
   read-only (module-stmt n) d =
       kind-of 3 (ap (λ (l : List ℕ). getD l 0 0) (d .row)) ∙ ap module-stmt (one-name n (d .names) (ap (λ (l : List ℕ). getD l 2 0) (d .row)))
   read-only (param-stmt n none) d =
@@ -151,7 +110,7 @@ module _ (t : Tables) (u : Used) (ws : Wires) (wide : narrow ws ≡ true) (r : R
       ∙ ap₂ param-stmt (one-name n (d .names) (ap (λ (l : List ℕ). getD l 2 0) (d .row))) (rw (eq-eqb (r .c) 0 (ap (λ (l : List ℕ). getD l 3 0) (d .row))))
   read-only (param-stmt n (some c)) d =
       let f = fine-parts ws (param-stmt n (some c)) (d .fine) in
-      let q = one-constant c 4 (u .names) (length n) 0 (d .row ∙ row-zero u c 4 (u .names) (length n)) (d .strings) (d .bits) (and-true-left (fineConstant c) true (f .constants)) in
+      let q = one-constant c 4 (u .names) (length n) 0 (d .row ∙ sym (row-zero u c 4 (u .names) (length n))) (d .strings) (d .bits) (and-true-left (fineConstant c) true (f .constants)) in
       kind-of 4 (ap (λ (l : List ℕ). getD l 0 0) (d .row))
       ∙ ap₂ param-stmt (one-name n (d .names) (ap (λ (l : List ℕ). getD l 2 0) (d .row)))
       (rw (ne-eqb (r .c) 0 (some-kind u c (r .c) (r .d) (r .e) (q .columns))) (ap some (constant-only (t .strings) (t .bits) u (r .c) (r .d) (r .e) c q)))
@@ -177,7 +136,7 @@ module _ (t : Tables) (u : Used) (ws : Wires) (wide : narrow ws ≡ true) (r : R
       (ap (λ (l : List ℕ). getD l 4 0) (d .row)))
   read-only (cell-param-stmt o n c) d =
       let f = fine-parts ws (cell-param-stmt o n c) (d .fine) in
-      let x : sortOf (r .f) ≡ o = ap sortOf (sort-read u c r 8 (u .names) (length n) (sortCode o) (d .row)) ∙ sort-of o in
+      let x : sortOf (r .f) ≡ o = ap sortOf (sort-read u c r 8 (u .names) (length n) (sortCode o) (d .row)) ∙ sort-back o in
       let y : span (t .names) (u .names) (r .b) ≡ n = one-name n (d .names) (ap (λ (l : List ℕ). getD l 2 0) (d .row)) in
       let z : constantOf (t .strings) (t .bits) u (r .c) (r .d) (r .e) ≡ c =
       constant-only (t .strings) (t .bits) u (r .c) (r .d) (r .e) c (one-constant c 8 (u .names) (length n) (sortCode o) (d .row) (d .strings) (d .bits) (and-true-left (fineConstant c) true (f .constants))) in

@@ -3,7 +3,7 @@
 use Prim.Native.Nat.{ℕ, zero, suc, _+_, _-_, _*_, _/_, _%_, _≤_, _<_}
 use mathlib.Core.Path.{_≡_, refl, sym, ap, ap₂, _∙_}
 use mathlib.Core.List.{List, [], _∷_, flatMap, zip, zipWith, append-nil}
-use mathlib.Core.Option.{Option, none, some, Option·elim}
+use mathlib.Core.Option.{Option·elim}
 use mathlib.Core.Bool.{Bool, true, false, cond, _&&_, _||_, and-true}
 use native.Mathlib.Omega.{arith}
 use lib.Dec.{eqb, leb}
@@ -11,7 +11,7 @@ use lib.ListN.{length, take, drop, getD, length-take, length-drop}
 use borrow.Author.Tests.{eq-eqb, eqb-true, leb-false, lt-leb}
 use Rattle.rules.specs.Bytes.{same, all, legal}
 use Rattle.rules.specs.Tokens.{Name}
-use Rattle.rules.specs.Statements.{Statement, Wire, Direction, input, output, inout, Signal, contents, holds, code, wire-stmt, cell-conn-stmt, conn-stmt}
+use Rattle.rules.specs.Statements.{Statement, Wire, Signal, contents, holds, code, wire-stmt, cell-conn-stmt, conn-stmt}
 use Rattle.rules.specs.Signals.{Wires, twosComplement}
 use Rattle.rules.specs.Judgement.{sum, signalSize, valueSize, stringSize, nameSize}
 use Rattle.rules.specs.Layout.{Used, padded, row, nameBytes, stringBytes, bitCodes, directionCode, flags, wireRow, wireRows, columns, statementRow}
@@ -20,14 +20,16 @@ use Rattle.tables.specs.Row.{words, rowAt, words-rowAt}
 use Rattle.tables.specs.declared.Row.{Row}
 use Rattle.numbers.specs.Signed.{signedOf}
 use Rattle.numbers.specs.SignedLaws.{word-signed}
-use Rattle.scanner.specs.Laws.{by-test, same-refl, same-eq, and-true-left, and-true-right}
+use Rattle.scanner.specs.Laws.{by-test, same-refl, same-eq, and-true-left, and-true-right, never}
 use Rattle.wires.specs.Rows.{wordAt, column, portOf, wireOf, wiresFrom}
 use Rattle.wires.specs.StoreLaws.{length-wire-row}
+use Rattle.wires.specs.RowLaws.{port-small}
 use Rattle.replay.specs.Parts.{span, nameStands, signalOf, signalStands}
-use Rattle.replay.specs.Reads.{tabled, Has, Decides, Reads, Tells, TellsWire, TellsCellConnection, TellsConnection, WireRowStands}
+use Rattle.netlist.specs.Spans.{Has}
+use Rattle.replay.specs.Reads.{tabled, Decides, Reads, Tells, TellsWire, TellsCellConnection, TellsConnection, WireRowStands}
 use Rattle.replay.specs.declared.statements.Found.{Found}
 use Rattle.replay.proofs.Spans.{whole-long, has-none, has-span, spans}
-use Rattle.replay.proofs.CodeLaws.{never, codes-back, length-signal, signal-fine, signal-whole, signal-long}
+use Rattle.replay.proofs.CodeLaws.{codes-back, length-signal, signal-fine, signal-whole, signal-long}
 use Rattle.replay.proofs.ReadLaws.{settled, name-legal, name-long, name-not}
 
 -- a signal that stands there has as many bits as its row says, and keeps the rules
@@ -200,16 +202,9 @@ cond-few : (b : Bool) (n : ℕ) → cond b n 0 ≤ n
 cond-few true n = omega arith
 cond-few false n = omega arith
 
-direction-few : (p : Option (Direction × ℕ)) → Option·elim p 0 (λ q. directionCode (q .0)) ≤ 12
-unfolding Option·elim directionCode
-direction-few none = omega arith
-direction-few (some (input, n)) = omega arith
-direction-few (some (output, n)) = omega arith
-direction-few (some (inout, n)) = omega arith
-
 flags-few : (w : Wire) → flags w ≤ 15
 unfolding flags
-flags-few w = omega (arith, cond-few (w .upto) 1, cond-few (w .signed) 2, direction-few (w .port))
+flags-few w = omega (arith, cond-few (w .upto) 1, cond-few (w .signed) 2, port-small (w .port))
 
 bit-flag : (m n : ℕ) → m < 2 → cond (eqb m 1) n 0 ≡ n * m
 bit-flag zero n h = omega arith

@@ -1,7 +1,7 @@
 -- Statements that tables begin with, one behind another, and nothing else of the kind behind them.
 use Prim.Native.Nat.{ℕ, _*_}
 use mathlib.Core.Path.{_≡_}
-use mathlib.Core.List.{List, _++_}
+use mathlib.Core.List.{List}
 use mathlib.Core.Bool.{Bool, true, false}
 use lib.ListN.{length}
 use Rattle.rules.specs.Bytes.{within}
@@ -13,11 +13,9 @@ use Rattle.wires.specs.Rows.{wordAt}
 use Rattle.netlist.specs.Laid.{roomsOf}
 use Rattle.past.specs.Place.{placeOf}
 use Rattle.past.specs.Sizes.{sumsOf}
+use Rattle.netlist.specs.Spans.{Starts}
 use Rattle.replay.specs.Reads.{Tables}
 use Rattle.replay.specs.declared.Replayed.{Replayed}
-
-abbrev pub Starts : List ℕ → List ℕ → Type 0
-Starts t xs = (more : List ℕ) × (t ≡ xs ++ more)
 
 -- each table begins with what the rooms hold
 pub record Fronts (R : Rooms) (t : Tables) (rows : List ℕ) : Type 0 where

@@ -9,23 +9,9 @@ use lib.Seq.{slice}
 use Rattle.rules.specs.Bytes.{all, within, legal}
 use Rattle.rules.specs.Statements.{Signal}
 use Rattle.rules.specs.Signals.{Wires}
-use Rattle.rules.specs.Layout as layout
 use Rattle.admitted.specs.Admitted.{fineBit, fineWire}
 use Rattle.numbers.specs.Kinds.{bitOf, bitAt}
 use Rattle.wires.specs.Rows.{wireOf, wiresFrom}
-use Rattle.replay.specs.declared.parts.Used.{Used}
-
--- how much is used, in the rules' words
-abbrev pub usedOf : Used → layout.Used
-usedOf u =
-    record {
-      names = u .names;
-      strings = u .strings;
-      bits = u .bits;
-      wires = u .wires;
-      rows = u .rows;
-      modules = u .modules;
-    }
 
 -- n values of a table from a place on
 unfoldable pub span : List ℕ → (at n : ℕ) → List ℕ

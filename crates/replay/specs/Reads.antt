@@ -5,9 +5,9 @@ use mathlib.Core.List.{List, [], _∷_, _++_, map}
 use mathlib.Core.Option.{Option, none, some}
 use mathlib.Core.Bool.{Bool, true, false, cond}
 use lib.Dec.{eqb}
-use lib.ListN.{length, take, drop}
+use lib.ListN.{length}
 use Rattle.rules.specs.Tokens.{Name}
-use Rattle.rules.specs.Statements.{Sort, plain, signed, real, Constant, value, integer, string, digitsOf, bytesOf, Statement, Memory, autoidx-stmt, attr-stmt, module-stmt, param-stmt, wire-stmt, memory-stmt, cell-stmt, cell-param-stmt, cell-conn-stmt, conn-stmt, proc-stmt, end-stmt, Kind, contents, holds}
+use Rattle.rules.specs.Statements.{Sort, Constant, value, integer, string, digitsOf, bytesOf, Statement, Memory, autoidx-stmt, attr-stmt, module-stmt, param-stmt, wire-stmt, memory-stmt, cell-stmt, cell-param-stmt, cell-conn-stmt, conn-stmt, proc-stmt, end-stmt, Kind, contents, holds}
 use Rattle.rules.specs.Signals.{Wires}
 use Rattle.rules.specs.Judgement.{signalSize, valueSize, stringSize, nameSize}
 use Rattle.rules.specs.Layout.{Used, row, digitCode, nameBytes, stringBytes, bitCodes, wireRow, wireRows, constantColumns, statementRow}
@@ -16,8 +16,9 @@ use Rattle.tables.specs.Row.{words}
 use Rattle.tables.specs.Flat.{flat}
 use Rattle.tables.specs.declared.Row.{Row}
 use Rattle.numbers.specs.Signed.{signedOf}
-use Rattle.numbers.specs.Kinds.{digitOf}
+use Rattle.numbers.specs.Kinds.{digitOf, sortOf}
 use Rattle.wires.specs.Rows.{wireOf, wiresFrom}
+use Rattle.netlist.specs.Spans.{Has}
 use Rattle.replay.specs.Parts.{span, signalOf}
 use Rattle.replay.specs.declared.statements.Found.{Found}
 use Rattle.replay.specs.declared.statements.Held.{Held}
@@ -31,10 +32,6 @@ pub record Tables : Type 0 where
 
 abbrev pub tabled : (names strings bits wires : List ℕ) → Tables
 tabled names strings bits wires = record { names = names; strings = strings; bits = bits; wires = wires }
-
--- a table has these values from a place on
-unfoldable pub Has : List ℕ → ℕ → List ℕ → Type 0
-Has t at xs = take (length xs) (drop at t) ≡ xs
 
 -- whether something is so
 unfoldable pub Decides : Bool → Type 0 → Type 0
@@ -63,9 +60,6 @@ TellsConstant strings bits u kind a b c Held.Nothing = ReadsConstant strings bit
 
 unfoldable pub optionalOf : (strings bits : List ℕ) → Used → (kind a b : ℕ) → Option Constant
 optionalOf strings bits u kind a b = cond (eqb kind 0) none (some (constantOf strings bits u kind a b))
-
-unfoldable pub sortOf : ℕ → Sort
-sortOf n = cond (eqb n 0) plain (cond (eqb n 1) signed real)
 
 unfoldable pub memoryOf : Row → Memory
 memoryOf r = record { width = r .c; size = r .d; offset = signedOf (r .e) }

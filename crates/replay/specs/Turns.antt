@@ -1,5 +1,5 @@
 -- The statements replayed so far, and one more.
-use Prim.Native.Nat.{ℕ, _+_, _≤_}
+use Prim.Native.Nat.{ℕ, _≤_}
 use mathlib.Core.Path.{_≡_}
 use mathlib.Core.List.{List, _∷_}
 use mathlib.Core.Bool.{Bool, true, false, not, _&&_}
@@ -17,21 +17,10 @@ use Rattle.past.specs.Place.{placeOf, scopeOf, Bounds}
 use Rattle.past.specs.Sizes.{sumsOf, Within}
 use Rattle.past.specs.declared.place.Place.{Place}
 use Rattle.past.specs.declared.sizes.Sizes.{Sizes}
-use Rattle.replay.specs.Reads.{Tables, Has, Counts}
+use Rattle.netlist.specs.Spans.{Has}
+use Rattle.replay.specs.Reads.{Tables, Counts}
 use Rattle.replay.specs.Begins.{Fronts}
 use Rattle.replay.specs.declared.turns.Turn.{Turn}
-
--- how much of each table the statements so far use
-abbrev pub usedAt : Place → Sizes → layout.Used
-usedAt p u =
-    record {
-      names = u .«name_bytes»;
-      strings = u .«string_bytes»;
-      bits = u .«value_bits» + u .«signal_bits»;
-      wires = p .wires;
-      rows = p .rows;
-      modules = p .modules;
-    }
 
 -- whether a statement of this kind has a form at a place
 unfoldable pub standsAt : Place → ℕ → Bool

@@ -7,9 +7,9 @@ use past::sizes::none;
 use tables::word;
 
 mod parts;
-mod signals;
 mod statements;
 mod turns;
+mod wiring;
 
 use turns::Turn;
 use turns::one_more;

@@ -9,16 +9,6 @@ ghost use lib.Seq.{slice};
 ghost use Rattle.rules.specs.Bytes.{all, within};
 ghost use Rattle.replay.specs.Parts.{WholeIs, nameStands, isDigit, digitsStand, textStands};
 
-// How much of each table is used: bytes, bytes, bits, rows, rows; and how many modules the rows open.
-pub struct Used {
-    pub names: u32,
-    pub strings: u32,
-    pub bits: u32,
-    pub wires: u32,
-    pub rows: u32,
-    pub modules: u32,
-}
-
 // Whether size values from a place on are inside a table of this length.
 pub fn is_whole(long: usize, at: u32, size: u32) -> bool
     ensures { λ r. ⌜ WholeIs long at size r ⌝ }

@@ -1,10 +1,10 @@
 // A statement that stands in the tables behind what is used of them: its row, and the parts that the row tells of.
-use crate::parts::Used;
 use crate::parts::digits_stand;
 use crate::parts::name_stands;
 use crate::parts::text_stands;
-use crate::signals::signal_stands;
-use crate::signals::wire_fits;
+use crate::wiring::signal_stands;
+use crate::wiring::wire_fits;
+use netlist::used::Used;
 use tables::Row;
 use tables::get_row;
 ghost use mathlib.Core.Path.{_≡_};
@@ -14,7 +14,7 @@ ghost use Prim.Native.Nat.{_-_, _≤_};
 ghost use Rattle.rules.specs.Bytes.{same};
 ghost use Rattle.tables.specs.Row.{words};
 ghost use Rattle.wires.specs.Rows.{wiresFrom};
-ghost use Rattle.replay.specs.Parts.{usedOf};
+ghost use Rattle.netlist.specs.Used.{usedOf};
 ghost use Rattle.replay.specs.Reads.{tabled, constantOf, statementOf, TellsConstant, Tells, TellsNamed, TellsValued, TellsAutoidx, TellsEnd, TellsMemory, TellsCell, TellsParameter, TellsCellParameter, TellsWire, TellsCellConnection, TellsConnection, WireRowStands, Small};
 
 // What a statement holds: bits of signals and of values, bytes of strings and of names.

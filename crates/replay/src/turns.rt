@@ -1,9 +1,9 @@
 // One statement more behind those that stand.
-use crate::parts::Used;
 use crate::statements::Found;
 use crate::statements::statement_at;
 use netlist::rows::row_name;
 use netlist::spaces::name_found;
+use netlist::used::used_from;
 use past::place::Place;
 use past::place::after;
 use past::sizes::Sizes;
@@ -15,10 +15,8 @@ ghost use mathlib.Core.Path.{_≡_};
 ghost use Rattle.rules.specs.Shapes.{top, inModule};
 ghost use Rattle.admitted.specs.Admitted.{kinds};
 ghost use Rattle.netlist.specs.Kinds.{ofKinds};
-ghost use Rattle.past.specs.Sizes.{Within};
-ghost use Rattle.replay.specs.Parts.{usedOf};
 ghost use Rattle.replay.specs.Reads.{tabled};
-ghost use Rattle.replay.specs.Turns.{usedAt, standsAt, Ready, Told, TurnIs, Counted, smallParts};
+ghost use Rattle.replay.specs.Turns.{standsAt, Ready, Told, TurnIs, Counted, smallParts};
 ghost use Rattle.replay.specs.Objects.{objectKinds};
 
 // The place and the sums behind the statement.
@@ -101,20 +99,6 @@ fn stands_at(p: Place, kind: u32) -> bool
     false
 }
 
-fn used(p: Place, u: Sizes) -> Used
-    requires { ⌜ Within u ⌝ }
-    ensures { λ r. ⌜ usedOf r ≡ usedAt p u ⌝ }
-{
-    Used {
-        names: u.name_bytes,
-        strings: u.string_bytes,
-        bits: u.value_bits + u.signal_bits,
-        wires: p.wires,
-        rows: p.rows,
-        modules: p.modules,
-    }
-}
-
 fn small_parts(signals: u32, values: u32, strings: u32, names: u32) -> bool
     ensures { λ r. ⌜ r ≡ smallParts signals values strings names ⌝ }
 {
@@ -184,7 +168,7 @@ pub fn one_more(
     if !stands_at(p, kind) {
         return Turn::Nothing;
     }
-    let x = used(p, u);
+    let x = used_from(p, u);
     let f = statement_at(names, strings, bits, wires, x, p.wires_from, r);
     match f {
         Found::Statement {

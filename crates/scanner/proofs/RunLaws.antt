@@ -1,6 +1,7 @@
 -- The laws of where a run ends, for every test.
 -- Assumes nothing.
 use mathlib.Core.Path.{_≡_, sym, ap, _∙_}
+use mathlib.Core.Logic.{_⊎_, ⊎-elim}
 use mathlib.Core.Bool.{Bool, true, false}
 use mathlib.Core.List.{List, [], _∷_}
 use Prim.Native.Nat.{ℕ, zero, suc, _+_, _-_, _<_, _≤_}
@@ -60,3 +61,14 @@ slice-cut i e s h = ap (drop i) (take-length s ∙ sym (take-all e s h))
 
 pub slice-none : (i e : ℕ) (s : List ℕ) → e ≤ i → slice i e s ≡ []
 slice-none i e s h = let q : e - i ≡ 0 = omega arith in slice-part i e s ∙ ap (λ (n : ℕ). take n (drop i s)) q
+
+-- the part that code cuts at the table's end
+module _ (start end stop : ℕ) (l : List ℕ) (came : (stop ≡ end) ⊎ ((length l ≤ end) × (stop ≡ length l))) where
+  stop-same : slice start stop l ≡ slice start end l
+  stop-same = ⊎-elim (λ e. rw e) (λ h. rw (h .1) (slice-cut start end l (h .0))) came
+
+  pub cut-none : stop ≤ start → [] ≡ slice start end l
+  cut-none h = sym (slice-none start stop l h) ∙ stop-same
+
+  pub cut-part : take (stop - start) (drop start l) ≡ slice start end l
+  cut-part = sym (slice-part start stop l) ∙ stop-same

@@ -1,16 +1,16 @@
--- Laws of the rules' definitions: runs, tests of all bytes, equal bytes.
+-- Laws of tests, and of the rules' definitions: runs, tests of all bytes, equal bytes.
 -- Assumes nothing.
 use mathlib.Core.Path.{_≡_, refl, sym, ap, ap₂, _∙_}
-use mathlib.Core.Bool.{Bool, true, false, cond, _&&_, and-false}
+use mathlib.Core.Bool.{Bool, true, false, cond, _&&_, _||_, and-false, false≢true}
 use mathlib.Core.List.{List, [], _∷_, _++_}
 use Prim.Native.Nat.{ℕ, suc, _+_, _<_, _≤_}
 use native.Mathlib.Numerals.{add-one}
 use native.Mathlib.Omega.{arith}
-use lib.Dec.{eqb, eqb·zero-suc, eqb·suc-suc}
+use lib.Dec.{eqb, eqb·zero-suc, eqb·suc-suc, leb}
 use lib.ListN.{length, getD, take, drop, length-append, drop-of-length-le}
 use lib.Seq.{drop-cons, take-append-seam, drop-append-seam}
-use borrow.Author.Tests.{eq-eqb, ne-eqb, eqb-true}
-use Rattle.rules.specs.Bytes.{same, all, run, rest}
+use borrow.Author.Tests.{eq-eqb, ne-eqb, eqb-true, eqb-false, le-leb, lt-leb, leb-true}
+use Rattle.rules.specs.Bytes.{same, all, run, rest, within}
 
 -- what holds of both branches, each under its test, holds of the choice
 pub by-cond : {A : Type 0} (P : A → Type 0) (b : Bool) {x y : A} → (b ≡ true → P x) → (b ≡ false → P y) → P (cond b x y)
@@ -28,7 +28,50 @@ and-true-left false b e = e
 
 pub and-true-right : (a b : Bool) → a && b ≡ true → b ≡ true
 and-true-right true b e = e
-and-true-right false b e = let z : _≡_ {A = ℕ} 0 1 = cc in absurd (omega arith)
+and-true-right false b e = absurd (false≢true e)
+
+pub or-true-right : (a b : Bool) → b ≡ true → a || b ≡ true
+or-true-right true b e = refl
+or-true-right false b e = e
+
+pub or-false-left : (a b : Bool) → a || b ≡ false → a ≡ false
+or-false-left true b e = e
+or-false-left false b e = refl
+
+pub or-false-right : (a b : Bool) → a || b ≡ false → b ≡ false
+or-false-right true b e = absurd (false≢true (sym e))
+or-false-right false b e = e
+
+-- no test has both answers
+pub never : {P : Type 0} (b : Bool) → b ≡ true → b ≡ false → P
+never b e f = absurd (false≢true (sym f ∙ e))
+
+pub eqb-sym : (m n : ℕ) → eqb m n ≡ eqb n m
+eqb-sym m n =
+    by-test (eqb m n)
+    (λ e. e ∙ sym (eq-eqb n m (sym (eqb-true m n e))))
+    (λ e. e ∙ sym (ne-eqb n m (λ q. eqb-false m n e (sym q))))
+
+pub one-le : (b : Bool) → cond b 1 0 ≤ 1
+one-le true = omega arith
+one-le false = omega arith
+
+module _ (lo hi b : ℕ) where
+  pub within-yes : lo ≤ b → b ≤ hi → within lo hi b ≡ true
+  unfolding within
+  within-yes h k = rw (le-leb lo b, le-leb b hi)
+
+  pub within-below : b < lo → within lo hi b ≡ false
+  unfolding within
+  within-below h = rw (lt-leb lo b)
+
+  pub within-low : within lo hi b ≡ true → lo ≤ b
+  unfolding within
+  within-low e = leb-true lo b (and-true-left (leb lo b) (leb b hi) e)
+
+  pub within-high : within lo hi b ≡ true → b ≤ hi
+  unfolding within
+  within-high e = leb-true b hi (and-true-right (leb lo b) (leb b hi) e)
 
 module _ (f : ℕ → Bool) where
   module _ (b : ℕ) (bs : List ℕ) where

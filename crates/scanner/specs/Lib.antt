@@ -4,3 +4,4 @@ pub mod Lines
 pub mod Words
 pub mod Numbers
 pub mod Laws
+pub mod Lists

@@ -39,7 +39,7 @@ use Rattle.line_text.specs.Now as table
 use Rattle.line_text.specs.declared.Module.{Module}
 use Rattle.reader.specs.Read.{lent}
 use Rattle.standing.specs.Judged.{moduleBy}
-use Rattle.standing.specs.RoomLaws.{rooms-file}
+use Rattle.netlist.specs.RoomLaws.{rooms-file}
 use Rattle.standing.specs.NowLaws.{name-now-laid}
 use Rattle.standing.specs.TakenLaws.{wire-there, wire-missing}
 use Rattle.held.specs.HeldLaws.{holds-laid, holds-wired}

@@ -3,19 +3,16 @@
 use Prim.Native.Nat.{ℕ, _+_, _*_, _≤_}
 use mathlib.Core.Path.{_≡_, sym, ap, _∙_}
 use mathlib.Core.List.{List, reverse}
-use mathlib.Core.Bool.{Bool, true, _&&_}
 use native.Mathlib.Omega.{arith}
-use lib.Dec.{eqb}
 use lib.ListN.{length, length-reverse}
-use borrow.Author.Tests.{eqb-true}
 use Rattle.rules.specs.Statements.{Statement}
 use Rattle.rules.specs.Session.{Rename}
 use Rattle.rules.specs.Layout.{rooms}
-use Rattle.scanner.specs.Laws.{and-true-left, and-true-right}
 use Rattle.past.specs.Place.{placeOf}
 use Rattle.past.specs.declared.place.Place.{Place}
 use Rattle.admitted.specs.AdmitLaws.{admitted-few}
-use Rattle.reader.specs.Read.{lent, rightSizes, rightLengths}
+use Rattle.netlist.specs.Lengths.{sizes-exact}
+use Rattle.reader.specs.Read.{lent, rightLengths}
 use Rattle.standing.specs.Judged.{Lies}
 use Rattle.held.specs.HeldLaws.{holds-many, holds-room, holds-laid, holds-wired}
 use Rattle.held.specs.RenameLaws.{length-file}
@@ -25,20 +22,12 @@ use Rattle.session.specs.Steps.{Holding}
 pub rooms-rows : (ss : List Statement) (rs : List Rename) → length (rooms ss rs .rows) ≡ length ss + length rs
 rooms-rows ss rs = length-file ss rs ∙ ap (λ (n : ℕ). n + length rs) (length-reverse ss)
 
-right-lengths : (n s b w r : ℕ) → rightSizes n s b w r ≡ true → (n ≡ 16384) × (r ≡ 8 * 4769)
-unfolding rightSizes
-right-lengths n s b w r e =
-    let en : Bool = eqb n 16384 in
-    let es : Bool = eqb s 8192 in
-    let eb : Bool = eqb b 16384 in
-    let ew : Bool = eqb w (8 * 512) in
-    let er : Bool = eqb r (8 * 4769) in
-    (eqb-true n 16384 (and-true-left en es (and-true-left (en && es) eb (and-true-left (en && es && eb) ew (and-true-left (en && es && eb && ew) er e)))), eqb-true r (8 * 4769) (and-true-right (en && es && eb && ew) er e))
-
 module _ {names strings bits wires rows : List ℕ} {renames room : ℕ} {p : Place} (h : Holding (lent names strings bits wires rows renames room) p) where
   pub long : (length names ≡ 16384) × (length rows ≡ 8 * 4769)
   unfolding rightLengths
-  long = right-lengths (length names) (length strings) (length bits) (length wires) (length rows) (h .lengths)
+  long =
+      let e = sizes-exact (length names) (length strings) (length bits) (length wires) (length rows) (h .lengths) in
+      (e .0, e .4)
 
   pub standing : length (h .renames) ≡ renames
   standing = holds-many (h .holds)

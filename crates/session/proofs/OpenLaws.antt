@@ -1,8 +1,8 @@
 -- What opening memory tells.
 -- Assumes nothing.
 use Prim.Native.Nat.{ℕ}
-use mathlib.Core.Path.{_≡_, refl, sym, subst}
-use mathlib.Core.Bool.{Bool, true, false, not}
+use mathlib.Core.Path.{_≡_, refl, subst}
+use mathlib.Core.Bool.{true}
 use Rattle.rules.specs.Layout.{Memory}
 use Rattle.past.specs.declared.place.Place.{Place}
 use Rattle.past.specs.declared.sizes.Sizes.{Sizes}
@@ -13,14 +13,6 @@ use Rattle.session.specs.Called.{Damaged}
 use Rattle.session.specs.Steps.{Holding, NotOpen, none-held, OpenedIs}
 use Rattle.session.specs.declared.Opened.{Opened}
 use Rattle.session.specs.declared.Opened.the-variants.{Open, Refused}
-
-pub not-true : (b : Bool) → not b ≡ true → b ≡ false
-not-true true e = sym e
-not-true false e = refl
-
-pub not-false : (b : Bool) → not b ≡ false → b ≡ true
-not-false true e = refl
-not-false false e = sym e
 
 module _ (m : Memory) (r : Held) (is : HeldIs m r) (e : rightLengths m ≡ true) where
   pub held-open : (p : Place) (u : Sizes) → r ≡ Held.Holding p u → Holding m p

@@ -2,12 +2,12 @@
 -- Assumes nothing.
 use Prim.Native.Nat.{ℕ, _+_, _*_, _≤_, _<_}
 use mathlib.Core.Path.{_≡_, refl, sym, ap}
-use mathlib.Core.List.{List, [], _∷_, _++_, dropLast}
+use mathlib.Core.List.{List, [], _∷_, _++_}
 use mathlib.Core.Bool.{Bool, true, false, not, _||_}
 use native.Mathlib.Omega.{arith}
 use lib.Dec.{leb, ltb}
 use lib.ListN.{length, replicate, length-append}
-use borrow.Author.Tests.{leb-false, ltb-false}
+use borrow.Author.Tests.{leb-false, ltb-false, not-false}
 use Rattle.rules.specs.Bytes.{legal}
 use Rattle.rules.specs.Statements.{Statement}
 use Rattle.rules.specs.Judgement.{Verdict, accepted, refused, lowest, verdict}
@@ -17,8 +17,10 @@ use Rattle.rules.specs.Layout.{Rooms, padded, renameRow, putRename, rooms, memo
 use Rattle.tables.specs.Store.{store}
 use Rattle.tables.specs.Padded.{store-padded, padded-unput}
 use Rattle.tables.specs.Flat.{flat, Eights, flat-snoc, length-flat, store-row}
+use Rattle.scanner.specs.Lists.{drop-last}
+use Rattle.scanner.specs.Laws.{or-false-left, or-false-right}
 use Rattle.reader.specs.Read.{lent}
-use Rattle.standing.specs.RoomLaws.{length-rename-row}
+use Rattle.netlist.specs.RoomLaws.{length-rename-row}
 use Rattle.standing.specs.JudgedLaws.{legal-short}
 use Rattle.held.specs.RenameLaws.{file-last}
 
@@ -44,18 +46,6 @@ none-holds q false false false true e h = absurd (omega arith)
 none-holds q false false false false true h = absurd (omega arith)
 none-holds q false false false false false h = record { is = refl; first = refl; last = refl }
 
-not-false : (a : Bool) → not a ≡ false → a ≡ true
-not-false true e = refl
-not-false false e = sym e
-
-or-left : (a b : Bool) → a || b ≡ false → a ≡ false
-or-left true b e = e
-or-left false b e = refl
-
-or-right : (a b : Bool) → a || b ≡ false → b ≡ false
-or-right true b e = cc
-or-right false b e = e
-
 pub passes : (d : Design) (rs : List Rename) (r : Rename) → numberOf (renameCall d rs r) ≡ 0 → Passes d rs r
 unfolding renameCall
 passes d rs r h =
@@ -65,20 +55,14 @@ passes d rs r h =
     record {
       is = n .is;
       short = legal-short (r .newName) (not-false (legal (r .newName)) (n .first));
-      few = leb-false 64 (length rs) (or-left full over (n .last));
-      room = ltb-false 16384 (roomUsed d rs + length (r .newName)) (or-right full over (n .last));
+      few = leb-false 64 (length rs) (or-false-left full over (n .last));
+      room = ltb-false 16384 (roomUsed d rs + length (r .newName)) (or-false-right full over (n .last));
     }
 
 pub refused-by : (v : Verdict (List Rename)) (n : ℕ) → numberOf v ≡ n → (n ≡ 0 → ⊥) → v ≡ refused n
 unfolding numberOf
 refused-by (accepted rs) n e h = absurd (h (sym e))
 refused-by (refused k) n e h = ap refused e
-
--- the last of the list is taken off
-drop-last : {A : Type 0} (xs : List A) (x : A) → dropLast (xs ++ x ∷ []) ≡ xs
-drop-last [] x = refl
-drop-last (y ∷ []) x = refl
-drop-last (y ∷ z ∷ xs) x = ap (λ (l : List _). y ∷ l) (drop-last (z ∷ xs) x)
 
 pub undo-last : (rs : List Rename) (r : Rename) → undoCall (rs ++ r ∷ []) ≡ accepted rs
 unfolding undoCall

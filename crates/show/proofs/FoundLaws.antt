@@ -21,7 +21,7 @@ use Rattle.wires.specs.RowLaws.{slice-span, RowIs}
 use Rattle.netlist.specs.Rows.{kindAt, nameAt}
 use Rattle.netlist.specs.Kinds.{ofKinds, hasName}
 use Rattle.netlist.specs.RowLaws.{row-kind, row-own}
-use Rattle.netlist.specs.Statements.{spanAt}
+use Rattle.wires.specs.Rows.{spanAt}
 use Rattle.netlist.specs.Laid.{roomsOf}
 use Rattle.netlist.specs.LaidLaws.{length-rows, eights-rows, laid-row}
 use Rattle.designs.specs.ListLaws.{flatMap-back}

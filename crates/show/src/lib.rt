@@ -9,14 +9,14 @@ use numbers::kinds::WireNumber;
 use scanner::names::same_bytes;
 use session::Opened;
 use session::open_memory;
-use tables::word;
+use wires::column;
 ghost use mathlib.Core.Path.{_≡_};
 ghost use Prim.Native.Nat.{_-_, _≤_, _<_};
 ghost use lib.ListN.{length, take, drop};
 ghost use lib.Seq.{slice};
 ghost use Rattle.rules.specs.Session.{plainName};
 ghost use Rattle.wires.specs.Rows.{column};
-ghost use Rattle.netlist.specs.Statements.{spanAt};
+ghost use Rattle.wires.specs.Rows.{spanAt};
 ghost use Rattle.line_text.specs.Now.{nameNow};
 ghost use Rattle.reader.specs.Read.{lent};
 ghost use Rattle.show.specs.Rows.{declares, wireLine, isHdlname, hdlnameRow, textAt, shownName};
@@ -32,14 +32,6 @@ pub enum Shown {
 pub struct Part {
     pub start: usize,
     pub end: usize,
-}
-
-// A row's number is the sum of two words at most, so that it may pass 32 bits.
-fn column(t: &[u32], row: usize, c: usize) -> u32
-    requires { ⌜ (row < 8589934592) × (c < 8) ⌝ }
-    ensures { λ r. ⌜ r ≡ column (now (t .entry)) row c ⌝ }
-{
-    word(t, 8 * row + c)
 }
 
 // The bytes from start up to end, cut to those that are there.

@@ -14,6 +14,7 @@ use Rattle.rules.specs.Signals.{Wires, width, declaredWire, goodSlice}
 use Rattle.rules.specs.Numbers.{goodNumbers}
 use Rattle.rules.specs.Judgement.{lowest}
 use Rattle.scanner.specs.Laws.{by-cond, by-test}
+use Rattle.scanner.specs.Lists.{all-split}
 use Rattle.signals.specs.Faults.{faults, merge, tooWide, mild}
 
 -- ---- merge
@@ -135,13 +136,8 @@ not-and : (a b : Bool) → not (a && b) ≡ (not a || not b)
 not-and true b = refl
 not-and false b = refl
 
-pub all-append : {A : Type 0} (f : A → Bool) (xs ys : List A) → all f (xs ++ ys) ≡ all f xs && all f ys
-unfolding all
-all-append f [] ys = refl
-all-append f (x ∷ xs) ys = by-test (f x) (λ e. rw (e, all-append f xs ys)) (λ e. rw e)
-
 not-all : (f : Sig → Bool) (xs ys : List Sig) → not (all f (xs ++ ys)) ≡ (not (all f xs) || not (all f ys))
-not-all f xs ys = ap not (all-append f xs ys) ∙ not-and (all f xs) (all f ys)
+not-all f xs ys = ap not (all-split f xs ys) ∙ not-and (all f xs) (all f ys)
 
 module _ (ws : Wires) where
   faults-are : (ps : List Sig) → faults ws ps ≡ numbered (not (all goodNumbers ps)) (not (all (declaredWire ws) ps)) (not (all (goodSlice ws) ps)) (not (all (λ p. leb (width ws p) 2048) ps))

@@ -13,6 +13,7 @@ use Rattle.rules.specs.Layout.{bitCode}
 use Rattle.tables.specs.Store.{store, store-eq, store-behind}
 use Rattle.wires.specs.RowLaws.{slice-span}
 use Rattle.tables.proofs.Laws.{copied}
+use Rattle.scanner.specs.Lists.{length-wire}
 use Rattle.signals.specs.Held.{codes}
 
 -- ---- parts
@@ -108,11 +109,6 @@ wire-code-at : (n w k : ℕ) → k < w → getD (wireCodes n w) k 0 ≡ bitCode 
 wire-code-at n zero k h = absurd (omega arith)
 wire-code-at n (suc w) zero h = ap (λ (j : ℕ). bitCode (bit n j)) (omega arith)
 wire-code-at n (suc w) (suc k) h = wire-code-at n w k (omega arith) ∙ ap (λ (j : ℕ). bitCode (bit n j)) (omega arith)
-
-pub length-wire : (n i w : ℕ) → length (wireBits n i w) ≡ w
-unfolding wireBits
-length-wire n i zero = refl
-length-wire n i (suc w) = ap suc (length-wire n (i + 1) w)
 
 pub length-wire-codes : (n w : ℕ) → length (codes (wireBits n 0 w)) ≡ w
 length-wire-codes n w = length-codes (wireBits n 0 w) ∙ length-wire n 0 w

@@ -15,13 +15,13 @@ use Rattle.rules.specs.Numbers.{int32, goodLiteral, goodNumbers, goodWire, good
 use Rattle.rules.specs.Signals.{Wires, kept, width, bits, goodSlice}
 use Rattle.rules.specs.Judgement.{Past, context, wires, among, namesIn, nameSpaces, takesName, newPort, allParts, breaksNumber, equalWidths, breaksWidth, partTooWide, exceedsSize, Verdict, meaning, judge}
 use Rattle.rules.specs.Reading.{shaped}
-use Rattle.scanner.specs.Laws.{and-true-left, and-true-right}
+use Rattle.scanner.specs.Laws.{and-true-left, and-true-right, or-false-right, or-false-left}
 use Rattle.admitted.specs.Admitted.{stands, fineWire, fineMemory, fineParts, admits}
 use Rattle.admitted.specs.StandLaws.{meaning-kind, judge-passed, accepted-stands}
-use Rattle.admitted.specs.AcceptedLaws.{or-false-right, or-false-left}
+use Rattle.meaning.specs.Parts.{all-map}
 use Rattle.written.specs.TokenLaws.{fineToken}
 use Rattle.soundness.specs.ShapeLaws.{FineShape, FineShaped, no-shape, fine-shape, shape-fine}
-use Rattle.soundness.specs.PartLaws.{both, all-mapped, translated, contents-translated, constants-fine, wire-fine, memory-fine, narrow, signals-fine, equal-lengths}
+use Rattle.soundness.specs.PartLaws.{both, translated, contents-translated, constants-fine, wire-fine, memory-fine, narrow, signals-fine, equal-lengths}
 
 -- the tests of a shape that no number refuses
 record GoodShape (ws : Wires) (sh : Shape) : Type 0 where
@@ -73,8 +73,8 @@ module _ (ws : Wires) (sh : Shape) where
       (both _ _
       (both _ _ (f .names) (k .integers))
       (constants-fine (contents sh .constants) (k .constants) (f .constants)))
-      (all-mapped (λ os. goodWire os && newPort ws os) (fineWire ws) wireOf (wire-fine ws) (contents sh .wires) (k .wires)))
-      (all-mapped goodMemory fineMemory memoryOf memory-fine (contents sh .memories) (k .memories)))
+      (all-map (λ os. goodWire os && newPort ws os) wireOf (fineWire ws) (contents sh .wires) (wire-fine ws) (k .wires)))
+      (all-map goodMemory memoryOf fineMemory (contents sh .memories) memory-fine (k .memories)))
       (signals-fine ws (contents sh .signals) (k .numbers) (k .slices) (k .narrow)))
       (equal-lengths ws (contents sh .signals) (k .numbers) (k .slices) (k .equal)))
 

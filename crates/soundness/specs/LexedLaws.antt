@@ -12,7 +12,7 @@ use Rattle.rules.specs.Tokens.{integer, Token, word, literal, isKeyword, Inside
 use Rattle.scanner.specs.Laws.{by-cond, and-true-left}
 use Rattle.written.specs.Lists.{all-cons}
 use Rattle.written.specs.TokenLaws.{fineLiteral, fineToken}
-use Rattle.admitted.specs.AdmitLaws.{all-append}
+use Rattle.scanner.specs.Lists.{all-append}
 
 -- ---- strings
 

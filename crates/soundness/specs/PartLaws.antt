@@ -15,22 +15,17 @@ use Rattle.rules.specs.Statements.{Sig, constant, wire, slice, bundle, Opt, Dir
 use Rattle.rules.specs.Numbers.{inRange, goodLiteral, goodNumbers, numberOr, ports, portOf, wireOf, memoryOf, once, goodOptions, goodWire, goodMemory}
 use Rattle.rules.specs.Signals.{Wires, kept, valueBits, literalBits, literalWidth, width, bits, goodSlice, parts, partsOf}
 use Rattle.rules.specs.Judgement.{portNumbers, newPort, equalWidths}
-use Rattle.scanner.specs.Laws.{and-true-left, and-true-right}
+use Rattle.scanner.specs.Laws.{and-true-left, and-true-right, within-high}
+use Rattle.scanner.specs.Lists.{all-left, all-right}
 use Rattle.literals.proofs.Laws.{literal-long}
 use Rattle.admitted.specs.Admitted.{fineConstant, newPorts, fineWire, fineMemory, fineSignal, sameLength}
 use Rattle.admitted.specs.AcceptedLaws.{number-fits, good-offset}
-use Rattle.written.specs.Lists.{all-cons, all-first, all-later, within-high}
+use Rattle.written.specs.Lists.{all-cons, all-first, all-later}
 use Rattle.written.specs.TokenLaws.{fineLiteral}
-use Rattle.soundness.specs.SignalLaws.{all-left, all-right, bits-fine, bits-long}
+use Rattle.soundness.specs.SignalLaws.{bits-fine, bits-long}
 
 pub both : (a b : Bool) → a ≡ true → b ≡ true → a && b ≡ true
 both a b h k = rw (h, k)
-
--- what passes a test is translated to what passes another
-pub all-mapped : {A B : Type 0} (f : A → Bool) (g : B → Bool) (t : A → B) → ((x : A) → f x ≡ true → g (t x) ≡ true) → (xs : List A) → all f xs ≡ true → all g (map t xs) ≡ true
-unfolding all
-all-mapped f g t i [] h = refl
-all-mapped f g t i (x ∷ xs) h = all-cons g (t x) (map t xs) (i x (all-first f x xs h)) (all-mapped f g t i xs (all-later f x xs h))
 
 -- what a translated statement holds
 module _ {C S W M C′ S′ W′ M′ : Type 0} (f : C → C′) (g : S → S′) (h : W → W′) (k : M → M′) where

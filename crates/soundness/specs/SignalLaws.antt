@@ -2,8 +2,8 @@
 -- Assumes nothing.
 use Prim.Native.Nat.{ℕ, zero, suc, _+_, _≤_}
 use native.Mathlib.Omega.{arith}
-use mathlib.Core.Path.{_≡_, refl, ap, ap₂, _∙_}
-use mathlib.Core.List.{List, [], _∷_, _++_, map, reverse, reverseAux}
+use mathlib.Core.Path.{_≡_, refl, ap₂, _∙_}
+use mathlib.Core.List.{List, [], _∷_, map, reverse, reverseAux}
 use mathlib.Core.Option.{Option, none, some, Option·elim}
 use mathlib.Core.Bool.{Bool, true, false≢true}
 use lib.Dec.{leb, ltb}
@@ -19,8 +19,8 @@ use Rattle.rules.specs.Signals.{Wires, find, literalBits, wireBits, inside, low
 use Rattle.scanner.specs.Laws.{by-cond, and-true-left, and-true-right}
 use Rattle.literals.proofs.Laws.{literal-long}
 use Rattle.admitted.specs.Admitted.{fineBit}
-use Rattle.written.specs.Lists.{all-cons, all-first, all-later, all-split, all-drop, all-map}
-use Rattle.admitted.specs.AdmitLaws.{all-append}
+use Rattle.written.specs.Lists.{all-cons, all-first, all-later, all-drop, all-map}
+use Rattle.scanner.specs.Lists.{all-append, length-wire, element-behind, all-left, all-right}
 
 all-take : {A : Type 0} (f : A → Bool) (n : ℕ) (xs : List A) → all f xs ≡ true → all f (take n xs) ≡ true
 unfolding all
@@ -28,18 +28,7 @@ all-take f zero xs h = refl
 all-take f (suc n) [] h = refl
 all-take f (suc n) (x ∷ xs) h = all-cons f x (take n xs) (all-first f x xs h) (all-take f n xs (all-later f x xs h))
 
-module _ {A : Type 0} (f : A → Bool) (xs ys : List A) (h : all f (xs ++ ys) ≡ true) where
-  pub all-left : all f xs ≡ true
-  all-left = and-true-left (all f xs) (all f ys) (rw (all-split f xs ys) at h)
-
-  pub all-right : all f ys ≡ true
-  all-right = and-true-right (all f xs) (all f ys) (rw (all-split f xs ys) at h)
-
 -- ---- a wire that is found stands at its number
-
-behind-reverse : (l r : Wires) (i n : ℕ) → n ≡ length l + i → getElem? (reverseAux l r) n ≡ getElem? r i
-behind-reverse [] r i n e = let q : n ≡ i = omega arith in rw q
-behind-reverse (x ∷ l) r i n e = behind-reverse l (x ∷ r) (suc i) n (omega arith)
 
 data Found (vs : Wires) : Option (ℕ × Wire) → Type 0 where
   not-found : Found vs none
@@ -50,7 +39,7 @@ unfolding find
 find-found n [] r = not-found
 find-found n (w ∷ ws) r =
     by-cond (Found (reverseAux ws (w ∷ r))) (same (w .0) n)
-    (λ e. found (w .0) (behind-reverse ws (w ∷ r) 0 (length ws) (omega arith)))
+    (λ e. found (w .0) (element-behind ws (w ∷ r) 0 (length ws) (omega arith)))
     (λ e. find-found n ws (w ∷ r))
 
 module _ (ws : Wires) where
@@ -87,11 +76,6 @@ module _ (ws : Wires) where
     bits-of-fine (s below ss) = all-append (fineBit ws) (bits ws s) (bitsOf ws ss) (bits-fine s) (bits-of-fine ss)
 
 -- ---- the bits are as many as the width says
-
-length-wire : (n i w : ℕ) → length (wireBits n i w) ≡ w
-unfolding wireBits
-length-wire n i zero = refl
-length-wire n i (suc w) = ap suc (length-wire n (i + 1) w)
 
 length-found : (o : Option (ℕ × Wire)) → length (Option·elim o [] (λ w. wireBits (w .0) 0 (w .1 .width))) ≡ Option·elim o 0 (λ w. w .1 .width)
 unfolding Option·elim

@@ -1,9 +1,9 @@
 -- What a direction's code says of a port, and a turn of the search for a name among the wires.
 -- Assumes nothing.
 use Prim.Native.Nat.{ℕ, zero, suc, _+_, _*_, _/_, _<_}
-use mathlib.Core.Path.{_≡_, refl, sym}
+use mathlib.Core.Path.{_≡_, refl}
 use mathlib.Core.List.{List}
-use mathlib.Core.Bool.{Bool, true, false, not, _||_}
+use mathlib.Core.Bool.{Bool, true, false, _||_}
 use mathlib.Core.Option.{Option·elim}
 use native.Mathlib.Omega.{arith}
 use lib.Dec.{leb}
@@ -13,10 +13,6 @@ use Rattle.rules.specs.Tokens.{Name}
 use Rattle.rules.specs.Session.{isPort}
 use Rattle.wires.specs.Rows.{wordAt, column, portOf, wireOf}
 use Rattle.line_text.specs.Now.{nameNow, wiresNow}
-
-pub not-false : (a : Bool) → not a ≡ false → a ≡ true
-not-false true e = refl
-not-false false e = sym e
 
 by-code : (d n : ℕ) → 0 < d → Option·elim (portOf d n) false (λ p. true) ≡ leb d 3
 unfolding portOf Option·elim

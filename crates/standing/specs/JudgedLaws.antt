@@ -15,7 +15,7 @@ use Rattle.rules.specs.Statements.{Statement}
 use Rattle.rules.specs.Judgement.{lowest, verdict}
 use Rattle.rules.specs.Design.{design}
 use Rattle.rules.specs.Session.{Rename, wireAt, now, roomUsed, taken, isPort, renameCall, numberOf}
-use Rattle.rules.specs.Layout.{putRenames, rooms}
+use Rattle.rules.specs.Layout.{putRenames}
 use Rattle.scanner.specs.Laws.{by-test, and-true-right}
 use Rattle.wires.specs.Rows.{wireOf}
 use Rattle.past.specs.Place.{wiresIn, placeOf}
@@ -28,7 +28,8 @@ use Rattle.designs.specs.Modules.{Headed}
 use Rattle.designs.specs.HeadLaws.{standing-headed}
 use Rattle.designs.specs.Ranges.{wireRange}
 use Rattle.standing.specs.Judged.{nameTaken, exceedsRoom, moduleBy, judged, Lies}
-use Rattle.standing.specs.RoomLaws.{rooms-file, room-used}
+use Rattle.netlist.specs.RoomLaws.{rooms-file}
+use Rattle.standing.specs.RoomLaws.{room-used}
 use Rattle.standing.specs.TakenLaws.{wire-there, wire-missing, taken-laid}
 
 -- a legal name is short

@@ -5,11 +5,10 @@ use mathlib.Core.Path.{_≡_, refl, sym, ap, _∙_}
 use mathlib.Core.List.{List, [], _∷_, _++_, reverse, reverse-cons, reverse-reverse, append-assoc}
 use native.Mathlib.Omega.{arith}
 use lib.ListN.{length, take, drop, length-reverse}
-use lib.Seq.{slice}
 use Rattle.rules.specs.Session.{Rename}
 use Rattle.rules.specs.Layout.{Rooms, padded, row, renameRow, putRename, putRenames}
 use Rattle.tables.specs.Flat.{flat, Eights, flat-snoc}
-use Rattle.wires.specs.Rows.{nameOf}
+use Rattle.wires.specs.Rows.{nameOf, spanAt}
 use Rattle.wires.specs.RowLaws.{RowIs, slice-span}
 use Rattle.netlist.specs.Rows.{nameFrom}
 use Rattle.netlist.specs.Laid.{Laid}
@@ -17,7 +16,7 @@ use Rattle.netlist.specs.LaidLaws.{list-behind, row-behind, laid-rename}
 use Rattle.designs.specs.Now as designs
 use Rattle.designs.specs.NowLaws.{name-last}
 use Rattle.line_text.specs.Now as rows
-use Rattle.standing.specs.RoomLaws.{put-renames-last, length-rename-row, rename-rows, eights-renames}
+use Rattle.netlist.specs.RoomLaws.{put-renames-last, length-rename-row, rename-rows, eights-renames}
 
 -- what a rename's row holds
 module _ (t : List ℕ) (k at : ℕ) (r : Rename) (h : RowIs t k (renameRow at r)) where
@@ -26,7 +25,7 @@ module _ (t : List ℕ) (k at : ℕ) (r : Rename) (h : RowIs t k (renameRow at r
   rename-row m w = rw (h 3 (omega arith), h 4 (omega arith))
 
   rename-name : (names : List ℕ) → take (length (r .newName)) (drop at names) ≡ r .newName → nameFrom names t k 1 ≡ r .newName
-  unfolding nameFrom renameRow row padded
+  unfolding nameFrom spanAt renameRow row padded
   rename-name names e = rw (h 1 (omega arith), h 2 (omega arith)) (slice-span at (length (r .newName)) names ∙ e)
 
 -- the row and the name of the last rename

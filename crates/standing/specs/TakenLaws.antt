@@ -3,7 +3,7 @@
 use Prim.Native.Nat.{ℕ, zero, suc, _+_, _≤_, _<_}
 use mathlib.Core.Path.{_≡_, refl, sym, ap, ap₂, _∙_}
 use mathlib.Core.List.{List, [], _∷_, _++_, map, map-append, reverse, reverse-cons}
-use mathlib.Core.Option.{Option, none, Option·elim}
+use mathlib.Core.Option.{Option, Option·elim}
 use mathlib.Core.Bool.{Bool, true, false, _||_, or-comm, or-false}
 use native.Mathlib.Omega.{arith}
 use lib.Dec.{eqb}
@@ -16,6 +16,7 @@ use Rattle.rules.specs.Signals.{Wires}
 use Rattle.rules.specs.Design.{Object, design}
 use Rattle.rules.specs.Session.{Rename, wiresAt, wireAt, now, taken}
 use Rattle.rules.specs.Layout.{putRenames}
+use Rattle.scanner.specs.Lists.{element-none}
 use Rattle.wires.specs.Rows.{nameOf, wireOf, wiresFrom}
 use Rattle.wires.specs.RowLaws.{length-wires, wire-numbered}
 use Rattle.past.specs.Place.{wiresIn, placeOf}
@@ -48,11 +49,6 @@ elim-pair z g [] i = refl
 elim-pair z g (x ∷ xs) zero = refl
 elim-pair z g (x ∷ xs) (suc i) = elim-pair z g xs i
 
-at-past : {A : Type 0} (xs : List A) (n : ℕ) → length xs ≤ n → getElem? xs n ≡ none
-at-past [] n h = refl
-at-past (x ∷ xs) zero h = absurd (omega arith)
-at-past (x ∷ xs) (suc n) h = at-past xs n (omega arith)
-
 module _ {names t : List ℕ} (m w : ℕ) (ss : Past) (headed : Headed ss) (o : Offsets ss) (l : Wired (roomsOf ss) names t) {C : Type 0} (z : C) (g : Wire → C) where
   wire-by :
       let r = wireRange t (wiresIn ss) m in
@@ -75,7 +71,7 @@ module _ {names t : List ℕ} (m w : ℕ) (ss : Past) (headed : Headed ss) (o : 
       let xs : Wires = wiresFrom names t (r .first) (r .count) in
       wire-by
       ∙ ap (λ (x : Option (Name × Wire)). Option·elim x z (λ y. g (y .1)))
-      (at-past (reverse xs) w (omega (arith, length-reverse xs, length-wires names t (r .first) (r .count))))
+      (element-none (reverse xs) w (omega (arith, length-reverse xs, length-wires names t (r .first) (r .count))))
 
 -- NAMES BY THEIR NUMBERS, from the last one on
 numbered-last : {A : Type 0} (f : ℕ → A → A) (xs : List A) (x : A) → numbered f (xs ++ x ∷ []) ≡ numbered f xs ++ f (length xs) x ∷ []

@@ -2,7 +2,7 @@
 -- Assumes nothing.
 use mathlib.Core.Path.{_≡_, refl}
 use mathlib.Core.Bool.{true}
-use mathlib.Core.List.{List, [], _∷_, _++_}
+use mathlib.Core.List.{List, [], _∷_}
 use Prim.Native.Nat.{ℕ, suc, _+_, _<_, _≤_}
 use native.Mathlib.Omega.{arith}
 use lib.ListN.{length, drop, length-append, length-drop}
@@ -11,14 +11,8 @@ use Rattle.rules.specs.Tokens.{Inside, plain, Turn, goes, ends, breaks, turn, Q
 use Rattle.strings.specs.declared.Close.{Close}
 use Rattle.strings.specs.declared.Close.the-variants.{At, Broken}
 use Rattle.strings.specs.Decoded.{bytesOf, isClosed, decodedBy, decoded, closes, closing, CloseIs}
-use Rattle.strings.proofs.Turns.{and-left, and-right, held, AllBytes, Fine, turn-fine}
-
-append-bytes : (xs ys : List ℕ) → AllBytes xs → AllBytes ys → AllBytes (xs ++ ys)
-unfolding all
-append-bytes [] ys f g = g
-append-bytes (x ∷ xs) ys f g =
-    let r = all (within 1 255) xs in
-    rw (and-left (within 1 255 x) r f) (append-bytes xs ys (and-right (within 1 255 x) r f) g)
+use Rattle.scanner.specs.Lists.{all-append}
+use Rattle.strings.proofs.Turns.{held, AllBytes, Fine, turn-fine}
 
 -- the bytes given and those left behind the closing quote are fewer than n, and no byte given is 0
 abbrev FineQuoted : ℕ → Quoted → Type 0
@@ -27,7 +21,7 @@ FineQuoted n broken = Unit {0}
 
 onto-quoted : (m n : ℕ) (bs : List ℕ) (q : Quoted) → length bs + m ≤ n → AllBytes bs → FineQuoted m q → FineQuoted n (quotedOnto bs q)
 unfolding quotedOnto
-onto-quoted m n bs (closed ds r) h a f = (simp length-append (omega (arith, f .0)), append-bytes bs ds a (f .1))
+onto-quoted m n bs (closed ds r) h a f = (simp length-append (omega (arith, f .0)), all-append (within 1 255) bs ds a (f .1))
 onto-quoted m n bs broken h a f = tt
 
 module _ (j : Inside) (l : List ℕ) (more : Inside → Quoted) (rest : (k : Inside) → FineQuoted (length l + held k) (more k)) where

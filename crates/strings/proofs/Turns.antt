@@ -1,7 +1,7 @@
 -- One turn of the machine gives few bytes, and none of them is 0.
 -- Assumes nothing.
 use mathlib.Core.Path.{_≡_, refl}
-use mathlib.Core.Bool.{Bool, true, false, not, cond, _&&_}
+use mathlib.Core.Bool.{true, false, not, cond}
 use mathlib.Core.List.{List, [], _∷_}
 use Prim.Native.Nat.{ℕ, _+_, _*_, _-_, _<_, _≤_}
 use native.Mathlib.Omega.{arith}
@@ -10,33 +10,20 @@ use lib.Dec.{leb, ltb, eqb}
 use borrow.Author.Tests.{leb-true, le-leb, lt-leb}
 use Rattle.rules.specs.Bytes.{byte, all, within, isOctal, isLineEnd, isStringByte}
 use Rattle.rules.specs.Tokens.{Inside, plain, escape, octal, Turn, goes, ends, breaks, plainTurn, escapeTurn, onto, octalByte, octalTurn, turn}
-
-pub and-left : (x y : Bool) → x && y ≡ true → x ≡ true
-and-left true y e = refl
-and-left false y e = e
-
-pub and-right : (x y : Bool) → x && y ≡ true → y ≡ true
-and-right true y e = e
-and-right false y e = cc
+use Rattle.scanner.specs.Laws.{by-cond, and-true-left, within-yes}
 
 -- a digit of an octal can be counted from `0`
 pub octal-digit : (b : ℕ) → isOctal b ≡ true → byte "0" ≤ b
 unfolding isOctal within
-octal-digit b e = leb-true 48 b (and-left (leb 48 b) (leb b 55) e)
+octal-digit b e = leb-true 48 b (and-true-left (leb 48 b) (leb b 55) e)
 
 -- a byte that is not 0, and a number that is no byte
 pub byte-in : (n : ℕ) → (n ≡ 0 → ⊥) → n ≤ 255 → within 1 255 n ≡ true
-unfolding within
-byte-in n h k = rw (le-leb 1 n (omega arith), le-leb n 255 k)
+byte-in n h k = within-yes 1 255 n (omega arith) k
 
 pub byte-above : (n : ℕ) → 255 < n → within 1 255 n ≡ false
 unfolding within
 byte-above n h = rw (le-leb 1 n (omega arith), lt-leb n 255 h)
-
--- what holds of both branches, each under its test, holds of the choice
-by-cond : {A : Type 0} (P : A → Type 0) (b : Bool) {x y : A} → (b ≡ true → P x) → (b ≡ false → P y) → P (cond b x y)
-by-cond P true f g = f refl
-by-cond P false f g = g refl
 
 -- how many bytes may still come beyond one for each byte read: an octal's own
 unfoldable pub held : Inside → ℕ
@@ -62,7 +49,7 @@ one-fine j b e = (omega arith, rw e)
 raw-fine : (j : Inside) (b : ℕ) → Fine j (cond (isStringByte b) (goes (b ∷ []) plain) breaks)
 unfolding isStringByte
 raw-fine j b =
-    by-cond (Fine j) (isStringByte b) (λ e. one-fine j b (and-left (within 1 255 b) (not (isLineEnd b)) e)) (λ e. tt)
+    by-cond (Fine j) (isStringByte b) (λ e. one-fine j b (and-true-left (within 1 255 b) (not (isLineEnd b)) e)) (λ e. tt)
 
 plain-fine : (b : ℕ) → Fine plain (plainTurn b)
 unfolding plainTurn held all

@@ -149,7 +149,7 @@ fn third_turn(n: u16, b: u8) -> Turn
     octal_before(n, b)
 }
 
-pub fn turn_on(inside: Inside, b: u8) -> Turn
+fn turn_on(inside: Inside, b: u8) -> Turn
     ensures { λ r. ⌜ turnOf r ≡ turn (insideOf inside) b ⌝ }
 {
     match inside {

@@ -19,12 +19,12 @@ use Rattle.rules.specs.Signals.{Wires, find, lower, span, literalBits, wireBits
 use Rattle.rules.specs.Judgement.{lowest}
 use Rattle.rules.specs.Layout.{bitCode}
 use Rattle.scanner.specs.Laws.{and-true-left, and-true-right}
+use Rattle.scanner.specs.Lists.{all-split}
 use Rattle.numbers.specs.Kinds.{bitOf, bitAt}
 use Rattle.numbers.specs.KindLaws.{Within, bit-back}
 use Rattle.signals.specs.Faults.{faults, fault}
 use Rattle.signals.specs.Held.{codes, Held}
 use Rattle.signals.specs.declared.Bits.{Bits}
-use Rattle.signals.proofs.FaultLaws.{all-append}
 use Rattle.syntax.specs.Statements.{signalIn}
 
 -- ---- bits that their codes give back
@@ -85,7 +85,7 @@ module _ (ws : Wires) where
     coded-of : (ss : Sigs) → all narrow (partsOf ss) ≡ true → Coded (bitsOf ws ss)
     coded-of nothing h = tt
     coded-of (s below ss) h =
-        let e : all narrow (parts s) && all narrow (partsOf ss) ≡ true = sym (all-append narrow (parts s) (partsOf ss)) ∙ h in
+        let e : all narrow (parts s) && all narrow (partsOf ss) ≡ true = sym (all-split narrow (parts s) (partsOf ss)) ∙ h in
         coded-append (bits ws s) (bitsOf ws ss) (coded s (and-true-left _ _ e)) (coded-of ss (and-true-right (all narrow (parts s)) _ e))
 
   -- where no rule is broken all parts are narrow

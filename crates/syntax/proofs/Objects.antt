@@ -18,7 +18,7 @@ use Rattle.rules.specs.Judgement.{portNumbers, newPort}
 use Rattle.rules.specs.Layout.{Used, padded, row, directionCode, flags, wireRow}
 use Rattle.scanner.specs.Laws.{by-cond, and-true-left, and-true-right}
 use Rattle.wires.specs.Rows.{column, wordAt}
-use Rattle.wires.specs.RowLaws.{row-wire}
+use Rattle.wires.specs.RowLaws.{row-wire, port-small}
 use Rattle.forms.specs.Forms.{nameIn}
 use Rattle.forms.specs.declared.Span.{Span}
 use Rattle.options.specs.Limits.{portNumber, WireGood, MemoryGood}
@@ -65,11 +65,6 @@ no-port : (k : ℕ) (q : Option (Direction × ℕ)) → k + Option·elim q 0 (λ
 unfolding Option·elim
 no-port k none h = refl
 no-port k (some (d, n)) h = absurd (omega (arith, code-range d .0))
-
-port-small : (q : Option (Direction × ℕ)) → Option·elim q 0 (λ p. directionCode (p .0)) ≤ 12
-unfolding Option·elim
-port-small none = omega arith
-port-small (some (d, n)) = code-range d .1
 
 a-port : (k : ℕ) (q : Option (Direction × ℕ)) → k ≤ 3 → 3 < k + Option·elim q 0 (λ p. directionCode (p .0)) → (d : Direction) × (q ≡ some (d, portNumber q))
 unfolding Option·elim

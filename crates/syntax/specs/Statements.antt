@@ -15,14 +15,14 @@ use Rattle.rules.specs.Numbers.{goodLiteral}
 use Rattle.rules.specs.Signals.{Wires, kept}
 use Rattle.rules.specs.Judgement.{breaksNumber, lacksWire, breaksWidth, partTooWide, lowest, meaning}
 use Rattle.numbers.specs.Signed.{signedOf}
-use Rattle.numbers.specs.Kinds.{bitOf, bitAt}
+use Rattle.numbers.specs.Kinds.{bitOf, bitAt, sortOf}
 use Rattle.tokens.specs.Rows.{literalIn, line}
 use Rattle.tokens.specs.declared.Constant.{Constant}
 use Rattle.tokens.specs.declared.Literal.{Literal}
 use Rattle.tokens.specs.declared.Literal.the-variants as literal
 use Rattle.literals.specs.Codes.{Whole}
 use Rattle.wires.specs.Rows.{wireOf, wiresFrom}
-use Rattle.forms.specs.Forms.{sortOf, nameIn, valueIn, formOf, kindOf}
+use Rattle.forms.specs.Forms.{nameIn, valueIn, formOf, kindOf}
 use Rattle.forms.specs.declared.Form.{Form}
 use Rattle.forms.specs.declared.Form.the-variants as form
 use Rattle.forms.specs.declared.Kind.the-variants as kind

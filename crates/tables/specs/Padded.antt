@@ -1,13 +1,12 @@
 -- The laws of a table that holds a list and zeros behind it (`padded` of the rules).
 -- Assumes nothing.
 use mathlib.Core.Path.{_≡_, refl, sym, ap, ap₂, _∙_}
-use mathlib.Core.Bool.{Bool, true, false, _&&_}
+use mathlib.Core.Bool.{true, false≢true}
 use mathlib.Core.List.{List, [], _∷_, _++_, append-assoc}
 use Prim.Native.Nat.{ℕ, zero, suc, _+_, _-_, _≤_}
 use native.Mathlib.Nat.{sub-zero}
 use native.Mathlib.Omega.{arith}
-use borrow.Author.Tests.{eqb-true}
-use lib.Dec.{eqb}
+use lib.Dec.{eqb, eqb·zero-suc}
 use lib.ListN.{length, take, drop, getD, replicate, length-append, length-replicate, length-drop, take-append-drop, List·getD-eq-default, replicate-append-replicate}
 use lib.Seq.{take-append-seam, drop-append-seam, take-append-le, drop-append-le}
 use Rattle.rules.specs.Bytes.{all}
@@ -21,22 +20,11 @@ unfolding all
 all-zeros zero = refl
 all-zeros (suc n) = all-zeros n
 
-and-left : (a b : Bool) → a && b ≡ true → a ≡ true
-and-left true b e = refl
-and-left false b e = e
-
-and-right : (a b : Bool) → a && b ≡ true → b ≡ true
-and-right true b e = e
-and-right false true e = refl
-and-right false false e = e
-
 pub zeros-all : (xs : List ℕ) → all (eqb 0) xs ≡ true → xs ≡ replicate (length xs) 0
 unfolding all
 zeros-all [] e = refl
-zeros-all (x ∷ xs) e =
-    ap₂ (λ (a : ℕ) (r : List ℕ). a ∷ r)
-    (sym (eqb-true 0 x (and-left (eqb 0 x) (all (eqb 0) xs) e)))
-    (zeros-all xs (and-right (eqb 0 x) (all (eqb 0) xs) e))
+zeros-all (zero ∷ xs) e = ap (λ (r : List ℕ). 0 ∷ r) (zeros-all xs e)
+zeros-all (suc x ∷ xs) e = absurd (false≢true (rw eqb·zero-suc at e))
 
 getD-zeros : (xs : List ℕ) (m i : ℕ) → getD (xs ++ replicate m 0) i 0 ≡ getD xs i 0
 getD-zeros [] zero i = refl

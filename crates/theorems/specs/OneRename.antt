@@ -11,9 +11,10 @@ use borrow.Author.Tests.{eqb-true}
 use Rattle.rules.specs.Statements.{Wire}
 use Rattle.rules.specs.Judgement.{Verdict, accepted, refused, verdict, lowest}
 use Rattle.rules.specs.Design.{Object, object, Module, Design}
+use Rattle.scanner.specs.Lists.{drop-last}
 use Rattle.scanner.specs.Laws.{by-test, and-true-left, and-true-right}
 use Rattle.rules.specs.Session.{Rename, wiresAt, wireAt, change, renameWire, renamed, now, rename, renameCall, undoCall, call, standing}
-use Rattle.theorems.specs.StandingLaws.{drop-last, judged}
+use Rattle.theorems.specs.StandingLaws.{judged}
 
 -- the design without the names of its wires
 unfoldable pub nameless : Object Wire → Object Wire

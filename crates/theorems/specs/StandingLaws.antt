@@ -2,17 +2,13 @@
 -- Assumes nothing.
 use Prim.Native.Nat.{ℕ}
 use mathlib.Core.Path.{_≡_, refl, sym, ap, _∙_, subst}
-use mathlib.Core.List.{List, [], _∷_, _++_, map, dropLast, append-assoc}
+use mathlib.Core.List.{List, [], _∷_, _++_, map, dropLast}
 use mathlib.Core.Option.{Option, none, some}
-use Rattle.rules.specs.Judgement.{Verdict, accepted, refused, verdict, lowest}
+use Rattle.rules.specs.Judgement.{Verdict, accepted, refused, verdict}
 use Rattle.rules.specs.Design.{Design}
 use Rattle.rules.specs.Session.{Rename, Call, rename, undo, renameCall, undoCall, call, standing, plainSession}
+use Rattle.scanner.specs.Lists.{drop-last}
 use Rattle.admitted.specs.Holds.{Allowed, no-renames, one-rename}
-
-pub drop-last : (rs : List Rename) (r : Rename) → dropLast (rs ++ r ∷ []) ≡ rs
-drop-last [] r = refl
-drop-last (q ∷ []) r = refl
-drop-last (q ∷ p ∷ rs) r = ap (λ (l : List Rename). q ∷ l) (drop-last (p ∷ rs) r)
 
 -- an undo takes the last one off, if there is one
 undone : (qs : List Rename) → standing qs (undoCall qs) ≡ dropLast qs

@@ -19,8 +19,9 @@ use Rattle.tables.specs.Padded.{padded-getD}
 use Rattle.tables.specs.Row.{words-rowAt}
 use Rattle.tables.specs.Flat.{flat, Eights, length-flat, words-flat}
 use Rattle.scanner.specs.Laws.{by-test}
+use Rattle.scanner.specs.Lists.{element-behind}
 use Rattle.numbers.specs.SignedLaws.{signed-word}
-use Rattle.wires.specs.Rows.{wordAt, column, nameOf, portOf, wireOf, wiresFrom}
+use Rattle.wires.specs.Rows.{wordAt, column, nameOf, portOf, wireOf, wiresFrom, spanAt}
 
 pub length-wires : (names t : List ℕ) (first count : ℕ) → length (wiresFrom names t first count) ≡ count
 unfolding wiresFrom
@@ -62,6 +63,13 @@ port-flag (some (input, n)) = refl
 port-flag (some (output, n)) = refl
 port-flag (some (inout, n)) = refl
 
+pub port-small : (p : Option (Direction × ℕ)) → Option·elim p 0 (λ q. directionCode (q .0)) ≤ 12
+unfolding Option·elim directionCode
+port-small none = omega arith
+port-small (some (input, n)) = omega arith
+port-small (some (output, n)) = omega arith
+port-small (some (inout, n)) = omega arith
+
 port-back : (p : Option (Direction × ℕ)) → portOf (portCode p) (Option·elim p 0 (λ q. q .1)) ≡ p
 unfolding Option·elim portOf
 port-back none = refl
@@ -81,7 +89,7 @@ module _ (t : List ℕ) (k : ℕ) (u : Used) (n : Name) (w : Wire) (h : RowIs t 
       rw (h 3 (omega arith), h 4 (omega arith), h 6 (omega arith), flags-are, f .0, f .1, f .2, bool-code (w .upto), bool-code (w .signed), port-back, signed-word (w .offset) o)
 
   pub row-name : (names : List ℕ) → take (length n) (drop (u .names) names) ≡ n → nameOf names t k ≡ n
-  unfolding wireRow row padded nameOf
+  unfolding wireRow row padded nameOf spanAt
   row-name names e = rw (h 1 (omega arith), h 2 (omega arith)) (slice-span (u .names) (length n) names ∙ e)
 
 -- wires are the same where their names and their rows' wires are
@@ -103,7 +111,7 @@ module _ (names t t′ : List ℕ) (first count : ℕ) (h : (i : ℕ) → 8 * fi
   same-column k c l b = h (8 * (first + k) + c) (omega arith) (omega arith)
 
   pub wires-rows : wiresFrom names t first count ≡ wiresFrom names t′ first count
-  unfolding nameOf wireOf
+  unfolding nameOf spanAt wireOf
   wires-rows =
       wires-same names names t t′ first count (λ k l. rw (same-column k 1 l (omega arith), same-column k 2 l (omega arith)))
       (λ k l. rw (same-column k 3 l (omega arith), same-column k 4 l (omega arith), same-column k 5 l (omega arith), same-column k 6 l (omega arith)))
@@ -121,10 +129,6 @@ row-padded n rs k h l c b =
     ∙ row-taken (flat rs) k (getD rs k []) (sym (words-rowAt (flat rs) (8 * k) (omega arith)) ∙ words-flat rs k h l) c b
 
 -- wire j of the module, in the order of the rows, is row first + j
-behind-reverse : (l r : Wires) (i n : ℕ) → n ≡ length l + i → getElem? (reverseAux l r) n ≡ getElem? r i
-behind-reverse [] r i n e = let q : n ≡ i = omega arith in rw q
-behind-reverse (x ∷ l) r i n e = behind-reverse l (x ∷ r) (suc i) n (omega arith)
-
 module _ (names t : List ℕ) (first j : ℕ) where
   numbered : (count : ℕ) (r : Wires) → j < count → getElem? (reverseAux (wiresFrom names t first count) r) j ≡ some (nameOf names t (first + j), wireOf t (first + j))
   unfolding wiresFrom
@@ -132,7 +136,7 @@ module _ (names t : List ℕ) (first j : ℕ) where
   numbered (suc k) r h =
       by-test (ltb j k) (λ e. numbered k _ (ltb-true j k e))
       (λ e. let q : j ≡ k = omega (arith, ltb-false j k e) in
-      behind-reverse (wiresFrom names t first k) _ 0 j (omega (arith, length-wires names t first k)) ∙ rw q)
+      element-behind (wiresFrom names t first k) _ 0 j (omega (arith, length-wires names t first k)) ∙ rw q)
 
   pub wire-numbered : (count : ℕ) → j < count → getElem? (reverse (wiresFrom names t first count)) j ≡ some (nameOf names t (first + j), wireOf t (first + j))
   wire-numbered count h = numbered count [] h

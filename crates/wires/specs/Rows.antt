@@ -22,9 +22,12 @@ wordAt t i = getD t i 0
 unfoldable pub column : List ℕ → ℕ → ℕ → ℕ
 column t k c = wordAt t (8 * k + c)
 
--- a name's span is its start and its length
+-- what stands in a table from the place in column c on, as much as column c + 1 says
+unfoldable pub spanAt : (table rows : List ℕ) → (row c : ℕ) → List ℕ
+spanAt t rows k c = slice (column rows k c) (column rows k c + column rows k (c + 1)) t
+
 unfoldable pub nameOf : List ℕ → List ℕ → ℕ → Name
-nameOf names t k = slice (column t k 1) (column t k 1 + column t k 2) names
+nameOf names t k = spanAt names t k 1
 
 -- the port of a direction's code, 1 to 3; any other is none
 unfoldable pub portOf : ℕ → ℕ → Option (Direction × ℕ)

@@ -12,7 +12,7 @@ use Rattle.rules.specs.Statements.{Wire}
 use Rattle.rules.specs.Numbers.{int32}
 use Rattle.rules.specs.Layout.{Used, padded, row, wireRow}
 use Rattle.tables.specs.Store.{store, store-eq, store-before, store-inside}
-use Rattle.wires.specs.Rows.{wordAt, column, nameOf, wiresFrom}
+use Rattle.wires.specs.Rows.{wordAt, column, nameOf, wiresFrom, spanAt}
 use Rattle.wires.specs.RowLaws.{RowIs, row-wire, row-name, wires-same, wires-rows}
 
 -- a store behind the wires' rows
@@ -37,7 +37,7 @@ pub names-store :
     (names t : List ℕ) (first count at : ℕ) (vs : List ℕ) →
     at + length vs ≤ length names → ((k : ℕ) → k < count → column t (first + k) 1 + column t (first + k) 2 ≤ at) →
     wiresFrom (store names at vs) t first count ≡ wiresFrom names t first count
-unfolding nameOf
+unfolding nameOf spanAt
 names-store names t first count at vs room h =
     wires-same (store names at vs) names t t first count
     (λ k l. slice-store names at vs (column t (first + k) 1) (column t (first + k) 1 + column t (first + k) 2) room (h k l)) (λ k l. refl)

@@ -10,7 +10,7 @@ ghost use mathlib.Core.Path.{_≡_};
 ghost use Prim.Native.Nat.{_<_};
 ghost use Rattle.rules.specs.Session.{indexIn};
 ghost use Rattle.numbers.specs.Signed.{verdictOf};
-ghost use Rattle.wires.specs.Rows.{column, nameOf, wireOf, hasPort, TakenIs};
+ghost use Rattle.wires.specs.Rows.{column, spanAt, nameOf, wireOf, hasPort, TakenIs};
 ghost use Rattle.wires.specs.Found.{FoundIs};
 
 // A wire's number in its module and its width.
@@ -19,27 +19,28 @@ pub enum Found {
     Nothing,
 }
 
-// A row's number is the sum of two words at most, so that it may pass 32 bits.
-fn column(wires: &[u32], row: usize, c: usize) -> u32
+// A column of a row in any table of rows. A row's number is the sum of two words at most, so that it may pass 32 bits.
+pub fn column(table: &[u32], row: usize, c: usize) -> u32
     requires { ⌜ (row < 8589934592) × (c < 8) ⌝ }
-    ensures { λ r. ⌜ r ≡ column (now (wires .entry)) row c ⌝ }
+    ensures { λ r. ⌜ r ≡ column (now (table .entry)) row c ⌝ }
 {
-    word(wires, 8 * row + c)
+    word(table, 8 * row + c)
 }
 
-fn row_name<'a>(names: &'a [u8], wires: &[u32], row: usize) -> &'a [u8]
-    requires { ⌜ row < 8589934592 ⌝ }
-    ensures { λ r. ⌜ now r ≡ nameOf (now (names .entry)) (now (wires .entry)) row ⌝ }
+// The bytes whose start stands in column c, and their number behind it.
+pub fn bytes_at<'a>(bytes: &'a [u8], table: &[u32], row: usize, c: usize) -> &'a [u8]
+    requires { ⌜ (row < 8589934592) × (c < 7) ⌝ }
+    ensures { λ r. ⌜ now r ≡ spanAt (now (bytes .entry)) (now (table .entry)) row c ⌝ }
 {
-    let start = column(wires, row, 1) as usize;
-    let size = column(wires, row, 2) as usize;
-    part(names, start, start + size)
+    let start = column(table, row, c) as usize;
+    let size = column(table, row, c + 1) as usize;
+    part(bytes, start, start + size)
 }
 
 pub fn wire_name<'a>(names: &'a [u8], wires: &[u32], k: u32) -> &'a [u8]
     ensures { λ r. ⌜ now r ≡ nameOf (now (names .entry)) (now (wires .entry)) k ⌝ }
 {
-    row_name(names, wires, k as usize)
+    bytes_at(names, wires, k as usize, 1)
 }
 
 // The last of the wires in count rows from first on that has this name.
@@ -50,7 +51,7 @@ pub fn find_wire(names: &[u8], wires: &[u32], first: u32, count: u32, name: &[u8
     while 0 < k {
         let last = k - 1;
         let row = first as usize + last as usize;
-        if same_bytes(row_name(names, wires, row), name) {
+        if same_bytes(bytes_at(names, wires, row, 1), name) {
             return Found::At(WireNumber(last), column(wires, row, 3));
         }
         k = last;

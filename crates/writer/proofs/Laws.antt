@@ -1,28 +1,26 @@
 -- A text by its end, and the text of memory that is open.
 -- Assumes nothing.
-use Prim.Native.Nat.{ℕ, _+_, _*_, _≤_, _<_}
+use Prim.Native.Nat.{ℕ, _+_, _≤_, _<_}
 use mathlib.Core.Path.{_≡_, sym, ap, ap₂, _∙_, subst}
 use mathlib.Core.List.{List, reverse}
-use mathlib.Core.Bool.{Bool, _&&_}
 use native.Mathlib.Omega.{arith}
-use lib.Dec.{eqb}
 use lib.ListN.{length, length-reverse}
-use borrow.Author.Tests.{lt-ltb, le-ltb, eqb-true}
+use borrow.Author.Tests.{lt-ltb, le-ltb}
 use Rattle.rules.specs.Judgement.{verdict, lowest}
 use Rattle.rules.specs.Statements.{Statement}
 use Rattle.rules.specs.Design.{design}
 use Rattle.rules.specs.Session.{Rename, now}
 use Rattle.rules.specs.Text.{text, write, measure}
 use Rattle.rules.specs.Layout.{Memory, memory, layout}
-use Rattle.scanner.specs.Laws.{and-true-left, and-true-right}
 use Rattle.past.specs.Place.{wiresIn, placeOf}
 use Rattle.past.specs.declared.place.Place.{Place}
 use Rattle.text.specs.Written.{moved, Written, written-end}
-use Rattle.reader.specs.Read.{rightSizes, rightLengths}
+use Rattle.netlist.specs.Lengths.{sizes-exact}
+use Rattle.reader.specs.Read.{rightLengths}
 use Rattle.session.specs.Called.{Called, wrong-lengths, damaged, holding, answer}
 use Rattle.session.specs.Steps.{Holding, NotOpen, wrong-sizes, none-held, OpenedIs}
 use Rattle.session.specs.declared.Opened.{Opened}
-use Rattle.session.specs.declared.Opened.the-variants.{Open, Refused}
+use Rattle.session.specs.declared.Opened.the-variants.{Refused}
 use Rattle.design_text.specs.Rows.{tabled, textRows}
 use Rattle.design_text.specs.declared.Counts.{Counts}
 use Rattle.design_text.proofs.Text.{text-held}
@@ -69,9 +67,6 @@ module _ (t : List ℕ) (r : ℕ) (e : r ≡ moved 0 (length t)) where
 
 -- ---- memory that is open, and memory that is not
 module _ (m : Memory) (r : Opened) (is : OpenedIs m r) where
-  pub opened : (p : Place) → r ≡ Open p → Holding m p
-  opened p q = subst (λ (x : Opened). OpenedIs m x) q is
-
   pub not-opened : {A : Type 0} (refuse : ℕ → A) (says : List Statement → List Rename → A) (n : ℕ) → r ≡ Refused n → Called m refuse says (refuse n)
   not-opened refuse says n q = refused-by (subst (λ (x : Opened). OpenedIs m x) q is)
     where
@@ -81,13 +76,8 @@ module _ (m : Memory) (r : Opened) (is : OpenedIs m r) where
 
 module _ {m : Memory} {p : Place} (h : Holding m p) where
   pub bits-few : length (m .bits) ≤ 16384
-  unfolding rightLengths rightSizes
-  bits-few =
-      let n : Bool = eqb (length (m .names)) 16384 in
-      let s : Bool = eqb (length (m .strings)) 8192 in
-      let b : Bool = eqb (length (m .bits)) 16384 in
-      let w : Bool = eqb (length (m .wires)) (8 * 512) in
-      omega (arith, eqb-true (length (m .bits)) 16384 (and-true-right (n && s) b (and-true-left (n && s && b) w (and-true-left (n && s && b && w) _ (h .lengths)))))
+  unfolding rightLengths
+  bits-few = omega (arith, sizes-exact (length (m .names)) (length (m .strings)) (length (m .bits)) (length (m .wires)) (length (m .rows)) (h .lengths) .2)
 
   rows-are : p .rows ≡ length (h .statements)
   unfolding placeOf

@@ -13,9 +13,10 @@ use Rattle.rules.specs.Bytes.{all, isLineEnd, isNameStart, isNameByte, isLower,
 use Rattle.rules.specs.Tokens.{Digit, S0, S1, Sx, Sz, Sm, Sa, Literal, value, integer, string, Token, name, word, literal, mark}
 use Rattle.rules.specs.Lines.{Line, longer, linesFrom}
 use Rattle.rules.specs.Text.{decimalText, integerText, digitByte, escaped, literalText, tokenText, tight, behind, spaced}
-use Rattle.scanner.specs.Laws.{by-cond}
-use Rattle.admitted.specs.AdmitLaws.{all-append, all-implied}
-use Rattle.written.specs.Lists.{all-cons, all-first, all-later, all-map, by-any, within-low}
+use Rattle.scanner.specs.Laws.{by-cond, within-low}
+use Rattle.scanner.specs.Lists.{all-append}
+use Rattle.admitted.specs.AdmitLaws.{all-implied}
+use Rattle.written.specs.Lists.{all-cons, all-first, all-later, all-map, by-any}
 use Rattle.written.specs.NumberLaws.{Digits, some-digits, decimal-digits}
 use Rattle.written.specs.TokenLaws.{fineToken, legal-start, legal-bytes, keyword-lower}
 

@@ -1,13 +1,13 @@
 -- Tests over lists, and runs.
 -- Assumes nothing.
 use mathlib.Core.Path.{_≡_, refl}
-use mathlib.Core.Bool.{Bool, true, false, _&&_, false≢true}
+use mathlib.Core.Bool.{Bool, true, false, false≢true}
 use mathlib.Core.List.{List, [], _∷_, _++_, map}
-use Prim.Native.Nat.{ℕ, zero, suc, _<_, _≤_}
-use lib.Dec.{eqb, leb}
+use Prim.Native.Nat.{ℕ, zero, suc}
+use lib.Dec.{eqb}
 use lib.ListN.{drop}
-use borrow.Author.Tests.{eqb-true, le-leb, lt-leb, leb-true}
-use Rattle.rules.specs.Bytes.{same, any, all, within, run, rest}
+use borrow.Author.Tests.{eqb-true}
+use Rattle.rules.specs.Bytes.{same, any, all, run, rest}
 use Rattle.scanner.specs.Laws.{by-test, and-true-left, and-true-right, same-eq}
 
 module _ {A : Type 0} (f : A → Bool) where
@@ -22,11 +22,6 @@ module _ {A : Type 0} (f : A → Bool) where
   pub all-later : (x : A) (xs : List A) → all f (x ∷ xs) ≡ true → all f xs ≡ true
   unfolding all
   all-later x xs h = and-true-right (f x) (all f xs) h
-
-  pub all-split : (xs ys : List A) → all f (xs ++ ys) ≡ all f xs && all f ys
-  unfolding all
-  all-split [] ys = refl
-  all-split (x ∷ xs) ys = by-test (f x) (λ e. rw (e, all-split xs ys)) (λ e. rw e)
 
   pub all-drop : (n : ℕ) (xs : List A) → all f xs ≡ true → all f (drop n xs) ≡ true
   all-drop zero xs h = h
@@ -86,20 +81,3 @@ module _ (f : ℕ → Bool) where
   unfolding rest
   rest-upto [] ys a s = rest-none ys s
   rest-upto (x ∷ xs) ys a s = rw (all-first f x xs a, rest-upto xs ys (all-later f x xs a) s)
-
-module _ (lo hi b : ℕ) where
-  pub inside : lo ≤ b → b ≤ hi → within lo hi b ≡ true
-  unfolding within
-  inside h k = rw (le-leb lo b, le-leb b hi)
-
-  pub below : b < lo → within lo hi b ≡ false
-  unfolding within
-  below h = rw (lt-leb lo b)
-
-  pub within-low : within lo hi b ≡ true → lo ≤ b
-  unfolding within
-  within-low e = leb-true lo b (and-true-left (leb lo b) (leb b hi) e)
-
-  pub within-high : within lo hi b ≡ true → b ≤ hi
-  unfolding within
-  within-high e = leb-true b hi (and-true-right (leb lo b) (leb b hi) e)

@@ -10,8 +10,8 @@ use borrow.Author.Tests.{ltb-true, ltb-false}
 use Rattle.rules.specs.Bytes.{all, isDigit}
 use Rattle.rules.specs.Tokens.{number, decimal}
 use Rattle.rules.specs.Text.{decimalOnto, decimalText}
-use Rattle.scanner.specs.Laws.{by-cond}
-use Rattle.written.specs.Lists.{all-cons, inside}
+use Rattle.scanner.specs.Laws.{by-cond, within-yes}
+use Rattle.written.specs.Lists.{all-cons}
 
 number-onto : (k n : ℕ) (ds : List ℕ) → n < k → number 10 0 (decimalOnto k n ds) ≡ number 10 n ds
 unfolding decimalOnto number
@@ -31,7 +31,7 @@ pub data Digits : List ℕ → Type 0 where
 
 last-digit : (n : ℕ) → isDigit (48 + n % 10) ≡ true
 unfolding isDigit
-last-digit n = inside 48 57 (48 + n % 10) (omega arith) (omega arith)
+last-digit n = within-yes 48 57 (48 + n % 10) (omega arith) (omega arith)
 
 digits-onto : (k n : ℕ) (ds : List ℕ) → n < k → all isDigit ds ≡ true → Digits (decimalOnto k n ds)
 unfolding decimalOnto

@@ -15,7 +15,7 @@ use Rattle.rules.specs.Text.{written, shapeTokens, indent, lineText, textFrom}
 use Rattle.rules.specs.Reading.{shaped, stated, judged, lexed, outcome}
 use Rattle.admitted.specs.Admitted.{stands, fineParts, admits, admitted}
 use Rattle.scanner.specs.Laws.{by-cond, and-true-left, and-true-right}
-use Rattle.admitted.specs.AdmitLaws.{all-append}
+use Rattle.scanner.specs.Lists.{all-append}
 use Rattle.written.specs.Lists.{all-cons, all-first, all-later}
 use Rattle.written.specs.TokenLaws.{tokens-spaced}
 use Rattle.written.specs.LineLaws.{inLine, line-free, lineAt, lines-first}

@@ -10,8 +10,8 @@ use borrow.Author.Tests.{ltb-true, ltb-false, eqb-true, ne-eqb}
 use Rattle.rules.specs.Bytes.{all, within, isOctal, isStringByte, isLineEnd, bytesOpen}
 use Rattle.rules.specs.Tokens.{Inside, plain, escape, octal, goes, Quoted, closed, broken, turn, octalTurn, octalByte, onto, plainTurn, escapeTurn, quotedOnto, quotedBy, quoted}
 use Rattle.rules.specs.Text.{escaped}
-use Rattle.scanner.specs.Laws.{by-cond}
-use Rattle.written.specs.Lists.{all-first, all-later, inside, within-low, within-high}
+use Rattle.scanner.specs.Laws.{by-cond, within-yes, within-low, within-high}
+use Rattle.written.specs.Lists.{all-first, all-later}
 
 onto-none : (q : Quoted) → quotedOnto [] q ≡ q
 unfolding quotedOnto
@@ -29,7 +29,7 @@ module _ (i j : Inside) (b : ℕ) (l : List ℕ) where
 
 eightfold : (n : ℕ) → n < 8 → isOctal (48 + n) ≡ true
 unfolding isOctal
-eightfold n h = inside 48 55 (48 + n) (omega arith) (omega arith)
+eightfold n h = within-yes 48 55 (48 + n) (omega arith) (omega arith)
 
 module _ (b : ℕ) (l : List ℕ) (low : 1 ≤ b) (high : b ≤ 255) where
   octal-second : b < 32 → turn (octal 1 0) (48 + b / 8) ≡ goes [] (octal 2 (b / 8))
@@ -42,7 +42,7 @@ module _ (b : ℕ) (l : List ℕ) (low : 1 ≤ b) (high : b ≤ 255) where
   unfolding turn octalTurn octalByte onto
   octal-third h =
       let e : b / 8 * 8 + (48 + b % 8 - 48) ≡ b = omega arith in
-      rw (eightfold (b % 8) (omega arith), e, inside 1 255 b low high)
+      rw (eightfold (b % 8) (omega arith), e, within-yes 1 255 b low high)
 
   as-octal : b < 32 → quoted plain (92 ∷ 48 ∷ (48 + b / 8) ∷ (48 + b % 8) ∷ l) ≡ quotedOnto (b ∷ []) (quoted plain l)
   unfolding turn plainTurn escapeTurn bytesOpen
@@ -56,7 +56,7 @@ module _ (b : ℕ) (l : List ℕ) (low : 1 ≤ b) (high : b ≤ 255) where
   unfolding turn plainTurn isStringByte isLineEnd
   as-plain h q s =
       quoted-gives plain plain b l (b ∷ [])
-      (rw (q, s, inside 1 255 b low high, ne-eqb b 10 (λ e. omega arith), ne-eqb b 13 (λ e. omega arith)))
+      (rw (q, s, within-yes 1 255 b low high, ne-eqb b 10 (λ e. omega arith), ne-eqb b 13 (λ e. omega arith)))
 
   -- `\` and a byte that stands for b
   as-escape : (c : ℕ) → turn escape c ≡ goes (b ∷ []) plain → quoted plain (92 ∷ c ∷ l) ≡ quotedOnto (b ∷ []) (quoted plain l)

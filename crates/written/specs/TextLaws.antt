@@ -14,16 +14,12 @@ use Rattle.rules.specs.Text.{lineText, textFrom}
 use Rattle.rules.specs.Reading.{states, judged, lexed, outcome, accepted, finish, next, readLines, readAny, read}
 use Rattle.admitted.specs.Admitted.{admits, admitted, closes}
 use Rattle.meaning.specs.Judged.{shaped-written}
-use Rattle.scanner.specs.Laws.{and-true-left, and-true-right}
+use Rattle.scanner.specs.Laws.{and-true-right}
+use Rattle.admitted.specs.AdmitLaws.{admitted-past}
 use Rattle.written.specs.LineLaws.{lineAt}
 use Rattle.written.specs.OutcomeLaws.{admits-fine, wires-legal, outcome-written, lines-written}
 
 -- what is admitted behind admitted statements is admitted one by one
-admitted-past : (more : List Statement) (ss : Past) → admitted (reverseAux more ss) ≡ true → admitted ss ≡ true
-unfolding admitted
-admitted-past [] ss a = a
-admitted-past (s ∷ more) ss a = and-true-left (admitted ss) (admits ss s) (admitted-past more (s ∷ ss) a)
-
 admitted-next : (s : Statement) (more : List Statement) (ss : Past) → admitted (reverseAux more (s ∷ ss)) ≡ true → admits ss s ≡ true
 unfolding admitted
 admitted-next s more ss a = and-true-right (admitted ss) (admits ss s) (admitted-past more (s ∷ ss) a)

@@ -14,8 +14,8 @@ use Rattle.rules.specs.Bytes.{all, any, within, oneOf, isBlank, isNameStart, is
 use Rattle.rules.specs.Tokens.{Digit, S0, S1, Sx, Sz, Sm, Sa, Literal, value, integer, string, Token, name, word, literal, mark, keywords, isKeyword, decimal, digit, token, done, separate, parted, nameStep, wordStep, integerStep, valueStep, numberStep, minusStep, stringStep, stepAt, step, good, tokensOnto, tokensBy, tokensFrom, tokens}
 use Rattle.rules.specs.Shapes as shapes
 use Rattle.rules.specs.Text.{decimalText, integerText, digitByte, escaped, literalText, tokenText, tight, behind, spaced}
-use Rattle.scanner.specs.Laws.{by-test, and-true-left, and-true-right}
-use Rattle.written.specs.Lists.{all-first, all-later, all-cons, all-map, list-passes, by-any, Stops, run-upto, rest-upto, below, within-low, within-high}
+use Rattle.scanner.specs.Laws.{by-test, and-true-left, and-true-right, within-below, within-low, within-high}
+use Rattle.written.specs.Lists.{all-first, all-later, all-cons, all-map, list-passes, by-any, Stops, run-upto, rest-upto}
 use Rattle.written.specs.NumberLaws.{decimal-text, Digits, some-digits, decimal-digits}
 use Rattle.written.specs.StringLaws.{quoted-string}
 
@@ -68,7 +68,7 @@ unfolding step stepAt isDigit isBlank isNameStart isLower oneOf any
 digit-start b bs h =
     let lo : 48 ≤ b = within-low 48 57 b h in
     let hi : b ≤ 57 = within-high 48 57 b h in
-    rw (ne-eqb b 32 (λ e. omega arith), ne-eqb b 9 (λ e. omega arith), ne-eqb b 92 (λ e. omega arith), ne-eqb b 36 (λ e. omega arith), below 97 122 b (omega arith), h)
+    rw (ne-eqb b 32 (λ e. omega arith), ne-eqb b 9 (λ e. omega arith), ne-eqb b 92 (λ e. omega arith), ne-eqb b 36 (λ e. omega arith), within-below 97 122 b (omega arith), h)
 
 lower-start : (b : ℕ) (bs : List ℕ) → isLower b ≡ true → step (b ∷ bs) ≡ wordStep (b ∷ bs) (b ∷ run isLower bs) (rest isLower bs)
 unfolding step stepAt isBlank isNameStart isLower oneOf any

@@ -18,8 +18,8 @@ use Rattle.rules.specs.Signals.{Wires}
 use Rattle.rules.specs.Text.{Run, digits, span, runs, cut, runSig, runsSig, sig, literalOf, setting, unless, directionWord, wireOptions, memoryOptions, written, numberToken, wordToken, lowTokens, sigTokens, sigsTokens, optionTokens, sortTokens, shapeTokens}
 use Rattle.admitted.specs.Admitted.{fineConstant, sameLength, fineParts}
 use Rattle.scanner.specs.Laws.{by-cond, and-true-left, and-true-right}
-use Rattle.admitted.specs.AdmitLaws.{all-append}
-use Rattle.written.specs.Lists.{all-cons, all-first, all-later, all-split, all-drop, all-map}
+use Rattle.scanner.specs.Lists.{all-append, all-split}
+use Rattle.written.specs.Lists.{all-cons, all-first, all-later, all-drop, all-map}
 use Rattle.written.specs.TokenLaws.{fineLiteral, fineToken}
 
 -- the wires' names are legal

@@ -3,7 +3,7 @@ use native.Mathlib.Omega.{arith}
 use mathlib.Core.Path.{refl}
 use borrow.Author.Tests.{eq-eqb, ne-eqb}
 use Rattle.rules.specs.Shapes as shapes
-use Rattle.forms.specs.Forms.{sortOf}
+use Rattle.numbers.specs.Kinds.{sortOf}
 use Rattle.forms.proofs.Laws.{word-below, sort-word, wordsOpen}
 use borrow.Author.Needs.{needs}
 use Rattle.forms.proofs.cell_parameter_line.Statement.{statement}

@@ -1,32 +1,41 @@
 -- One option behind another.
 -- Assumes nothing.
+use mathlib.Core.Path.{refl}
 use Rattle.text.specs.Written.{written-most, written-then, written-as}
+use Rattle.rules.specs.Text.{setting}
 use Rattle.line_text.specs.LineLaws.{memory-options}
 use borrow.Author.Needs.{needs}
 use denote.Ref.{now}
 use Rattle.line_text.proofs.put_memory_options.Statement.{statement}
 use Rattle.line_text.proofs.put_memory_options.Tie as tie
 
+slice-aggregate-put-setting : tie.Need-slice-aggregate-put-setting
+slice-aggregate-put-setting c = refl
+
 column-requires : tie.Need-column-requires
 column-requires c κs = search needs
 
-put-width-requires : tie.Need-put-width-requires
-put-width-requires c κs = search needs
+put-setting-requires : tie.Need-put-setting-requires
+put-setting-requires c κs = search needs
+
+slice-aggregate-put-setting-2 : tie.Need-slice-aggregate-put-setting-2
+slice-aggregate-put-setting-2 c = refl
 
 column-requires-2 : tie.Need-column-requires-2
 column-requires-2 c κs = search needs
 
-put-size-requires : tie.Need-put-size-requires
-put-size-requires c κs = written-most (c .before .before .before .before .put-width .ensures)
+put-setting-requires-2 : tie.Need-put-setting-requires-2
+put-setting-requires-2 c κs = written-most (c .before .before .before .before .before .put-setting .ensures)
 
 column-requires-3 : tie.Need-column-requires-3
 column-requires-3 c κs = search needs
 
 put-offset-requires : tie.Need-put-offset-requires
-put-offset-requires c κs = written-most (c .before .before .before .before .put-size .ensures)
+put-offset-requires c κs = written-most (c .before .before .before .before .put-setting2 .ensures)
 
 returns : tie.Need-returns
-returns c = written-as (written-then (c .before .before .before .before .before .before .before .before .before .before .before .before .put-width .ensures) (written-then (c .before .before .before .before .before .before .before .put-size .ensures) (c .before .before .put-offset .ensures))) (memory-options (now (c .before .before .before .before .before .before .before .before .before .before .before .before .before .before .before .before .before .args .rows)) (c .before .before .before .before .before .before .before .before .before .before .before .before .before .before .before .before .before .args .row) _ _ _ (c .before .before .before .before .before .before .before .before .before .before .before .before .before .column .ensures) (c .before .before .before .before .before .before .before .before .column2 .ensures) (c .before .before .before .column3 .ensures))
+unfolding setting
+returns c = written-as (written-then (c .before .before .before .before .before .before .before .before .before .before .before .before .before .put-setting .ensures) (written-then (c .before .before .before .before .before .before .before .put-setting2 .ensures) (c .before .before .put-offset .ensures))) (memory-options (now (c .before .before .before .before .before .before .before .before .before .before .before .before .before .before .before .before .before .before .before .args .rows)) (c .before .before .before .before .before .before .before .before .before .before .before .before .before .before .before .before .before .before .before .args .row) _ _ _ (c .before .before .before .before .before .before .before .before .before .before .before .before .before .before .column .ensures) (c .before .before .before .before .before .before .before .before .column2 .ensures) (c .before .before .before .column3 .ensures))
 
 same-length : tie.Need-same-length
 same-length c = returns c .kept
@@ -35,10 +44,12 @@ pub put-memory-options-spec : {M : Type 1} → statement M
 put-memory-options-spec =
     tie.close
     (tie.spec
+    slice-aggregate-put-setting
     column-requires
-    put-width-requires
+    put-setting-requires
+    slice-aggregate-put-setting-2
     column-requires-2
-    put-size-requires
+    put-setting-requires-2
     column-requires-3
     put-offset-requires
     same-length

@@ -4,6 +4,7 @@ use mathlib.Core.Path.{refl}
 use Rattle.text.specs.Written.{written-none}
 use borrow.Author.Tests.{ne-eqb}
 use Rattle.rules.specs.Text.{sortTokens, wordToken, tokenText, tight, behind}
+use Rattle.numbers.specs.Kinds.{sortOf}
 use Rattle.netlist.specs.Statements.{sortAt}
 use Rattle.line_text.specs.Pieces.{spread}
 use borrow.Author.Needs.{needs}
@@ -15,7 +16,7 @@ column-requires : tie.Need-column-requires
 column-requires c κs = search needs
 
 returns : tie.Need-returns
-unfolding sortAt sortTokens spread behind
+unfolding sortAt sortOf sortTokens spread behind
 returns c = rw (← c .before .column .ensures, c .if1 .taken) (written-none (c .before .before .before .before .args .at) (now (c .before .before .before .before .args .out)) (c .before .before .before .before .pre .0))
 
 slice-aggregate-put-bytes : tie.Need-slice-aggregate-put-bytes
@@ -25,7 +26,7 @@ put-bytes-requires : tie.Need-put-bytes-requires
 put-bytes-requires c κs = search needs
 
 returns-2 : tie.Need-returns-2
-unfolding sortAt sortTokens wordToken spread behind tight tokenText
+unfolding sortAt sortOf sortTokens wordToken spread behind tight tokenText
 returns-2 c = rw (← c .before .before .before .before .before .before .before .column .ensures, c .before .before .before .before .before .if2 .taken) (c .before .before .put-bytes .ensures)
 
 same-length : tie.Need-same-length
@@ -38,7 +39,7 @@ put-bytes-requires-2 : tie.Need-put-bytes-requires-2
 put-bytes-requires-2 c κs = search needs
 
 returns-3 : tie.Need-returns-3
-unfolding sortAt sortTokens wordToken spread behind tight tokenText
+unfolding sortAt sortOf sortTokens wordToken spread behind tight tokenText
 returns-3 c = rw (← c .before .before .before .before .before .before .before .column .ensures, ne-eqb _ _ (c .before .before .before .before .before .before .if1 .left), ne-eqb _ _ (c .before .before .before .before .before .if2 .left)) (c .before .before .put-bytes2 .ensures)
 
 same-length-2 : tie.Need-same-length-2

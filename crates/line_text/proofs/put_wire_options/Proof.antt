@@ -2,6 +2,7 @@
 -- Assumes nothing.
 use mathlib.Core.Path.{refl}
 use Rattle.text.specs.Written.{written-most, written-then, written-as}
+use Rattle.rules.specs.Text.{setting}
 use Rattle.line_text.specs.LineLaws.{wire-options}
 use borrow.Author.Needs.{needs}
 use denote.Ref.{now}
@@ -11,17 +12,20 @@ use Rattle.line_text.proofs.put_wire_options.Tie as tie
 column-requires : tie.Need-column-requires
 column-requires c κs = search needs
 
+slice-aggregate-put-setting : tie.Need-slice-aggregate-put-setting
+slice-aggregate-put-setting c = refl
+
 column-requires-2 : tie.Need-column-requires-2
 column-requires-2 c κs = search needs
 
-put-width-requires : tie.Need-put-width-requires
-put-width-requires c κs = search needs
+put-setting-requires : tie.Need-put-setting-requires
+put-setting-requires c κs = search needs
 
 column-requires-3 : tie.Need-column-requires-3
 column-requires-3 c κs = search needs
 
 put-offset-requires : tie.Need-put-offset-requires
-put-offset-requires c κs = written-most (c .before .before .before .before .put-width .ensures)
+put-offset-requires c κs = written-most (c .before .before .before .before .put-setting .ensures)
 
 slice-aggregate-put-flag : tie.Need-slice-aggregate-put-flag
 slice-aggregate-put-flag c = refl
@@ -42,7 +46,8 @@ put-flag-requires-2 : tie.Need-put-flag-requires-2
 put-flag-requires-2 c κs = written-most (c .before .before .before .before .put-port .ensures)
 
 returns : tie.Need-returns
-returns c = written-as (written-then (c .before .before .before .before .before .before .before .before .before .before .before .before .before .before .before .before .before .before .before .before .before .before .put-width .ensures) (written-then (c .before .before .before .before .before .before .before .before .before .before .before .before .before .before .before .before .before .put-offset .ensures) (written-then (c .before .before .before .before .before .before .before .before .before .before .before .before .put-flag .ensures) (written-then (c .before .before .before .before .before .before .before .put-port .ensures) (c .before .before .put-flag2 .ensures))))) (wire-options (now (c .before .before .before .before .before .before .before .before .before .before .before .before .before .before .before .before .before .before .before .before .before .before .before .before .before .before .before .before .args .wires)) (c .before .before .before .before .before .before .before .before .before .before .before .before .before .before .before .before .before .before .before .before .before .before .before .before .before .before .before .before .args .row) _ _ _ _ (c .before .before .before .before .before .before .before .before .before .before .before .before .before .before .before .before .before .before .before .before .before .before .before .column2 .ensures) (c .before .before .before .before .before .before .before .before .before .before .before .before .before .before .before .before .before .before .column3 .ensures) (c .before .before .before .before .before .before .before .before .before .before .before .before .before .before .before .before .before .before .before .before .before .before .before .before .before .column .ensures) (c .before .before .before .before .before .before .before .before .column4 .ensures))
+unfolding setting
+returns c = written-as (written-then (c .before .before .before .before .before .before .before .before .before .before .before .before .before .before .before .before .before .before .before .before .before .before .put-setting .ensures) (written-then (c .before .before .before .before .before .before .before .before .before .before .before .before .before .before .before .before .before .put-offset .ensures) (written-then (c .before .before .before .before .before .before .before .before .before .before .before .before .put-flag .ensures) (written-then (c .before .before .before .before .before .before .before .put-port .ensures) (c .before .before .put-flag2 .ensures))))) (wire-options (now (c .before .before .before .before .before .before .before .before .before .before .before .before .before .before .before .before .before .before .before .before .before .before .before .before .before .before .before .before .before .args .wires)) (c .before .before .before .before .before .before .before .before .before .before .before .before .before .before .before .before .before .before .before .before .before .before .before .before .before .before .before .before .before .args .row) _ _ _ _ (c .before .before .before .before .before .before .before .before .before .before .before .before .before .before .before .before .before .before .before .before .before .before .before .column2 .ensures) (c .before .before .before .before .before .before .before .before .before .before .before .before .before .before .before .before .before .before .column3 .ensures) (c .before .before .before .before .before .before .before .before .before .before .before .before .before .before .before .before .before .before .before .before .before .before .before .before .before .before .column .ensures) (c .before .before .before .before .before .before .before .before .column4 .ensures))
 
 same-length : tie.Need-same-length
 same-length c = returns c .kept
@@ -52,8 +57,9 @@ put-wire-options-spec =
     tie.close
     (tie.spec
     column-requires
+    slice-aggregate-put-setting
     column-requires-2
-    put-width-requires
+    put-setting-requires
     column-requires-3
     put-offset-requires
     slice-aggregate-put-flag

@@ -1,9 +1,7 @@
 -- Cut at the length, the span is the same part.
 -- Assumes nothing.
-use mathlib.Core.Path.{_≡_, sym, _∙_}
-use mathlib.Core.Logic.{⊎-elim}
-use lib.Seq.{slice}
-use Rattle.scanner.proofs.RunLaws.{slice-part, slice-cut, slice-none}
+use mathlib.Core.Logic.{inl, inr, ⊎-elim}
+use Rattle.scanner.proofs.RunLaws.{cut-none, cut-part}
 use native.Mathlib.Omega.{arith}
 use borrow.Author.Needs.{needs}
 use denote.Ref.{now}
@@ -21,9 +19,9 @@ part-result-end c = search needs
 
 returns : tie.Need-returns
 returns c =
-    let e : slice (c .before .before .before .args .start) (c .before .before .if1 .stop) (now (c .before .before .before .args .t)) ≡ slice (c .before .before .before .args .start) (c .before .before .before .args .end) (now (c .before .before .before .args .t)) =
-    ⊎-elim (λ w. rw (w .1)) (λ w. rw (w .1) (slice-cut (c .before .before .before .args .start) (c .before .before .before .args .end) (now (c .before .before .before .args .t)) (w .0 .left))) (c .before .before .if1 .came) in
-    sym (sym e ∙ slice-none (c .before .before .before .args .start) (c .before .before .if1 .stop) (now (c .before .before .before .args .t)) (c .before .if2 .taken))
+    cut-none (c .before .before .before .args .start) (c .before .before .before .args .end) (c .before .before .if1 .stop) (now (c .before .before .before .args .t))
+    (⊎-elim (λ w. inl (w .1)) (λ w. inr (w .0 .left, w .1)) (c .before .before .if1 .came))
+    (c .before .if2 .taken)
 
 mul-result : tie.Need-mul-result
 mul-result c = ⊎-elim (λ w. omega arith) (λ w. omega arith) (c .before .if1 .came)
@@ -39,9 +37,8 @@ part-result-end-2 c = ⊎-elim (λ w. omega arith) (λ w. omega arith) (c .befor
 
 returns-2 : tie.Need-returns-2
 returns-2 c =
-    let e : slice (c .before .before .before .before .args .start) (c .before .before .before .if1 .stop) (now (c .before .before .before .before .args .t)) ≡ slice (c .before .before .before .before .args .start) (c .before .before .before .before .args .end) (now (c .before .before .before .before .args .t)) =
-    ⊎-elim (λ w. rw (w .1)) (λ w. rw (w .1) (slice-cut (c .before .before .before .before .args .start) (c .before .before .before .before .args .end) (now (c .before .before .before .before .args .t)) (w .0 .left))) (c .before .before .before .if1 .came) in
-    sym (slice-part (c .before .before .before .before .args .start) (c .before .before .before .if1 .stop) (now (c .before .before .before .before .args .t))) ∙ e
+    cut-part (c .before .before .before .before .args .start) (c .before .before .before .before .args .end) (c .before .before .before .if1 .stop) (now (c .before .before .before .before .args .t))
+    (⊎-elim (λ w. inl (w .1)) (λ w. inr (w .0 .left, w .1)) (c .before .before .before .if1 .came))
 
 pub words-spec : {M : Type 1} → statement M
 words-spec =

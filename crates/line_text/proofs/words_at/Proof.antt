@@ -1,6 +1,6 @@
 -- A span is cut as the decoder cuts it.
 -- Assumes nothing.
-use Rattle.netlist.specs.Statements.{spanAt}
+use Rattle.wires.specs.Rows.{spanAt}
 use borrow.Author.Needs.{needs}
 use Rattle.line_text.proofs.words_at.Statement.{statement}
 use Rattle.line_text.proofs.words_at.Tie as tie

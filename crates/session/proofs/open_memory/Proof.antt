@@ -1,8 +1,9 @@
 use mathlib.Core.Path.{refl, sym, _∙_}
 use denote.Ref.{now}
+use borrow.Author.Tests.{not-true, not-false}
 use Rattle.reader.specs.Read.{lent, rightLengths}
 use Rattle.session.specs.Steps.{wrong-sizes}
-use Rattle.session.proofs.OpenLaws.{not-true, not-false, held-open, held-none}
+use Rattle.session.proofs.OpenLaws.{held-open, held-none}
 use borrow.Author.Needs.{needs}
 use Rattle.session.proofs.open_memory.Statement.{statement}
 use Rattle.session.proofs.open_memory.Tie as tie

@@ -1,10 +1,10 @@
 -- A span is cut as the decoder cuts it.
 -- Assumes nothing.
-use Rattle.netlist.specs.Statements.{spanAt}
+use Rattle.wires.specs.Rows.{spanAt}
 use borrow.Author.Needs.{needs}
 use Rattle.show.proofs.span.Statement.{statement}
 use Rattle.show.proofs.span.Tie as tie
-use Rattle.show.proofs.column.Reads as column-reads
+use Rattle.wires.proofs.column.Reads as column-reads
 use Rattle.show.proofs.cut.Reads as cut-reads
 
 column-requires : tie.Need-column-requires

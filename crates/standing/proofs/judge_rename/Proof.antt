@@ -3,11 +3,10 @@
 use mathlib.Core.Path.{sym, _∙_}
 use native.Mathlib.Omega.{arith}
 use borrow.Author.Needs.{needs}
-use borrow.Author.Tests.{le-leb, lt-leb}
+use borrow.Author.Tests.{le-leb, lt-leb, not-false}
 use Rattle.standing.specs.Judged.{judged}
 use denote.Ref.{now}
 use Rattle.standing.specs.JudgedLaws.{legal-short, judged-is}
-use Rattle.standing.proofs.Laws.{not-false}
 use Rattle.standing.proofs.judge_rename.Statement.{statement}
 use Rattle.standing.proofs.judge_rename.Tie as tie
 

@@ -6,7 +6,7 @@ use mathlib.Core.Path.{_≡_, refl, sym, ap, _∙_}
 use native.Mathlib.Omega.{arith}
 use borrow.Author.Needs.{needs}
 use Rattle.rules.specs.Signals.{find}
-use Rattle.wires.specs.Rows.{wireOf, wiresFrom}
+use Rattle.wires.specs.Rows.{nameOf, wireOf, wiresFrom}
 use Rattle.wires.specs.Found.{widthFound, foundOf}
 use Rattle.wires.proofs.Laws.{find-last, find-before}
 use Rattle.wires.proofs.find_wire.Statement.{statement}
@@ -30,8 +30,8 @@ cast-row c = omega arith
 add-row : tie.Need-add-row Inv-loop μ-loop
 add-row c = omega arith
 
-row-name-requires : tie.Need-row-name-requires Inv-loop μ-loop
-row-name-requires c κs = omega arith
+bytes-at-requires : tie.Need-bytes-at-requires Inv-loop μ-loop
+bytes-at-requires c κs = omega arith
 
 same-bytes-requires : tie.Need-same-bytes-requires Inv-loop μ-loop
 same-bytes-requires c κs = search needs
@@ -40,19 +40,20 @@ column-requires : tie.Need-column-requires Inv-loop μ-loop
 column-requires c κs = omega arith
 
 returns : tie.Need-returns Inv-loop μ-loop
-unfolding widthFound foundOf wireOf
+unfolding widthFound foundOf wireOf nameOf
 returns c =
     let e : c .before .before .before .before .before .loop .k ≡ suc (c .before .before .before .before .before .loop .k - 1) = omega arith in
-    ap widthFound (c .before .before .before .before .before .loop .inv .1 ∙ find-last _ _ _ _ _ e _ _ _ (c .before .before .before .row-name .ensures) (c .before .before .same-bytes .ensures) (c .before .if1 .taken))
+    ap widthFound (c .before .before .before .before .before .loop .inv .1 ∙ find-last _ _ _ _ _ e _ _ _ (c .before .before .before .bytes-at .ensures) (c .before .before .same-bytes .ensures) (c .before .if1 .taken))
     ∙ ap (λ (w : ℕ). some (c .before .before .before .before .before .loop .k - 1, w)) (sym (c .column .ensures))
 
 loop-less : tie.Need-loop-less Inv-loop μ-loop
 loop-less c = omega arith
 
 loop-again : tie.Need-loop-again Inv-loop μ-loop
+unfolding nameOf
 loop-again c =
     let e : c .before .before .before .before .loop .k ≡ suc (c .before .before .before .before .loop .k - 1) = omega arith in
-    (omega arith, c .before .before .before .before .loop .inv .1 ∙ find-before _ _ _ _ _ e _ _ _ (c .before .before .row-name .ensures) (c .before .same-bytes .ensures) (c .if1 .left))
+    (omega arith, c .before .before .before .before .loop .inv .1 ∙ find-before _ _ _ _ _ e _ _ _ (c .before .before .bytes-at .ensures) (c .before .same-bytes .ensures) (c .if1 .left))
 
 returns-2 : tie.Need-returns-2 Inv-loop μ-loop
 unfolding widthFound foundOf find wiresFrom
@@ -70,7 +71,7 @@ find-wire-spec =
     sub-last
     cast-row
     add-row
-    row-name-requires
+    bytes-at-requires
     same-bytes-requires
     column-requires
     returns

@@ -3,7 +3,7 @@ use native.Mathlib.Omega.{arith}
 use denote.Ref.{now}
 use Rattle.rules.specs.Statements.{code, holds, contents}
 use Rattle.rules.specs.Layout.{padded, row, columns, statementRow}
-use Rattle.layout.specs.SignalLaws.{signal-long}
+use Rattle.syntax.specs.SignalLaws.{signal-long}
 use Rattle.layout.proofs.Laws.{signals-put}
 use borrow.Author.Needs.{needs}
 use Rattle.layout.proofs.put.put_connection.Statement.{statement}

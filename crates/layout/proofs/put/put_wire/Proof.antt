@@ -2,7 +2,7 @@ use mathlib.Core.Path.{refl}
 use Rattle.rules.specs.Statements.{code, holds, contents}
 use Rattle.rules.specs.Layout.{padded, row, columns, statementRow}
 use Rattle.layout.proofs.Laws.{name-put, wire-put}
-use Rattle.layout.specs.Put.{usedOf}
+use Rattle.netlist.specs.Used.{usedOf}
 use borrow.Author.Needs.{needs}
 use Rattle.layout.proofs.put.put_wire.Statement.{statement}
 use Rattle.layout.proofs.put.put_wire.Tie as tie

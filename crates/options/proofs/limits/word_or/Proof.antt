@@ -1,9 +1,9 @@
 -- By what the slot holds, and by its integer.
 -- Assumes nothing.
 use mathlib.Core.Path.{sym, _∙_}
+use mathlib.Core.Bool.{false≢true}
 use Rattle.rules.specs.Signals.{twosComplement}
 use Rattle.options.specs.Numbers.{slotFits, valueOr}
-use Rattle.options.proofs.Each.{never}
 use borrow.Author.Needs.{needs}
 use Rattle.options.proofs.limits.word_or.Statement.{statement}
 use Rattle.options.proofs.limits.word_or.Tie as tie
@@ -29,7 +29,7 @@ returns c h = let q = rw (c .before .w .given .1) at (c .before .before .before 
 
 returns-2 : tie.Need-returns-2
 unfolding slotFits
-returns-2 c h = let q = rw (c .enum-told .given .1) at (c .before .before .integer-of .ensures) in let k = rw (c .before .before .before .before .s .given .1) at h in never (sym q ∙ k)
+returns-2 c h = let q = rw (c .enum-told .given .1) at (c .before .before .integer-of .ensures) in let k = rw (c .before .before .before .before .s .given .1) at h in absurd (false≢true (sym q ∙ k))
 
 returns-3 : tie.Need-returns-3
 unfolding valueOr twosComplement

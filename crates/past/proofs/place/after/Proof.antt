@@ -6,7 +6,7 @@ use native.Mathlib.Omega.{arith}
 use lib.Dec.{eqb}
 use borrow.Author.Needs.{needs}
 use Rattle.past.specs.Place.{placeAfter}
-use Rattle.past.proofs.KindLaws.{one-le}
+use Rattle.scanner.specs.Laws.{one-le}
 use Rattle.past.proofs.PlaceLaws.{place-step}
 use Rattle.past.proofs.place.after.Statement.{statement}
 use Rattle.past.proofs.place.after.Tie as tie

@@ -1,4 +1,4 @@
-use Rattle.replay.specs.Parts.{usedOf}
+use Rattle.netlist.specs.Used.{usedOf}
 use denote.Ref.{now}
 use mathlib.Core.Path.{sym, _∙_}
 use borrow.Author.Tests.{not-true, not-false}
@@ -32,26 +32,26 @@ stands-at-requires c κs = search needs
 returns-2 : tie.Need-returns-2
 returns-2 c = turn-kind _ _ _ _ _ (c .before .before .get-row .ensures) (sym (c .before .stands-at .ensures) ∙ not-true _ (c .if2 .taken))
 
-used-requires : tie.Need-used-requires
-used-requires c κs = c .before .before .before .before .before .before .before .before .before .before .pre .within
+used-from-requires : tie.Need-used-from-requires
+used-from-requires c κs = c .before .before .before .before .before .before .before .before .before .before .pre .within
 
 statement-at-requires : tie.Need-statement-at-requires
-statement-at-requires c κs = (small-used (usedOf (c .used .result)) (c .before .before .before .before .before .before .before .before .before .before .before .args .p) (c .before .before .before .before .before .before .before .before .before .before .before .args .u) (c .used .ensures) (c .before .before .before .before .before .before .before .before .before .before .before .pre .within), wires-fit (usedOf (c .used .result)) (c .before .before .before .before .before .before .before .before .before .before .before .args .p) (c .before .before .before .before .before .before .before .before .before .before .before .args .u) (c .used .ensures) (c .before .before .before .before .before .before .before .before .before .before .before .pre .bounds))
+statement-at-requires c κs = (small-used (usedOf (c .used-from .result)) (c .before .before .before .before .before .before .before .before .before .before .before .args .p) (c .before .before .before .before .before .before .before .before .before .before .before .args .u) (c .used-from .ensures) (c .before .before .before .before .before .before .before .before .before .before .before .pre .within), wires-fit (usedOf (c .used-from .result)) (c .before .before .before .before .before .before .before .before .before .before .before .args .p) (c .before .before .before .before .before .before .before .before .before .before .before .args .u) (c .used-from .ensures) (c .before .before .before .before .before .before .before .before .before .before .before .pre .bounds))
 
 enum-known-f : tie.Need-enum-known-f
 enum-known-f c = search needs
 
 counted-requires : tie.Need-counted-requires
-counted-requires c κs = (c .before .before .before .before .before .before .before .before .before .before .before .before .before .before .before .pre, turn-told (tabled (now (c .before .before .before .before .before .before .before .before .before .before .before .before .before .before .before .args .names)) (now (c .before .before .before .before .before .before .before .before .before .before .before .before .before .before .before .args .strings)) (now (c .before .before .before .before .before .before .before .before .before .before .before .before .before .before .before .args .bits)) (now (c .before .before .before .before .before .before .before .before .before .before .before .before .before .before .before .args .wires))) (now (c .before .before .before .before .before .before .before .before .before .before .before .before .before .before .before .args .rows)) (c .before .before .before .before .before .before .before .before .before .before .before .before .before .before .before .args .p) (c .before .before .before .before .before .before .before .before .before .before .before .before .before .before .before .args .u) (c .before .before .before .before .before .before .before .get-row .result) (c .before .before .before .before .before .before .before .get-row .ensures) (usedOf (c .before .before .before .before .used .result)) (c .before .before .before .before .used .ensures) (c .before .before .before .statement-at .result) (c .before .before .before .statement-at .ensures) _ _ _ _ (c .before .f .given .1))
+counted-requires c κs = (c .before .before .before .before .before .before .before .before .before .before .before .before .before .before .before .pre, turn-told (tabled (now (c .before .before .before .before .before .before .before .before .before .before .before .before .before .before .before .args .names)) (now (c .before .before .before .before .before .before .before .before .before .before .before .before .before .before .before .args .strings)) (now (c .before .before .before .before .before .before .before .before .before .before .before .before .before .before .before .args .bits)) (now (c .before .before .before .before .before .before .before .before .before .before .before .before .before .before .before .args .wires))) (now (c .before .before .before .before .before .before .before .before .before .before .before .before .before .before .before .args .rows)) (c .before .before .before .before .before .before .before .before .before .before .before .before .before .before .before .args .p) (c .before .before .before .before .before .before .before .before .before .before .before .before .before .before .before .args .u) (c .before .before .before .before .before .before .before .get-row .result) (c .before .before .before .before .before .before .before .get-row .ensures) (usedOf (c .before .before .before .before .used-from .result)) (c .before .before .before .before .used-from .ensures) (c .before .before .before .statement-at .result) (c .before .before .before .statement-at .ensures) _ _ _ _ (c .before .f .given .1))
 
 enum-told : tie.Need-enum-told
 enum-told c = search needs
 
 returns-3 : tie.Need-returns-3
-returns-3 c = turn-counted _ _ _ _ _ (c .before .before .before .before .before .before .before .before .get-row .ensures) _ (c .before .before .before .before .before .used .ensures) _ (c .before .before .before .before .statement-at .ensures) _ _ _ _ (c .before .before .f .given .1) (c .before .before .before .before .before .before .before .before .before .if1 .left) (sym (c .before .before .before .before .before .before .before .stands-at .ensures) ∙ not-false _ (c .before .before .before .before .before .before .if2 .left)) _ (c .counted .ensures _ _ _)
+returns-3 c = turn-counted _ _ _ _ _ (c .before .before .before .before .before .before .before .before .get-row .ensures) _ (c .before .before .before .before .before .used-from .ensures) _ (c .before .before .before .before .statement-at .ensures) _ _ _ _ (c .before .before .f .given .1) (c .before .before .before .before .before .before .before .before .before .if1 .left) (sym (c .before .before .before .before .before .before .before .stands-at .ensures) ∙ not-false _ (c .before .before .before .before .before .before .if2 .left)) _ (c .counted .ensures _ _ _)
 
 returns-4 : tie.Need-returns-4
-returns-4 c = turn-not _ _ _ _ _ (c .before .before .before .before .before .before .get-row .ensures) _ (c .before .before .before .used .ensures) _ (c .before .before .statement-at .ensures) (c .enum-told .given .1)
+returns-4 c = turn-not _ _ _ _ _ (c .before .before .before .before .before .before .get-row .ensures) _ (c .before .before .before .used-from .ensures) _ (c .before .before .statement-at .ensures) (c .enum-told .given .1)
 
 pub one-more-spec : {M : Type 1} → statement M
 one-more-spec =
@@ -64,7 +64,7 @@ one-more-spec =
     get-row-requires
     stands-at-requires
     returns-2
-    used-requires
+    used-from-requires
     statement-at-requires
     enum-known-f
     counted-requires
