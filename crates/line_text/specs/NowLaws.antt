@@ -10,9 +10,8 @@ use lib.Seq.{drop-nil}
 use Rattle.rules.specs.Tokens.{Name}
 use Rattle.rules.specs.Signals.{Wires}
 use Rattle.scanner.specs.Laws.{by-test}
-use Rattle.wires.specs.Rows.{nameOf, wireOf, wiresFrom}
+use Rattle.wires.specs.Rows.{spanAt, nameOf, wireOf, wiresFrom}
 use Rattle.netlist.specs.Rows.{nameFrom}
-use Rattle.netlist.specs.Statements.{spanAt}
 use Rattle.line_text.specs.declared.Module.{Module}
 use Rattle.line_text.specs.Now.{renames, lastRename, nameNow, wiresNow, wiresIn}
 

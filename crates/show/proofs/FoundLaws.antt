@@ -16,12 +16,11 @@ use Rattle.rules.specs.Session.{hdlname}
 use Rattle.rules.specs.Layout.{used, padded, row, stringBytes, constantColumns, columns, statementRow}
 use Rattle.scanner.specs.Laws.{by-test}
 use Rattle.past.specs.Place.{wiresIn}
-use Rattle.wires.specs.Rows.{column}
+use Rattle.wires.specs.Rows.{column, spanAt}
 use Rattle.wires.specs.RowLaws.{slice-span, RowIs}
 use Rattle.netlist.specs.Rows.{kindAt, nameAt}
 use Rattle.netlist.specs.Kinds.{ofKinds, hasName}
 use Rattle.netlist.specs.RowLaws.{row-kind, row-own}
-use Rattle.wires.specs.Rows.{spanAt}
 use Rattle.netlist.specs.Laid.{roomsOf}
 use Rattle.netlist.specs.LaidLaws.{length-rows, eights-rows, laid-row}
 use Rattle.designs.specs.ListLaws.{flatMap-back}

@@ -11,9 +11,8 @@ use lib.Seq.{drop-cons, length-slice}
 use borrow.Author.Tests.{ne-eqb}
 use Rattle.rules.specs.Session.{plainName, orElse}
 use Rattle.scanner.proofs.RunLaws.{slice-part}
-use Rattle.wires.specs.Rows.{column}
+use Rattle.wires.specs.Rows.{column, spanAt}
 use Rattle.netlist.specs.Rows.{kindAt}
-use Rattle.wires.specs.Rows.{spanAt}
 use Rattle.line_text.specs.Now.{nameNow}
 use Rattle.show.specs.Rows.{declares, wireLine, isHdlname, hdlnameRow, textAt, shownName}
 use Rattle.show.specs.Parts.{PartIs}

@@ -5,9 +5,8 @@ use mathlib.Core.Bool.{Bool, cond, _&&_}
 use lib.Dec.{eqb}
 use Rattle.rules.specs.Bytes.{bytes, same}
 use Rattle.rules.specs.Session.{plainName, orElse}
-use Rattle.wires.specs.Rows.{column}
+use Rattle.wires.specs.Rows.{column, spanAt}
 use Rattle.netlist.specs.Rows.{kindAt, nameAt}
-use Rattle.wires.specs.Rows.{spanAt}
 use Rattle.line_text.specs.Now.{nameNow}
 
 -- whether a row is the statement of the wire in row w of the table of wires; and the last such row of the first k
