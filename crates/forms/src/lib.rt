@@ -9,6 +9,7 @@ use tokens::id_at;
 use tokens::integer_at;
 use tokens::literal_at;
 use tokens::token_at;
+ghost use mathlib.Core.Bool.{cond};
 ghost use Rattle.rules.specs.Statements.{autoidx-stmt, attr-stmt, module-stmt, param-stmt, cell-stmt, cell-param-stmt, proc-stmt};
 ghost use Rattle.rules.specs.Shapes.{of₁, of₂, of₃, id, int, const, orEnd, sort, objectForms};
 ghost use Rattle.forms.specs.Words.{WordIs};
@@ -80,8 +81,9 @@ fn autoidx_line(tokens: &[u32], i: usize) -> Form
     finished(tokens, i + 1, Form::Autoidx(z))
 }
 
-fn attribute_line(tokens: &[u32], i: usize) -> Form
-    ensures { λ r. ⌜ LineIs (of₂ attr-stmt id const) (now (tokens .entry)) i r ⌝ }
+// An attribute's line, or a cell parameter's behind its sort: a name and a constant.
+fn valued_line(tokens: &[u32], i: usize, attribute: bool, sort: u32) -> Form
+    ensures { λ r. ⌜ SortedIs sort (of₂ (cond attribute attr-stmt (cell-param-stmt (sortOf sort))) id const) (now (tokens .entry)) i r ⌝ }
 {
     let Id::Span { start, end } = id_at(tokens, i) else {
         return Form::NoShape;
@@ -91,25 +93,28 @@ fn attribute_line(tokens: &[u32], i: usize) -> Form
         return Form::NoShape;
     };
     let name = Span { start, end };
-    finished(tokens, j + 1, Form::Attribute { name, value })
+    let form = if attribute {
+        Form::Attribute { name, value }
+    } else {
+        Form::CellParameter { sort, name, value }
+    };
+    finished(tokens, j + 1, form)
 }
 
-fn module_line(tokens: &[u32], i: usize) -> Form
-    ensures { λ r. ⌜ LineIs (of₁ module-stmt id) (now (tokens .entry)) i r ⌝ }
+// A module's line, or a process's: one name.
+fn named_line(tokens: &[u32], i: usize, process: bool) -> Form
+    ensures { λ r. ⌜ LineIs (of₁ (cond process proc-stmt module-stmt) id) (now (tokens .entry)) i r ⌝ }
 {
     let Id::Span { start, end } = id_at(tokens, i) else {
         return Form::NoShape;
     };
-    finished(tokens, i + 1, Form::Module(Span { start, end }))
-}
-
-fn process_line(tokens: &[u32], i: usize) -> Form
-    ensures { λ r. ⌜ LineIs (of₁ proc-stmt id) (now (tokens .entry)) i r ⌝ }
-{
-    let Id::Span { start, end } = id_at(tokens, i) else {
-        return Form::NoShape;
+    let name = Span { start, end };
+    let form = if process {
+        Form::Process(name)
+    } else {
+        Form::Module(name)
     };
-    finished(tokens, i + 1, Form::Process(Span { start, end }))
+    finished(tokens, i + 1, form)
 }
 
 fn parameter_line(tokens: &[u32], i: usize) -> Form
@@ -153,21 +158,6 @@ fn cell_line(tokens: &[u32], i: usize) -> Form
     finished(tokens, j + 1, Form::Cell { kind, name })
 }
 
-// A cell parameter behind its sort.
-fn sorted_line(tokens: &[u32], i: usize, sort: u32) -> Form
-    ensures { λ r. ⌜ SortedIs sort (of₂ (cell-param-stmt (sortOf sort)) id const) (now (tokens .entry)) i r ⌝ }
-{
-    let Id::Span { start, end } = id_at(tokens, i) else {
-        return Form::NoShape;
-    };
-    let j = i + 1;
-    let Literal::Read(value) = literal_at(tokens, j) else {
-        return Form::NoShape;
-    };
-    let name = Span { start, end };
-    finished(tokens, j + 1, Form::CellParameter { sort, name, value })
-}
-
 // The number of the keyword in row i; 32 where none stands there.
 fn word_at(tokens: &[u32], i: usize) -> usize
     ensures { λ r. ⌜ WordIs (now (tokens .entry)) i r ⌝ }
@@ -186,12 +176,12 @@ fn cell_parameter_line(tokens: &[u32], i: usize) -> Form
 {
     let c = word_at(tokens, i);
     if c == 13 {
-        return sorted_line(tokens, i + 1, 1);
+        return valued_line(tokens, i + 1, false, 1);
     }
     if c == 17 {
-        return sorted_line(tokens, i + 1, 2);
+        return valued_line(tokens, i + 1, false, 2);
     }
-    sorted_line(tokens, i, 0)
+    valued_line(tokens, i, false, 0)
 }
 
 // A line outside of modules; first: no statement stands before it.
@@ -206,10 +196,10 @@ pub fn top_line(tokens: &[u32], first: bool) -> Form
         return Form::NoShape;
     }
     if c == 4 {
-        return attribute_line(tokens, 1);
+        return valued_line(tokens, 1, true, 0);
     }
     if c == 1 {
-        return module_line(tokens, 1);
+        return named_line(tokens, 1, false);
     }
     Form::NoShape
 }
@@ -219,7 +209,7 @@ fn object_line(tokens: &[u32], c: usize) -> Kind
     ensures { λ r. ⌜ AnnouncedIs objectForms (now (tokens .entry)) c r ⌝ }
 {
     if c == 4 {
-        return Kind::Form(attribute_line(tokens, 1));
+        return Kind::Form(valued_line(tokens, 1, true, 0));
     }
     if c == 6 {
         return Kind::Wire;
@@ -231,7 +221,7 @@ fn object_line(tokens: &[u32], c: usize) -> Kind
         return Kind::Form(cell_line(tokens, 1));
     }
     if c == 18 {
-        return Kind::Form(process_line(tokens, 1));
+        return Kind::Form(named_line(tokens, 1, true));
     }
     Kind::Form(Form::NoShape)
 }

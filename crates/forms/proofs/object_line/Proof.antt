@@ -1,4 +1,5 @@
 -- The form that the keyword announces.
+use native.Mathlib.Omega.{arith}
 use borrow.Author.Tests.{ne-eqb}
 use Rattle.rules.specs.Shapes as shapes
 use Rattle.forms.specs.Forms.{formOf, kindOf}
@@ -7,12 +8,12 @@ use borrow.Author.Needs.{needs}
 use Rattle.forms.proofs.object_line.Statement.{statement}
 use Rattle.forms.proofs.object_line.Tie as tie
 
-attribute-line-requires : tie.Need-attribute-line-requires
-attribute-line-requires c κs = search needs
+valued-line-requires : tie.Need-valued-line-requires
+valued-line-requires c κs = search needs
 
 returns : tie.Need-returns
 unfolding wordsOpen kindOf
-returns c = (λ f. rw (c .before .if1 .taken) (c .attribute-line .ensures .0 f), c .attribute-line .ensures .1)
+returns c = (λ f. rw (c .before .if1 .taken) (c .valued-line .ensures .0 f), c .valued-line .ensures .1 (omega arith))
 
 returns-2 : tie.Need-returns-2
 unfolding wordsOpen kindOf
@@ -29,12 +30,12 @@ returns-4 : tie.Need-returns-4
 unfolding wordsOpen kindOf
 returns-4 c = (λ f. rw (c .before .if4 .taken) (c .cell-line .ensures .0 f), c .cell-line .ensures .1)
 
-process-line-requires : tie.Need-process-line-requires
-process-line-requires c κs = search needs
+named-line-requires : tie.Need-named-line-requires
+named-line-requires c κs = search needs
 
 returns-5 : tie.Need-returns-5
 unfolding wordsOpen kindOf
-returns-5 c = (λ f. rw (c .before .if5 .taken) (c .process-line .ensures .0 f), c .process-line .ensures .1)
+returns-5 c = (λ f. rw (c .before .if5 .taken) (c .named-line .ensures .0 f), c .named-line .ensures .1)
 
 returns-6 : tie.Need-returns-6
 unfolding wordsOpen kindOf formOf shapes.whole
@@ -44,12 +45,12 @@ pub object-line-spec : {M : Type 1} → statement M
 object-line-spec =
     tie.close
     (tie.spec
-    attribute-line-requires
+    valued-line-requires
     returns
     returns-2
     returns-3
     cell-line-requires
     returns-4
-    process-line-requires
+    named-line-requires
     returns-5
     returns-6)

@@ -1,4 +1,5 @@
 -- The form that the first word announces.
+use native.Mathlib.Omega.{arith}
 use borrow.Author.Tests.{ne-eqb}
 use Rattle.rules.specs.Shapes as shapes
 use Rattle.forms.specs.Forms.{formOf}
@@ -21,19 +22,19 @@ returns-2 : tie.Need-returns-2
 unfolding wordsOpen shapes.whole formOf
 returns-2 c = (λ f attributed. rw (shape-word _ f _ _ (c .before .before .word-at .ensures), c .before .if1 .taken, c .if2 .left), tt)
 
-attribute-line-requires : tie.Need-attribute-line-requires
-attribute-line-requires c κs = search needs
+valued-line-requires : tie.Need-valued-line-requires
+valued-line-requires c κs = search needs
 
 returns-3 : tie.Need-returns-3
 unfolding wordsOpen
-returns-3 c = (λ f attributed. rw (shape-word _ f _ _ (c .before .before .before .word-at .ensures), top-word _ _ _ _ (c .before .before .if1 .left), c .before .if3 .taken) (c .attribute-line .ensures .0 f), c .attribute-line .ensures .1)
+returns-3 c = (λ f attributed. rw (shape-word _ f _ _ (c .before .before .before .word-at .ensures), top-word _ _ _ _ (c .before .before .if1 .left), c .before .if3 .taken) (c .valued-line .ensures .0 f), c .valued-line .ensures .1 (omega arith))
 
-module-line-requires : tie.Need-module-line-requires
-module-line-requires c κs = search needs
+named-line-requires : tie.Need-named-line-requires
+named-line-requires c κs = search needs
 
 returns-4 : tie.Need-returns-4
 unfolding wordsOpen
-returns-4 c = (λ f attributed. rw (shape-word _ f _ _ (c .before .before .before .before .word-at .ensures), top-word _ _ _ _ (c .before .before .before .if1 .left), c .before .if4 .taken) (c .module-line .ensures .0 f), c .module-line .ensures .1)
+returns-4 c = (λ f attributed. rw (shape-word _ f _ _ (c .before .before .before .before .word-at .ensures), top-word _ _ _ _ (c .before .before .before .if1 .left), c .before .if4 .taken) (c .named-line .ensures .0 f), c .named-line .ensures .1)
 
 returns-5 : tie.Need-returns-5
 unfolding wordsOpen formOf
@@ -47,8 +48,8 @@ top-line-spec =
     autoidx-line-requires
     returns
     returns-2
-    attribute-line-requires
+    valued-line-requires
     returns-3
-    module-line-requires
+    named-line-requires
     returns-4
     returns-5)
