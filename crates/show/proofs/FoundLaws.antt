@@ -25,7 +25,8 @@ use Rattle.netlist.specs.Laid.{roomsOf}
 use Rattle.netlist.specs.LaidLaws.{length-rows, eights-rows, laid-row}
 use Rattle.designs.specs.ListLaws.{flatMap-back}
 use Rattle.designs.specs.AttributeLaws.{settingsBefore}
-use Rattle.designs.specs.WireLaws.{rooms-wires, Adds, a-wire, no-wire, adds}
+use Rattle.netlist.specs.UsedLaws.{used-wires}
+use Rattle.designs.specs.WireLaws.{Adds, a-wire, no-wire, adds}
 use Rattle.replay.specs.Reads.{Tables, Has}
 use Rattle.replay.specs.Begins.{Fronts}
 use Rattle.replay.proofs.BeginLaws.{fronts-before, fronts-stand, fronts-laid}
@@ -39,7 +40,7 @@ module _ (t : Tables) (rows : List ℕ) where
   -- THE WIRE'S STATEMENT is the last that declares it: one behind it declares no wire, or a later one
   wire-declares : (b : Wire) (n : Name) (ss : Past) → Fronts (roomsOf (wire-stmt b n ∷ ss)) t rows → (kindAt rows (length ss) ≡ 5) × (column rows (length ss) 3 ≡ wiresIn ss)
   unfolding kindAt statementRow columns row padded used statementsOpen
-  wire-declares b n ss f = let r = last-row (wire-stmt b n) ss f in (r 0 (omega arith), r 3 (omega arith) ∙ rooms-wires ss)
+  wire-declares b n ss f = let r = last-row (wire-stmt b n) ss f in (r 0 (omega arith), r 3 (omega arith) ∙ used-wires ss)
 
   other-declares : (s : Statement) (ss : Past) (w : ℕ) → Adds s → Fronts (roomsOf (s ∷ ss)) t rows → w < wiresIn ss → declares rows (length ss) w ≡ false
   unfolding declares is code
