@@ -28,9 +28,10 @@ pub enum Shown {
     Refused(u32),
 }
 
-pub struct Part {
-    pub start: usize,
-    pub end: usize,
+// A part of a table by its ends.
+struct Part {
+    start: usize,
+    end: usize,
 }
 
 // The bytes from start up to end, cut to those that are there.
@@ -67,7 +68,7 @@ fn declares(rows: &[u32], row: u32, wire: u32) -> bool
     column(rows, row as usize, 3) == wire
 }
 
-// The row of the wire's statement.
+// The row of the wire's statement among the first `total`: the last that declares it, or 0.
 fn wire_line(rows: &[u32], total: u32, wire: u32) -> u32
     ensures { λ r. ⌜ r ≡ wireLine (now (rows .entry)) total wire ⌝ }
 {
