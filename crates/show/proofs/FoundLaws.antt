@@ -27,7 +27,8 @@ use Rattle.designs.specs.ListLaws.{flatMap-back}
 use Rattle.designs.specs.AttributeLaws.{settingsBefore}
 use Rattle.netlist.specs.UsedLaws.{used-wires}
 use Rattle.designs.specs.WireLaws.{Adds, a-wire, no-wire, adds}
-use Rattle.replay.specs.Reads.{Tables, Has}
+use Rattle.netlist.specs.Spans.{Has}
+use Rattle.replay.specs.Reads.{Tables}
 use Rattle.replay.specs.Begins.{Fronts}
 use Rattle.replay.proofs.BeginLaws.{fronts-before, fronts-stand, fronts-laid}
 use Rattle.show.specs.Rows.{declares, wireLine, isHdlname, hdlnameRow, textAt}

@@ -3,13 +3,16 @@
 use libc::STDIN_FILENO;
 use libc::STDOUT_FILENO;
 use reader::read;
+use text::put_refusal;
 use writer::write;
 
+// A refusal has at most 22 bytes.
 fn refuse(number: u32, place: u32) {
-    io::print_decimal(STDOUT_FILENO, number as u64);
-    io::write_all(STDOUT_FILENO, b" ");
-    io::print_decimal(STDOUT_FILENO, place as u64);
-    io::write_all(STDOUT_FILENO, b"\n");
+    let mut line = [0u8; 32];
+    let size = put_refusal(&mut line, 0, number, place);
+    if size <= line.len() {
+        io::write_all(STDOUT_FILENO, &line[0..size]);
+    }
 }
 
 // The room lent is what a text may have, so that it is enough for every text that is not refused.

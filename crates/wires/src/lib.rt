@@ -37,12 +37,6 @@ pub fn bytes_at<'a>(bytes: &'a [u8], table: &[u32], row: usize, c: usize) -> &'a
     part(bytes, start, start + size)
 }
 
-pub fn wire_name<'a>(names: &'a [u8], wires: &[u32], k: u32) -> &'a [u8]
-    ensures { λ r. ⌜ now r ≡ nameOf (now (names .entry)) (now (wires .entry)) k ⌝ }
-{
-    bytes_at(names, wires, k as usize, 1)
-}
-
 // The last of the wires in count rows from first on that has this name.
 pub fn find_wire(names: &[u8], wires: &[u32], first: u32, count: u32, name: &[u8]) -> Found
     ensures { λ r. ⌜ FoundIs (now (names .entry)) (now (wires .entry)) first count (now (name .entry)) r ⌝ }
