@@ -1,10 +1,10 @@
 -- What look-up and index answer.
 -- Assumes nothing.
-use Prim.Native.Nat.{ℕ, zero, suc, _+_, _-_, _≤_, _<_}
+use Prim.Native.Nat.{ℕ, zero, suc, _+_, _≤_, _<_}
 use mathlib.Core.Path.{_≡_, refl, sym, ap, ap₂, _∙_}
 use mathlib.Core.List.{List, [], _∷_, _++_, map, map-append, reverse, reverse-cons, reverse-reverse}
 use mathlib.Core.Option.{Option, none, some, Option·map, Option·elim}
-use mathlib.Core.Bool.{Bool, true, false, cond}
+use mathlib.Core.Bool.{cond}
 use native.Mathlib.Nat.{add-zero}
 use native.Mathlib.Omega.{arith}
 use lib.Dec.{ltb}
@@ -44,26 +44,9 @@ use Rattle.standing.specs.NowLaws.{name-now-laid}
 use Rattle.standing.specs.TakenLaws.{wire-there, wire-missing}
 use Rattle.held.specs.HeldLaws.{holds-laid, holds-wired}
 use Rattle.session.specs.Called.{Called, holding, answer}
-use Rattle.session.specs.Steps.{Holding, searchNow}
+use Rattle.standing.specs.Search.{searchNow}
+use Rattle.session.specs.Steps.{Holding}
 use Rattle.session.proofs.HoldLaws as hold
-
--- A TURN OF THE SEARCH: l wires are left from number k on; b: whether wire k has the name
-module _ (names wires rows : List ℕ) (m : Module) (n own : Name) (l j k : ℕ) (b : Bool) (e : l ≡ suc j)
-    (eo : own ≡ table.nameNow names wires rows (m .from) (m .renames) (m .number .0) k (m .first + k)) (eb : b ≡ same own n) where
-  pub search-here : b ≡ true → searchNow names wires rows m n l k ≡ accepted k
-  unfolding searchNow
-  search-here t = rw (e, ← eo, ← eb, t)
-
-  pub search-next : b ≡ false → searchNow names wires rows m n l k ≡ searchNow names wires rows m n j (k + 1)
-  unfolding searchNow
-  search-next t = rw (e, ← eo, ← eb, t)
-
-pub search-start : (names wires rows : List ℕ) (m : Module) (n : Name) → searchNow names wires rows m n (m .wires) 0 ≡ searchNow names wires rows m n (m .wires - 0) 0
-search-start names wires rows m n = let e : m .wires - 0 ≡ m .wires = omega arith in rw e
-
-pub search-end : (names wires rows : List ℕ) (m : Module) (n : Name) (l k : ℕ) → l ≡ 0 → searchNow names wires rows m n l k ≡ refused 8
-unfolding searchNow
-search-end names wires rows m n l k e = rw e
 
 -- VALUES OF CONSECUTIVE NUMBERS
 abbrev up : {A : Type 0} → (ℕ → A) → (many k : ℕ) → List A

@@ -4,13 +4,13 @@ use designs::module_wires;
 use held::Held;
 use held::judge_memory;
 use line_text::Module;
-use line_text::name_now;
 use netlist::lengths::right_lengths;
 use numbers::kinds::ModuleNumber;
 use numbers::kinds::WireNumber;
 use past::place::Place;
 use reader::Left;
-use scanner::names::same_bytes;
+use standing::Named;
+use standing::find_named;
 use standing::judge_rename;
 use tables::Row;
 use tables::put_bytes;
@@ -28,8 +28,9 @@ ghost use Rattle.tables.specs.Store.{store};
 ghost use Rattle.wires.specs.Rows.{column, wireOf};
 ghost use Rattle.reader.specs.Read.{result, lent};
 ghost use Rattle.session.specs.Called.{CalledAs, answer, LookedUp, IndexGiven};
-ghost use Rattle.session.specs.Steps.{Holding, OpenedIs, searchNow};
+ghost use Rattle.session.specs.Steps.{Holding, OpenedIs};
 ghost use Rattle.standing.specs.Judged.{moduleBy};
+ghost use Rattle.standing.specs.Search.{searchNow};
 
 // Number 0 is none.
 pub struct Found {
@@ -278,21 +279,13 @@ fn module_of(wires: &[u32], place: Place, renames: u32, m: ModuleNumber) -> Modu
 fn find(names: &[u8], wires: &[u32], rows: &[u32], m: Module, name: &[u8]) -> Found
     ensures { λ r. ⌜ (r .number, r .wire .0) ≡ answer 0 (searchNow (now (names .entry)) (now (wires .entry)) (now (rows .entry)) m (now (name .entry)) (m .wires) 0) ⌝ }
 {
-    let first = m.first as usize;
-    let mut k = 0;
-    while k < m.wires {
-        let own = name_now(names, wires, rows, m, WireNumber(k), first + k as usize);
-        if same_bytes(own, name) {
-            return Found {
-                number: 0,
-                wire: WireNumber(k),
-            };
-        }
-        k = k + 1;
-    }
-    Found {
-        number: 8,
-        wire: WireNumber(0),
+    let named = find_named(names, wires, rows, m, name);
+    match named {
+        Named::At(wire) => Found { number: 0, wire },
+        Named::Nothing => Found {
+            number: 8,
+            wire: WireNumber(0),
+        },
     }
 }
 

@@ -3,3 +3,4 @@ pub mod RoomLaws
 pub mod NowLaws
 pub mod TakenLaws
 pub mod JudgedLaws
+pub mod Search

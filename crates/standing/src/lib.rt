@@ -18,7 +18,13 @@ ghost use Rattle.rules.specs.Bytes.{same, any};
 ghost use Rattle.rules.specs.Session.{isPort};
 ghost use Rattle.wires.specs.Rows.{wireOf};
 ghost use Rattle.line_text.specs.Now.{wiresIn};
+ghost use Rattle.standing.specs.Search.{searchNow, named};
 ghost use Rattle.standing.specs.Judged.{objectTaken, nameTaken, exceedsRoom, JudgedIs};
+
+pub enum Named {
+    At(WireNumber),
+    Nothing,
+}
 
 // Whether the wire in a row is a port.
 fn is_port(wires: &[u32], row: usize) -> bool
@@ -32,28 +38,31 @@ fn is_port(wires: &[u32], row: usize) -> bool
     direction <= 3
 }
 
+// The first wire of the module that has this name now.
+pub fn find_named(names: &[u8], wires: &[u32], rows: &[u32], m: Module, name: &[u8]) -> Named
+    ensures { λ r. ⌜ named r ≡ searchNow (now (names .entry)) (now (wires .entry)) (now (rows .entry)) m (now (name .entry)) (m .wires) 0 ⌝ }
+{
+    let first = m.first as usize;
+    let mut k = 0;
+    while k < m.wires {
+        let own = name_now(names, wires, rows, m, WireNumber(k), first + k as usize);
+        if same_bytes(own, name) {
+            return Named::At(WireNumber(k));
+        }
+        k = k + 1;
+    }
+    Named::Nothing
+}
+
 // Whether a wire of the module has this name now.
 fn wire_name_taken(names: &[u8], wires: &[u32], rows: &[u32], m: Module, name: &[u8]) -> bool
     ensures { λ r. ⌜ r ≡ any (λ x. same (now (name .entry)) (x .0)) (wiresIn (now (names .entry)) (now (wires .entry)) (now (rows .entry)) m) ⌝ }
 {
-    let first = m.first as usize;
-    let mut k = m.wires;
-    while 0 < k {
-        let last = k - 1;
-        let own = name_now(
-            names,
-            wires,
-            rows,
-            m,
-            WireNumber(last),
-            first + last as usize,
-        );
-        if same_bytes(name, own) {
-            return true;
-        }
-        k = last;
+    let found = find_named(names, wires, rows, m, name);
+    match found {
+        Named::At(_wire) => true,
+        Named::Nothing => false,
     }
-    false
 }
 
 // Whether a memory or a cell of the module has this name; their kinds are 6 and 7.
