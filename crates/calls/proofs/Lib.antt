@@ -1,4 +1,4 @@
-mod OneLaws
+pub mod OneLaws
 mod NumberLaws
-mod CallLaws
-mod RunLaws
+pub mod CallLaws
+pub mod RunLaws

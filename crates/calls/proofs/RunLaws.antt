@@ -29,11 +29,11 @@ unfolding read
 read-any file ss e = any-accepted (ltb 32768 (length file)) (readAny file) ss e
 
 -- a file that is read
-record Accepted (file : List ℕ) (m : Memory) (x : Result) : Type 0 where
-  statements : List Statement
-  lengths : rightLengths m ≡ true
-  reads : read file ≡ accepted statements
-  is : x ≡ result 0 0 (layout statements [])
+pub record Accepted (file : List ℕ) (m : Memory) (x : Result) : Type 0 where
+  pub statements : List Statement
+  pub lengths : rightLengths m ≡ true
+  pub reads : read file ≡ accepted statements
+  pub is : x ≡ result 0 0 (layout statements [])
 
 module _ (file : List ℕ) (m : Memory) (x : Result) where
   by-answer : (b : Bool) (a : Answer) → rightLengths m ≡ b → read file ≡ a → numbered a ≡ true → x ≡ cond b (leaves a) (result 1 0 m) → x .number ≡ 0 → Accepted file m x
@@ -46,11 +46,11 @@ module _ (file : List ℕ) (m : Memory) (x : Result) where
       let q : x .number ≡ 1 = ap (λ (y : Result). y .number) e in
       absurd (omega arith)
 
-  number-read : x ≡ readInto file m → x .number ≡ 0 → Accepted file m x
+  pub number-read : x ≡ readInto file m → x .number ≡ 0 → Accepted file m x
   unfolding readInto
   number-read e z = by-answer (rightLengths m) (read file) refl refl (read-numbered file) e z
 
-  accepted-holds : (a : Accepted file m x) → Holds (x .memory) (a .statements) []
+  pub accepted-holds : (a : Accepted file m x) → Holds (x .memory) (a .statements) []
   accepted-holds a =
       let q = read-admitted file (a .statements) (read-any file (a .statements) (a .reads)) in
       record { admitted = q .0; closes = q .1; allowed = no-renames; is = sym (ap (λ (y : Result). y .memory) (a .is)) }

@@ -14,8 +14,8 @@ abbrev μ-loop : tie.MeasureT-loop
 arg-count-requires : tie.Need-arg-count-requires Inv-loop μ-loop
 arg-count-requires c κs = tt
 
-answer-requires : tie.Need-answer-requires Inv-loop μ-loop
-answer-requires c κs = tt
+answer-open-requires : tie.Need-answer-open-requires Inv-loop μ-loop
+answer-open-requires c κs = tt
 
 returns : tie.Need-returns Inv-loop μ-loop
 returns c = tt
@@ -41,4 +41,4 @@ returns-2 c = tt
 pub main-spec : {M : Type 1} → statement M
 main-spec =
     tie.close
-    (tie.spec Inv-loop μ-loop arg-count-requires answer-requires returns loop-holds answer-named-requires add-i loop-less loop-again returns-2)
+    (tie.spec Inv-loop μ-loop arg-count-requires answer-open-requires returns loop-holds answer-named-requires add-i loop-less loop-again returns-2)

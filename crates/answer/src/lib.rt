@@ -1,0 +1,84 @@
+// The program's whole answer to a file: its one text, or the number and place of its refusal.
+use reader::read;
+use text::put_refusal;
+use writer::write;
+ghost use mathlib.Core.Path.{_≡_};
+ghost use mathlib.Core.Bool.{true};
+ghost use Prim.Native.Nat.{_≤_};
+ghost use lib.ListN.{length};
+ghost use Rattle.rules.specs.Text.{program};
+ghost use Rattle.reader.specs.Read.{lent, rightLengths};
+ghost use Rattle.answer.specs.Printed.{putting, PrintedAs};
+
+// The text of the design that the memory holds, or the number of its refusal with place 0.
+fn put_held(
+    names: &[u8],
+    strings: &[u8],
+    bits: &[u32],
+    wires: &[u32],
+    rows: &[u32],
+    renames: u32,
+    room: u32,
+    out: &mut [u8],
+) -> usize
+    ensures { λ r. ⌜ PrintedAs (lent (now (names .entry)) (now (strings .entry)) (now (bits .entry)) (now (wires .entry)) (now (rows .entry)) renames room) (now (out .entry)) (now (out .exit)) r ⌝ }
+    ensures { λ r. ⌜ r ≤ 32768 ⌝ }
+{
+    let written = write(names, strings, bits, wires, rows, renames, room, out);
+    if written.number != 0 {
+        return put_refusal(out, 0, written.number, 0);
+    }
+    written.length as usize
+}
+
+// By way of these tables, whatever they hold.
+fn answer_in(
+    f: &[u8],
+    names: &mut [u8],
+    strings: &mut [u8],
+    bits: &mut [u32],
+    wires: &mut [u32],
+    rows: &mut [u32],
+    out: &mut [u8],
+) -> usize
+    requires { ⌜ rightLengths (lent (now names) (now strings) (now bits) (now wires) (now rows) 0 0) ≡ true ⌝ }
+    requires { ⌜ length (now out) ≡ 32768 ⌝ }
+    ensures { λ r. ⌜ (r, now (out .exit)) ≡ putting (now (out .entry)) (program (now (f .entry))) ⌝ }
+    ensures { λ r. ⌜ r ≤ 32768 ⌝ }
+{
+    let left = read(f, names, strings, bits, wires, rows, 0, 0);
+    if left.number != 0 {
+        return put_refusal(out, 0, left.number, left.place);
+    }
+    put_held(
+        names,
+        strings,
+        bits,
+        wires,
+        rows,
+        left.renames,
+        left.room,
+        out,
+    )
+}
+
+// What the program writes for a file, at the start of the room lent, and its length.
+pub fn answer(f: &[u8], out: &mut [u8; 32768]) -> usize
+    ensures { λ r. ⌜ (r, now (out .exit)) ≡ putting (now (out .entry)) (program (now (f .entry))) ⌝ }
+    ensures { λ r. ⌜ r ≤ 32768 ⌝ }
+{
+    let mut names = [0u8; 16384];
+    let mut strings = [0u8; 8192];
+    let mut bits = [0u32; 16384];
+    let mut wires = [0u32; 4096];
+    let mut rows = [0u32; 38152];
+    answer_in(
+        f,
+        &mut names,
+        &mut strings,
+        &mut bits,
+        &mut wires,
+        &mut rows,
+        out,
+    )
+}
