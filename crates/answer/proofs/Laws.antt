@@ -121,7 +121,7 @@ module _ (m : Memory) (old mid : List ℕ) (n len : ℕ) where
   written-fits (damaged e d q) = omega (arith, length-is 3 0 old q)
   written-fits (holding ss rs e h q) = fits-by (text (now (design ss) rs)) _ _ refl q
 
--- TABLES of these lengths
+-- TABLES of the lengths that calls ask for
 pub right-lengths :
     (m : Memory) → length (m .names) ≡ 16384 → length (m .strings) ≡ 8192 → length (m .bits) ≡ 16384 → length (m .wires) ≡ 4096 → length (m .rows) ≡ 38152 →
     rightLengths m ≡ true
