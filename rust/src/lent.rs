@@ -54,7 +54,36 @@ pub unsafe fn part_mut<'a, T>(start: *mut T, length: usize) -> Option<&'a mut [T
     Some(std::slice::from_raw_parts_mut(start, length))
 }
 
+/// A table as C lends it: where it starts, and its length.
+pub type Raw<T> = (*mut T, usize);
+
 impl<'a> Lent<'a> {
+    /// Memory that C lends: none where a pointer is null or not aligned, or a length is not the table's exact one.
+    ///
+    /// # Safety
+    /// Each pointer that is not null leads to so many elements, which nobody else uses during `'a`, and no two of the parts overlap.
+    pub unsafe fn from_raw(
+        names: Raw<u8>,
+        strings: Raw<u8>,
+        bits: Raw<u32>,
+        wires: Raw<u32>,
+        rows: Raw<u32>,
+        card: *mut Card,
+    ) -> Option<Lent<'a>> {
+        let lengths = [names.1, strings.1, bits.1, wires.1, rows.1];
+        if lengths != [NAMES, STRINGS, BITS, WIRES, ROWS] {
+            return None;
+        }
+        Some(Lent {
+            names: part_mut(names.0, names.1)?,
+            strings: part_mut(strings.0, strings.1)?,
+            bits: part_mut(bits.0, bits.1)?,
+            wires: part_mut(wires.0, wires.1)?,
+            rows: part_mut(rows.0, rows.1)?,
+            card: part_mut(card, 1)?.first_mut()?,
+        })
+    }
+
     pub fn view(&self) -> View<'_> {
         View {
             names: self.names,

@@ -212,3 +212,54 @@ fn pointers_that_are_no_parts() {
         assert_eq!(lent::part_mut::<u8>(std::ptr::null_mut(), 1), None);
     }
 }
+
+#[test]
+fn memory_from_pointers() {
+    let right = [NAMES, STRINGS, BITS, WIRES, ROWS];
+    let (mut names, mut strings) = (vec![0u8; NAMES], vec![0u8; STRINGS]);
+    let (mut bits, mut wires) = (vec![0u32; BITS], vec![0u32; WIRES]);
+    let mut rows = vec![0u32; ROWS];
+    let mut card = Card::default();
+    let mut lent = |lengths: [usize; 5], null: usize| {
+        let byte = |at: usize, start: *mut u8| {
+            if at == null {
+                std::ptr::null_mut()
+            } else {
+                start
+            }
+        };
+        let word = |at: usize, start: *mut u32| {
+            if at == null {
+                std::ptr::null_mut()
+            } else {
+                start
+            }
+        };
+        let held: *mut Card = if null == 5 {
+            std::ptr::null_mut()
+        } else {
+            &mut card
+        };
+        // SAFETY: the parts are apart and as long as stated, but for lengths and null pointers that are refused before any use.
+        let memory = unsafe {
+            Lent::from_raw(
+                (byte(0, names.as_mut_ptr()), lengths[0]),
+                (byte(1, strings.as_mut_ptr()), lengths[1]),
+                (word(2, bits.as_mut_ptr()), lengths[2]),
+                (word(3, wires.as_mut_ptr()), lengths[3]),
+                (word(4, rows.as_mut_ptr()), lengths[4]),
+                held,
+            )
+        };
+        memory.map(|mut memory| memory.read(FILE).number)
+    };
+    assert_eq!(lent(right, 6), Some(0));
+    for table in 0..5 {
+        let mut lengths = right;
+        lengths[table] += 1;
+        assert_eq!(lent(lengths, 6), None);
+    }
+    for null in 0..6 {
+        assert_eq!(lent(right, null), None);
+    }
+}
