@@ -3,7 +3,7 @@ use scanner::lines::Line;
 use scanner::lines::line_from;
 ghost use mathlib.Core.Path.{_≡_};
 ghost use Rattle.scanner.specs.Lines.{lineFrom};
-ghost use Rattle.line_reader.specs.Reader.{opened, movedTo, lineRead, behind};
+ghost use Rattle.line_reader.specs.Reader.{opened, movedTo, lineRead};
 
 pub struct LineReader<'a> {
     pub file: &'a [u8],
@@ -27,24 +27,6 @@ pub fn next_line<'a>(r: LineReader<'a>) -> Line
     ensures { λ l. ⌜ l ≡ lineRead (r .entry) ⌝ }
 {
     line_from(r.file, r.at)
-}
-
-// Where the line behind the one at a place starts.
-fn next_place(file: &[u8], at: usize) -> usize
-    ensures { λ n. ⌜ n ≡ lineFrom (now (file .entry)) at .next ⌝ }
-{
-    let line = line_from(file, at);
-    line.next
-}
-
-// The reader behind the line at the place reached.
-pub fn advanced<'a>(r: LineReader<'a>) -> LineReader<'a>
-    ensures { λ q. ⌜ q ≡ behind (r .entry) ⌝ }
-{
-    LineReader {
-        file: r.file,
-        at: next_place(r.file, r.at),
-    }
 }
 
 // With plain parameters: whoever calls it needs no walk.
