@@ -6,7 +6,7 @@ use Rattle.rules.specs.Layout.{Memory}
 use Rattle.reader.specs.Read.{Result, result, lent}
 use Rattle.session.specs.declared.Found.{Found}
 use Rattle.session.specs.declared.Indexed.{Indexed}
-use Rattle.show.specs.Parts.{numberOf, bytesIn, InRange, ShownAs}
+use Rattle.show.specs.Parts.{numberOf, bytesIn, InRange, ShownAs, ShownAt}
 use Rattle.show.specs.declared.Shown.{Shown}
 use Rattle.writer.specs.declared.Written.{Written}
 use Rattle.card.specs.declared.Card.{Card}
@@ -40,6 +40,7 @@ partOf (Shown.Name s e) = record { number = 0; table = 1; start = s; length = e 
 partOf (Shown.Text s e) = record { number = 0; table = 2; start = s; length = e - s }
 partOf (Shown.Refused n) = record { number = n; table = 0; start = 0; length = 0 }
 
+-- of the one part that show gives
 abbrev pub PartGiven : Memory → (k w : ℕ) → PartAnswer → Type 0
 PartGiven m k w a =
-    (s : Shown) × InRange (m .names) (m .strings) s × ShownAs m k w (numberOf s) (bytesIn (m .names) (m .strings) s) × (a ≡ partOf s)
+    (s : Shown) × ShownAt m k w s × InRange (m .names) (m .strings) s × ShownAs m k w (numberOf s) (bytesIn (m .names) (m .strings) s) × (a ≡ partOf s)

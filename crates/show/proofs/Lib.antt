@@ -1,3 +1,4 @@
 mod StepLaws
+mod PartLaws
 mod FoundLaws
 mod ShowLaws

@@ -7,12 +7,13 @@ use mathlib.Core.Option.{Option, none, some, Option·map, Option·elim}
 use mathlib.Core.Bool.{true, false}
 use native.Mathlib.Omega.{arith}
 use lib.ListN.{length, getElem?, take, drop, length-reverse}
+use borrow.Author.Tests.{le-leb, lt-leb}
 use Rattle.rules.specs.Tokens.{Name}
 use Rattle.rules.specs.Statements.{Statement, Wire, wire-stmt}
 use Rattle.rules.specs.Signals.{Wires}
 use Rattle.rules.specs.Judgement.{Past, accepted, refused}
 use Rattle.rules.specs.Design.{Object, object, design}
-use Rattle.rules.specs.Session.{wiresAt, wireAt, now, hdlname, plainName, orElse, show}
+use Rattle.rules.specs.Session.{Rename, wiresAt, wireAt, now, hdlname, plainName, orElse, show}
 use Rattle.rules.specs.Layout.{Memory}
 use Rattle.wires.specs.Rows.{nameOf, wireOf, wiresFrom}
 use Rattle.wires.specs.RowLaws.{length-wires, wire-numbered}
@@ -34,13 +35,15 @@ use Rattle.replay.specs.Begins.{Fronts}
 use Rattle.replay.proofs.BeginLaws.{fronts-before}
 use Rattle.standing.specs.TakenLaws.{wire-missing}
 use Rattle.held.specs.HeldLaws.{holds-stored}
-use Rattle.session.specs.Called.{holding, answer}
-use Rattle.session.specs.Steps.{Holding}
+use Rattle.session.specs.Called.{Called, wrong-lengths, damaged, holding, answer}
+use Rattle.session.specs.Steps.{Holding, NotOpen}
+use Rattle.session.proofs.CallLaws.{not-open}
 use Rattle.session.proofs.HoldLaws.{rows-before}
 use Rattle.session.proofs.AskLaws.{file, headed, offsets, wired, all-wires, name-now-is}
 use Rattle.show.specs.Rows.{wireLine, hdlnameRow, textAt, shownName}
-use Rattle.show.specs.Parts.{numberOf, bytesIn, ShownAs}
+use Rattle.show.specs.Parts.{shownPart, shownIn, numberOf, bytesIn, InRange, firstByte, ShownAs, ShownAt, LiesAt}
 use Rattle.show.specs.declared.Shown.{Shown}
+use Rattle.show.proofs.PartLaws.{shown-part}
 use Rattle.show.proofs.FoundLaws.{line-found, fronts-behind, hdlname-found}
 
 at-map : {A B : Type 0} (f : A → B) (xs : List A) (i : ℕ) → getElem? (map f xs) i ≡ Option·map f (getElem? xs i)
@@ -61,6 +64,13 @@ name-by : (xs : List (Object Wire)) (i : ℕ) (o : Object Wire) (x : Name × Wir
 unfolding Option·elim
 name-by xs i o x e q =
     ap (λ (y : Option (Name × Wire)). Option·elim y [] (λ z. z .0)) (sym (at-map pairOf xs i ∙ ap (Option·map pairOf) e) ∙ q)
+
+-- what find_shown ensures of an answer
+abbrev pub Answered : Memory → (m w : ℕ) → Shown → Type 0
+Answered M m w r = ShownAt M m w r × (InRange (M .names) (M .strings) r × ShownAs M m w (numberOf r) (bytesIn (M .names) (M .strings) r))
+
+shown-in : {M : Memory} {p : Place} → Holding M p → (m w : ℕ) (r : Shown) → r ≡ shownIn M p m w → ShownAt M m w r
+shown-in {M} h m w r e = holding (h .statements) (h .renames) (h .lengths) (h .holds) (e ∙ ap (λ (q : Place). shownIn M q m w) (sym (h .place)))
 
 module _ {names strings bits wires rows : List ℕ} {renames room : ℕ} {p : Place} (h : Holding (lent names strings bits wires rows renames room) p) (m w : ℕ)
     (own : Range) (eo : own ≡ wireRange wires (p .wires) m) where
@@ -132,35 +142,59 @@ module _ {names strings bits wires rows : List ℕ} {renames room : ℕ} {p : Pl
         (wire-now (design (h .statements)) (h .renames) m w ∙ ap (Option·map (wireNow (h .renames) m w)) wire-is)
         ∙ rw (text-is, name-now)
 
-    pub shown-there :
-        (n : ℕ) (xs : List ℕ) → n ≡ 0 → xs ≡ shownName names strings wires rows (p .rows) renames m w (own .first + w) →
-        ShownAs (lent names strings bits wires rows renames room) m w n xs
+    part-in : shownIn (lent names strings bits wires rows renames room) p m w ≡ shownPart names strings wires rows (p .rows) renames m w (own .first + w)
+    unfolding shownIn
+    part-in = rw (← eo, lt-leb (own .count) w b)
+
+    pub shown-there : (r : Shown) → r ≡ shownPart names strings wires rows (p .rows) renames m w (own .first + w) → Answered (lent names strings bits wires rows renames room) m w r
     unfolding answer
-    shown-there n xs en ex = holding (h .statements) (h .renames) (h .lengths) (h .holds) (rw (en, ex, show-is))
+    shown-there r e =
+        let q = shown-part names strings wires rows (p .rows) renames m w (own .first + w) in (
+          shown-in h m w r (e ∙ sym part-in),
+          (rw e (q .0), holding (h .statements) (h .renames) (h .lengths) (h .holds) (rw (e, q .1, q .2, show-is))),
+        )
 
   -- THE WIRE IS NOT THERE
-  pub shown-missing : own .count ≤ w → ShownAs (lent names strings bits wires rows renames room) m w 8 []
-  unfolding answer show Option·elim
+  none-in : own .count ≤ w → shownIn (lent names strings bits wires rows renames room) p m w ≡ Shown.Refused 8
+  unfolding shownIn
+  none-in b = rw (← eo, le-leb (own .count) w b)
+
+  pub shown-missing : own .count ≤ w → Answered (lent names strings bits wires rows renames room) m w (Shown.Refused 8)
+  unfolding answer show Option·elim numberOf bytesIn
   shown-missing b =
       let e : wireAt (design (reverse past)) m w ≡ none =
       none-by _ (wire-missing m w past (headed h m) (offsets h m) (wired h m) true (λ (x : Wire). false) (rw (← range-is) b)) in
       let q : wireAt (now (design (h .statements)) (h .renames)) m w ≡ none =
       wire-now (design (h .statements)) (h .renames) m w ∙ ap (Option·map (wireNow (h .renames) m w)) (ap (λ (ss : List Statement). wireAt (design ss) m w) (sym (file h m)) ∙ e) in
-      holding (h .statements) (h .renames) (h .lengths) (h .holds) (rw q)
+      (shown-in h m w (Shown.Refused 8) (sym (none-in b)), (tt, holding (h .statements) (h .renames) (h .lengths) (h .holds) (rw q)))
 
--- THE PART AT A PLACE
-module _ (M : Memory) (m w : ℕ) (r : Shown) (h : ShownAs M m w (numberOf r) (bytesIn (M .names) (M .strings) r)) where
-  abbrev Answered : Shown → Type 0
-  Answered x = ShownAs M m w (numberOf x) (bytesIn (M .names) (M .strings) x)
+-- THE MEMORY IS NOT OPEN
+pub shown-refused : (M : Memory) (m w n : ℕ) → NotOpen M n → Answered M m w (Shown.Refused n)
+unfolding numberOf bytesIn
+shown-refused M m w n h = (not-open Shown.Refused _ n h, (tt, not-open (λ e. (e, [])) _ n h))
 
-  pub shown-name : (s e : ℕ) → r ≡ Shown.Name s e → ShownAs M m w 0 (take (e - s) (drop s (M .names)))
-  unfolding numberOf bytesIn
-  shown-name s e q = subst Answered q h
+-- THE PART RETURNED
+called-map : {A B : Type 0} {M : Memory} (f : A → B) {refuse : ℕ → A} {says : List Statement → List Rename → A} {a : A} → Called M refuse says a → Called M (λ e. f (refuse e)) (λ ss rs. f (says ss rs)) (f a)
+called-map f (wrong-lengths e q) = wrong-lengths e (ap f q)
+called-map f (damaged e d q) = damaged e d (ap f q)
+called-map f (holding ss rs e h q) = holding ss rs e h (ap f q)
 
-  pub shown-text : (s e : ℕ) → r ≡ Shown.Text s e → ShownAs M m w 0 (take (e - s) (drop s (M .strings)))
-  unfolding numberOf bytesIn
-  shown-text s e q = subst Answered q h
+module _ (M : Memory) (m w : ℕ) (names strings : ℕ × ℕ) (r : Shown) (h : Answered M m w r) where
+  abbrev Returned : Shown → Type 0
+  Returned x = ShownAs M m w (numberOf x) (bytesIn (M .names) (M .strings) x) × LiesAt M m w names strings (firstByte names strings x)
 
-  pub shown-none : (n : ℕ) → r ≡ Shown.Refused n → ShownAs M m w n []
-  unfolding numberOf bytesIn
-  shown-none n q = subst Answered q h
+  returned : Returned r
+  returned = (h .1 .1, called-map (firstByte names strings) (h .0))
+
+  pub shown-name : (s e : ℕ) → r ≡ Shown.Name s e → ShownAs M m w 0 (take (e - s) (drop s (M .names))) × LiesAt M m w names strings (names .0, s + names .1)
+  unfolding numberOf bytesIn firstByte
+  shown-name s e q = subst Returned q returned
+
+  pub shown-text : (s e : ℕ) → r ≡ Shown.Text s e → ShownAs M m w 0 (take (e - s) (drop s (M .strings))) × LiesAt M m w names strings (strings .0, s + strings .1)
+  unfolding numberOf bytesIn firstByte
+  shown-text s e q = subst Returned q returned
+
+  -- the part of the names from 0 up to 0
+  pub shown-none : (n : ℕ) → r ≡ Shown.Refused n → ShownAs M m w n [] × LiesAt M m w names strings (names .0, 0 + names .1)
+  unfolding numberOf bytesIn firstByte
+  shown-none n q = let e : 0 + names .1 ≡ names .1 = omega arith in rw e (subst Returned q returned)

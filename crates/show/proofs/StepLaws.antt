@@ -1,22 +1,19 @@
--- The turns of the searches for a row, and the parts that the rows found give.
+-- The turns of the searches for a row, and the parts of each answer.
 -- Assumes nothing.
-use Prim.Native.Nat.{ℕ, suc, _+_, _-_, _≤_, _<_}
-use mathlib.Core.Path.{_≡_, refl, sym, ap, _∙_}
-use mathlib.Core.List.{List, [], _∷_}
-use mathlib.Core.Bool.{Bool, true, false}
-use native.Mathlib.Numerals.{add-one}
-use native.Mathlib.Omega.{arith}
-use lib.ListN.{length, getD, take, drop}
-use lib.Seq.{drop-cons, length-slice}
-use borrow.Author.Tests.{ne-eqb}
-use Rattle.rules.specs.Session.{plainName, orElse}
-use Rattle.scanner.proofs.RunLaws.{slice-part}
-use Rattle.wires.specs.Rows.{column, spanAt}
+use Prim.Native.Nat.{ℕ, suc, _+_, _≤_, _<_}
+use mathlib.Core.Path.{_≡_, ap, _∙_}
+use mathlib.Core.List.{List}
+use mathlib.Core.Bool.{Bool, true, false, cond}
+use lib.Dec.{ltb}
+use lib.ListN.{length, getD}
+use borrow.Author.Tests.{lt-ltb, le-ltb, le-leb, lt-leb, ne-eqb}
+use Rattle.wires.specs.Rows.{column}
 use Rattle.netlist.specs.Rows.{kindAt}
-use Rattle.line_text.specs.Now.{nameNow}
-use Rattle.show.specs.Rows.{declares, wireLine, isHdlname, hdlnameRow, textAt, shownName}
-use Rattle.show.specs.Parts.{PartIs}
+use Rattle.line_text.specs.Now.{lastRename}
+use Rattle.show.specs.Rows.{declares, wireLine, isHdlname, hdlnameRow}
+use Rattle.show.specs.Parts.{part, cutOf, spanPart, textPart, partBy, namePart, plainPart, shownOf, shownPart}
 use Rattle.show.specs.declared.Part.{Part}
+use Rattle.show.specs.declared.Shown.{Shown}
 
 -- THE WIRE'S STATEMENT
 module _ (rows : List ℕ) (w k : ℕ) where
@@ -53,69 +50,63 @@ module _ (names rows : List ℕ) (k found : ℕ) where
       unfolding hdlnameRow
       hdlname-next t = rw (e, q, ← eb, t)
 
+-- THE PARTS
+module _ (t : List ℕ) (start end stop : ℕ) (e : stop ≡ cond (ltb end (length t)) end (length t)) where
+  pub cut-none : stop ≤ start → part 0 0 ≡ cutOf t start end
+  unfolding cutOf
+  cut-none h = rw (← e, le-leb stop start h)
+
+  pub cut-some : start < stop → part start stop ≡ cutOf t start end
+  unfolding cutOf
+  cut-some h = rw (← e, lt-leb stop start h)
+
 module _ (strings rows : List ℕ) (behind : ℕ) where
-  pub text-none : behind ≡ 0 → [] ≡ textAt strings rows behind
-  unfolding textAt
+  pub text-none : behind ≡ 0 → part 0 0 ≡ textPart strings rows behind
+  unfolding textPart
   text-none e = rw e
 
   module _ (j : ℕ) (e : behind ≡ suc j) where
-    pub text-other : (column rows j 3 ≡ 3 → ⊥) → [] ≡ textAt strings rows behind
-    unfolding textAt
+    pub text-other : (column rows j 3 ≡ 3 → ⊥) → part 0 0 ≡ textPart strings rows behind
+    unfolding textPart
     text-other n = rw (e, ne-eqb (column rows j 3) 3 n)
 
-    pub text-string : column rows j 3 ≡ 3 → spanAt strings rows j 4 ≡ textAt strings rows behind
-    unfolding textAt
+    pub text-string : column rows j 3 ≡ 3 → spanPart strings rows j 4 ≡ textPart strings rows behind
+    unfolding textPart
     text-string q = rw (e, q)
 
--- ITS PLAIN NAME
-module _ (names : List ℕ) (start end : ℕ) where
-  part-cons : start < end → end ≤ length names → take (end - start) (drop start names) ≡ getD names start 0 ∷ take (end - (start + 1)) (drop (start + 1) names)
-  part-cons h k =
-      let e : end - start ≡ suc (end - (start + 1)) = omega arith in
-      rw (e, drop-cons names start 0 (omega arith), add-one)
+module _ (names wires rows : List ℕ) (from count m n k last : ℕ) (el : last ≡ lastRename rows from count m n) where
+  pub name-own : last ≡ 0 → spanPart names wires k 1 ≡ namePart names wires rows from count m n k
+  unfolding namePart partBy
+  name-own e = rw (← el, e)
 
-  pub plain-public : start < end → end ≤ length names → getD names start 0 ≡ 92 → take (end - (start + 1)) (drop (start + 1) names) ≡ plainName (take (end - start) (drop start names))
-  unfolding plainName
-  plain-public h k e = rw (part-cons h k, e)
+  pub name-given : (j : ℕ) → last ≡ suc j → spanPart names rows (from + j) 1 ≡ namePart names wires rows from count m n k
+  unfolding namePart partBy
+  name-given j e = rw (← el, e)
 
-  pub plain-other : start < end → end ≤ length names → (getD names start 0 ≡ 92 → ⊥) → take (end - start) (drop start names) ≡ plainName (take (end - start) (drop start names))
-  unfolding plainName
-  plain-other h k n = rw (part-cons h k, ne-eqb (getD names start 0) 92 n)
+module _ (names : List ℕ) (p : Part) where
+  pub plain-public : p .start < p .end → getD names (p .start) 0 ≡ 92 → part (p .start + 1) (p .end) ≡ plainPart names p
+  unfolding plainPart
+  plain-public h e = rw (lt-ltb (p .start) (p .end) h, e)
 
-  pub plain-none : end ≤ start → take (end - start) (drop start names) ≡ plainName (take (end - start) (drop start names))
-  unfolding plainName
-  plain-none h = let e : end - start ≡ 0 = omega arith in rw e
+  pub plain-other : p .start < p .end → (getD names (p .start) 0 ≡ 92 → ⊥) → p ≡ plainPart names p
+  unfolding plainPart
+  plain-other h n = rw (lt-ltb (p .start) (p .end) h, ne-eqb (getD names (p .start) 0) 92 n)
 
--- THE STRING, OR THE NAME
-length-part : (t : List ℕ) (start end : ℕ) → end ≤ length t → length (take (end - start) (drop start t)) ≡ end - start
-length-part t start end h = ap length (sym (slice-part start end t)) ∙ length-slice start end t h
+  pub plain-none : p .end ≤ p .start → p ≡ plainPart names p
+  unfolding plainPart
+  plain-none h = rw (le-ltb (p .start) (p .end) h)
 
-else-first : (xs ys : List ℕ) → 0 < length xs → xs ≡ orElse xs ys
-unfolding orElse
-else-first [] ys h = absurd (omega arith)
-else-first (x ∷ xs) ys h = refl
+module _ (names strings wires rows : List ℕ) (from count m n k line behind : ℕ) (t : Part)
+    (el : line ≡ wireLine rows from k) (eb : behind ≡ hdlnameRow names rows line 0) (et : t ≡ textPart strings rows behind) where
+  text-found : t ≡ textPart strings rows (hdlnameRow names rows (wireLine rows from k) 0)
+  text-found = et ∙ ap (textPart strings rows) (eb ∙ ap (λ (x : ℕ). hdlnameRow names rows x 0) el)
 
-else-second : (xs ys : List ℕ) → length xs ≡ 0 → ys ≡ orElse xs ys
-unfolding orElse
-else-second [] ys h = refl
-else-second (x ∷ xs) ys h = absurd (omega arith)
+  pub shows-text : t .start < t .end → Shown.Text (t .start) (t .end) ≡ shownPart names strings wires rows from count m n k
+  unfolding shownPart shownOf
+  shows-text h = rw (← text-found, lt-ltb (t .start) (t .end) h)
 
-module _ (names strings wires rows : List ℕ) (from count m n k line behind : ℕ) (p : Part)
-    (el : line ≡ wireLine rows from k) (eb : behind ≡ hdlnameRow names rows line 0) (h : PartIs strings (textAt strings rows behind) p) where
-  text-length : length (textAt strings rows behind) ≡ p .end - p .start
-  text-length = ap length (sym (h .2)) ∙ length-part strings (p .start) (p .end) (h .1)
-
-  found-text : textAt strings rows behind ≡ textAt strings rows (hdlnameRow names rows (wireLine rows from k) 0)
-  found-text = ap (textAt strings rows) (eb ∙ ap (λ (x : ℕ). hdlnameRow names rows x 0) el)
-
-  pub shows-text : p .start < p .end → take (p .end - p .start) (drop (p .start) strings) ≡ shownName names strings wires rows from count m n k
-  unfolding shownName
-  shows-text b =
-      h .2 ∙ else-first (textAt strings rows behind) (plainName (nameNow names wires rows from count m n k)) (omega (arith, text-length))
-      ∙ ap (λ (x : List ℕ). orElse x (plainName (nameNow names wires rows from count m n k))) found-text
-
-  pub shows-name : p .end ≤ p .start → (xs : List ℕ) → xs ≡ plainName (nameNow names wires rows from count m n k) → xs ≡ shownName names strings wires rows from count m n k
-  unfolding shownName
-  shows-name b xs e =
-      e ∙ else-second (textAt strings rows behind) (plainName (nameNow names wires rows from count m n k)) (omega (arith, text-length))
-      ∙ ap (λ (x : List ℕ). orElse x (plainName (nameNow names wires rows from count m n k))) found-text
+  pub shows-name :
+      t .end ≤ t .start → (now p : Part) → now ≡ namePart names wires rows from count m n k → p ≡ plainPart names now →
+      Shown.Name (p .start) (p .end) ≡ shownPart names strings wires rows from count m n k
+  unfolding shownPart shownOf
+  shows-name h now p en ep = rw (← text-found, le-ltb (t .start) (t .end) h, ← en, ← ep)

@@ -11,15 +11,12 @@ use session::Opened;
 use session::open_memory;
 use wires::column;
 ghost use mathlib.Core.Path.{_≡_};
-ghost use Prim.Native.Nat.{_-_, _≤_, _<_};
-ghost use lib.ListN.{length, take, drop};
-ghost use lib.Seq.{slice};
-ghost use Rattle.rules.specs.Session.{plainName};
-ghost use Rattle.wires.specs.Rows.{column, spanAt};
-ghost use Rattle.line_text.specs.Now.{nameNow};
+ghost use Prim.Native.Nat.{_≤_, _<_};
+ghost use lib.ListN.{length};
+ghost use denote.Ref.{ptr};
 ghost use Rattle.reader.specs.Read.{lent};
-ghost use Rattle.show.specs.Rows.{declares, wireLine, isHdlname, hdlnameRow, textAt, shownName};
-ghost use Rattle.show.specs.Parts.{PartIs, numberOf, bytesIn, InRange, ShownAs};
+ghost use Rattle.show.specs.Rows.{declares, wireLine, isHdlname, hdlnameRow};
+ghost use Rattle.show.specs.Parts.{cutOf, spanPart, textPart, namePart, plainPart, shownPart, numberOf, bytesIn, InRange, ShownAs, ShownAt, LiesAt};
 
 // Where a shown name lies: a part of the names, a part of the strings, or neither, with the refusal's number.
 pub enum Shown {
@@ -36,7 +33,7 @@ struct Part {
 
 // The bytes from start up to end, cut to those that are there.
 fn cut(s: &[u8], start: usize, end: usize) -> Part
-    ensures { λ r. ⌜ PartIs (now (s .entry)) (slice start end (now (s .entry))) r ⌝ }
+    ensures { λ r. ⌜ r ≡ cutOf (now (s .entry)) start end ⌝ }
 {
     let stop = if end < s.len() { end } else { s.len() };
     if stop <= start {
@@ -51,7 +48,7 @@ fn cut(s: &[u8], start: usize, end: usize) -> Part
 // The bytes whose start stands in column c, and their number behind it.
 fn span(s: &[u8], t: &[u32], row: usize, c: usize) -> Part
     requires { ⌜ (row < 8589934592) × (c < 7) ⌝ }
-    ensures { λ r. ⌜ PartIs (now (s .entry)) (spanAt (now (s .entry)) (now (t .entry)) row c) r ⌝ }
+    ensures { λ r. ⌜ r ≡ spanPart (now (s .entry)) (now (t .entry)) row c ⌝ }
 {
     let start = column(t, row, c) as usize;
     let size = column(t, row, c + 1) as usize;
@@ -112,7 +109,7 @@ fn hdlname_row(names: &[u8], rows: &[u32], line: u32) -> u32
 
 // The string of the attribute in the row before this one; none if it has no string, or if this is row 0.
 fn text_part(strings: &[u8], rows: &[u32], behind: u32) -> Part
-    ensures { λ r. ⌜ PartIs (now (strings .entry)) (textAt (now (strings .entry)) (now (rows .entry)) behind) r ⌝ }
+    ensures { λ r. ⌜ r ≡ textPart (now (strings .entry)) (now (rows .entry)) behind ⌝ }
 {
     if behind == 0 {
         return Part { start: 0, end: 0 };
@@ -135,7 +132,7 @@ fn name_part(
     w: WireNumber,
     k: u32,
 ) -> Part
-    ensures { λ r. ⌜ PartIs (now (names .entry)) (nameNow (now (names .entry)) (now (wires .entry)) (now (rows .entry)) from count (m .0) (w .0) k) r ⌝ }
+    ensures { λ r. ⌜ r ≡ namePart (now (names .entry)) (now (wires .entry)) (now (rows .entry)) from count (m .0) (w .0) k ⌝ }
 {
     let last = last_rename(rows, from, count, m, w);
     if last == 0 {
@@ -146,8 +143,8 @@ fn name_part(
 
 // Without the `\` of a public name.
 fn plain_part(names: &[u8], p: Part) -> Part
-    requires { ⌜ (p .start ≤ p .end) × (p .end ≤ length (now names)) ⌝ }
-    ensures { λ r. ⌜ PartIs (now (names .entry)) (plainName (take (p .end - p .start) (drop (p .start) (now (names .entry))))) r ⌝ }
+    requires { ⌜ p .end ≤ length (now names) ⌝ }
+    ensures { λ r. ⌜ r ≡ plainPart (now (names .entry)) p ⌝ }
 {
     let start = p.start;
     if start < p.end {
@@ -173,9 +170,7 @@ fn shown_wire(
     w: WireNumber,
     k: u32,
 ) -> Shown
-    ensures { λ r. ⌜ InRange (now (names .entry)) (now (strings .entry)) r ⌝ }
-    ensures { λ r. ⌜ numberOf r ≡ 0 ⌝ }
-    ensures { λ r. ⌜ bytesIn (now (names .entry)) (now (strings .entry)) r ≡ shownName (now (names .entry)) (now (strings .entry)) (now (wires .entry)) (now (rows .entry)) from count (m .0) (w .0) k ⌝ }
+    ensures { λ r. ⌜ r ≡ shownPart (now (names .entry)) (now (strings .entry)) (now (wires .entry)) (now (rows .entry)) from count (m .0) (w .0) k ⌝ }
 {
     let line = wire_line(rows, from, k);
     let text = text_part(strings, rows, hdlname_row(names, rows, line));
@@ -204,6 +199,7 @@ pub fn find_shown(
     m: ModuleNumber,
     w: WireNumber,
 ) -> Shown
+    ensures { λ r. ⌜ ShownAt (lent (now (names .entry)) (now (strings .entry)) (now (bits .entry)) (now (wires .entry)) (now (rows .entry)) renames room) (m .0) (w .0) r ⌝ }
     ensures { λ r. ⌜ InRange (now (names .entry)) (now (strings .entry)) r ⌝ }
     ensures { λ r. ⌜ ShownAs (lent (now (names .entry)) (now (strings .entry)) (now (bits .entry)) (now (wires .entry)) (now (rows .entry)) renames room) (m .0) (w .0) (numberOf r) (bytesIn (now (names .entry)) (now (strings .entry)) r) ⌝ }
 {
@@ -244,6 +240,7 @@ pub fn show<'a>(
     number: &mut u32,
 ) -> &'a [u8]
     ensures { λ r. ⌜ ShownAs (lent (now (names .entry)) (now (strings .entry)) (now (bits .entry)) (now (wires .entry)) (now (rows .entry)) renames room) (m .0) (w .0) (now (number .exit)) (now r) ⌝ }
+    ensures { λ r. ⌜ LiesAt (lent (now (names .entry)) (now (strings .entry)) (now (bits .entry)) (now (wires .entry)) (now (rows .entry)) renames room) (m .0) (w .0) (ptr (names .entry)) (ptr (strings .entry)) (ptr r) ⌝ }
 {
     let place = find_shown(names, strings, bits, wires, rows, renames, room, m, w);
     match place {

@@ -4,7 +4,7 @@ use Prim.Native.Nat.{suc, _-_}
 use mathlib.Core.Path.{_≡_, _∙_}
 use native.Mathlib.Omega.{arith}
 use denote.Ref.{now}
-use Rattle.line_text.specs.NowLaws.{name-own, name-given}
+use Rattle.show.proofs.StepLaws.{name-own, name-given}
 use borrow.Author.Needs.{needs}
 use Rattle.show.proofs.name_part.Statement.{statement}
 use Rattle.show.proofs.name_part.Tie as tie
@@ -16,7 +16,7 @@ span-requires : tie.Need-span-requires
 span-requires c κs = search needs
 
 returns : tie.Need-returns
-returns c = (c .span .ensures .0, c .span .ensures .1, c .span .ensures .2 ∙ name-own (now (c .before .before .before .before .before .before .args .names)) (now (c .before .before .before .before .before .before .args .wires)) (now (c .before .before .before .before .before .before .args .rows)) (c .before .before .before .before .before .before .args .from) (c .before .before .before .before .before .before .args .m .0) (c .before .before .before .before .before .before .args .w .0) (c .before .before .before .before .before .before .args .k) (c .before .before .before .before .before .before .args .count) _ (c .before .before .last-rename .ensures) (c .before .if1 .taken))
+returns c = c .span .ensures ∙ name-own (now (c .before .before .before .before .before .before .args .names)) (now (c .before .before .before .before .before .before .args .wires)) (now (c .before .before .before .before .before .before .args .rows)) (c .before .before .before .before .before .before .args .from) (c .before .before .before .before .before .before .args .count) (c .before .before .before .before .before .before .args .m .0) (c .before .before .before .before .before .before .args .w .0) (c .before .before .before .before .before .before .args .k) _ (c .before .before .last-rename .ensures) (c .before .if1 .taken)
 
 sub-span : tie.Need-sub-span
 sub-span c = search needs
@@ -32,7 +32,7 @@ span-requires-2 c κs = search needs
 
 returns-2 : tie.Need-returns-2
 returns-2 c = let e : c .before .before .last-rename .result ≡ suc (c .before .before .last-rename .result - 1) = omega arith in
-    (c .span2 .ensures .0, c .span2 .ensures .1, c .span2 .ensures .2 ∙ name-given (now (c .before .before .before .before .before .before .args .names)) (now (c .before .before .before .before .before .before .args .wires)) (now (c .before .before .before .before .before .before .args .rows)) (c .before .before .before .before .before .before .args .from) (c .before .before .before .before .before .before .args .m .0) (c .before .before .before .before .before .before .args .w .0) (c .before .before .before .before .before .before .args .k) (c .before .before .before .before .before .before .args .count) _ (c .before .before .last-rename .ensures) (c .before .before .last-rename .result - 1) e)
+    c .span2 .ensures ∙ name-given (now (c .before .before .before .before .before .before .args .names)) (now (c .before .before .before .before .before .before .args .wires)) (now (c .before .before .before .before .before .before .args .rows)) (c .before .before .before .before .before .before .args .from) (c .before .before .before .before .before .before .args .count) (c .before .before .before .before .before .before .args .m .0) (c .before .before .before .before .before .before .args .w .0) (c .before .before .before .before .before .before .args .k) _ (c .before .before .last-rename .ensures) (c .before .before .last-rename .result - 1) e
 
 pub name-part-spec : {M : Type 1} → statement M
 name-part-spec =

@@ -1,6 +1,5 @@
 -- By the first byte, if there is one.
 -- Assumes nothing.
-use native.Mathlib.Omega.{arith}
 use denote.Ref.{now}
 use Rattle.show.proofs.StepLaws.{plain-public, plain-other, plain-none}
 use borrow.Author.Needs.{needs}
@@ -14,13 +13,13 @@ add-t8 : tie.Need-add-t8
 add-t8 c = search needs
 
 returns : tie.Need-returns
-returns c = (omega arith, omega (arith, c .before .before .before .before .pre), plain-public (now (c .before .before .before .before .args .names)) (c .before .before .before .before .args .p .start) (c .before .before .before .before .args .p .end) (c .before .before .if1 .taken) (c .before .before .before .before .pre .1) (c .if2 .taken))
+returns c = plain-public (now (c .before .before .before .before .args .names)) (c .before .before .before .before .args .p) (c .before .before .if1 .taken) (c .if2 .taken)
 
 returns-2 : tie.Need-returns-2
-returns-2 c = (omega (arith, c .before .before .before .before .pre), omega (arith, c .before .before .before .before .pre), plain-other (now (c .before .before .before .before .args .names)) (c .before .before .before .before .args .p .start) (c .before .before .before .before .args .p .end) (c .before .before .if1 .taken) (c .before .before .before .before .pre .1) (c .if2 .left))
+returns-2 c = plain-other (now (c .before .before .before .before .args .names)) (c .before .before .before .before .args .p) (c .before .before .if1 .taken) (c .if2 .left)
 
 returns-3 : tie.Need-returns-3
-returns-3 c = (omega (arith, c .before .before .pre), omega (arith, c .before .before .pre), plain-none (now (c .before .before .args .names)) (c .before .before .args .p .start) (c .before .before .args .p .end) (c .if1 .left))
+returns-3 c = plain-none (now (c .before .before .args .names)) (c .before .before .args .p) (c .if1 .left)
 
 pub plain-part-spec : {M : Type 1} → statement M
 plain-part-spec = tie.close (tie.spec shared-slice-read-if2 add-t8 returns returns-2 returns-3)

@@ -1,7 +1,7 @@
 -- The part of each case of the place.
 -- Assumes nothing.
 use mathlib.Core.Path.{subst}
-use denote.Ref.{now}
+use denote.Ref.{now, ptr}
 use Rattle.reader.specs.Read.{lent}
 use Rattle.show.specs.Parts.{InRange}
 use Rattle.show.proofs.ShowLaws.{shown-name, shown-text, shown-none}
@@ -16,31 +16,31 @@ enum-known-place : tie.Need-enum-known-place
 enum-known-place c = search needs
 
 sub-result : tie.Need-sub-result
-sub-result c = subst (InRange (now (c .before .before .before .before .before .before .before .before .before .args .names)) (now (c .before .before .before .before .before .before .before .before .before .args .strings))) (c .before .place .given .1) (c .before .before .before .find-shown .ensures .0) .0
+sub-result c = subst (InRange (now (c .before .before .before .before .before .before .before .before .before .args .names)) (now (c .before .before .before .before .before .before .before .before .before .args .strings))) (c .before .place .given .1) (c .before .before .before .find-shown .ensures .1 .0) .0
 
 part-result-start : tie.Need-part-result-start
-part-result-start c = subst (InRange (now (c .before .before .before .before .before .before .before .before .before .args .names)) (now (c .before .before .before .before .before .before .before .before .before .args .strings))) (c .before .place .given .1) (c .before .before .before .find-shown .ensures .0) .0
+part-result-start c = subst (InRange (now (c .before .before .before .before .before .before .before .before .before .args .names)) (now (c .before .before .before .before .before .before .before .before .before .args .strings))) (c .before .place .given .1) (c .before .before .before .find-shown .ensures .1 .0) .0
 
 part-result-end : tie.Need-part-result-end
-part-result-end c = subst (InRange (now (c .before .before .before .before .before .before .before .before .before .args .names)) (now (c .before .before .before .before .before .before .before .before .before .args .strings))) (c .before .place .given .1) (c .before .before .before .find-shown .ensures .0) .1
+part-result-end c = subst (InRange (now (c .before .before .before .before .before .before .before .before .before .args .names)) (now (c .before .before .before .before .before .before .before .before .before .args .strings))) (c .before .place .given .1) (c .before .before .before .find-shown .ensures .1 .0) .1
 
 returns : tie.Need-returns
-returns c = shown-name (lent (now (c .before .before .before .before .before .before .before .before .before .before .args .names)) (now (c .before .before .before .before .before .before .before .before .before .before .args .strings)) (now (c .before .before .before .before .before .before .before .before .before .before .args .bits)) (now (c .before .before .before .before .before .before .before .before .before .before .args .wires)) (now (c .before .before .before .before .before .before .before .before .before .before .args .rows)) (c .before .before .before .before .before .before .before .before .before .before .args .renames) (c .before .before .before .before .before .before .before .before .before .before .args .room)) (c .before .before .before .before .before .before .before .before .before .before .args .m .0) (c .before .before .before .before .before .before .before .before .before .before .args .w .0) _ (c .before .before .before .before .find-shown .ensures .1) _ _ (c .before .before .place .given .1)
+returns c = shown-name (lent (now (c .before .before .before .before .before .before .before .before .before .before .args .names)) (now (c .before .before .before .before .before .before .before .before .before .before .args .strings)) (now (c .before .before .before .before .before .before .before .before .before .before .args .bits)) (now (c .before .before .before .before .before .before .before .before .before .before .args .wires)) (now (c .before .before .before .before .before .before .before .before .before .before .args .rows)) (c .before .before .before .before .before .before .before .before .before .before .args .renames) (c .before .before .before .before .before .before .before .before .before .before .args .room)) (c .before .before .before .before .before .before .before .before .before .before .args .m .0) (c .before .before .before .before .before .before .before .before .before .before .args .w .0) (ptr (c .before .before .before .before .before .before .before .before .before .before .args .names)) (ptr (c .before .before .before .before .before .before .before .before .before .before .args .strings)) _ (c .before .before .before .before .find-shown .ensures) _ _ (c .before .before .place .given .1)
 
 enum-known-place-2 : tie.Need-enum-known-place-2
 enum-known-place-2 c = search needs
 
 sub-result-2 : tie.Need-sub-result-2
-sub-result-2 c = subst (InRange (now (c .before .before .before .before .before .before .before .before .before .args .names)) (now (c .before .before .before .before .before .before .before .before .before .args .strings))) (c .before .place2 .given .1) (c .before .before .before .find-shown .ensures .0) .0
+sub-result-2 c = subst (InRange (now (c .before .before .before .before .before .before .before .before .before .args .names)) (now (c .before .before .before .before .before .before .before .before .before .args .strings))) (c .before .place2 .given .1) (c .before .before .before .find-shown .ensures .1 .0) .0
 
 part-result-start-2 : tie.Need-part-result-start-2
-part-result-start-2 c = subst (InRange (now (c .before .before .before .before .before .before .before .before .before .args .names)) (now (c .before .before .before .before .before .before .before .before .before .args .strings))) (c .before .place2 .given .1) (c .before .before .before .find-shown .ensures .0) .0
+part-result-start-2 c = subst (InRange (now (c .before .before .before .before .before .before .before .before .before .args .names)) (now (c .before .before .before .before .before .before .before .before .before .args .strings))) (c .before .place2 .given .1) (c .before .before .before .find-shown .ensures .1 .0) .0
 
 part-result-end-2 : tie.Need-part-result-end-2
-part-result-end-2 c = subst (InRange (now (c .before .before .before .before .before .before .before .before .before .args .names)) (now (c .before .before .before .before .before .before .before .before .before .args .strings))) (c .before .place2 .given .1) (c .before .before .before .find-shown .ensures .0) .1
+part-result-end-2 c = subst (InRange (now (c .before .before .before .before .before .before .before .before .before .args .names)) (now (c .before .before .before .before .before .before .before .before .before .args .strings))) (c .before .place2 .given .1) (c .before .before .before .find-shown .ensures .1 .0) .1
 
 returns-2 : tie.Need-returns-2
-returns-2 c = shown-text (lent (now (c .before .before .before .before .before .before .before .before .before .before .args .names)) (now (c .before .before .before .before .before .before .before .before .before .before .args .strings)) (now (c .before .before .before .before .before .before .before .before .before .before .args .bits)) (now (c .before .before .before .before .before .before .before .before .before .before .args .wires)) (now (c .before .before .before .before .before .before .before .before .before .before .args .rows)) (c .before .before .before .before .before .before .before .before .before .before .args .renames) (c .before .before .before .before .before .before .before .before .before .before .args .room)) (c .before .before .before .before .before .before .before .before .before .before .args .m .0) (c .before .before .before .before .before .before .before .before .before .before .args .w .0) _ (c .before .before .before .before .find-shown .ensures .1) _ _ (c .before .before .place2 .given .1)
+returns-2 c = shown-text (lent (now (c .before .before .before .before .before .before .before .before .before .before .args .names)) (now (c .before .before .before .before .before .before .before .before .before .before .args .strings)) (now (c .before .before .before .before .before .before .before .before .before .before .args .bits)) (now (c .before .before .before .before .before .before .before .before .before .before .args .wires)) (now (c .before .before .before .before .before .before .before .before .before .before .args .rows)) (c .before .before .before .before .before .before .before .before .before .before .args .renames) (c .before .before .before .before .before .before .before .before .before .before .args .room)) (c .before .before .before .before .before .before .before .before .before .before .args .m .0) (c .before .before .before .before .before .before .before .before .before .before .args .w .0) (ptr (c .before .before .before .before .before .before .before .before .before .before .args .names)) (ptr (c .before .before .before .before .before .before .before .before .before .before .args .strings)) _ (c .before .before .before .before .find-shown .ensures) _ _ (c .before .before .place2 .given .1)
 
 enum-known-place-3 : tie.Need-enum-known-place-3
 enum-known-place-3 c = search needs
@@ -55,7 +55,7 @@ part-result-end-3 : tie.Need-part-result-end-3
 part-result-end-3 c = search needs
 
 returns-3 : tie.Need-returns-3
-returns-3 c = shown-none (lent (now (c .before .before .before .before .before .before .before .before .before .before .args .names)) (now (c .before .before .before .before .before .before .before .before .before .before .args .strings)) (now (c .before .before .before .before .before .before .before .before .before .before .args .bits)) (now (c .before .before .before .before .before .before .before .before .before .before .args .wires)) (now (c .before .before .before .before .before .before .before .before .before .before .args .rows)) (c .before .before .before .before .before .before .before .before .before .before .args .renames) (c .before .before .before .before .before .before .before .before .before .before .args .room)) (c .before .before .before .before .before .before .before .before .before .before .args .m .0) (c .before .before .before .before .before .before .before .before .before .before .args .w .0) _ (c .before .before .before .before .find-shown .ensures .1) _ (c .before .before .place3 .given .1)
+returns-3 c = shown-none (lent (now (c .before .before .before .before .before .before .before .before .before .before .args .names)) (now (c .before .before .before .before .before .before .before .before .before .before .args .strings)) (now (c .before .before .before .before .before .before .before .before .before .before .args .bits)) (now (c .before .before .before .before .before .before .before .before .before .before .args .wires)) (now (c .before .before .before .before .before .before .before .before .before .before .args .rows)) (c .before .before .before .before .before .before .before .before .before .before .args .renames) (c .before .before .before .before .before .before .before .before .before .before .args .room)) (c .before .before .before .before .before .before .before .before .before .before .args .m .0) (c .before .before .before .before .before .before .before .before .before .before .args .w .0) (ptr (c .before .before .before .before .before .before .before .before .before .before .args .names)) (ptr (c .before .before .before .before .before .before .before .before .before .before .args .strings)) _ (c .before .before .before .before .find-shown .ensures) _ (c .before .before .place3 .given .1)
 
 pub show-spec : {M : Type 1} → statement M
 show-spec =

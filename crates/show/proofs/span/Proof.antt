@@ -1,6 +1,6 @@
 -- A span is cut as the decoder cuts it.
 -- Assumes nothing.
-use Rattle.wires.specs.Rows.{spanAt}
+use Rattle.show.specs.Parts.{spanPart}
 use borrow.Author.Needs.{needs}
 use Rattle.show.proofs.span.Statement.{statement}
 use Rattle.show.proofs.span.Tie as tie
@@ -29,7 +29,7 @@ cut-requires : tie.Need-cut-requires
 cut-requires c κs = search needs
 
 returns : tie.Need-returns
-unfolding spanAt
+unfolding spanPart
 returns c = rw (← c .before .before .column .ensures, ← c .before .column2 .ensures) (c .cut .ensures)
 
 pub span-spec : {M : Type 1} → statement M

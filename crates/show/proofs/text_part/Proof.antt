@@ -12,7 +12,7 @@ use Rattle.wires.proofs.column.Reads as column-reads
 use Rattle.show.proofs.span.Reads as span-reads
 
 returns : tie.Need-returns
-returns c = (omega arith, omega arith, text-none (now (c .before .before .before .args .strings)) (now (c .before .before .before .args .rows)) (c .before .before .before .args .behind) (c .if1 .taken))
+returns c = text-none (now (c .before .before .before .args .strings)) (now (c .before .before .before .args .rows)) (c .before .before .before .args .behind) (c .if1 .taken)
 
 sub-row : tie.Need-sub-row
 sub-row c = search needs
@@ -25,14 +25,14 @@ column-requires c κs = search needs
 
 returns-2 : tie.Need-returns-2
 returns-2 c = let e : c .before .before .before .before .before .args .behind ≡ suc (c .before .before .before .before .before .args .behind - 1) = omega arith in
-    (omega arith, omega arith, text-other (now (c .before .before .before .before .before .args .strings)) (now (c .before .before .before .before .before .args .rows)) (c .before .before .before .before .before .args .behind) (c .before .before .before .before .before .args .behind - 1) e (λ q. c .if2 .taken (c .before .column .ensures ∙ q)))
+    text-other (now (c .before .before .before .before .before .args .strings)) (now (c .before .before .before .before .before .args .rows)) (c .before .before .before .before .before .args .behind) (c .before .before .before .before .before .args .behind - 1) e (λ q. c .if2 .taken (c .before .column .ensures ∙ q))
 
 span-requires : tie.Need-span-requires
 span-requires c κs = search needs
 
 returns-3 : tie.Need-returns-3
 returns-3 c = let e : c .before .before .before .before .before .before .args .behind ≡ suc (c .before .before .before .before .before .before .args .behind - 1) = omega arith in
-    (c .span .ensures .0, c .span .ensures .1, c .span .ensures .2 ∙ text-string (now (c .before .before .before .before .before .before .args .strings)) (now (c .before .before .before .before .before .before .args .rows)) (c .before .before .before .before .before .before .args .behind) (c .before .before .before .before .before .before .args .behind - 1) e (sym (c .before .before .column .ensures) ∙ c .before .if2 .left))
+    c .span .ensures ∙ text-string (now (c .before .before .before .before .before .before .args .strings)) (now (c .before .before .before .before .before .before .args .rows)) (c .before .before .before .before .before .before .args .behind) (c .before .before .before .before .before .before .args .behind - 1) e (sym (c .before .before .column .ensures) ∙ c .before .if2 .left)
 
 pub text-part-spec : {M : Type 1} → statement M
 text-part-spec =
