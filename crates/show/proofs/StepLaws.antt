@@ -13,7 +13,7 @@ use Rattle.rules.specs.Session.{plainName, orElse}
 use Rattle.scanner.proofs.RunLaws.{slice-part}
 use Rattle.wires.specs.Rows.{column, spanAt}
 use Rattle.netlist.specs.Rows.{kindAt}
-use Rattle.line_text.specs.Now.{nameNow}
+use Rattle.wire_names.specs.Now.{nameNow}
 use Rattle.show.specs.Rows.{declares, wireLine, isHdlname, hdlnameRow, textAt, shownName}
 use Rattle.show.specs.Parts.{PartIs}
 use Rattle.show.specs.declared.Part.{Part}

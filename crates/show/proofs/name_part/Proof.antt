@@ -4,7 +4,7 @@ use Prim.Native.Nat.{suc, _-_}
 use mathlib.Core.Path.{_≡_, _∙_}
 use native.Mathlib.Omega.{arith}
 use denote.Ref.{now}
-use Rattle.line_text.specs.NowLaws.{name-own, name-given}
+use Rattle.wire_names.specs.NowLaws.{name-own, name-given}
 use borrow.Author.Needs.{needs}
 use Rattle.show.proofs.name_part.Statement.{statement}
 use Rattle.show.proofs.name_part.Tie as tie
