@@ -32,7 +32,7 @@ use Rattle.admitted.specs.CountLaws.{among-test}
 use Rattle.admitted.specs.AdmitLaws.{admitted-before, admitted-last}
 use Rattle.netlist.specs.Spans.{Starts, starts-first, starts-has}
 use Rattle.designs.specs.Now as design
-use Rattle.line_text.specs.Now.{nameNow, wiresNow}
+use Rattle.wire_names.specs.Now.{nameNow, wiresNow}
 use Rattle.module_text.specs.Passes.{declaredNow, wiresDown}
 use Rattle.design_text.specs.Rows.{Tables}
 use Rattle.designs.specs.CodeLaws.{narrow-past}

@@ -10,9 +10,9 @@ use borrow.Author.Tests.{eq-eqb, ne-eqb}
 use Rattle.rules.specs.Bytes.{bytes}
 use Rattle.scanner.specs.Laws.{one-le}
 use Rattle.netlist.specs.Rows.{kindAt}
-use Rattle.line_text.specs.Now.{wiresIn}
+use Rattle.wire_names.specs.Now.{wiresIn}
+use Rattle.wire_names.specs.declared.Module.{Module}
 use Rattle.line_text.specs.Lines.{statementNow, lineOf}
-use Rattle.line_text.specs.declared.Module.{Module}
 use Rattle.text.specs.Written.{Written, written-none, written-then}
 use Rattle.design_text.specs.declared.Counts.{Counts}
 use Rattle.design_text.specs.Rows.{Tables, nextRow, waitingFrom, rowLine, lineIf, kindRows, cellRows, objectIf, objectRows, bodyRows, moduleAt, moduleIf, moduleRows, textRows}

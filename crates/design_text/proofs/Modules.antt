@@ -36,9 +36,9 @@ use Rattle.designs.specs.Ranges.{wireRange}
 use Rattle.designs.specs.PastLaws.{module-counts, other-counts, count-step, module-first, module-more, module-past, none-counts, up-to-all, up-to-back}
 use Rattle.designs.specs.HeadLaws.{standing-headed}
 use Rattle.designs.specs.WireLaws.{wires-back, wire-range-there, wires-range, Adds, a-wire, no-wire, adds, wires-more}
-use Rattle.line_text.specs.Now as line
+use Rattle.wire_names.specs.Now as line
+use Rattle.wire_names.specs.declared.Module.{Module}
 use Rattle.line_text.specs.Lines.{statementNow}
-use Rattle.line_text.specs.declared.Module.{Module}
 use Rattle.module_text.specs.Blocks.{lineOf, plainLine}
 use Rattle.module_text.specs.LineLaws.{plain-line}
 use Rattle.module_text.specs.Passes.{named, wiresNow, wiresDown, linesOf, firstLine, objectLines, bodyLines, printModule, fileText}

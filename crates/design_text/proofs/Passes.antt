@@ -17,10 +17,10 @@ use Rattle.rules.specs.Text.{textOpen}
 use Rattle.scanner.specs.Laws.{by-test, and-true-left, and-true-right, eqb-sym}
 use Rattle.scanner.specs.Lists.{all-append}
 use Rattle.netlist.specs.Rows.{kindAt}
-use Rattle.line_text.specs.Now.{wiresIn}
+use Rattle.wire_names.specs.Now.{wiresIn}
+use Rattle.wire_names.specs.declared.Module.{Module}
 use Rattle.line_text.specs.Lines as line
 use Rattle.line_text.specs.Lines.{statementNow}
-use Rattle.line_text.specs.declared.Module.{Module}
 use Rattle.module_text.specs.Blocks.{lineOf}
 use Rattle.module_text.specs.Passes.{linesOf, kindLines, Print, objectLines, printMemory, cellBlock, printToEnd}
 use Rattle.design_text.specs.Rows.{Tables, nextRow, waitingFrom, rowLine, lineIf, kindRows, cellRows, objectIf, objectRows, bodyRows}

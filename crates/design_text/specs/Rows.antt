@@ -6,9 +6,9 @@ use lib.Dec.{eqb}
 use Rattle.rules.specs.Bytes.{bytes}
 use Rattle.netlist.specs.Rows.{kindAt}
 use Rattle.designs.specs.Ranges.{wireRange}
-use Rattle.line_text.specs.Now.{wiresIn}
+use Rattle.wire_names.specs.Now.{wiresIn}
+use Rattle.wire_names.specs.declared.Module.{Module}
 use Rattle.line_text.specs.Lines.{statementNow, lineOf}
-use Rattle.line_text.specs.declared.Module.{Module}
 use Rattle.design_text.specs.declared.Counts.{Counts}
 
 pub record Tables : Type 0 where

@@ -1,11 +1,11 @@
 // The written text of design memory: passes over the rows of its statements, one for each kind of line.
 // All of it is total: a word past a table's end counts as 0, and a row that holds no statement is not written.
 use designs::module_wires;
-use line_text::Module;
 use line_text::put_line;
 use netlist::rows::row_kind;
 use numbers::kinds::ModuleNumber;
 use text::put_bytes;
+use wire_names::Module;
 ghost use mathlib.Core.Path.{_≡_};
 ghost use mathlib.Core.Bool.{cond};
 ghost use Prim.Native.Nat.{_+_, _-_, _≤_, _<_};

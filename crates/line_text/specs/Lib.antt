@@ -1,5 +1,3 @@
-pub mod Now
-pub mod NowLaws
 pub mod Pieces
 pub mod Runs
 pub mod RunLaws

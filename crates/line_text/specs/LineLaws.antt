@@ -22,10 +22,10 @@ use Rattle.numbers.specs.Signed.{signedOf}
 use Rattle.wires.specs.Rows.{column, portOf, wireOf, spanAt}
 use Rattle.netlist.specs.Rows.{kindAt, nameFrom}
 use Rattle.netlist.specs.Statements.{constantAt, optionalAt, signalAt, memoryAt, statementBy, statementAt}
+use Rattle.wire_names.specs.declared.Module.{Module}
+use Rattle.wire_names.specs.Now.{nameNow, ownNow}
 use Rattle.line_text.specs.Pieces.{spread, Piece, piece-none, piece-name, piece-word, piece-literal, piece-sig, piece-bounds, spread-name, spread-literal, spread-append, spaced-word, spaced-two, spaced-three}
 use Rattle.line_text.specs.Options.{piece-options, spread-options}
-use Rattle.line_text.specs.declared.Module.{Module}
-use Rattle.line_text.specs.Now.{nameNow, ownNow}
 use Rattle.line_text.specs.Runs.{bitsOf}
 use Rattle.line_text.specs.Lines.{portOptions, statementNow, bodyText, lineOf}
 

@@ -13,9 +13,9 @@ use Rattle.rules.specs.Text.{setting, directionWord, written, shapeTokens, spac
 use Rattle.wires.specs.Rows.{column, wireOf}
 use Rattle.netlist.specs.Rows.{kindAt}
 use Rattle.netlist.specs.Statements.{statementBy, statementAt}
+use Rattle.wire_names.specs.declared.Module.{Module}
+use Rattle.wire_names.specs.Now.{ownNow}
 use Rattle.text.specs.Written.{Written}
-use Rattle.line_text.specs.declared.Module.{Module}
-use Rattle.line_text.specs.Now.{ownNow}
 
 -- a wire's option for its port
 unfoldable pub portOptions : Option (Direction × ℕ) → List Opt

@@ -1,6 +1,5 @@
 // The written line of the statement in a row, with the wires' names as they are now.
 // All of it is total: a word past a table's end counts as 0, and a span past its end is cut.
-use numbers::kinds::ModuleNumber;
 use numbers::kinds::WireNumber;
 use text::put_byte;
 use text::put_bytes;
@@ -9,6 +8,8 @@ use text::put_integer;
 use text::put_spaces;
 use text::put_string;
 use text::put_value;
+use wire_names::Module;
+use wire_names::name_now;
 use wires::bytes_at;
 use wires::column;
 ghost use mathlib.Core.Path.{_≡_};
@@ -28,20 +29,11 @@ ghost use Rattle.numbers.specs.Signed.{signedOf};
 ghost use Rattle.wires.specs.Rows.{column, spanAt, portOf, wireOf};
 ghost use Rattle.netlist.specs.Rows.{nameFrom};
 ghost use Rattle.netlist.specs.Statements.{constantAt, optionalAt, signalAt, memoryAt, sortAt};
+ghost use Rattle.wire_names.specs.Now.{wiresIn, ownNow};
 ghost use Rattle.text.specs.Written.{Written};
-ghost use Rattle.line_text.specs.Now.{renames, lastRename, nameNow, wiresIn, ownNow};
 ghost use Rattle.line_text.specs.Pieces.{spread};
 ghost use Rattle.line_text.specs.Runs.{bitsOf, joint, firstRun, runsText, Apart, Lowest};
 ghost use Rattle.line_text.specs.Lines.{portOptions, statementNow, bodyText, lineOf, PlainIs};
-
-// A module: its number, the rows of its wires, and the rows of the renames that stand.
-pub struct Module {
-    pub number: ModuleNumber,
-    pub first: u32,
-    pub wires: u32,
-    pub from: u32,
-    pub renames: u32,
-}
 
 // The words from start up to end, cut to those that are there.
 fn words<'a>(t: &'a [u32], start: usize, end: usize) -> &'a [u32]
@@ -61,51 +53,6 @@ fn words_at<'a>(t: &'a [u32], rows: &[u32], row: usize, c: usize) -> &'a [u32]
     let start = column(rows, row, c) as usize;
     let size = column(rows, row, c + 1) as usize;
     words(t, start, start + size)
-}
-
-// Whether a rename's row is of this wire.
-fn renames(rows: &[u32], row: usize, number: u32, wire: u32) -> bool
-    requires { ⌜ row < 8589934592 ⌝ }
-    ensures { λ r. ⌜ r ≡ renames (now (rows .entry)) row number wire ⌝ }
-{
-    if column(rows, row, 3) != number {
-        return false;
-    }
-    column(rows, row, 4) == wire
-}
-
-// How many of the rename rows from a row on there are up to the last one of this wire; 0 if it has none.
-pub fn last_rename(rows: &[u32], from: u32, count: u32, m: ModuleNumber, wire: WireNumber) -> u32
-    ensures { λ r. ⌜ r ≡ lastRename (now (rows .entry)) from count (m .0) (wire .0) ⌝ }
-{
-    let mut i = count;
-    while 0 < i {
-        let last = i - 1;
-        if renames(rows, from as usize + last as usize, m.0, wire.0) {
-            return i;
-        }
-        i = last;
-    }
-    0
-}
-
-// The name now of a wire of the module whose row in the table of wires is k: the last rename of it, else its own.
-pub fn name_now<'a>(
-    names: &'a [u8],
-    wires: &[u32],
-    rows: &[u32],
-    m: Module,
-    wire: WireNumber,
-    k: usize,
-) -> &'a [u8]
-    requires { ⌜ k < 8589934592 ⌝ }
-    ensures { λ r. ⌜ now r ≡ nameNow (now (names .entry)) (now (wires .entry)) (now (rows .entry)) (m .from) (m .renames) (m .number .0) (wire .0) k ⌝ }
-{
-    let last = last_rename(rows, m.from, m.renames, m.number, wire);
-    if last == 0 {
-        return bytes_at(names, wires, k, 1);
-    }
-    bytes_at(names, rows, m.from as usize + (last - 1) as usize, 1)
 }
 
 // A token behind a space.

@@ -35,8 +35,8 @@ use Rattle.designs.specs.WireLaws.{design-range}
 use Rattle.designs.specs.Now.{numbered, nameNow, wireNow}
 use Rattle.designs.specs.NowLaws.{numbered-same, names-now, wire-now}
 use Rattle.designs.specs.declared.Range.{Range}
-use Rattle.line_text.specs.Now as table
-use Rattle.line_text.specs.declared.Module.{Module}
+use Rattle.wire_names.specs.Now as table
+use Rattle.wire_names.specs.declared.Module.{Module}
 use Rattle.reader.specs.Read.{lent}
 use Rattle.standing.specs.Judged.{moduleBy}
 use Rattle.netlist.specs.RoomLaws.{rooms-file}

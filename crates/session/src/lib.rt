@@ -3,7 +3,6 @@
 use designs::module_wires;
 use held::Held;
 use held::judge_memory;
-use line_text::Module;
 use netlist::lengths::right_lengths;
 use numbers::kinds::ModuleNumber;
 use numbers::kinds::WireNumber;
@@ -17,6 +16,7 @@ use tables::put_bytes;
 use tables::put_row;
 use tables::word;
 use tables::zero_bytes;
+use wire_names::Module;
 use wires::wire_index;
 ghost use mathlib.Core.Path.{_≡_};
 ghost use Prim.Native.Nat.{_+_, _-_, _*_, _≤_};

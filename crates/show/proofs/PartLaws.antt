@@ -16,8 +16,8 @@ use Rattle.rules.specs.Session.{plainName, orElse}
 use Rattle.scanner.specs.Laws.{by-cond, by-test}
 use Rattle.scanner.proofs.RunLaws.{slice-part, cut-none, cut-part}
 use Rattle.wires.specs.Rows.{column, spanAt}
-use Rattle.line_text.specs.Now.{lastRename, nameNow}
-use Rattle.line_text.specs.NowLaws.{name-own, name-given}
+use Rattle.wire_names.specs.Now.{lastRename, nameNow}
+use Rattle.wire_names.specs.NowLaws.{name-own, name-given}
 use Rattle.show.specs.Rows.{wireLine, hdlnameRow, textAt, shownName}
 use Rattle.show.specs.Parts.{part, cutOf, spanPart, textPart, partBy, namePart, plainPart, shownOf, shownPart, numberOf, bytesIn, InRange}
 use Rattle.show.specs.declared.Part.{Part}

@@ -28,7 +28,7 @@ use Rattle.designs.specs.DeclaredLaws.{Declared, wire-declared, declared-wire, 
 use Rattle.designs.specs.Now.{nameNow, wireNow}
 use Rattle.designs.specs.NowLaws.{wire-now}
 use Rattle.designs.specs.declared.Range.{Range}
-use Rattle.line_text.specs.Now as table
+use Rattle.wire_names.specs.Now as table
 use Rattle.reader.specs.Read.{lent}
 use Rattle.replay.specs.Reads.{Tables, tabled}
 use Rattle.replay.specs.Begins.{Fronts}

@@ -9,7 +9,7 @@ use lib.ListN.{length, getD}
 use borrow.Author.Tests.{lt-ltb, le-ltb, le-leb, lt-leb, ne-eqb}
 use Rattle.wires.specs.Rows.{column}
 use Rattle.netlist.specs.Rows.{kindAt}
-use Rattle.line_text.specs.Now.{lastRename}
+use Rattle.wire_names.specs.Now.{lastRename}
 use Rattle.show.specs.Rows.{declares, wireLine, isHdlname, hdlnameRow}
 use Rattle.show.specs.Parts.{part, cutOf, spanPart, textPart, partBy, namePart, plainPart, shownOf, shownPart}
 use Rattle.show.specs.declared.Part.{Part}

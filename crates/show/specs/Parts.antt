@@ -12,7 +12,7 @@ use Rattle.past.specs.Place.{placeOf}
 use Rattle.past.specs.declared.place.Place.{Place}
 use Rattle.wires.specs.Rows.{column}
 use Rattle.designs.specs.Ranges.{wireRange}
-use Rattle.line_text.specs.Now.{lastRename}
+use Rattle.wire_names.specs.Now.{lastRename}
 use Rattle.session.specs.Called.{Called, answer}
 use Rattle.show.specs.Rows.{wireLine, hdlnameRow}
 use Rattle.show.specs.declared.Part.{Part}

@@ -7,7 +7,7 @@ use Rattle.rules.specs.Bytes.{bytes, same}
 use Rattle.rules.specs.Session.{plainName, orElse}
 use Rattle.wires.specs.Rows.{column, spanAt}
 use Rattle.netlist.specs.Rows.{kindAt, nameAt}
-use Rattle.line_text.specs.Now.{nameNow}
+use Rattle.wire_names.specs.Now.{nameNow}
 
 -- whether a row is the statement of the wire in row w of the table of wires; and the last such row of the first k
 unfoldable pub declares : (rows : List ℕ) → (row w : ℕ) → Bool

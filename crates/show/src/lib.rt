@@ -1,7 +1,6 @@
 // The name to show of a wire: its attribute `\hdlname` if that is a string that isn't empty, else its name now, without the `\` if public. It is a part of
 // the strings or of the names, not a copy.
 use designs::module_wires;
-use line_text::last_rename;
 use netlist::rows::row_kind;
 use netlist::rows::row_name;
 use numbers::kinds::ModuleNumber;
@@ -9,6 +8,7 @@ use numbers::kinds::WireNumber;
 use scanner::names::same_bytes;
 use session::Opened;
 use session::open_memory;
+use wire_names::last_rename;
 use wires::column;
 ghost use mathlib.Core.Path.{_≡_};
 ghost use Prim.Native.Nat.{_≤_, _<_};

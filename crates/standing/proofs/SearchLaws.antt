@@ -9,8 +9,8 @@ use Rattle.rules.specs.Bytes.{same, any}
 use Rattle.rules.specs.Tokens.{Name}
 use Rattle.rules.specs.Judgement.{accepted, refused}
 use Rattle.scanner.specs.Laws.{by-test, same-eq}
-use Rattle.line_text.specs.Now.{nameNow, wiresNow, wiresIn}
-use Rattle.line_text.specs.declared.Module.{Module}
+use Rattle.wire_names.specs.Now.{nameNow, wiresNow, wiresIn}
+use Rattle.wire_names.specs.declared.Module.{Module}
 use Rattle.standing.specs.Search.{searchNow, named, isFound}
 use Rattle.standing.specs.declared.Named.{Named}
 

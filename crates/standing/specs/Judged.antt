@@ -19,8 +19,8 @@ use Rattle.netlist.specs.Rows.{namesBetween}
 use Rattle.netlist.specs.Kinds.{isKind, threeKinds}
 use Rattle.netlist.specs.Laid.{Laid, Wired}
 use Rattle.designs.specs.Ranges.{wireRange, rowRange}
-use Rattle.line_text.specs.Now.{wiresIn}
-use Rattle.line_text.specs.declared.Module.{Module}
+use Rattle.wire_names.specs.Now.{wiresIn}
+use Rattle.wire_names.specs.declared.Module.{Module}
 
 -- whether a memory or a cell of module m has this name, in the rows of so many statements
 unfoldable pub objectTaken : (names rows : List ℕ) → (total m : ℕ) → Name → Bool

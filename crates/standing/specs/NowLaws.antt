@@ -15,7 +15,7 @@ use Rattle.netlist.specs.Laid.{Laid}
 use Rattle.netlist.specs.LaidLaws.{list-behind, row-behind, laid-rename}
 use Rattle.designs.specs.Now as designs
 use Rattle.designs.specs.NowLaws.{name-last}
-use Rattle.line_text.specs.Now as rows
+use Rattle.wire_names.specs.Now as rows
 use Rattle.netlist.specs.RoomLaws.{put-renames-last, length-rename-row, rename-rows, eights-renames}
 
 -- what a rename's row holds

@@ -5,8 +5,8 @@ use mathlib.Core.List.{List}
 use Rattle.rules.specs.Bytes.{same}
 use Rattle.rules.specs.Tokens.{Name}
 use Rattle.rules.specs.Judgement.{Verdict, accepted, refused}
-use Rattle.line_text.specs.Now.{nameNow}
-use Rattle.line_text.specs.declared.Module.{Module}
+use Rattle.wire_names.specs.Now.{nameNow}
+use Rattle.wire_names.specs.declared.Module.{Module}
 use Rattle.standing.specs.declared.Named.{Named}
 use Rattle.standing.specs.declared.Named.the-variants.{At, Nothing}
 

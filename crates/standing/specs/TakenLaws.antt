@@ -33,7 +33,7 @@ use Rattle.designs.specs.NowLaws.{taken-read-now}
 use Rattle.designs.specs.Ranges.{wireRange}
 use Rattle.designs.specs.RowLaws.{taken-range}
 use Rattle.designs.specs.WireLaws.{pairs-range, design-range}
-use Rattle.line_text.specs.Now as rows
+use Rattle.wire_names.specs.Now as rows
 use Rattle.standing.specs.Judged.{objectTaken, nameTaken, moduleBy}
 use Rattle.standing.specs.NowLaws.{name-now-laid}
 

@@ -2,8 +2,6 @@
 // All of it is total: a word past a table's end counts as 0, and a span past its end is cut.
 use designs::module_rows;
 use designs::module_wires;
-use line_text::Module;
-use line_text::name_now;
 use netlist::rows::Kinds;
 use netlist::rows::name_taken;
 use numbers::kinds::ModuleNumber;
@@ -12,12 +10,14 @@ use past::place::Place;
 use scanner::names::legal;
 use scanner::names::same_bytes;
 use tables::word;
+use wire_names::Module;
+use wire_names::name_now;
 ghost use mathlib.Core.Path.{_≡_};
 ghost use Prim.Native.Nat.{_<_, _≤_};
 ghost use Rattle.rules.specs.Bytes.{same, any};
 ghost use Rattle.rules.specs.Session.{isPort};
 ghost use Rattle.wires.specs.Rows.{wireOf};
-ghost use Rattle.line_text.specs.Now.{wiresIn};
+ghost use Rattle.wire_names.specs.Now.{wiresIn};
 ghost use Rattle.standing.specs.Search.{searchNow, named};
 ghost use Rattle.standing.specs.Judged.{objectTaken, nameTaken, exceedsRoom, JudgedIs};
 

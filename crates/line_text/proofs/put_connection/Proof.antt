@@ -4,7 +4,7 @@ use mathlib.Core.Path.{refl, ap}
 use lib.ListN.{length}
 use Rattle.rules.specs.Text.{sig}
 use Rattle.text.specs.Written.{written-most, written-then, written-as}
-use Rattle.line_text.specs.Now.{wiresIn}
+use Rattle.wire_names.specs.Now.{wiresIn}
 use Rattle.line_text.specs.LineLaws.{span-le, span-signal, line-connection}
 use native.Mathlib.Omega.{arith}
 use borrow.Author.Needs.{needs}

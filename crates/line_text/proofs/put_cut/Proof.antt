@@ -5,7 +5,7 @@ use mathlib.Core.Logic.{⊎-elim}
 use Prim.Native.Nat.{suc, _+_, _-_}
 use Rattle.wires.specs.Rows.{wireOf}
 use Rattle.text.specs.Written.{written-most, written-then, written-as}
-use Rattle.line_text.specs.NowLaws.{wire-now, none-in}
+use Rattle.wire_names.specs.NowLaws.{wire-now, none-in}
 use Rattle.line_text.specs.LineLaws.{cut-none, cut-whole, cut-part}
 use native.Mathlib.Omega.{arith}
 use borrow.Author.Needs.{needs}

@@ -6,8 +6,8 @@ use lib.ListN.{drop, length-take}
 use Rattle.text.specs.Written.{written-most, written-then, written-as}
 use Rattle.line_text.specs.Pieces.{spread}
 use Rattle.rules.specs.Text.{sigTokens}
-use Rattle.line_text.specs.Now.{wiresIn}
-use Rattle.line_text.specs.NowLaws.{length-in}
+use Rattle.wire_names.specs.Now.{wiresIn}
+use Rattle.wire_names.specs.NowLaws.{length-in}
 use Rattle.line_text.specs.RunLaws.{run-digits, run-wire}
 use native.Mathlib.Omega.{arith}
 use borrow.Author.Needs.{needs}

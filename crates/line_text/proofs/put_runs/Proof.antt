@@ -4,7 +4,7 @@ use mathlib.Core.Path.{_≡_, sym}
 use Prim.Native.Nat.{_≤_}
 use lib.ListN.{length, drop}
 use Rattle.text.specs.Written.{Written, written-none, written-most, written-then, written-as}
-use Rattle.line_text.specs.Now.{wiresIn}
+use Rattle.wire_names.specs.Now.{wiresIn}
 use Rattle.line_text.specs.Runs.{runsText, Apart}
 use Rattle.line_text.specs.RunLaws.{runs-below, runs-none}
 use native.Mathlib.Omega.{arith}

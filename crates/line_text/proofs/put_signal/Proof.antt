@@ -3,7 +3,7 @@
 use mathlib.Core.Path.{refl, sym, ap}
 use Rattle.text.specs.Written.{written-most, written-then, written-as}
 use Rattle.line_text.specs.Pieces.{spread}
-use Rattle.line_text.specs.Now.{wiresIn}
+use Rattle.wire_names.specs.Now.{wiresIn}
 use Rattle.line_text.specs.RunLaws.{signal-none, signal-one, signal-several}
 use native.Mathlib.Omega.{arith}
 use borrow.Author.Needs.{needs}

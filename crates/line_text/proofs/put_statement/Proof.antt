@@ -2,7 +2,7 @@
 -- Assumes nothing.
 use borrow.Author.Tests.{ne-eqb}
 use Rattle.text.specs.Written.{written-as}
-use Rattle.line_text.specs.Now.{wiresIn}
+use Rattle.wire_names.specs.Now.{wiresIn}
 use Rattle.line_text.specs.LineLaws.{statement-wire, statement-cell-connection, statement-connection, statement-plain}
 use borrow.Author.Needs.{needs}
 use denote.Ref.{now}

@@ -7,7 +7,7 @@ use Rattle.rules.specs.Tokens.{Name}
 use Rattle.rules.specs.Signals.{Wires}
 use Rattle.wires.specs.Rows.{column, nameOf, wireOf}
 use Rattle.netlist.specs.Rows.{nameFrom}
-use Rattle.line_text.specs.declared.Module.{Module}
+use Rattle.wire_names.specs.declared.Module.{Module}
 
 -- whether the rename in a row is of wire n of module m
 unfoldable pub renames : (rows : List ℕ) → (row m n : ℕ) → Bool

@@ -1,10 +1,10 @@
 -- The module first, then the wire.
 -- Assumes nothing.
 use borrow.Author.Tests.{eq-eqb, ne-eqb}
-use Rattle.line_text.specs.Now.{renames}
+use Rattle.wire_names.specs.Now.{renames}
 use borrow.Author.Needs.{needs}
-use Rattle.line_text.proofs.renames.Statement.{statement}
-use Rattle.line_text.proofs.renames.Tie as tie
+use Rattle.wire_names.proofs.renames.Statement.{statement}
+use Rattle.wire_names.proofs.renames.Tie as tie
 
 column-requires : tie.Need-column-requires
 column-requires c κs = search needs

@@ -4,10 +4,10 @@ use mathlib.Core.Path.{_≡_, refl, sym, _∙_}
 use Prim.Native.Nat.{suc, _-_, _≤_}
 use native.Mathlib.Omega.{arith}
 use denote.Ref.{now}
-use Rattle.line_text.specs.Now.{lastRename}
-use Rattle.line_text.specs.NowLaws.{rename-none, rename-here, rename-before}
-use Rattle.line_text.proofs.last_rename.Statement.{statement}
-use Rattle.line_text.proofs.last_rename.Tie as tie
+use Rattle.wire_names.specs.Now.{lastRename}
+use Rattle.wire_names.specs.NowLaws.{rename-none, rename-here, rename-before}
+use Rattle.wire_names.proofs.last_rename.Statement.{statement}
+use Rattle.wire_names.proofs.last_rename.Tie as tie
 
 abbrev Inv-loop : tie.InvT-loop
 Inv-loop rows from count m wire i₀ i = (i ≤ count) × (lastRename rows from count (m .0) (wire .0) ≡ lastRename rows from i (m .0) (wire .0))

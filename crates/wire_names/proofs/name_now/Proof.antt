@@ -2,12 +2,12 @@
 -- Assumes nothing.
 use Prim.Native.Nat.{suc, _-_}
 use mathlib.Core.Path.{_≡_, _∙_}
-use Rattle.line_text.specs.NowLaws.{name-own, name-given}
+use Rattle.wire_names.specs.NowLaws.{name-own, name-given}
 use native.Mathlib.Omega.{arith}
 use denote.Ref.{now}
 use borrow.Author.Needs.{needs}
-use Rattle.line_text.proofs.name_now.Statement.{statement}
-use Rattle.line_text.proofs.name_now.Tie as tie
+use Rattle.wire_names.proofs.name_now.Statement.{statement}
+use Rattle.wire_names.proofs.name_now.Tie as tie
 
 last-rename-requires : tie.Need-last-rename-requires
 last-rename-requires c κs = search needs

@@ -12,8 +12,8 @@ use Rattle.rules.specs.Signals.{Wires}
 use Rattle.scanner.specs.Laws.{by-test}
 use Rattle.wires.specs.Rows.{spanAt, nameOf, wireOf, wiresFrom}
 use Rattle.netlist.specs.Rows.{nameFrom}
-use Rattle.line_text.specs.declared.Module.{Module}
-use Rattle.line_text.specs.Now.{renames, lastRename, nameNow, wiresNow, wiresIn}
+use Rattle.wire_names.specs.declared.Module.{Module}
+use Rattle.wire_names.specs.Now.{renames, lastRename, nameNow, wiresNow, wiresIn}
 
 module _ (names wires rows : List ℕ) (from count m first : ℕ) where
   pub length-now : (many : ℕ) → length (wiresNow names wires rows from count m first many) ≡ many
