@@ -4,18 +4,16 @@ use Prim.Native.Nat.{ℕ, _+_}
 use mathlib.Core.Path.{_≡_, refl, sym, ap, ap₂, _∙_}
 use mathlib.Core.List.{List, [], _∷_, _++_, map, flatMap, append-nil, Option·toList}
 use mathlib.Core.Option.{Option, none, some, Option·elim}
-use mathlib.Core.Bool.{Bool, true, false, not, _&&_, false≢true}
+use mathlib.Core.Bool.{true, false, _&&_, false≢true}
 use native.Mathlib.Omega.{arith}
 use lib.Dec.{eqb, leb}
 use lib.ListN.{length, length-map}
-use borrow.Author.Tests.{not-true}
 use Rattle.rules.specs.Bytes.{all, within}
 use Rattle.rules.specs.Tokens.{Name}
 use Rattle.rules.specs.Statements.{Sort, Statement, Constant, value, integer, string, digitsOf, bytesOf, Wire, Memory, Signal, aProcess, is, contents, holds, code, autoidx-stmt, attr-stmt, module-stmt, param-stmt, wire-stmt, memory-stmt, cell-stmt, cell-param-stmt, cell-conn-stmt, conn-stmt, proc-stmt, end-stmt}
-use Rattle.rules.specs.Shapes.{Scope, top, inModule, inCell}
 use Rattle.rules.specs.Signals.{Wires, twosComplement}
 use Rattle.rules.specs.Numbers.{int32}
-use Rattle.rules.specs.Judgement.{Past, context, wires}
+use Rattle.rules.specs.Judgement.{Past, wires}
 use Rattle.rules.specs.Layout.{Used, padded, row, digitCode, bitCode, nameBytes, stringBytes, bitCodes, constantColumns, sortCode, columns, statementRow, used}
 use Rattle.scanner.specs.Laws.{and-true-left, and-true-right}
 use Rattle.numbers.specs.Kinds.{digitOf, bitOf, bitAt}
@@ -26,8 +24,8 @@ use Rattle.wires.specs.Rows.{column, wireOf, spanAt}
 use Rattle.wires.specs.RowLaws.{slice-span, RowIs, row-wire}
 use Rattle.netlist.specs.Rows.{kindAt, nameFrom}
 use Rattle.netlist.specs.Statements.{constantAt, optionalAt, signalAt, memoryAt, sortAt, statementBy, statementAt}
-use Rattle.admitted.specs.Admitted.{fineConstant, fineMemory, fineSignal, fineParts, kinds, stands, admitted}
-use Rattle.admitted.specs.CountLaws.{among-test}
+use Rattle.admitted.specs.Admitted.{fineConstant, fineMemory, fineSignal, fineParts, admitted}
+use Rattle.admitted.specs.CountLaws.{never-process}
 use Rattle.admitted.specs.AdmitLaws.{fine-parts, fine-fits, admitted-before, admitted-last}
 use Rattle.netlist.specs.Spans.{Has, has-first, has-second}
 use Rattle.netlist.specs.Laid.{roomsOf}
@@ -168,20 +166,6 @@ module _ (names strings bits wires rows : List ℕ) (u : Used) (ws : Wires) (wid
   decodes end-stmt d r g p = by-kind 12 (r 0 (omega arith))
 
 -- ---- the last of admitted statements
-
-no-process : (p : Scope) (f a : Bool) → all (λ k. not (eqb 11 (code k))) (kinds p f a) ≡ true
-unfolding all kinds code
-no-process top true a = refl
-no-process top false a = refl
-no-process inModule f true = refl
-no-process inModule f false = refl
-no-process inCell f a = refl
-
-pub never-process : (s : Statement) (ss : Past) → stands ss s ≡ true → is aProcess s ≡ false
-unfolding stands is code
-never-process s ss h =
-    not-true (eqb 11 (code (contents s .kind)))
-    (among-test (λ n. not (eqb 11 n)) (kinds (context ss .scope) (context ss .first) (context ss .attributed)) s (no-process (context ss .scope) (context ss .first) (context ss .attributed)) h)
 
 pub decodes-last :
     {t : Tables} (s : Statement) (ss : Past) → Fronts (roomsOf (s ∷ ss)) t → admitted (s ∷ ss) ≡ true →

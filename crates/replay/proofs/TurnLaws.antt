@@ -47,7 +47,7 @@ use Rattle.replay.specs.Turns.{standsAt, closesAt, Reached, TurnIs, Told
 use Rattle.replay.specs.declared.statements.Found.{Found}
 use Rattle.replay.specs.declared.turns.Turn.{Turn}
 use Rattle.designs.specs.CodeLaws.{narrow, narrow-past}
-use Rattle.designs.specs.DecodeLaws.{never-process}
+use Rattle.admitted.specs.CountLaws.{never-process}
 use Rattle.replay.proofs.UniqueLaws.{read-only}
 use Rattle.netlist.specs.UsedLaws.{used-past}
 use Rattle.replay.proofs.BeginLaws.{stand-long, stand-reads, reads-stand}

@@ -9,12 +9,13 @@ use lib.ListN.{length}
 use borrow.Author.Tests.{eq-eqb, ne-eqb, eqb-false}
 use Rattle.rules.specs.Bytes.{bytes, same, any}
 use Rattle.rules.specs.Tokens.{Name}
-use Rattle.rules.specs.Statements.{Statement, Constant, value, integer, string, bytesOf, Wire, autoidx-stmt, attr-stmt, module-stmt, param-stmt, wire-stmt, memory-stmt, cell-stmt, cell-param-stmt, cell-conn-stmt, conn-stmt, proc-stmt, end-stmt, anAttribute, code, contents, is, statementsOpen}
+use Rattle.rules.specs.Statements.{Statement, Constant, value, integer, string, bytesOf, Wire, attr-stmt, wire-stmt, anAttribute, code, contents, is, statementsOpen}
 use Rattle.rules.specs.Judgement.{Past, until, sum, among, count, ofObject}
 use Rattle.rules.specs.Design.{Setting, settingIn}
 use Rattle.rules.specs.Session.{hdlname}
 use Rattle.rules.specs.Layout.{used, padded, row, stringBytes, constantColumns, columns, statementRow}
 use Rattle.scanner.specs.Laws.{by-test}
+use Rattle.past.specs.Forms.{by-form}
 use Rattle.past.specs.Place.{wiresIn}
 use Rattle.wires.specs.Rows.{column, spanAt}
 use Rattle.wires.specs.RowLaws.{slice-span}
@@ -85,18 +86,9 @@ data Attributed : Statement → Type 0 where
 
 attributed : (s : Statement) → Attributed s
 unfolding statementsOpen
-attributed (autoidx-stmt i) = no-attribute refl
-attributed (attr-stmt n c) = an-attribute n c
-attributed (module-stmt n) = no-attribute refl
-attributed (param-stmt n c) = no-attribute refl
-attributed (wire-stmt w n) = no-attribute refl
-attributed (memory-stmt m n) = no-attribute refl
-attributed (cell-stmt y n) = no-attribute refl
-attributed (cell-param-stmt o n c) = no-attribute refl
-attributed (cell-conn-stmt n x) = no-attribute refl
-attributed (conn-stmt x y) = no-attribute refl
-attributed (proc-stmt n) = no-attribute refl
-attributed end-stmt = no-attribute refl
+attributed =
+    by-form Attributed (λ i. no-attribute refl) an-attribute (λ n. no-attribute refl) (λ n c. no-attribute refl) (λ w n. no-attribute refl) (λ m n. no-attribute refl)
+    (λ t n. no-attribute refl) (λ o n c. no-attribute refl) (λ n x. no-attribute refl) (λ x y. no-attribute refl) (λ n. no-attribute refl) (no-attribute refl)
 
 settings-none : (s : Statement) (ss : Past) → is anAttribute s ≡ false → settingsBefore (s ∷ ss) ≡ []
 unfolding settingsBefore ofObject until flatMap
