@@ -4,13 +4,13 @@
 use Prim.Native.Nat.{ℕ, _+_, _≤_}
 use mathlib.Core.Path.{_≡_, refl, ap}
 use mathlib.Core.List.{List, [], _∷_}
-use mathlib.Core.Bool.{Bool, true, false, cond, _&&_, _||_}
+use mathlib.Core.Bool.{Bool, true, false, not, cond, _&&_, _||_}
 use native.Mathlib.Omega.{arith}
 use lib.Dec.{eqb, leb}
 use lib.ListN.{length}
-use borrow.Author.Tests.{eqb-true, leb-true}
+use borrow.Author.Tests.{eqb-true, leb-true, not-true}
 use Rattle.rules.specs.Bytes.{any, all}
-use Rattle.rules.specs.Statements.{Statement, Kind, anAutoidx, anAttribute, aModule, aParameter, aWire, aMemory, aCell, aCellParameter, aCellConnection, aConnection, anEnd, code, contents, is}
+use Rattle.rules.specs.Statements.{Statement, Kind, anAutoidx, anAttribute, aModule, aParameter, aWire, aMemory, aCell, aCellParameter, aCellConnection, aConnection, aProcess, anEnd, code, contents, is}
 use Rattle.rules.specs.Shapes.{Scope, top, inModule, inCell}
 use Rattle.rules.specs.Judgement.{Past, sum, scope, context, among, count}
 use Rattle.past.specs.Place.{scopeCode, scopeAfter}
@@ -47,6 +47,21 @@ among-test g (k ∷ ks) s h e =
     by-test (eqb (code k) (code (contents s .kind)))
     (λ q. rw (← eqb-true (code k) (code (contents s .kind)) q) (and-true-left _ _ h))
     (λ q. among-test g ks s (and-true-right (g (code k)) _ h) (rw q at e))
+
+-- no process stands anywhere
+no-process : (p : Scope) (f a : Bool) → all (λ k. not (eqb 11 (code k))) (kinds p f a) ≡ true
+unfolding all kinds code
+no-process top true a = refl
+no-process top false a = refl
+no-process inModule f true = refl
+no-process inModule f false = refl
+no-process inCell f a = refl
+
+pub never-process : (s : Statement) (ss : Past) → stands ss s ≡ true → is aProcess s ≡ false
+unfolding stands is code
+never-process s ss h =
+    not-true (eqb 11 (code (contents s .kind)))
+    (among-test (λ n. not (eqb 11 n)) (kinds (context ss .scope) (context ss .first) (context ss .attributed)) s (no-process (context ss .scope) (context ss .first) (context ss .attributed)) h)
 
 kinds-count : (z : Scope) (first attributed : Bool) → all (λ k. counts (scopeCode z) first (code k)) (kinds z first attributed) ≡ true
 unfolding all kinds scopeCode counts one sizeCounts scopeAfter code

@@ -8,12 +8,14 @@ use mathlib.Core.Bool.{Bool, true, false, _||_}
 use lib.Dec.{eqb}
 use Rattle.rules.specs.Bytes.{any}
 use Rattle.rules.specs.Tokens.{Token}
-use Rattle.rules.specs.Statements.{Shape, Statement, Kind, aProcess, autoidx-stmt, attr-stmt, module-stmt, param-stmt, wire-stmt, memory-stmt, cell-stmt, cell-param-stmt, cell-conn-stmt, conn-stmt, proc-stmt, end-stmt, code, contents, is, statementsOpen}
+use Rattle.rules.specs.Statements.{Shape, Statement, Kind, Contents, holds, aProcess, code, contents, is, statementsOpen}
 use Rattle.rules.specs.Shapes.{Parse, Form, Scope, top, inModule, inCell, give, after, of₁, of₂, of₃, either, choice, isWord, autoidxForm, attributeForm, topForms, objectForms, bodyForms, cellForms, forms, wholeBy, whole, shape}
-use Rattle.rules.specs.Signals.{Wires}
+use Rattle.rules.specs.Numbers.{wireOf, memoryOf}
+use Rattle.rules.specs.Signals.{Wires, kept, bits}
 use Rattle.rules.specs.Judgement.{Past, context, wires, among, breaksNumber, lacksWire, takesName, breaksWidth, partTooWide, exceedsSize, lowest, Verdict, verdict, meaning, judgeIn, judge}
 use Rattle.rules.specs.Reading.{shaped}
 use Rattle.scanner.specs.Laws.{by-test}
+use Rattle.past.specs.Forms.{translated, contents-translated}
 use Rattle.admitted.specs.Admitted.{kinds, stands}
 
 -- what a form gives, if anything, passes a test
@@ -93,19 +95,8 @@ module _ (ss : Past) where
 
 -- what a shape means is of its kind
 pub meaning-kind : (ws : Wires) (sh : Shape) → contents (meaning ws sh) .kind ≡ contents sh .kind
-unfolding meaning statementsOpen
-meaning-kind ws (autoidx-stmt i) = refl
-meaning-kind ws (attr-stmt n c) = refl
-meaning-kind ws (module-stmt n) = refl
-meaning-kind ws (param-stmt n c) = refl
-meaning-kind ws (wire-stmt w n) = refl
-meaning-kind ws (memory-stmt m n) = refl
-meaning-kind ws (cell-stmt t n) = refl
-meaning-kind ws (cell-param-stmt o n c) = refl
-meaning-kind ws (cell-conn-stmt n x) = refl
-meaning-kind ws (conn-stmt x y) = refl
-meaning-kind ws (proc-stmt n) = refl
-meaning-kind ws end-stmt = refl
+unfolding meaning translated holds
+meaning-kind ws sh = ap (λ (c : Contents _ _ _ _). c .kind) (contents-translated kept (bits ws) wireOf memoryOf sh)
 
 pub meaning-among : (ks : List Kind) (ws : Wires) (sh : Shape) → among ks (meaning ws sh) ≡ among ks sh
 unfolding among is

@@ -1,6 +1,6 @@
 -- Memory holds one list of statements and one list of renames only.
 -- Assumes nothing.
-use Prim.Native.Nat.{ℕ, _-_, _*_, _<_}
+use Prim.Native.Nat.{ℕ, _*_, _<_}
 use mathlib.Core.Path.{_≡_, refl, sym, ap, ap₂, _∙_, subst}
 use mathlib.Core.List.{List, [], _∷_, reverse, reverse-reverse}
 use mathlib.Core.Bool.{true, false}
@@ -9,23 +9,22 @@ use lib.Dec.{ltb}
 use lib.ListN.{length, take, drop}
 use borrow.Author.Tests.{ltb-true, ltb-false}
 use Rattle.rules.specs.Statements.{Statement}
-use Rattle.rules.specs.Judgement.{Past, wires}
+use Rattle.rules.specs.Judgement.{Past}
 use Rattle.rules.specs.Session.{Rename}
-use Rattle.rules.specs.Layout.{Memory, Rooms, padded, row, used, renameRow, putRename, putRenames}
+use Rattle.rules.specs.Layout.{Memory, Rooms, padded, row, renameRow, putRename, putRenames}
 use Rattle.scanner.specs.Laws.{by-test, never}
 use Rattle.tables.specs.Flat.{Eights}
-use Rattle.tables.specs.Row.{rowAt}
 use Rattle.wires.specs.Rows.{wordAt}
 use Rattle.netlist.specs.Laid.{roomsOf, Laid}
 use Rattle.netlist.specs.LaidLaws.{eights-rows, laid-renames}
 use Rattle.admitted.specs.Admitted.{admitted}
-use Rattle.admitted.specs.AdmitLaws.{admitted-before, admitted-last}
+use Rattle.admitted.specs.AdmitLaws.{admitted-before}
 use Rattle.admitted.specs.Holds.{Holds}
-use Rattle.replay.specs.Reads.{Tables, statementOf}
-use Rattle.replay.specs.Begins.{Fronts, isStatement}
-use Rattle.designs.specs.CodeLaws.{narrow-past}
-use Rattle.replay.proofs.BeginLaws.{fronts-before, fronts-stand, stand-reads}
-use Rattle.replay.proofs.UniqueLaws.{read-only}
+use Rattle.replay.specs.Reads.{Tables}
+use Rattle.netlist.specs.Fronts.{Fronts}
+use Rattle.netlist.specs.FrontLaws.{fronts-before}
+use Rattle.replay.specs.Begins.{withRows, isStatement}
+use Rattle.designs.specs.DecodeLaws.{decodes-last}
 use Rattle.netlist.specs.RoomLaws.{rooms-file, eights-renames}
 use Rattle.replay.proofs.LoopLaws.{next-kind}
 use Rattle.standing.specs.NowLaws.{last-rename-row, last-rename-name}
@@ -37,35 +36,27 @@ module _ (t : Tables) (rows : List ℕ) where
   abbrev Ends : Past → Type 0
   Ends ss = isStatement (wordAt rows (8 * length (roomsOf ss .rows))) ≡ false
 
-  abbrev standing-at : Past → Statement
-  standing-at ss = statementOf t (used (roomsOf ss)) (rowAt rows (8 * used (roomsOf ss) .rows))
-
-  next-is : (x : Statement) (ss : Past) → admitted (x ∷ ss) ≡ true → Fronts (roomsOf (x ∷ ss)) t rows → standing-at ss ≡ x
-  next-is x ss a f =
-      read-only t (used (roomsOf ss)) (wires ss) (narrow-past ss (admitted-before x ss a)) (rowAt rows (8 * used (roomsOf ss) .rows)) x
-      (stand-reads t rows (used (roomsOf ss)) (wires ss) x (fronts-stand t rows x ss f) (admitted-last x ss a .parts))
-
-  same-many : (ss qs : Past) → length ss ≡ length qs → admitted ss ≡ true → admitted qs ≡ true → Fronts (roomsOf ss) t rows → Fronts (roomsOf qs) t rows → ss ≡ qs
+  same-many : (ss qs : Past) → length ss ≡ length qs → admitted ss ≡ true → admitted qs ≡ true → Fronts (roomsOf ss) (withRows t rows) → Fronts (roomsOf qs) (withRows t rows) → ss ≡ qs
   same-many [] [] e a b f g = refl
   same-many [] (y ∷ qs) e a b f g = absurd (omega arith)
   same-many (x ∷ ss) [] e a b f g = absurd (omega arith)
   same-many (x ∷ ss) (y ∷ qs) e a b f g =
-      let i : ss ≡ qs = same-many ss qs (omega arith) (admitted-before x ss a) (admitted-before y qs b) (fronts-before t rows x ss f) (fronts-before t rows y qs g) in
-      let n : x ≡ y = sym (next-is x ss a f) ∙ ap (λ (l : Past). standing-at l) i ∙ next-is y qs b g in
+      let i : ss ≡ qs = same-many ss qs (omega arith) (admitted-before x ss a) (admitted-before y qs b) (fronts-before x ss f) (fronts-before y qs g) in
+      let n : x ≡ y = cc (decodes-last x ss f a, decodes-last y qs g b) in
       ap₂ (λ (z : Statement) (l : Past). z ∷ l) n i
 
-  longer : (ss qs : Past) → admitted ss ≡ true → admitted qs ≡ true → Fronts (roomsOf ss) t rows → Fronts (roomsOf qs) t rows → Ends ss → length ss < length qs → ⊥
+  longer : (ss qs : Past) → admitted ss ≡ true → admitted qs ≡ true → Fronts (roomsOf ss) (withRows t rows) → Fronts (roomsOf qs) (withRows t rows) → Ends ss → length ss < length qs → ⊥
   longer ss [] a b f g e h = omega arith
   longer ss (y ∷ qs) a b f g e h =
       let b′ = admitted-before y qs b in
-      let g′ = fronts-before t rows y qs g in
+      let g′ = fronts-before y qs g in
       by-test (ltb (length ss) (length qs)) (λ q. longer ss qs a b′ f g′ e (ltb-true (length ss) (length qs) q))
       (λ q.
       let k : length ss ≡ length qs = omega (arith, ltb-false (length ss) (length qs) q) in
       let i : ss ≡ qs = same-many ss qs k a b′ f g′ in
       never (isStatement (wordAt rows (8 * length (roomsOf qs .rows)))) (next-kind t rows y qs g) (subst (λ (l : Past). Ends l) i e))
 
-  one-list : (ss qs : Past) → admitted ss ≡ true → admitted qs ≡ true → Fronts (roomsOf ss) t rows → Fronts (roomsOf qs) t rows → Ends ss → Ends qs → ss ≡ qs
+  one-list : (ss qs : Past) → admitted ss ≡ true → admitted qs ≡ true → Fronts (roomsOf ss) (withRows t rows) → Fronts (roomsOf qs) (withRows t rows) → Ends ss → Ends qs → ss ≡ qs
   one-list ss qs a b f g e d =
       by-test (ltb (length ss) (length qs)) (λ q. absurd (longer ss qs a b f g e (ltb-true (length ss) (length qs) q)))
       (λ q. by-test (ltb (length qs) (length ss)) (λ p. absurd (longer qs ss b a g f d (ltb-true (length qs) (length ss) p)))

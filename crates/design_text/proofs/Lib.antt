@@ -1,6 +1,5 @@
 pub mod Loops
-pub mod Decode
-pub mod Begun
+pub mod NowLaws
 pub mod Passes
 pub mod Named
 pub mod Modules

@@ -15,7 +15,8 @@ use Rattle.wire_names.specs.declared.Module.{Module}
 use Rattle.line_text.specs.Lines.{statementNow, lineOf}
 use Rattle.text.specs.Written.{Written, written-none, written-then}
 use Rattle.design_text.specs.declared.Counts.{Counts}
-use Rattle.design_text.specs.Rows.{Tables, nextRow, waitingFrom, rowLine, lineIf, kindRows, cellRows, objectIf, objectRows, bodyRows, moduleAt, moduleIf, moduleRows, textRows}
+use Rattle.netlist.specs.Tables.{Tables}
+use Rattle.design_text.specs.Rows.{nextRow, waitingFrom, rowLine, lineIf, kindRows, cellRows, objectIf, objectRows, bodyRows, moduleAt, moduleIf, moduleRows, textRows}
 
 -- of a text the part before `rest` is written
 pub record Reaches (at : ℕ) (text rest : List ℕ) (old new : List ℕ) (r : ℕ) : Type 0 where

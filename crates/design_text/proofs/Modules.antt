@@ -30,10 +30,14 @@ use Rattle.admitted.specs.Admitted.{admitted}
 use Rattle.admitted.specs.AdmitLaws.{fine-fits, admitted-last, admitted-standing, admitted-offsets, admitted-past}
 use Rattle.netlist.specs.UsedLaws.{used-wires}
 use Rattle.netlist.specs.Spans.{Has}
+use Rattle.netlist.specs.Tables.{Tables}
+use Rattle.netlist.specs.Fronts.{Fronts}
+use Rattle.netlist.specs.FrontLaws.{fronts-wired, fronts-renames, fronts-stand, fronts-kind, fronts-wire, parts-wire}
 use Rattle.designs.specs.Modules.{statementsOf, wiresOf, moduleCount, upTo}
 use Rattle.designs.specs.Now.{nameNow}
 use Rattle.designs.specs.Ranges.{wireRange}
 use Rattle.designs.specs.PastLaws.{module-counts, other-counts, count-step, module-first, module-more, module-past, none-counts, up-to-all, up-to-back}
+use Rattle.designs.specs.DecodeLaws.{decodes-last}
 use Rattle.designs.specs.HeadLaws.{standing-headed}
 use Rattle.designs.specs.WireLaws.{wires-back, wire-range-there, wires-range, Adds, a-wire, no-wire, adds, wires-more}
 use Rattle.wire_names.specs.Now as line
@@ -45,8 +49,8 @@ use Rattle.module_text.specs.Passes.{named, wiresNow, wiresDown, linesOf, first
 use Rattle.module_text.specs.WireLaws.{wires-down}
 use Rattle.module_text.specs.StandLaws.{Follows, one-follows, follows, follows-until, autoidx-first}
 use Rattle.design_text.specs.declared.Counts.{Counts}
-use Rattle.design_text.specs.Rows.{Tables, nextRow, waitingFrom, rowLine, lineIf, kindRows, bodyRows, moduleAt, moduleIf, moduleRows, textRows}
-use Rattle.design_text.proofs.Begun.{Begun, begun-wired, begun-renames, begun-past, last-parts, last-kind, last-decodes, last-wire, name-is, wires-are}
+use Rattle.design_text.specs.Rows.{nextRow, waitingFrom, rowLine, lineIf, kindRows, bodyRows, moduleAt, moduleIf, moduleRows, textRows}
+use Rattle.design_text.proofs.NowLaws.{fronts-past, name-is, wires-are}
 use Rattle.design_text.proofs.Passes.{Rowed, no-rows, one-row, rowed-more, Kinded, no-kinds, one-kind, next-until, more-behind, all-more, row-line, attribute-rows, body-rows}
 use Rattle.design_text.proofs.Named.{named-code, named-other, nowed, length-nowed, body-nowed, attribute-only}
 
@@ -76,9 +80,9 @@ autoidx-only : (s : Statement) → is anAutoidx s ≡ true → is aWire s ≡ fa
 unfolding is code
 autoidx-only s h = rw (← eqb-true 1 (code (contents s .kind)) h)
 
-autoidx-kind : {t : Tables} (s : Statement) → Begun (roomsOf (s ∷ [])) t → eqb (kindAt (t .rows) 0) 1 ≡ is anAutoidx s
+autoidx-kind : {t : Tables} (s : Statement) → Fronts (roomsOf (s ∷ [])) t → eqb (kindAt (t .rows) 0) 1 ≡ is anAutoidx s
 unfolding is code
-autoidx-kind s k = rw (last-kind s [] k) (eqb-sym (code (contents s .kind)) 1)
+autoidx-kind s k = rw (fronts-kind s [] k) (eqb-sym (code (contents s .kind)) 1)
 
 -- of a kind whose lines have no signal
 plain-kinds : (s : Statement) → leb (code (contents s .kind)) 8 ≡ true → contents s .signals ≡ []
@@ -122,32 +126,32 @@ unfolding lineOf textOpen statementsOpen
 end-top = refl
 
 -- one that declares no wire, whatever the module is
-plain-row : {t : Tables} (m : Module) (s : Statement) (ps : Past) → Begun (roomsOf (s ∷ ps)) t → admitted (s ∷ ps) ≡ true → is aWire s ≡ false → statementNow (t .names) (t .strings) (t .bits) (t .wires) (t .rows) m (length ps) ≡ some s
+plain-row : {t : Tables} (m : Module) (s : Statement) (ps : Past) → Fronts (roomsOf (s ∷ ps)) t → admitted (s ∷ ps) ≡ true → is aWire s ≡ false → statementNow (t .names) (t .strings) (t .bits) (t .wires) (t .rows) m (length ps) ≡ some s
 unfolding statementNow is code
 plain-row {t} m s ps b e h =
-    rw (last-kind s ps b, eqb-sym (code (contents s .kind)) 5, h) (last-decodes s ps b e)
+    rw (fronts-kind s ps b, eqb-sym (code (contents s .kind)) 5, h) (decodes-last s ps b e)
 
-module _ {t : Tables} (rs : List Rename) (F : Past) (b : Begun (putRenames (roomsOf F) rs) t) (m : Module) (from-is : m .from ≡ length F) (renames-are : m .renames ≡ length rs) where
+module _ {t : Tables} (rs : List Rename) (F : Past) (b : Fronts (putRenames (roomsOf F) rs) t) (m : Module) (from-is : m .from ≡ length F) (renames-are : m .renames ≡ length rs) where
   now-is : (n k : ℕ) → line.nameNow (t .names) (t .wires) (t .rows) (m .from) (m .renames) (m .number .0) n k ≡ nameNow rs (m .number .0) n (nameOf (t .names) (t .wires) k)
   now-is n k = rw (from-is, renames-are, ← length-rows F) (name-is (roomsOf F) (eights-rows F) rs b (m .number .0) n k)
 
   wire-row :
-      (w : Wire) (x : Name) (ps : Past) (n : ℕ) → Begun (roomsOf (wire-stmt w x ∷ ps)) t → admitted (wire-stmt w x ∷ ps) ≡ true → m .first + n ≡ wiresIn ps →
+      (w : Wire) (x : Name) (ps : Past) (n : ℕ) → Fronts (roomsOf (wire-stmt w x ∷ ps)) t → admitted (wire-stmt w x ∷ ps) ≡ true → m .first + n ≡ wiresIn ps →
       statementNow (t .names) (t .strings) (t .bits) (t .wires) (t .rows) m (length ps) ≡ some (wire-stmt w (nameNow rs (m .number .0) n x))
   unfolding statementNow line.ownNow used nameBytes flatMap all statementsOpen Has
   wire-row w x ps n bs e h =
-      let p = last-parts (wire-stmt w x) ps bs in
+      let p = fronts-stand (wire-stmt w x) ps bs .parts in
       let k : ℕ = length (roomsOf ps .wires) in
-      let c : column (t .rows) (length ps) 3 ≡ k = last-wire w x ps bs in
+      let c : column (t .rows) (length ps) 3 ≡ k = fronts-wire w x ps bs in
       let d : k - m .first ≡ n = omega (arith, used-wires ps) in
-      let r = p .wire-is w x refl in
+      let r = parts-wire (used (roomsOf ps)) w x p in
       let o : int32 (w .offset) ≡ true = and-true-left (int32 (w .offset)) true (fine-fits (wires ps) (wire-stmt w x) (admitted-last (wire-stmt w x) ps e .parts)) in
       let wi : wireOf (t .wires) k ≡ w = row-wire (t .wires) k (used (roomsOf ps)) x w r o in
       let ni : nameOf (t .names) (t .wires) k ≡ x = row-name (t .wires) k (used (roomsOf ps)) x w r (t .names) (rw append-nil at (p .names-has)) in
-      rw (last-kind (wire-stmt w x) ps bs, c, now-is (k - m .first) k, d, wi, ni)
+      rw (fronts-kind (wire-stmt w x) ps bs, c, now-is (k - m .first) k, d, wi, ni)
 
   named-row :
-      (s : Statement) (ps : Past) (n : ℕ) → Adds s → Begun (roomsOf (s ∷ ps)) t → admitted (s ∷ ps) ≡ true → m .first + n ≡ wiresIn ps →
+      (s : Statement) (ps : Past) (n : ℕ) → Adds s → Fronts (roomsOf (s ∷ ps)) t → admitted (s ∷ ps) ≡ true → m .first + n ≡ wiresIn ps →
       statementNow (t .names) (t .strings) (t .bits) (t .wires) (t .rows) m (length ps) ≡ some (named (nameNow rs (m .number .0) n) s)
   unfolding named
   named-row s ps n (a-wire w x) bs e h = wire-row w x ps n bs e h
@@ -155,22 +159,22 @@ module _ {t : Tables} (rs : List Rename) (F : Past) (b : Begun (putRenames (room
 
   -- THE ROWS OF A MODULE
   rowed :
-      (qs : List Statement) (ps : Past) (n : ℕ) → Begun (roomsOf (reverseAux qs ps)) t → admitted (reverseAux qs ps) ≡ true → m .first + n ≡ wiresIn ps →
+      (qs : List Statement) (ps : Past) (n : ℕ) → Fronts (roomsOf (reverseAux qs ps)) t → admitted (reverseAux qs ps) ≡ true → m .first + n ≡ wiresIn ps →
       Rowed t m (length ps) (nowed rs (m .number .0) n qs)
   unfolding nowed
   rowed [] ps n bs e h = no-rows
   rowed (s ∷ qs) ps n bs e h =
-      let c : Begun (roomsOf (s ∷ ps)) t = begun-past qs (s ∷ ps) bs in
+      let c : Fronts (roomsOf (s ∷ ps)) t = fronts-past qs (s ∷ ps) bs in
       one-row (named-row s ps n (adds s) c (admitted-past qs (s ∷ ps) e) h)
-      (last-kind s ps c ∙ sym (named-code (nameNow rs (m .number .0) n) s))
+      (fronts-kind s ps c ∙ sym (named-code (nameNow rs (m .number .0) n) s))
       (rowed qs (s ∷ ps) (cond (is aWire s) (n + 1) n) bs e
       (by-test (is aWire s)
       (λ w. rw w (omega (arith, rw w at (wires-more s ps))))
       (λ w. rw w (omega (arith, rw w at (wires-more s ps))))))
 
-kinded : {t : Tables} (qs : List Statement) (ps : Past) → Begun (roomsOf (reverseAux qs ps)) t → Kinded (t .rows) (length ps) qs
+kinded : {t : Tables} (qs : List Statement) (ps : Past) → Fronts (roomsOf (reverseAux qs ps)) t → Kinded (t .rows) (length ps) qs
 kinded [] ps b = no-kinds
-kinded (s ∷ qs) ps b = one-kind (last-kind s ps (begun-past qs (s ∷ ps) b)) (kinded qs (s ∷ ps) b)
+kinded (s ∷ qs) ps b = one-kind (fronts-kind s ps (fronts-past qs (s ∷ ps) b)) (kinded qs (s ∷ ps) b)
 
 -- ---- where a module's statements end
 
@@ -218,10 +222,10 @@ module _ (n : ℕ) where
 
 -- THE MODULE whose line s stands behind ps, with the statements qs behind it
 module _
-    {t : Tables} (rs : List Rename) (C : Counts) (F : Past) (b : Begun (putRenames (roomsOf F) rs) t) (e : admitted F ≡ true)
+    {t : Tables} (rs : List Rename) (C : Counts) (F : Past) (b : Fronts (putRenames (roomsOf F) rs) t) (e : admitted F ≡ true)
     (statements : C .statements ≡ length F) (wires-in : C .wires ≡ wiresIn F) (renames : C .renames ≡ length rs) where
-  F-begun : Begun (roomsOf F) t
-  F-begun = begun-renames (roomsOf F) rs b
+  F-fronts : Fronts (roomsOf F) t
+  F-fronts = fronts-renames (roomsOf F) rs b
 
   module _ (s : Statement) (ps : Past) (qs : List Statement) (n : ℕ) (is-F : reverseAux qs (s ∷ ps) ≡ F) (n-is : n ≡ moduleCount ps) (line-is : is aModule s ≡ true) where
     abbrev own : List Statement
@@ -245,7 +249,7 @@ module _
     first-is : moduleAt (t .wires) C n .first ≡ wiresIn (s ∷ ps)
     unfolding moduleAt
     first-is =
-        let r = wire-range-there n F (standing-headed (admitted-standing F e)) (begun-wired (roomsOf F) F-begun) there in
+        let r = wire-range-there n F (standing-headed (admitted-standing F e)) (fronts-wired F-fronts) there in
         let x : wiresIn (upTo n F) ≡ wiresIn own + wiresIn (s ∷ ps) = ap wiresIn up-to-is ∙ wires-onto own (s ∷ ps) in
         let y : wiresIn (ofModule (upTo n F)) ≡ wiresIn own + wiresIn [] = ap wiresIn of-is ∙ wires-onto own [] in
         rw wires-in (omega (arith, r .0, r .1, x, y, no-wires))
@@ -256,7 +260,7 @@ module _
         rw (statements, renames, wires-in, ← length-rows F)
         (wires-are (roomsOf F) (eights-rows F) rs b n (wireRange (t .wires) (wiresIn F) n .first) (wireRange (t .wires) (wiresIn F) n .count)
         ∙ ap (wiresDown rs n)
-        (wires-range n F (standing-headed (admitted-standing F e)) (begun-wired (roomsOf F) F-begun) (admitted-offsets F e)
+        (wires-range n F (standing-headed (admitted-standing F e)) (fronts-wired F-fronts) (admitted-offsets F e)
         ∙ ap (λ (l : List Statement). wiresOf (reverse l)) statements-are
         ∙ sym (wires-back own))
         ∙ sym (wires-down rs n own))
@@ -264,9 +268,9 @@ module _
     own-rowed : Rowed t (moduleAt (t .wires) C n) (suc (length ps)) (nowed rs n 0 own)
     unfolding moduleAt
     own-rowed =
-        let c : Begun (roomsOf (reverseAux (beyond qs) (reverseAux own (s ∷ ps)))) t = rw (sym is-F ∙ until-beyond qs (s ∷ ps)) at F-begun in
+        let c : Fronts (roomsOf (reverseAux (beyond qs) (reverseAux own (s ∷ ps)))) t = rw (sym is-F ∙ until-beyond qs (s ∷ ps)) at F-fronts in
         let a : admitted (reverseAux (beyond qs) (reverseAux own (s ∷ ps))) ≡ true = ap admitted (sym (until-beyond qs (s ∷ ps)) ∙ is-F) ∙ e in
-        rowed rs F b (moduleAt (t .wires) C n) statements renames own (s ∷ ps) 0 (begun-past (beyond qs) (reverseAux own (s ∷ ps)) c) (admitted-past (beyond qs) (reverseAux own (s ∷ ps)) a)
+        rowed rs F b (moduleAt (t .wires) C n) statements renames own (s ∷ ps) 0 (fronts-past (beyond qs) (reverseAux own (s ∷ ps)) c) (admitted-past (beyond qs) (reverseAux own (s ∷ ps)) a)
         (omega (arith, first-is))
 
     -- its rows write it
@@ -276,16 +280,16 @@ module _
     unfolding moduleIf printModule is code
     module-rows first at fo el ea r =
         let m : Module = moduleAt (t .wires) C n in
-        let c : Begun (roomsOf (reverseAux qs (s ∷ ps))) t = rw is-F F-begun in
+        let c : Fronts (roomsOf (reverseAux qs (s ∷ ps))) t = rw is-F F-fronts in
         let a : admitted (reverseAux qs (s ∷ ps)) ≡ true = ap admitted is-F ∙ e in
-        let k : kindAt (t .rows) (length ps) ≡ code (contents s .kind) = last-kind s ps (begun-past qs (s ∷ ps) c) in
+        let k : kindAt (t .rows) (length ps) ≡ code (contents s .kind) = fronts-kind s ps (fronts-past qs (s ∷ ps) c) in
         let x : eqb (kindAt (t .rows) (length ps)) 3 ≡ true = rw k (eqb-sym (code (contents s .kind)) 3 ∙ line-is) in
         let j : length ps + 1 ≡ suc (length ps) = omega arith in
         let y : nextRow (t .rows) 3 (length ps + 1) (length qs) - (length ps + 1) ≡ length own =
         rw j (let z : nextRow (t .rows) 3 (suc (length ps)) (length qs) ≡ suc (length ps) + length own = next-until (t .rows) aModule 3 refl (kinded qs (s ∷ ps) c) in omega arith) in
         let d : length ps - first ≡ length at = omega arith in
         let st : statementNow (t .names) (t .strings) (t .bits) (t .wires) (t .rows) m (length ps) ≡ some s =
-        plain-row m s ps (begun-past qs (s ∷ ps) c) (admitted-past qs (s ∷ ps) a) (module-only s line-is) in
+        plain-row m s ps (fronts-past qs (s ∷ ps) c) (admitted-past qs (s ∷ ps) a) (module-only s line-is) in
         let l : rowLine t m 0 (length ps) ≡ lineOf 0 [] s = row-line t m 0 (length ps) s st ∙ plain-at 0 (line.wiresIn (t .names) (t .wires) (t .rows) m) s (module-plain s line-is) in
         let at-is : kindRows t m 2 0 first (length ps - first) ≡ linesOf 0 [] at = attribute-rows t m 0 (length ps - first) d ea r ∙ lines-plain 0 (line.wiresIn (t .names) (t .wires) (t .rows) m) at ea in
         let bd : bodyRows t m (length ps + 1) (nextRow (t .rows) 3 (length ps + 1) (length qs) - (length ps + 1)) ≡ bodyLines rs n (wiresNow rs n own) own =
@@ -293,23 +297,23 @@ module _
         rw (x, at-is, l, bd, end-top)
 
   -- rows that are no module line
-  module-not : (s : Statement) (ps : Past) (n first c : ℕ) → Begun (roomsOf (s ∷ ps)) t → is aModule s ≡ false → moduleIf t C n first (length ps) c ≡ []
+  module-not : (s : Statement) (ps : Past) (n first c : ℕ) → Fronts (roomsOf (s ∷ ps)) t → is aModule s ≡ false → moduleIf t C n first (length ps) c ≡ []
   unfolding moduleIf is code
-  module-not s ps n first c k h = rw (last-kind s ps k, eqb-sym (code (contents s .kind)) 3, h)
+  module-not s ps n first c k h = rw (fronts-kind s ps k, eqb-sym (code (contents s .kind)) 3, h)
 
-  more-modules : (s : Statement) (ps : Past) (n : ℕ) → Begun (roomsOf (s ∷ ps)) t → n ≡ moduleCount ps → n + cond (eqb (kindAt (t .rows) (length ps)) 3) 1 0 ≡ moduleCount (s ∷ ps)
+  more-modules : (s : Statement) (ps : Past) (n : ℕ) → Fronts (roomsOf (s ∷ ps)) t → n ≡ moduleCount ps → n + cond (eqb (kindAt (t .rows) (length ps)) 3) 1 0 ≡ moduleCount (s ∷ ps)
   unfolding is code
   more-modules s ps n k h =
-      rw (last-kind s ps k, eqb-sym (code (contents s .kind)) 3)
+      rw (fronts-kind s ps k, eqb-sym (code (contents s .kind)) 3)
       (by-test (eqb 3 (code (contents s .kind))) (λ x. rw x (omega (arith, module-counts s ps x))) (λ x. rw x (omega (arith, other-counts s ps x))))
 
-  waits : (s : Statement) (ps : Past) (first : ℕ) → Begun (roomsOf (s ∷ ps)) t → is anAttribute s ≡ true → waitingFrom (kindAt (t .rows) (length ps)) first (length ps) ≡ first
+  waits : (s : Statement) (ps : Past) (first : ℕ) → Fronts (roomsOf (s ∷ ps)) t → is anAttribute s ≡ true → waitingFrom (kindAt (t .rows) (length ps)) first (length ps) ≡ first
   unfolding waitingFrom is code
-  waits s ps first k h = rw (last-kind s ps k, ← eqb-true 2 (code (contents s .kind)) h)
+  waits s ps first k h = rw (fronts-kind s ps k, ← eqb-true 2 (code (contents s .kind)) h)
 
-  passes : (s : Statement) (ps : Past) (first : ℕ) → Begun (roomsOf (s ∷ ps)) t → is anAttribute s ≡ false → waitingFrom (kindAt (t .rows) (length ps)) first (length ps) ≡ suc (length ps)
+  passes : (s : Statement) (ps : Past) (first : ℕ) → Fronts (roomsOf (s ∷ ps)) t → is anAttribute s ≡ false → waitingFrom (kindAt (t .rows) (length ps)) first (length ps) ≡ suc (length ps)
   unfolding waitingFrom is code
-  passes s ps first k h = rw (last-kind s ps k, eqb-sym (code (contents s .kind)) 2, h) (omega arith)
+  passes s ps first k h = rw (fronts-kind s ps k, eqb-sym (code (contents s .kind)) 2, h) (omega arith)
 
   -- ALL MODULES
   modules-rows :
@@ -319,9 +323,9 @@ module _
   unfolding moduleRows objectLines all
   modules-rows [] ps n first at fo i h el ea r = refl
   modules-rows (s ∷ qs) ps n first at (one-follows g q fo) i h el ea r =
-      let c : Begun (roomsOf (reverseAux qs (s ∷ ps))) t = rw i F-begun in
+      let c : Fronts (roomsOf (reverseAux qs (s ∷ ps))) t = rw i F-fronts in
       let a : admitted (reverseAux qs (s ∷ ps)) ≡ true = ap admitted i ∙ e in
-      let k : Begun (roomsOf (s ∷ ps)) t = begun-past qs (s ∷ ps) c in
+      let k : Fronts (roomsOf (s ∷ ps)) t = fronts-past qs (s ∷ ps) c in
       let n′ : n + cond (eqb (kindAt (t .rows) (length ps)) 3) 1 0 ≡ moduleCount (s ∷ ps) = more-modules s ps n k h in
       by-test (is anAttribute s)
       (λ w.
@@ -329,7 +333,7 @@ module _
       let same : n ≡ moduleCount (s ∷ ps) = h ∙ sym (other-counts s ps o) in
       rw (module-not s ps n first (length qs) k o, waits s ps first k w, n′, ← same, w)
       (modules-rows qs (s ∷ ps) n first (at ++ s ∷ []) fo i same (more-behind (length ps) first at s el) (all-more (is anAttribute) at s ea w)
-      (λ m. rowed-more s (length ps) el (r m) (plain-row m s ps k (admitted-past qs (s ∷ ps) a) (attribute-only s w)) (last-kind s ps k))))
+      (λ m. rowed-more s (length ps) el (r m) (plain-row m s ps k (admitted-past qs (s ∷ ps) a) (attribute-only s w)) (fronts-kind s ps k))))
       (λ w. by-test (is aModule s)
       (λ z.
       let next : n + 1 ≡ moduleCount (s ∷ ps) = omega (arith, module-counts s ps z) in
@@ -346,12 +350,12 @@ module _
   unfolding kindRows lineIf firstLine
   autoidx-rows [] fo i = refl
   autoidx-rows (s ∷ ss) fo i =
-      let c : Begun (roomsOf (reverseAux ss (s ∷ []))) t = rw i F-begun in
+      let c : Fronts (roomsOf (reverseAux ss (s ∷ []))) t = rw i F-fronts in
       let a : admitted (reverseAux ss (s ∷ [])) ≡ true = ap admitted i ∙ e in
-      let k : Begun (roomsOf (s ∷ [])) t = begun-past ss (s ∷ []) c in
+      let k : Fronts (roomsOf (s ∷ [])) t = fronts-past ss (s ∷ []) c in
       rw eqb·suc-zero (first-autoidx s k (admitted-past ss (s ∷ []) a) ∙ sym (autoidx-first fo))
     where
-      first-autoidx : (s : Statement) → Begun (roomsOf (s ∷ [])) t → admitted (s ∷ []) ≡ true → cond (eqb (kindAt (t .rows) 0) 1) (rowLine t (moduleAt (t .wires) C 0) 0 0) [] ++ [] ≡ cond (is anAutoidx s) (lineOf 0 [] s) []
+      first-autoidx : (s : Statement) → Fronts (roomsOf (s ∷ [])) t → admitted (s ∷ []) ≡ true → cond (eqb (kindAt (t .rows) 0) 1) (rowLine t (moduleAt (t .wires) C 0) 0 0) [] ++ [] ≡ cond (is anAutoidx s) (lineOf 0 [] s) []
       first-autoidx s k a =
           rw (append-nil, autoidx-kind s k)
           (by-test (is anAutoidx s)

@@ -14,6 +14,7 @@ use Rattle.rules.specs.Signals.{Wires}
 use Rattle.rules.specs.Judgement.{until}
 use Rattle.rules.specs.Session.{Rename}
 use Rattle.scanner.specs.Laws.{by-test}
+use Rattle.past.specs.Forms.{by-form}
 use Rattle.designs.specs.Now.{nameNow}
 use Rattle.module_text.specs.Passes.{named, kindLines, Print, objectLines, printWire, printMemory, cellBlock, printToEnd, bodyLines}
 use Rattle.module_text.specs.StandLaws.{Follows, cells-end}
@@ -22,18 +23,7 @@ use Rattle.module_text.specs.StandLaws.{Follows, cells-end}
 module _ (f : Name → Name) where
   named-contents : (s : Statement) → contents (named f s) .kind ≡ contents s .kind
   unfolding named statementsOpen
-  named-contents (autoidx-stmt i) = refl
-  named-contents (attr-stmt x c) = refl
-  named-contents (module-stmt x) = refl
-  named-contents (param-stmt x c) = refl
-  named-contents (wire-stmt w x) = refl
-  named-contents (memory-stmt m x) = refl
-  named-contents (cell-stmt t x) = refl
-  named-contents (cell-param-stmt o x c) = refl
-  named-contents (cell-conn-stmt x g) = refl
-  named-contents (conn-stmt g h) = refl
-  named-contents (proc-stmt x) = refl
-  named-contents end-stmt = refl
+  named-contents = by-form _ (λ i. refl) (λ n c. refl) (λ n. refl) (λ n c. refl) (λ w n. refl) (λ m n. refl) (λ t n. refl) (λ o n c. refl) (λ n x. refl) (λ x y. refl) (λ n. refl) refl
 
   pub named-code : (s : Statement) → code (contents (named f s) .kind) ≡ code (contents s .kind)
   named-code s = ap code (named-contents s)

@@ -23,7 +23,8 @@ use Rattle.line_text.specs.Lines as line
 use Rattle.line_text.specs.Lines.{statementNow}
 use Rattle.module_text.specs.Blocks.{lineOf}
 use Rattle.module_text.specs.Passes.{linesOf, kindLines, Print, objectLines, printMemory, cellBlock, printToEnd}
-use Rattle.design_text.specs.Rows.{Tables, nextRow, waitingFrom, rowLine, lineIf, kindRows, cellRows, objectIf, objectRows, bodyRows}
+use Rattle.netlist.specs.Tables.{Tables}
+use Rattle.design_text.specs.Rows.{nextRow, waitingFrom, rowLine, lineIf, kindRows, cellRows, objectIf, objectRows, bodyRows}
 
 pub all-more : {A : Type 0} (f : A → Bool) (xs : List A) (x : A) → all f xs ≡ true → f x ≡ true → all f (xs ++ x ∷ []) ≡ true
 unfolding all

@@ -5,21 +5,12 @@ use mathlib.Core.Bool.{cond}
 use lib.Dec.{eqb}
 use Rattle.rules.specs.Bytes.{bytes}
 use Rattle.netlist.specs.Rows.{kindAt}
+use Rattle.netlist.specs.Tables.{Tables}
 use Rattle.designs.specs.Ranges.{wireRange}
 use Rattle.wire_names.specs.Now.{wiresIn}
 use Rattle.wire_names.specs.declared.Module.{Module}
 use Rattle.line_text.specs.Lines.{statementNow, lineOf}
 use Rattle.design_text.specs.declared.Counts.{Counts}
-
-pub record Tables : Type 0 where
-  pub names : List ℕ
-  pub strings : List ℕ
-  pub bits : List ℕ
-  pub wires : List ℕ
-  pub rows : List ℕ
-
-abbrev pub tabled : (names strings bits wires rows : List ℕ) → Tables
-tabled names strings bits wires rows = record { names = names; strings = strings; bits = bits; wires = wires; rows = rows }
 
 -- the first row of a kind among count rows from k on, or the row behind them
 unfoldable pub nextRow : (rows : List ℕ) → (kind k count : ℕ) → ℕ

@@ -12,7 +12,8 @@ ghost use Prim.Native.Nat.{_+_, _-_, _≤_, _<_};
 ghost use lib.Dec.{eqb};
 ghost use lib.ListN.{length};
 ghost use Rattle.text.specs.Written.{Written};
-ghost use Rattle.design_text.specs.Rows.{tabled, nextRow, waitingFrom, lineIf, kindRows, cellRows, objectIf, objectRows, bodyRows, moduleAt, moduleIf, moduleRows, textRows};
+ghost use Rattle.netlist.specs.Tables.{tabled};
+ghost use Rattle.design_text.specs.Rows.{nextRow, waitingFrom, lineIf, kindRows, cellRows, objectIf, objectRows, bodyRows, moduleAt, moduleIf, moduleRows, textRows};
 
 // How many rows of each: statements, wires, standing renames.
 pub struct Counts {

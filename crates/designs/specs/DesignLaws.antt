@@ -13,6 +13,7 @@ use Rattle.rules.specs.Statements.{Statement, Wire, Kind, anAttribute, aModule,
 use Rattle.rules.specs.Judgement.{until, only, sum, among, count}
 use Rattle.rules.specs.Design.{Setting, Object, object, Module, Item, Inside, settingIn, items, blocks, objectsIn, pair, each, cellOf, moduleOf, Design, design}
 use Rattle.rules.specs.Session.{wiresAt, names, taken}
+use Rattle.past.specs.Forms.{by-form}
 use Rattle.scanner.specs.Laws.{by-test}
 use Rattle.scanner.specs.Lists.{zip-none, flatMap-same}
 use Rattle.netlist.specs.NameLaws.{ownNames}
@@ -106,18 +107,7 @@ wires-pairs at qs =
 -- the own names of memories
 memory-name : (s : Statement) → map (λ x. x .0) (zip (contents s .names) (contents s .memories)) ≡ cond (among (aMemory ∷ []) s) (ownName (contents s .names) ∷ []) []
 unfolding zip zipWith among any statementsOpen
-memory-name (autoidx-stmt i) = refl
-memory-name (attr-stmt n c) = refl
-memory-name (module-stmt n) = refl
-memory-name (param-stmt n c) = refl
-memory-name (wire-stmt w n) = refl
-memory-name (memory-stmt m n) = refl
-memory-name (cell-stmt t n) = refl
-memory-name (cell-param-stmt o n c) = refl
-memory-name (cell-conn-stmt n x) = refl
-memory-name (conn-stmt x y) = refl
-memory-name (proc-stmt n) = refl
-memory-name end-stmt = refl
+memory-name = by-form _ (λ i. refl) (λ n c. refl) (λ n. refl) (λ n c. refl) (λ w n. refl) (λ m n. refl) (λ t n. refl) (λ o n c. refl) (λ n x. refl) (λ x y. refl) (λ n. refl) refl
 
 pub memory-names : (at : List Setting) (qs : List Statement) → map (λ o. o .name) (flatMap (objectsIn (λ c. c .memories)) (items at qs)) ≡ ownNames (aMemory ∷ []) qs
 unfolding each
@@ -155,18 +145,7 @@ cell-pairs at qs =
 
 cell-name : (s : Statement) → map (λ x. x .1) (cellNames s) ≡ cond (among (aCell ∷ []) s) (ownName (contents s .names) ∷ []) []
 unfolding cellNames pair among any statementsOpen
-cell-name (autoidx-stmt i) = refl
-cell-name (attr-stmt n c) = refl
-cell-name (module-stmt n) = refl
-cell-name (param-stmt n c) = refl
-cell-name (wire-stmt w n) = refl
-cell-name (memory-stmt m n) = refl
-cell-name (cell-stmt t n) = refl
-cell-name (cell-param-stmt o n c) = refl
-cell-name (cell-conn-stmt n x) = refl
-cell-name (conn-stmt x y) = refl
-cell-name (proc-stmt n) = refl
-cell-name end-stmt = refl
+cell-name = by-form _ (λ i. refl) (λ n c. refl) (λ n. refl) (λ n c. refl) (λ w n. refl) (λ m n. refl) (λ t n. refl) (λ o n c. refl) (λ n x. refl) (λ x y. refl) (λ n. refl) refl
 
 pub cell-names : (at : List Setting) (qs : List Statement) → map (λ o. o .name) (flatMap cellOf (blocks (is aCell) (items at qs))) ≡ ownNames (aCell ∷ []) qs
 cell-names at qs =

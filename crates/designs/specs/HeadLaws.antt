@@ -7,11 +7,12 @@ use mathlib.Core.Bool.{Bool, true, false, _||_}
 use native.Mathlib.Omega.{arith}
 use Rattle.rules.specs.Bytes.{any}
 use Rattle.rules.specs.Tokens.{Name}
-use Rattle.rules.specs.Statements.{Statement, Wire, autoidx-stmt, attr-stmt, module-stmt, param-stmt, wire-stmt, memory-stmt, cell-stmt, cell-param-stmt, cell-conn-stmt, conn-stmt, proc-stmt, end-stmt, aModule, aWire, aCell, anEnd, is, statementsOpen}
+use Rattle.rules.specs.Statements.{Statement, Wire, wire-stmt, cell-stmt, aModule, aWire, aCell, anEnd, is, statementsOpen}
 use Rattle.rules.specs.Shapes.{Scope, top, inModule, inCell}
 use Rattle.rules.specs.Judgement.{Past, outer, scope, context, among}
 use Rattle.scanner.specs.Laws.{by-test, or-true-right}
 use Rattle.past.specs.Place.{scopeCode}
+use Rattle.past.specs.Forms.{by-form}
 use Rattle.admitted.specs.Admitted.{kinds, stands}
 use Rattle.admitted.specs.CountLaws.{Standing, none-stand, one-stands, context-scope}
 use Rattle.designs.specs.Modules.{moduleCount, Headed, none-headed, one-headed}
@@ -25,18 +26,9 @@ data Inner : Statement → Type 0 where
 
 inner-of : (s : Statement) → Inner s
 unfolding statementsOpen
-inner-of (autoidx-stmt i) = neither refl
-inner-of (attr-stmt n c) = neither refl
-inner-of (module-stmt n) = neither refl
-inner-of (param-stmt n c) = neither refl
-inner-of (wire-stmt w n) = a-wire w n
-inner-of (memory-stmt m n) = neither refl
-inner-of (cell-stmt t n) = a-cell t n
-inner-of (cell-param-stmt o n c) = neither refl
-inner-of (cell-conn-stmt n x) = neither refl
-inner-of (conn-stmt x y) = neither refl
-inner-of (proc-stmt n) = neither refl
-inner-of end-stmt = neither refl
+inner-of =
+    by-form Inner (λ i. neither refl) (λ n c. neither refl) (λ n. neither refl) (λ n c. neither refl) a-wire (λ m n. neither refl)
+    a-cell (λ o n c. neither refl) (λ n x. neither refl) (λ x y. neither refl) (λ n. neither refl) (neither refl)
 
 in-module : (z : Scope) (first attributed : Bool) (s : Statement) → Inner s → among (kinds z first attributed) s ≡ true → is aWire s || is aCell s ≡ true → scopeCode z ≡ 1
 unfolding kinds among any scopeCode statementsOpen

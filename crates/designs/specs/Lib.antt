@@ -13,3 +13,4 @@ pub mod HeadLaws
 pub mod LayoutLaws
 pub mod DeclaredLaws
 pub mod CodeLaws
+pub mod DecodeLaws

@@ -10,13 +10,14 @@ use lib.ListN.{length}
 use borrow.Author.Tests.{eq-eqb, ne-eqb, lt-ltb, le-ltb, leb-true, leb-false, ltb-true, ltb-false}
 use Rattle.rules.specs.Bytes.{any}
 use Rattle.rules.specs.Tokens.{Name}
-use Rattle.rules.specs.Statements.{Statement, Wire, autoidx-stmt, attr-stmt, module-stmt, param-stmt, wire-stmt, memory-stmt, cell-stmt, cell-param-stmt, cell-conn-stmt, conn-stmt, proc-stmt, end-stmt, aModule, aWire, contents, is, statementsOpen}
+use Rattle.rules.specs.Statements.{Statement, Wire, wire-stmt, aModule, aWire, contents, is, statementsOpen}
 use Rattle.rules.specs.Signals.{Wires}
 use Rattle.rules.specs.Judgement.{Past, sum, among, count, ofModule, wires}
 use Rattle.rules.specs.Design.{design}
 use Rattle.rules.specs.Session.{wiresAt}
 use Rattle.rules.specs.Layout.{Rooms, used, padded, row, wireRow, wireRows, put}
 use Rattle.tables.specs.Flat.{flat, Eights, flat-snoc}
+use Rattle.past.specs.Forms.{by-form}
 use Rattle.wires.specs.Rows.{column, wiresFrom}
 use Rattle.wires.specs.RowLaws.{RowIs}
 use Rattle.wires.specs.StoreLaws.{length-wire-row}
@@ -61,18 +62,9 @@ pub data Adds : Statement → Type 0 where
 
 pub adds : (s : Statement) → Adds s
 unfolding zip zipWith statementsOpen
-adds (autoidx-stmt i) = no-wire refl refl
-adds (attr-stmt n c) = no-wire refl refl
-adds (module-stmt n) = no-wire refl refl
-adds (param-stmt n c) = no-wire refl refl
-adds (wire-stmt w n) = a-wire w n
-adds (memory-stmt m n) = no-wire refl refl
-adds (cell-stmt y n) = no-wire refl refl
-adds (cell-param-stmt o n c) = no-wire refl refl
-adds (cell-conn-stmt n x) = no-wire refl refl
-adds (conn-stmt x y) = no-wire refl refl
-adds (proc-stmt n) = no-wire refl refl
-adds end-stmt = no-wire refl refl
+adds =
+    by-form Adds (λ i. no-wire refl refl) (λ n c. no-wire refl refl) (λ n. no-wire refl refl) (λ n c. no-wire refl refl) a-wire (λ m n. no-wire refl refl)
+    (λ t n. no-wire refl refl) (λ o n c. no-wire refl refl) (λ n x. no-wire refl refl) (λ x y. no-wire refl refl) (λ n. no-wire refl refl) (no-wire refl refl)
 
 wire-alone : (s : Statement) → Adds s → is aWire s ≡ true → is aModule s ≡ false
 unfolding statementsOpen
@@ -179,18 +171,7 @@ offsets-before s ss (more-offsets h o) = o
 -- wires from the end
 zip-back : (s : Statement) → reverse (zip (contents s .names) (contents s .wires)) ≡ zip (contents s .names) (contents s .wires)
 unfolding zip zipWith statementsOpen
-zip-back (autoidx-stmt i) = refl
-zip-back (attr-stmt n c) = refl
-zip-back (module-stmt n) = refl
-zip-back (param-stmt n c) = refl
-zip-back (wire-stmt w n) = refl
-zip-back (memory-stmt m n) = refl
-zip-back (cell-stmt y n) = refl
-zip-back (cell-param-stmt o n c) = refl
-zip-back (cell-conn-stmt n x) = refl
-zip-back (conn-stmt x y) = refl
-zip-back (proc-stmt n) = refl
-zip-back end-stmt = refl
+zip-back = by-form _ (λ i. refl) (λ n c. refl) (λ n. refl) (λ n c. refl) (λ w n. refl) (λ m n. refl) (λ t n. refl) (λ o n c. refl) (λ n x. refl) (λ x y. refl) (λ n. refl) refl
 
 pub wires-back : (qs : List Statement) → reverse (wiresOf qs) ≡ wiresOf (reverse qs)
 unfolding flatMap

@@ -1,12 +1,12 @@
 -- Memory that holds a design: what its tables begin with, how much they use, and that the rest is zero.
 -- Assumes nothing.
-use Prim.Native.Nat.{ℕ, _+_, _-_, _*_, _≤_}
+use Prim.Native.Nat.{ℕ, _+_, _*_, _≤_}
 use mathlib.Core.Path.{_≡_, refl, sym, ap, ap₂, _∙_, subst}
 use mathlib.Core.List.{List, [], _∷_, _++_, reverse}
 use mathlib.Core.Bool.{true, false}
 use native.Mathlib.Omega.{arith}
 use lib.Dec.{eqb}
-use lib.ListN.{length, take, getD, replicate}
+use lib.ListN.{length, take, getD}
 use lib.Seq.{take-append-seam}
 use borrow.Author.Tests.{eqb-true}
 use Rattle.rules.specs.Bytes.{within}
@@ -29,11 +29,14 @@ use Rattle.admitted.specs.Admitted.{admitted, closes}
 use Rattle.admitted.specs.AdmitLaws.{admitted-few, admitted-within}
 use Rattle.admitted.specs.Holds.{Allowed, Holds}
 use Rattle.netlist.specs.Laid.{roomsOf, Laid, Wired}
-use Rattle.netlist.specs.LaidLaws.{laid-padded, laid-renames, eights-rows}
-use Rattle.netlist.specs.WireLaws.{wired-padded, wired-renames, eights-wires}
+use Rattle.netlist.specs.LaidLaws.{laid-renames, eights-rows}
+use Rattle.netlist.specs.WireLaws.{eights-wires}
 use Rattle.netlist.specs.Used.{usedBy}
 use Rattle.replay.specs.Reads as tables
-use Rattle.replay.specs.Begins.{Fronts, isStatement, Stored}
+use Rattle.netlist.specs.Tables.{tablesIn}
+use Rattle.netlist.specs.Fronts.{Fronts}
+use Rattle.netlist.specs.FrontLaws.{fronts-laid, fronts-wired, fronts-renames, fronts-layout}
+use Rattle.replay.specs.Begins.{isStatement, Stored}
 use Rattle.netlist.specs.UsedLaws.{used-past}
 use Rattle.standing.specs.Judged.{Lies}
 use Rattle.netlist.specs.RoomLaws.{rooms-file, Kept, renames-keep}
@@ -116,11 +119,14 @@ module _ {m : layouts.Memory} {ss : List Statement} {rs : List Rename} (h : Hold
   unfolding layout memory
   holds-room = ap (λ (x : layouts.Memory). x .room) (h .is)
 
+  holds-fronts : Fronts (rooms ss rs) (tablesIn m)
+  holds-fronts = rw (h .is) at (fronts-layout ss rs)
+
   pub holds-laid : Laid (rooms ss rs) (m .names) (m .rows)
-  holds-laid = rw (← names-are, ← rows-are) (laid-padded 16384 (8 * 4769) S)
+  holds-laid = fronts-laid holds-fronts
 
   pub holds-wired : Wired (rooms ss rs) (m .names) (m .wires)
-  holds-wired = rw (← names-are, ← wires-are) (wired-padded 16384 (8 * 512) S)
+  holds-wired = fronts-wired holds-fronts
 
   -- it fits
   sums-fit : Within (sumsOf (reverse ss))
@@ -169,25 +175,8 @@ module _ {m : layouts.Memory} {ss : List Statement} {rs : List Rename} (h : Hold
       )
 
   -- its statements are stored, and behind them stands no other
-  past-laid : Laid (roomsOf (reverse ss)) (m .names) (m .rows)
-  past-laid = laid-renames (roomsOf (reverse ss)) rs (subst (λ (R : Rooms). Laid R (m .names) (m .rows)) (rooms-file ss rs) holds-laid)
-
-  past-wired : Wired (roomsOf (reverse ss)) (m .names) (m .wires)
-  past-wired = wired-renames (roomsOf (reverse ss)) rs (subst (λ (R : Rooms). Wired R (m .names) (m .wires)) (rooms-file ss rs) holds-wired)
-
-  fronts : Fronts (roomsOf (reverse ss)) (partsOf m) (m .rows)
-  unfolding padded
-  fronts =
-      let k = file-keeps ss rs in
-      let x : List ℕ = replicate (8192 - length (S .strings)) 0 in
-      let y : List ℕ = replicate (16384 - length (S .bits)) 0 in
-      record {
-        names-start = (past-laid .more-names, past-laid .names-are);
-        strings-start = (x, sym strings-are ∙ ap (λ (l : List ℕ). l ++ x) (k .strings));
-        bits-start = (y, sym bits-are ∙ ap (λ (l : List ℕ). l ++ y) (k .bits));
-        wires-start = (past-wired .more-wires, past-wired .wires-are);
-        rows-start = (past-laid .more-rows, past-laid .rows-are);
-      }
+  fronts : Fronts (roomsOf (reverse ss)) (tablesIn m)
+  fronts = fronts-renames (roomsOf (reverse ss)) rs (subst (λ (R : Rooms). Fronts R (tablesIn m)) (rooms-file ss rs) holds-fronts)
 
 rename-kind : (x : _) (at : ℕ) (q : Rename) → RowOf x at q → x .kind ≡ 13
 unfolding isRename
@@ -234,15 +223,11 @@ module _ (m : layouts.Memory) (ss : List Statement) (p : Place) (u : Sizes)
   stored-lies =
       let f = h .begins .fronts in
       let e : rooms ss [] ≡ roomsOf (reverse ss) = rooms-file ss [] in
-      let l : Laid (roomsOf (reverse ss)) (m .names) (m .rows) =
-      record { more-names = f .names-start .0; more-rows = f .rows-start .0; names-are = f .names-start .1; rows-are = f .rows-start .1 } in
-      let w : Wired (roomsOf (reverse ss)) (m .names) (m .wires) =
-      record { more-names = f .names-start .0; more-wires = f .wires-start .0; names-are = f .names-start .1; wires-are = f .wires-start .1 } in
       record {
         admitted = h .admits;
         closes = h .closed;
-        laid = rw e l;
-        wired = rw e w;
+        laid = rw e (fronts-laid f);
+        wired = rw e (fronts-wired f);
         place = ep;
         standing = refl;
         room = names-used ss [] p u 0 ep eu;

@@ -44,77 +44,29 @@ partsOpen = tt
 
 -- ---- the numbers, the kind and the own name of an answer
 
-pub number-is : (a : Statement) → numberOf a ≡ cond (eqb (partsOf a .number) 0) none (some (partsOf a .number))
-unfolding partsOpen
-number-is (Autoidx w) = refl
-number-is (Attribute n c) = refl
-number-is (Module n) = refl
-number-is (Parameter n c) = refl
-number-is (Wire n w t k p) = refl
-number-is (Memory n w z t) = refl
-number-is (Cell k n) = refl
-number-is (CellParameter o n c) = refl
-number-is (CellConnection n w l) = refl
-number-is (Connection l r k) = refl
-number-is End = refl
-number-is NoShape = refl
-number-is Process = refl
-number-is BadNumber = refl
-number-is MissingWire = refl
+pub record Tells (a : Statement) : Type 0 where
+  pub number : numberOf a ≡ cond (eqb (partsOf a .number) 0) none (some (partsOf a .number))
+  pub late : partsOf a .late ≡ lateOf a
+  pub kind : partsOf a .kind ≡ code (kindIn a)
+  pub own : (f : List ℕ) → nameIn f (partsOf a .name) ≡ ownName (namesIn f a)
 
-pub late-is : (a : Statement) → partsOf a .late ≡ lateOf a
-unfolding partsOpen
-late-is (Autoidx w) = refl
-late-is (Attribute n c) = refl
-late-is (Module n) = refl
-late-is (Parameter n c) = refl
-late-is (Wire n w t k p) = refl
-late-is (Memory n w z t) = refl
-late-is (Cell k n) = refl
-late-is (CellParameter o n c) = refl
-late-is (CellConnection n w l) = refl
-late-is (Connection l r k) = refl
-late-is End = refl
-late-is NoShape = refl
-late-is Process = refl
-late-is BadNumber = refl
-late-is MissingWire = refl
-
-pub kind-is : (a : Statement) → partsOf a .kind ≡ code (kindIn a)
-unfolding partsOpen code
-kind-is (Autoidx w) = refl
-kind-is (Attribute n c) = refl
-kind-is (Module n) = refl
-kind-is (Parameter n c) = refl
-kind-is (Wire n w t k p) = refl
-kind-is (Memory n w z t) = refl
-kind-is (Cell k n) = refl
-kind-is (CellParameter o n c) = refl
-kind-is (CellConnection n w l) = refl
-kind-is (Connection l r k) = refl
-kind-is End = refl
-kind-is NoShape = refl
-kind-is Process = refl
-kind-is BadNumber = refl
-kind-is MissingWire = refl
-
-pub own-is : (f : List ℕ) (a : Statement) → nameIn f (partsOf a .name) ≡ ownName (namesIn f a)
-unfolding partsOpen ownName
-own-is f (Autoidx w) = refl
-own-is f (Attribute n c) = refl
-own-is f (Module n) = refl
-own-is f (Parameter n c) = refl
-own-is f (Wire n w t k p) = refl
-own-is f (Memory n w z t) = refl
-own-is f (Cell k n) = refl
-own-is f (CellParameter o n c) = refl
-own-is f (CellConnection n w l) = refl
-own-is f (Connection l r k) = refl
-own-is f End = refl
-own-is f NoShape = refl
-own-is f Process = refl
-own-is f BadNumber = refl
-own-is f MissingWire = refl
+pub tells : (a : Statement) → Tells a
+unfolding partsOpen code ownName
+tells (Autoidx w) = record { number = refl; late = refl; kind = refl; own = λ f. refl }
+tells (Attribute n c) = record { number = refl; late = refl; kind = refl; own = λ f. refl }
+tells (Module n) = record { number = refl; late = refl; kind = refl; own = λ f. refl }
+tells (Parameter n c) = record { number = refl; late = refl; kind = refl; own = λ f. refl }
+tells (Wire n w t k p) = record { number = refl; late = refl; kind = refl; own = λ f. refl }
+tells (Memory n w z t) = record { number = refl; late = refl; kind = refl; own = λ f. refl }
+tells (Cell k n) = record { number = refl; late = refl; kind = refl; own = λ f. refl }
+tells (CellParameter o n c) = record { number = refl; late = refl; kind = refl; own = λ f. refl }
+tells (CellConnection n w l) = record { number = refl; late = refl; kind = refl; own = λ f. refl }
+tells (Connection l r k) = record { number = refl; late = refl; kind = refl; own = λ f. refl }
+tells End = record { number = refl; late = refl; kind = refl; own = λ f. refl }
+tells NoShape = record { number = refl; late = refl; kind = refl; own = λ f. refl }
+tells Process = record { number = refl; late = refl; kind = refl; own = λ f. refl }
+tells BadNumber = record { number = refl; late = refl; kind = refl; own = λ f. refl }
+tells MissingWire = record { number = refl; late = refl; kind = refl; own = λ f. refl }
 
 -- ---- its constant keeps the number rules, and its signals are narrow
 
@@ -158,10 +110,10 @@ narrow f MissingWire h e = (omega arith, omega arith)
 
 module _ (a : Statement) where
   pub no-number : partsOf a .number ≡ 0 → numberOf a ≡ none
-  no-number e = number-is a ∙ rw e
+  no-number e = tells a .number ∙ rw e
 
   pub no-late : partsOf a .late ≡ 0 → lateOf a ≡ 0
-  no-late e = sym (late-is a) ∙ e
+  no-late e = sym (tells a .late) ∙ e
 
 module _ (f : List ℕ) (a : Statement) (p : Parts) (e : p ≡ partsOf a) (sound : Sound f a) where
   pub parts-good : GoodOptional f (p .value)

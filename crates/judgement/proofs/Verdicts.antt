@@ -30,7 +30,7 @@ use Rattle.netlist.specs.Found.{foundIn}
 use Rattle.netlist.specs.FoundLaws.{takes-found}
 use Rattle.judgement.specs.Parts.{partsOf, takenIn, SizesAre}
 use Rattle.judgement.specs.Judged.{Stands, Accepts}
-use Rattle.judgement.proofs.PartLaws.{number-is, kind-is, own-is, late-is, no-number, no-late}
+use Rattle.judgement.proofs.PartLaws.{tells, no-number, no-late}
 
 -- a refusal of 5 to 8
 refused-early : (ss : Past) (f s : List ℕ) (o : Option Shape) (a : Statement) (n : ℕ) → Says (wires ss) f s o a → numberOf a ≡ some n → shaped ss o ≡ Verdict.refused n
@@ -76,7 +76,7 @@ module _ (ss : Past) (f s names ws rows : List ℕ) (o : Option Shape) (a : Stat
     (st : Stands ss p u names ws rows) (says : Says (wires ss) f s o a) where
   pub number-refused : (partsOf a .number ≡ 0 → ⊥) → shaped ss o ≡ Verdict.refused (partsOf a .number)
   number-refused h =
-      let e : numberOf a ≡ some (partsOf a .number) = number-is a ∙ rw (ne-eqb (partsOf a .number) 0 h) in
+      let e : numberOf a ≡ some (partsOf a .number) = tells a .number ∙ rw (ne-eqb (partsOf a .number) 0 h) in
       refused-early ss f s o a (partsOf a .number) says e
 
   module _ (e : partsOf a .number ≡ 0) where
@@ -86,8 +86,8 @@ module _ (ss : Past) (f s names ws rows : List ℕ) (o : Option Shape) (a : Stat
     taken-is : takesName ss (J .sh) ≡ takenIn f names rows p a
     unfolding takenIn
     taken-is =
-        takes-found ss (J .sh) _ _ (st .laid) (J .kind (no-number a e)) (ap ownName (J .names (no-number a e)) ∙ sym (own-is f a))
-        ∙ ap₂ (λ (w : Place) (k : ℕ). foundIn names rows w k (nameIn f (partsOf a .name))) (st .place-is) (sym (kind-is a))
+        takes-found ss (J .sh) _ _ (st .laid) (J .kind (no-number a e)) (ap ownName (J .names (no-number a e)) ∙ sym (tells a .own f))
+        ∙ ap₂ (λ (w : Place) (k : ℕ). foundIn names rows w k (nameIn f (partsOf a .name))) (st .place-is) (sym (tells a .kind))
 
     left : shaped ss o ≡ verdict (meaning (wires ss) (J .sh)) (behind ss (J .sh) (meaning (wires ss) (J .sh)) (lateOf a))
     left = judged-late ss f s J (no-number a e)
@@ -101,7 +101,7 @@ module _ (ss : Past) (f s names ws rows : List ℕ) (o : Option Shape) (a : Stat
       unfolding behind late
       late-refused h =
           left
-          ∙ rw (taken-is, t, late-is a) (then-late _ _ _ _ (lateOf a) (J .late (no-number a e)) (λ z. h (late-is a ∙ z)))
+          ∙ rw (taken-is, t, tells a .late) (then-late _ _ _ _ (lateOf a) (J .late (no-number a e)) (λ z. h (tells a .late ∙ z)))
 
       module _ (z : partsOf a .late ≡ 0) (d : Sizes) (room : 4096 ≤ length s) (sized : SizesAre f a d) where
         abbrev m : rules.Statement

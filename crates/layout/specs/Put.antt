@@ -15,6 +15,7 @@ use Rattle.rules.specs.Layout as layout
 use Rattle.rules.specs.Layout.{row, flags, nameBytes, stringBytes, bitCodes, wireRows, constantColumns, statementRow}
 use Rattle.tables.specs.Store.{store}
 use Rattle.tables.specs.Flat.{flat}
+use Rattle.netlist.specs.Tables.{Tables, tablesIn}
 use Rattle.netlist.specs.Used.{usedOf}
 use Rattle.netlist.specs.declared.used.Used.{Used}
 use Rattle.tokens.specs.Rows.{literalIn}
@@ -41,16 +42,9 @@ module _ (u : layout.Used) (s : Statement) (t : List ℕ) where
   abbrev pub rowsPut : List ℕ
   rowsPut = store t (8 * u .rows) (statementRow u s)
 
--- the five tables, and how each changes where a statement is stored
-pub record Tables : Type 0 where
-  pub names : List ℕ
-  pub strings : List ℕ
-  pub bits : List ℕ
-  pub wires : List ℕ
-  pub rows : List ℕ
-
+-- the tables of memory, and how each changes where a statement is stored
 unfoldable pub tablesOf : layout.Memory → Tables
-tablesOf m = record { names = m .names; strings = m .strings; bits = m .bits; wires = m .wires; rows = m .rows }
+tablesOf m = tablesIn m
 
 pub record Puts (u : layout.Used) (s : Statement) (t t′ : Tables) : Type 0 where
   pub names-put : t′ .names ≡ namesPut u s (t .names)

@@ -13,7 +13,8 @@ use Rattle.tables.specs.Padded.{store-padded}
 use Rattle.tables.specs.Flat.{flat, Eights, eights-none, eights-more, eights-append, eights-map, flat-append, length-flat, store-row}
 use Rattle.wires.specs.StoreLaws.{length-wire-row}
 use Rattle.netlist.specs.RowLaws.{length-statement-row}
-use Rattle.layout.specs.Put.{Tables, tablesOf, Puts, usedAfter, RoomFor, Fits}
+use Rattle.netlist.specs.Tables.{Tables}
+use Rattle.layout.specs.Put.{tablesOf, Puts, usedAfter, RoomFor, Fits}
 use Rattle.layout.specs.PartLaws.{no-names, one-name, two-names, no-string, one-string, no-bits, one-value, one-signal, two-signals, no-wire, one-wire}
 
 -- ---- what is used

@@ -20,7 +20,8 @@ use Rattle.forms.specs.declared.Span.{Span}
 use Rattle.syntax.specs.Statements.{lateOf, statementIn, GoodOptional, Sound}
 use Rattle.syntax.specs.declared.Statement.{Statement}
 use Rattle.syntax.specs.declared.Statement.the-variants.{Autoidx, Attribute, Module, Parameter, Wire as WireOf, Memory as MemoryOf, Cell, CellParameter, CellConnection, Connection, End, NoShape, Process, BadNumber, MissingWire}
-use Rattle.layout.specs.Put.{Tables, Puts, RoomFor, optionalIn, valuedRow}
+use Rattle.netlist.specs.Tables.{Tables}
+use Rattle.layout.specs.Put.{Puts, RoomFor, optionalIn, valuedRow}
 use Rattle.netlist.specs.declared.used.Used.{Used}
 use Rattle.netlist.specs.Used.{usedOf}
 use Rattle.layout.specs.declared.put.Valued.{Valued}

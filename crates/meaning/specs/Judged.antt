@@ -3,24 +3,26 @@
 use mathlib.Core.Path.{_≡_, refl, ap}
 use mathlib.Core.List.{List, [], _∷_, map, flatMap}
 use mathlib.Core.Option.{none, some}
-use mathlib.Core.Bool.{Bool, true, false, _&&_, false≢true}
+use mathlib.Core.Bool.{Bool, true, false, _&&_}
 use native.Mathlib.Omega.{arith}
 use lib.Dec.{leb}
 use lib.ListN.{length, length-reverse}
 use borrow.Author.Tests.{le-leb}
-use Rattle.rules.specs.Bytes.{any, all}
+use Rattle.rules.specs.Bytes.{all}
 use Rattle.rules.specs.Tokens.{Literal}
-use Rattle.rules.specs.Statements.{Sig, Constant, Signal, Wire, Memory, Statement, Opt, Contents, autoidx-stmt, attr-stmt, module-stmt, param-stmt, wire-stmt, memory-stmt, cell-stmt, cell-param-stmt, cell-conn-stmt, conn-stmt, proc-stmt, end-stmt, aProcess, contents, is, statementsOpen}
-use Rattle.rules.specs.Shapes.{Scope, top, inModule, inCell, shape}
+use Rattle.rules.specs.Statements.{Sig, Constant, Signal, Wire, Memory, Statement, Opt, Contents, holds, autoidx-stmt, attr-stmt, module-stmt, param-stmt, wire-stmt, memory-stmt, cell-stmt, cell-param-stmt, cell-conn-stmt, conn-stmt, proc-stmt, end-stmt, aProcess, contents, is, statementsOpen}
+use Rattle.rules.specs.Shapes.{shape}
 use Rattle.rules.specs.Numbers.{goodLiteral, goodNumbers, goodWire, goodMemory}
 use Rattle.rules.specs.Signals.{Wires, literalBits, kept, width, bits, declaredWire, goodSlice, parts}
 use Rattle.rules.specs.Judgement.{Past, context, wires, among, newPort, allParts, breaksNumber, lacksWire, takesName, equalWidths, breaksWidth, partTooWide, lowest, Verdict, verdict, meaning, judgeIn, judge}
 use Rattle.rules.specs.Reading.{shaped}
 use Rattle.rules.specs.Text.{sig, literalOf, wireOptions, memoryOptions, written, shapeTokens}
-use Rattle.admitted.specs.Admitted.{kinds, stands, fineConstant, fineWire, fineMemory, fineSignal, sameLength, admits, admitted}
+use Rattle.admitted.specs.Admitted.{stands, fineConstant, fineWire, fineMemory, fineSignal, sameLength, admits, admitted}
 use Rattle.scanner.specs.Laws.{and-true-left, and-true-right}
 use Rattle.scanner.specs.Lists.{all-append}
 use Rattle.admitted.specs.AdmitLaws.{all-implied, FineParts, fine-parts, Admits, admits-all}
+use Rattle.past.specs.Forms.{translated, contents-translated}
+use Rattle.admitted.specs.CountLaws.{never-process}
 use Rattle.meaning.specs.Shapes.{shape-written}
 use Rattle.meaning.specs.Wires.{Sound}
 use Rattle.meaning.specs.Bits.{fill-all}
@@ -80,45 +82,14 @@ asWritten ws c =
     }
 
 pub contents-written : (ws : Wires) (s : Statement) → contents (written ws s) ≡ asWritten ws (contents s)
-unfolding asWritten written statementsOpen
-contents-written ws (autoidx-stmt i) = refl
-contents-written ws (attr-stmt n c) = refl
-contents-written ws (module-stmt n) = refl
-contents-written ws (param-stmt n none) = refl
-contents-written ws (param-stmt n (some c)) = refl
-contents-written ws (wire-stmt w n) = refl
-contents-written ws (memory-stmt m n) = refl
-contents-written ws (cell-stmt t n) = refl
-contents-written ws (cell-param-stmt o n c) = refl
-contents-written ws (cell-conn-stmt n g) = refl
-contents-written ws (conn-stmt g h) = refl
-contents-written ws (proc-stmt n) = refl
-contents-written ws end-stmt = refl
+unfolding asWritten written translated holds
+contents-written ws s = contents-translated literalOf (sig ws) wireOptions memoryOptions s
 
 -- ---- 6: no process may stand
 
-process-not : (p : Scope) (f a : Bool) (s : Statement) → among (kinds p f a) s ≡ true → is aProcess s ≡ false
-unfolding kinds among any statementsOpen
-process-not p f a (autoidx-stmt i) h = refl
-process-not p f a (attr-stmt n c) h = refl
-process-not p f a (module-stmt n) h = refl
-process-not p f a (param-stmt n c) h = refl
-process-not p f a (wire-stmt w n) h = refl
-process-not p f a (memory-stmt m n) h = refl
-process-not p f a (cell-stmt t n) h = refl
-process-not p f a (cell-param-stmt o n c) h = refl
-process-not p f a (cell-conn-stmt n g) h = refl
-process-not p f a (conn-stmt g k) h = refl
-process-not top true a (proc-stmt n) h = absurd (false≢true h)
-process-not top false a (proc-stmt n) h = absurd (false≢true h)
-process-not inModule f true (proc-stmt n) h = absurd (false≢true h)
-process-not inModule f false (proc-stmt n) h = absurd (false≢true h)
-process-not inCell f a (proc-stmt n) h = absurd (false≢true h)
-process-not p f a end-stmt h = refl
-
 no-process : (ss : Past) (s : Statement) → stands ss s ≡ true → is aProcess (written (wires ss) s) ≡ false
-unfolding stands is asWritten
-no-process ss s h = rw (contents-written (wires ss) s) (process-not (context ss .scope) (context ss .first) (context ss .attributed) s h)
+unfolding is asWritten
+no-process ss s h = rw (contents-written (wires ss) s) (never-process s ss h)
 
 -- ---- 7, 8, 10, 11: the parts of its signals
 

@@ -6,11 +6,12 @@ use mathlib.Core.Option.{Option, none, some, Option·map}
 use mathlib.Core.Bool.{Bool, true, false, false≢true}
 use Rattle.rules.specs.Bytes.{bytesOpen}
 use Rattle.rules.specs.Tokens.{Name, name, literal}
-use Rattle.rules.specs.Statements.{Sort, plain, signed, real, Constant, Signal, Wire, Memory, Statement, autoidx-stmt, attr-stmt, module-stmt, param-stmt, wire-stmt, memory-stmt, cell-stmt, cell-param-stmt, cell-conn-stmt, conn-stmt, proc-stmt, end-stmt, statementsOpen}
+use Rattle.rules.specs.Statements.{Sort, plain, signed, real, Constant, Signal, Wire, Memory, Statement, param-stmt, wire-stmt, memory-stmt, cell-param-stmt, cell-conn-stmt, conn-stmt, statementsOpen}
 use Rattle.rules.specs.Shapes.{Scope, top, inModule, inCell, Context, one, of₁, of₂, of₃, after, isId, give, id, const, sort, orEnd, options, wireOptionForms, memoryOptionForms, sigspec, forms, choice, whole, wholeBy, shape, shapesOpen}
 use Rattle.rules.specs.Signals.{Wires}
 use Rattle.rules.specs.Judgement.{among}
 use Rattle.rules.specs.Text.{sig, literalOf, wireOptions, memoryOptions, written, sigTokens, optionTokens, sortTokens, wordToken, numberToken, shapeTokens}
+use Rattle.past.specs.Forms.{by-form}
 use Rattle.admitted.specs.Admitted.{kinds}
 use Rattle.meaning.specs.Options.{options-read, wire-options-read, memory-options-read}
 use Rattle.meaning.specs.Sigs.{slices, sig-reads, sig-no-slice}
@@ -57,68 +58,26 @@ module _ (ws : Wires) where
 
 -- ---- a line where its kind may stand
 
+no : {P : Type 0} → false ≡ true → P
+no h = absurd (false≢true h)
+
 at-place : (p : Scope) (f a : Bool) (ws : Wires) (s : Statement) → among (kinds p f a) s ≡ true → whole (choice (forms p f a) (shapeTokens (written ws s))) ≡ some (written ws s)
 unfolding bytesOpen statementsOpen shapesOpen kinds among written shapeTokens wordToken numberToken
-at-place top true a ws (autoidx-stmt i) h = refl
-at-place top true a ws (attr-stmt n c) h = refl
-at-place top true a ws (module-stmt n) h = refl
-at-place top true a ws (param-stmt n c) h = absurd (false≢true h)
-at-place top true a ws (wire-stmt w n) h = absurd (false≢true h)
-at-place top true a ws (memory-stmt m n) h = absurd (false≢true h)
-at-place top true a ws (cell-stmt t n) h = absurd (false≢true h)
-at-place top true a ws (cell-param-stmt o n c) h = absurd (false≢true h)
-at-place top true a ws (cell-conn-stmt n g) e = absurd (false≢true e)
-at-place top true a ws (conn-stmt g h) e = absurd (false≢true e)
-at-place top true a ws (proc-stmt n) h = absurd (false≢true h)
-at-place top true a ws end-stmt h = absurd (false≢true h)
-at-place top false a ws (autoidx-stmt i) h = absurd (false≢true h)
-at-place top false a ws (attr-stmt n c) h = refl
-at-place top false a ws (module-stmt n) h = refl
-at-place top false a ws (param-stmt n c) h = absurd (false≢true h)
-at-place top false a ws (wire-stmt w n) h = absurd (false≢true h)
-at-place top false a ws (memory-stmt m n) h = absurd (false≢true h)
-at-place top false a ws (cell-stmt t n) h = absurd (false≢true h)
-at-place top false a ws (cell-param-stmt o n c) h = absurd (false≢true h)
-at-place top false a ws (cell-conn-stmt n g) e = absurd (false≢true e)
-at-place top false a ws (conn-stmt g h) e = absurd (false≢true e)
-at-place top false a ws (proc-stmt n) h = absurd (false≢true h)
-at-place top false a ws end-stmt h = absurd (false≢true h)
-at-place inModule f true ws (autoidx-stmt i) h = absurd (false≢true h)
-at-place inModule f true ws (attr-stmt n c) h = refl
-at-place inModule f true ws (module-stmt n) h = absurd (false≢true h)
-at-place inModule f true ws (param-stmt n c) h = absurd (false≢true h)
-at-place inModule f true ws (wire-stmt w n) h = wire-reads w n
-at-place inModule f true ws (memory-stmt m n) h = memory-reads m n
-at-place inModule f true ws (cell-stmt t n) h = refl
-at-place inModule f true ws (cell-param-stmt o n c) h = absurd (false≢true h)
-at-place inModule f true ws (cell-conn-stmt n g) e = absurd (false≢true e)
-at-place inModule f true ws (conn-stmt g h) e = absurd (false≢true e)
-at-place inModule f true ws (proc-stmt n) h = absurd (false≢true h)
-at-place inModule f true ws end-stmt h = absurd (false≢true h)
-at-place inModule f false ws (autoidx-stmt i) h = absurd (false≢true h)
-at-place inModule f false ws (attr-stmt n c) h = refl
-at-place inModule f false ws (module-stmt n) h = absurd (false≢true h)
-at-place inModule f false ws (param-stmt n c) h = param-reads n c
-at-place inModule f false ws (wire-stmt w n) h = wire-reads w n
-at-place inModule f false ws (memory-stmt m n) h = memory-reads m n
-at-place inModule f false ws (cell-stmt t n) h = refl
-at-place inModule f false ws (cell-param-stmt o n c) h = absurd (false≢true h)
-at-place inModule f false ws (cell-conn-stmt n g) e = absurd (false≢true e)
-at-place inModule f false ws (conn-stmt g h) e = conn-reads ws g h
-at-place inModule f false ws (proc-stmt n) h = absurd (false≢true h)
-at-place inModule f false ws end-stmt h = refl
-at-place inCell f a ws (autoidx-stmt i) h = absurd (false≢true h)
-at-place inCell f a ws (attr-stmt n c) h = absurd (false≢true h)
-at-place inCell f a ws (module-stmt n) h = absurd (false≢true h)
-at-place inCell f a ws (param-stmt n c) h = absurd (false≢true h)
-at-place inCell f a ws (wire-stmt w n) h = absurd (false≢true h)
-at-place inCell f a ws (memory-stmt m n) h = absurd (false≢true h)
-at-place inCell f a ws (cell-stmt t n) h = absurd (false≢true h)
-at-place inCell f a ws (cell-param-stmt o n c) h = cell-param-reads o n c
-at-place inCell f a ws (cell-conn-stmt n g) e = cell-conn-reads ws n g
-at-place inCell f a ws (conn-stmt g h) e = absurd (false≢true e)
-at-place inCell f a ws (proc-stmt n) h = absurd (false≢true h)
-at-place inCell f a ws end-stmt h = refl
+at-place top true a ws =
+    by-form _ (λ i h. refl) (λ n c h. refl) (λ n h. refl) (λ n c h. no h) (λ w n h. no h) (λ m n h. no h)
+    (λ t n h. no h) (λ o n c h. no h) (λ n x h. no h) (λ x y h. no h) (λ n h. no h) (λ h. no h)
+at-place top false a ws =
+    by-form _ (λ i h. no h) (λ n c h. refl) (λ n h. refl) (λ n c h. no h) (λ w n h. no h) (λ m n h. no h)
+    (λ t n h. no h) (λ o n c h. no h) (λ n x h. no h) (λ x y h. no h) (λ n h. no h) (λ h. no h)
+at-place inModule f true ws =
+    by-form _ (λ i h. no h) (λ n c h. refl) (λ n h. no h) (λ n c h. no h) (λ w n h. wire-reads w n) (λ m n h. memory-reads m n)
+    (λ t n h. refl) (λ o n c h. no h) (λ n x h. no h) (λ x y h. no h) (λ n h. no h) (λ h. no h)
+at-place inModule f false ws =
+    by-form _ (λ i h. no h) (λ n c h. refl) (λ n h. no h) (λ n c h. param-reads n c) (λ w n h. wire-reads w n) (λ m n h. memory-reads m n)
+    (λ t n h. refl) (λ o n c h. no h) (λ n x h. no h) (λ x y h. conn-reads ws x y) (λ n h. no h) (λ h. refl)
+at-place inCell f a ws =
+    by-form _ (λ i h. no h) (λ n c h. no h) (λ n h. no h) (λ n c h. no h) (λ w n h. no h) (λ m n h. no h)
+    (λ t n h. no h) (λ o n c h. cell-param-reads o n c) (λ n x h. cell-conn-reads ws n x) (λ x y h. no h) (λ n h. no h) (λ h. refl)
 
 pub shape-written : (c : Context) (ws : Wires) (s : Statement) → among (kinds (c .scope) (c .first) (c .attributed)) s ≡ true
     → shape c (shapeTokens (written ws s)) ≡ some (written ws s)

@@ -16,3 +16,6 @@ pub mod UsedLaws
 pub mod RoomLaws
 pub mod Spans
 pub mod Lengths
+pub mod Tables
+pub mod Fronts
+pub mod FrontLaws

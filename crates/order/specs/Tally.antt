@@ -15,6 +15,7 @@ use Rattle.rules.specs.Signals.{Wires}
 use Rattle.rules.specs.Judgement.{Past, sum, wires, portNumbers, among, Space, space, namesIn, only, until, ofModule, ofCell, ofObject}
 use Rattle.scanner.specs.Laws.{by-test, and-true-left, and-true-right, same-refl, same-eq, or-false-left, or-false-right}
 use Rattle.scanner.specs.Lists.{zip-none}
+use Rattle.past.specs.Forms.{by-form}
 use Rattle.admitted.specs.Admitted.{newPorts}
 use Rattle.order.specs.Fine.{times}
 
@@ -259,18 +260,9 @@ port-new (some (d, k)) w ws q h =
 -- a statement declares a wire, or none
 pub by-wire : (P : Statement → Type 0) → ((w : Wire) (n : Name) → P (wire-stmt w n)) → ((s : Statement) → contents s .wires ≡ [] → P s) → (s : Statement) → P s
 unfolding statementsOpen
-by-wire P f g (autoidx-stmt i) = g (autoidx-stmt i) refl
-by-wire P f g (attr-stmt n c) = g (attr-stmt n c) refl
-by-wire P f g (module-stmt n) = g (module-stmt n) refl
-by-wire P f g (param-stmt n c) = g (param-stmt n c) refl
-by-wire P f g (wire-stmt w n) = f w n
-by-wire P f g (memory-stmt m n) = g (memory-stmt m n) refl
-by-wire P f g (cell-stmt y n) = g (cell-stmt y n) refl
-by-wire P f g (cell-param-stmt r n c) = g (cell-param-stmt r n c) refl
-by-wire P f g (cell-conn-stmt n x) = g (cell-conn-stmt n x) refl
-by-wire P f g (conn-stmt x y) = g (conn-stmt x y) refl
-by-wire P f g (proc-stmt n) = g (proc-stmt n) refl
-by-wire P f g end-stmt = g end-stmt refl
+by-wire P f g =
+    by-form P (λ i. g (autoidx-stmt i) refl) (λ n c. g (attr-stmt n c) refl) (λ n. g (module-stmt n) refl) (λ n c. g (param-stmt n c) refl) f (λ m n. g (memory-stmt m n) refl)
+    (λ t n. g (cell-stmt t n) refl) (λ o n c. g (cell-param-stmt o n c) refl) (λ n x. g (cell-conn-stmt n x) refl) (λ x y. g (conn-stmt x y) refl) (λ n. g (proc-stmt n) refl) (g end-stmt refl)
 
 -- the wires behind a statement
 pub wires-none : (s : Statement) (p : Past) → is aModule s ≡ false → contents s .wires ≡ [] → wires (s ∷ p) ≡ wires p

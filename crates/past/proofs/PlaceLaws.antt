@@ -9,9 +9,10 @@ use native.Mathlib.Omega.{arith}
 use lib.ListN.{length, take, length-append}
 use lib.Seq.{take-append-add}
 use Rattle.rules.specs.Bytes.{any}
-use Rattle.rules.specs.Statements.{Statement, autoidx-stmt, attr-stmt, module-stmt, param-stmt, wire-stmt, memory-stmt, cell-stmt, cell-param-stmt, cell-conn-stmt, conn-stmt, proc-stmt, end-stmt, anAttribute, aModule, aWire, aCell, anEnd, code, contents, is, statementsOpen}
+use Rattle.rules.specs.Statements.{Statement, anAttribute, aModule, aWire, aCell, anEnd, code, contents, is, statementsOpen}
 use Rattle.rules.specs.Shapes.{Scope, top, inModule, inCell}
 use Rattle.rules.specs.Judgement.{Past, until, sum, outer, scope, context, ofModule, ofCell, ofObject, wires, among, count}
+use Rattle.past.specs.Forms.{by-form}
 use Rattle.past.specs.Place.{scopeCode, scopeOf, wiresIn, placeOf, contextOf, Bounds, scopeAfter, placeAfter}
 use Rattle.scanner.specs.Laws.{by-test}
 use Rattle.past.proofs.KindLaws.{is-code, count-one, count-le}
@@ -110,18 +111,7 @@ context-is (s ∷ ss) =
 -- how many wires the module has
 pub wire-count : (s : Statement) → length (zip (contents s .names) (contents s .wires)) ≡ count (aWire ∷ []) s
 unfolding zip zipWith count among any statementsOpen
-wire-count (autoidx-stmt i) = refl
-wire-count (attr-stmt n c) = refl
-wire-count (module-stmt n) = refl
-wire-count (param-stmt n c) = refl
-wire-count (wire-stmt w n) = refl
-wire-count (memory-stmt m n) = refl
-wire-count (cell-stmt t n) = refl
-wire-count (cell-param-stmt o n c) = refl
-wire-count (cell-conn-stmt n x) = refl
-wire-count (conn-stmt x y) = refl
-wire-count (proc-stmt n) = refl
-wire-count end-stmt = refl
+wire-count = by-form _ (λ i. refl) (λ n c. refl) (λ n. refl) (λ n c. refl) (λ w n. refl) (λ m n. refl) (λ t n. refl) (λ o n c. refl) (λ n x. refl) (λ x y. refl) (λ n. refl) refl
 
 -- sums over the last statements, and over those before them
 module _ (g : Statement → ℕ) (f : Statement → Bool) where

@@ -59,20 +59,7 @@ module _ (u : Sizes) where
   unfolding Below limits exceeds
   within-limits e =
       let b : Below (limits u) = none-exceeds (limits u) e in
-      record {
-        modules = omega arith;
-        wires = omega arith;
-        memories = omega arith;
-        cells = omega arith;
-        parameters = omega arith;
-        attributes = omega arith;
-        ports = omega arith;
-        connections = omega arith;
-        signal-bits = omega arith;
-        value-bits = omega arith;
-        string-bytes = omega arith;
-        name-bytes = omega arith;
-      }
+      omega arith
 
   pub limits-within : Within u → exceeds u ≡ false
   unfolding Below limits exceeds
@@ -82,21 +69,7 @@ module _ (u : Sizes) where
 
   -- so that sums of two do not wrap
   pub within-small : (n : ℕ) → 16384 ≤ n → Within u → AtMost n u
-  within-small n h w =
-      record {
-        modules = omega arith;
-        wires = omega arith;
-        memories = omega arith;
-        cells = omega arith;
-        parameters = omega arith;
-        attributes = omega arith;
-        ports = omega arith;
-        connections = omega arith;
-        signal-bits = omega arith;
-        value-bits = omega arith;
-        string-bytes = omega arith;
-        name-bytes = omega arith;
-      }
+  within-small n h w = omega arith
 
 -- statements so far that exceed no size; none at all
 pub within-past : (ss : Past) → exceedsSize ss ≡ false → Within (sumsOf ss)

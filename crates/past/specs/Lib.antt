@@ -1,3 +1,4 @@
 pub mod Place
 pub mod Sizes
 pub mod Offsets
+pub mod Forms

@@ -30,7 +30,8 @@ use Rattle.netlist.specs.WireLaws.{eights-wires, wires-past}
 use Rattle.syntax.specs.Statements.{lateOf, statementIn, kindIn, Sound}
 use Rattle.syntax.specs.declared.Statement.{Statement}
 use Rattle.syntax.specs.declared.Statement.the-variants.{Autoidx, Attribute, Module, Parameter, Wire, Memory, Cell, CellParameter, CellConnection, Connection, End, NoShape, Process, BadNumber, MissingWire}
-use Rattle.layout.specs.Put.{Tables, tablesOf, RoomFor}
+use Rattle.netlist.specs.Tables.{Tables}
+use Rattle.layout.specs.Put.{tablesOf, RoomFor}
 use Rattle.layout.specs.RoomLaws.{tables-put}
 use Rattle.layout.specs.Stored as stored
 use Rattle.layout.specs.Stored.{Sized, PutIs}

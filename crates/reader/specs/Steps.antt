@@ -23,7 +23,8 @@ use Rattle.admitted.specs.AcceptedLaws.{Accepted}
 use Rattle.netlist.specs.Laid.{roomsOf}
 use Rattle.syntax.specs.Statements.{lateOf, statementIn, Sound}
 use Rattle.syntax.specs.declared.Statement.{Statement}
-use Rattle.layout.specs.Put.{Tables, tablesOf}
+use Rattle.netlist.specs.Tables.{Tables}
+use Rattle.layout.specs.Put.{tablesOf}
 use Rattle.judgement.specs.Judged.{Stands}
 use Rattle.judgement.specs.declared.Judged.{Judged}
 use Rattle.judgement.specs.declared.Judged.the-variants as judged

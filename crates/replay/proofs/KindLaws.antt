@@ -35,28 +35,28 @@ module _ (u : Used) (r x : Row) (f : Found) (ef : f ≡ cond (same (words r) (wo
   pub tells-autoidx : words x ≡ row (1 ∷ r .a ∷ []) → r .a < 4294967296 → TellsAutoidx u r f
   unfolding statementRow columns code contents holds fineParts all sameLength nameBytes stringBytes bitCodes wireRows flatMap zip zipWith signalSize valueSize stringSize nameSize sum
   tells-autoidx ex h t ws =
-      settled r x (ex ∙ ap (λ (n : ℕ). row (1 ∷ n ∷ [])) (sym (word-signed (r .a) h)))
+      settled t ws r x (ex ∙ ap (λ (n : ℕ). row (1 ∷ n ∷ [])) (sym (word-signed (r .a) h)))
       (record {
-        names = has-none (t .names) (u .names);
-        strings = has-none (t .strings) (u .strings);
-        bits = has-none (t .bits) (u .bits);
-        wires = has-none (t .wires) (8 * u .wires);
-        fine = rw (signed-int32 (r .a));
+        names-has = has-none (t .names) (u .names);
+        strings-has = has-none (t .strings) (u .strings);
+        bits-has = has-none (t .bits) (u .bits);
+        wires-has = has-none (t .wires) (8 * u .wires);
       })
+      (rw (signed-int32 (r .a)))
       (record { signals = refl; values = refl; strings = refl; names = refl })
       f ef
 
   pub tells-end : words x ≡ row (12 ∷ []) → TellsEnd u r f
   unfolding statementRow columns code contents holds fineParts all sameLength nameBytes stringBytes bitCodes wireRows flatMap zip zipWith signalSize valueSize stringSize nameSize sum
   tells-end ex t ws =
-      settled r x ex
+      settled t ws r x ex
       (record {
-        names = has-none (t .names) (u .names);
-        strings = has-none (t .strings) (u .strings);
-        bits = has-none (t .bits) (u .bits);
-        wires = has-none (t .wires) (8 * u .wires);
-        fine = refl;
+        names-has = has-none (t .names) (u .names);
+        strings-has = has-none (t .strings) (u .strings);
+        bits-has = has-none (t .bits) (u .bits);
+        wires-has = has-none (t .wires) (8 * u .wires);
       })
+      refl
       (record { signals = refl; values = refl; strings = refl; names = refl })
       f ef
 
@@ -94,15 +94,15 @@ module _ (names : List ℕ) (u : Used) (r : Row) where
   unfolding statementRow columns code contents holds fineMemory memoryOf nameBytes stringBytes bitCodes wireRows flatMap zip zipWith signalSize valueSize stringSize nameSize sum
   memory-settled h w z o x ex f ef strings bits wires ws =
       let l : r .b ≡ length (span names (u .names) (r .b)) = name-long names (u .names) (r .b) h in
-      settled r x
+      settled (tabled names strings bits wires) ws r x
       (ex ∙ ap₂ (λ (n m : ℕ). row (6 ∷ u .names ∷ n ∷ r .c ∷ r .d ∷ m ∷ [])) l (sym (word-signed (r .e) o)))
       (record {
-        names = rw append-nil (has-span names (u .names) (r .b));
-        strings = has-none strings (u .strings);
-        bits = has-none bits (u .bits);
-        wires = has-none wires (8 * u .wires);
-        fine = memory-fine ws (memoryOf r) (span names (u .names) (r .b)) ∙ rw (name-legal names (u .names) (r .b) h, w, z, signed-int32 (r .e));
+        names-has = rw append-nil (has-span names (u .names) (r .b));
+        strings-has = has-none strings (u .strings);
+        bits-has = has-none bits (u .bits);
+        wires-has = has-none wires (8 * u .wires);
       })
+      (memory-fine ws (memoryOf r) (span names (u .names) (r .b)) ∙ rw (name-legal names (u .names) (r .b) h, w, z, signed-int32 (r .e)))
       (record { signals = refl; values = refl; strings = refl; names = omega arith })
       f ef
 
@@ -136,15 +136,15 @@ module _ (names : List ℕ) (u : Used) (r : Row) where
   cell-settled h k x ex f ef strings bits wires ws =
       let l : r .b ≡ length (span names (u .names) (r .b)) = name-long names (u .names) (r .b) h in
       let m : r .d ≡ length (span names (u .names + r .b) (r .d)) = name-long names (u .names + r .b) (r .d) k in
-      settled r x
+      settled (tabled names strings bits wires) ws r x
       (ex ∙ ap₂ (λ (n m : ℕ). row (7 ∷ u .names ∷ n ∷ (u .names + n) ∷ m ∷ [])) l m)
       (record {
-        names = rw (append-nil, spans) (has-span names (u .names) (r .b + r .d));
-        strings = has-none strings (u .strings);
-        bits = has-none bits (u .bits);
-        wires = has-none wires (8 * u .wires);
-        fine = cell-fine ws (span names (u .names) (r .b)) (span names (u .names + r .b) (r .d)) ∙ rw (name-legal names (u .names) (r .b) h, name-legal names (u .names + r .b) (r .d) k);
+        names-has = rw (append-nil, spans) (has-span names (u .names) (r .b + r .d));
+        strings-has = has-none strings (u .strings);
+        bits-has = has-none bits (u .bits);
+        wires-has = has-none wires (8 * u .wires);
       })
+      (cell-fine ws (span names (u .names) (r .b)) (span names (u .names + r .b) (r .d)) ∙ rw (name-legal names (u .names) (r .b) h, name-legal names (u .names + r .b) (r .d) k))
       (record { signals = refl; values = refl; strings = refl; names = omega arith })
       f ef
 

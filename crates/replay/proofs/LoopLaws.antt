@@ -6,18 +6,15 @@ use mathlib.Core.List.{List, [], _∷_, _++_, append-assoc, flatMap}
 use mathlib.Core.Logic.{_⊎_, inl, inr, ⊎-elim}
 use mathlib.Core.Bool.{true, false}
 use native.Mathlib.Omega.{arith}
-use lib.ListN.{length, getD, take, drop}
+use lib.ListN.{length, getD}
 use Rattle.rules.specs.Bytes.{within}
 use Rattle.rules.specs.Statements.{Statement, Kind, anAutoidx, anAttribute, aModule, aParameter, aWire, aMemory, aCell, aCellParameter, aCellConnection, aConnection, aProcess, anEnd, code, contents}
 use Rattle.rules.specs.Judgement.{Past}
-use Rattle.rules.specs.Layout.{used, statementRow}
 use Rattle.admitted.specs.Admitted.{admits, admitted, closes}
 use Rattle.admitted.specs.AdmitLaws.{admitted-before, admitted-few, admitted-within}
 use Rattle.scanner.specs.Laws.{and-true-right, never}
 use Rattle.wires.specs.Rows.{wordAt, column}
-use Rattle.wires.specs.RowLaws.{row-taken}
 use Rattle.netlist.specs.Rows.{kindAt}
-use Rattle.netlist.specs.RowLaws.{row-kind, length-statement-row}
 use Rattle.netlist.specs.Laid.{roomsOf}
 use Rattle.netlist.specs.LaidLaws.{length-rows}
 use Rattle.past.specs.Place.{placeOf, Bounds}
@@ -25,13 +22,13 @@ use Rattle.past.specs.Sizes.{sumsOf, Within}
 use Rattle.past.specs.declared.place.Place.{Place}
 use Rattle.past.specs.declared.sizes.Sizes.{Sizes}
 use Rattle.past.proofs.PlaceLaws.{bounds}
-use Rattle.netlist.specs.Spans.{Has}
+use Rattle.netlist.specs.Fronts.{Fronts}
+use Rattle.netlist.specs.FrontLaws.{fronts-behind, fronts-kind}
 use Rattle.replay.specs.Reads.{Tables}
-use Rattle.replay.specs.Begins.{Fronts, isStatement, Stored, Replays}
+use Rattle.replay.specs.Begins.{withRows, isStatement, Stored, Replays}
 use Rattle.replay.specs.Turns.{closesAt, Ready, Reached, TurnIs}
 use Rattle.replay.specs.declared.Replayed.{Replayed}
 use Rattle.replay.specs.declared.turns.Turn.{Turn}
-use Rattle.replay.proofs.BeginLaws.{fronts-before, fronts-stand}
 use Rattle.replay.proofs.TurnLaws.{closes-place}
 
 pub record Done (t : Tables) (rows : List ℕ) (p : Place) (u : Sizes) : Type 0 where
@@ -64,10 +61,6 @@ last-of [] = inl refl
 last-of (y ∷ l) =
     ⊎-elim (λ e. inr ([], y, ap (λ (m : Past). y ∷ m) e)) (λ q. inr (y ∷ q .0, q .1, ap (λ (m : Past). y ∷ m) (q .2))) (last-of l)
 
-fronts-tail : (t : Tables) (rows : List ℕ) (l ss : Past) → Fronts (roomsOf (l ++ ss)) t rows → Fronts (roomsOf ss) t rows
-fronts-tail t rows [] ss f = f
-fronts-tail t rows (x ∷ l) ss f = fronts-tail t rows l ss (fronts-before t rows x (l ++ ss) f)
-
 admitted-tail : (l ss : Past) → admitted (l ++ ss) ≡ true → admitted ss ≡ true
 admitted-tail [] ss h = h
 admitted-tail (x ∷ l) ss h = admitted-tail l ss (admitted-before x (l ++ ss) h)
@@ -92,17 +85,11 @@ statement-kind aProcess = refl
 statement-kind anEnd = refl
 
 -- behind the statements stands the row of the next
-pub next-kind : (t : Tables) (rows : List ℕ) (x : Statement) (ss : Past) → Fronts (roomsOf (x ∷ ss)) t rows → isStatement (wordAt rows (8 * length (roomsOf ss .rows))) ≡ true
-unfolding Has used kindAt column
+pub next-kind : (t : Tables) (rows : List ℕ) (x : Statement) (ss : Past) → Fronts (roomsOf (x ∷ ss)) (withRows t rows) → isStatement (wordAt rows (8 * length (roomsOf ss .rows))) ≡ true
+unfolding kindAt column
 next-kind t rows x ss f =
-    let R = roomsOf ss in
-    let n : ℕ = length (R .rows) in
-    let h = fronts-stand t rows x ss f in
-    let e : wordAt rows (8 * n + 0) ≡ code (contents x .kind) =
-    row-kind rows n (used R) x
-    (row-taken rows n (statementRow (used R) x) (ap (λ (k : ℕ). take k (drop (8 * n) rows)) (sym (length-statement-row (used R) x)) ∙ h .row)) in
-    let z : 8 * n ≡ 8 * n + 0 = omega arith in
-    ap (λ (i : ℕ). isStatement (wordAt rows i)) z ∙ ap isStatement e ∙ statement-kind (contents x .kind)
+    let z : 8 * length (roomsOf ss .rows) ≡ 8 * length ss + 0 = omega (arith, length-rows ss) in
+    ap (λ (i : ℕ). isStatement (wordAt rows i)) z ∙ ap isStatement (fronts-kind x ss f) ∙ statement-kind (contents x .kind)
 
 -- ---- the turns of the loop
 
@@ -130,13 +117,13 @@ module _ (t : Tables) (rows : List ℕ) (p : Place) (u : Sizes) (d : Done t rows
     -- a list that the tables hold is these statements, or goes on with one more
     goes-on :
         (qs : Past) → Stored t rows qs →
-        (qs ≡ ss) ⊎ ((init : Past) × (x : Statement) × (qs ≡ init ++ x ∷ ss) × Fronts (roomsOf (x ∷ ss)) t rows × (admits ss x ≡ true))
+        (qs ≡ ss) ⊎ ((init : Past) × (x : Statement) × (qs ≡ init ++ x ∷ ss) × Fronts (roomsOf (x ∷ ss)) (withRows t rows) × (admits ss x ≡ true))
     goes-on qs h =
         let m = d .only qs h in
         ⊎-elim (λ e. inl (m .1 ∙ ap (λ (l : Past). l ++ ss) e))
         (λ q.
         let e : qs ≡ q .0 ++ q .1 ∷ ss = m .1 ∙ ap (λ (l : Past). l ++ ss) (q .2) ∙ append-assoc (q .0) (q .1 ∷ []) ss in
-        let f : Fronts (roomsOf (q .1 ∷ ss)) t rows = fronts-tail t rows (q .0) (q .1 ∷ ss) (subst (λ (l : Past). Fronts (roomsOf l) t rows) e (h .begins .fronts)) in
+        let f : Fronts (roomsOf (q .1 ∷ ss)) (withRows t rows) = fronts-behind (q .0) (q .1 ∷ ss) (subst (λ (l : Past). Fronts (roomsOf l) (withRows t rows)) e (h .begins .fronts)) in
         let a : admitted (q .1 ∷ ss) ≡ true = admitted-tail (q .0) (q .1 ∷ ss) (ap admitted (sym e) ∙ h .admits) in
         inr (q .0, q .1, e, f, last-admits (q .1) ss a))
         (last-of (m .0))
@@ -174,7 +161,7 @@ module _ (t : Tables) (rows : List ℕ) (p : Place) (u : Sizes) (d : Done t rows
         ⊎-elim (ended e qs h) (λ q. f ss (d .reached) (q .1) (q .3) (q .4)) (goes-on qs h)
 
     module _ (e : isStatement k ≡ true) (o : Turn) (q : Place) (v : Sizes) (n : TurnIs t rows p u o) (eo : o ≡ Turn.Next q v) where
-      next-is : (s : Statement) × Reached t rows (s ∷ ss) q v × ((x : Statement) → Fronts (roomsOf (x ∷ ss)) t rows → admits ss x ≡ true → x ≡ s)
+      next-is : (s : Statement) × Reached t rows (s ∷ ss) q v × ((x : Statement) → Fronts (roomsOf (x ∷ ss)) (withRows t rows) → admits ss x ≡ true → x ≡ s)
       unfolding TurnIs
       next-is = let f = rw eo at n in f ss (d .reached)
 

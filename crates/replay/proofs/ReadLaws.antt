@@ -14,34 +14,25 @@ use Rattle.rules.specs.Judgement.{sum, signalSize, valueSize, stringSize, nameS
 use Rattle.rules.specs.Layout.{Used, padded, row, nameBytes, stringBytes, bitCodes, wireRows, constantColumns, statementRow}
 use Rattle.admitted.specs.Admitted.{fineConstant, sameLength, fineParts}
 use Rattle.tables.specs.Row.{words}
-use Rattle.tables.specs.Flat.{flat}
 use Rattle.tables.specs.declared.Row.{Row}
 use Rattle.scanner.specs.Laws.{by-test, same-refl, same-eq, and-true-left, and-true-right, never}
 use Rattle.replay.specs.Parts.{span, whole, nameStands}
 use Rattle.netlist.specs.Spans.{Has}
+use Rattle.netlist.specs.Fronts.{Parts}
 use Rattle.replay.specs.Reads.{Tables, tabled, constantOf, ReadsConstant, TellsConstant, Reads, Counts, Tells, TellsNamed, TellsValued}
 use Rattle.replay.specs.declared.statements.Found.{Found}
 use Rattle.replay.specs.declared.statements.Held.{Held}
 use Rattle.replay.proofs.Spans.{whole-long, long-whole, has-none, has-span}
 use Rattle.replay.proofs.CodeLaws.{columns-read}
 
--- the parts alone
-pub record Parts (t : Tables) (u : Used) (ws : Wires) (s : Statement) : Type 0 where
-  pub names : Has (t .names) (u .names) (nameBytes s)
-  pub strings : Has (t .strings) (u .strings) (stringBytes s)
-  pub bits : Has (t .bits) (u .bits) (bitCodes s)
-  pub wires : Has (t .wires) (8 * u .wires) (flat (wireRows u s))
-  pub fine : fineParts ws s ≡ true
-
 -- with the parts there, the row decides
 pub settled :
-    {t : Tables} {u : Used} {ws : Wires} {s : Statement} (r x : Row) {g v z n : ℕ} → words x ≡ statementRow u s → Parts t u ws s → Counts s g v z n →
+    {u : Used} {s : Statement} (t : Tables) (ws : Wires) (r x : Row) {g v z n : ℕ} → words x ≡ statementRow u s → Parts (t .names) (t .strings) (t .bits) (t .wires) u s → fineParts ws s ≡ true → Counts s g v z n →
     (f : Found) → f ≡ cond (same (words r) (words x)) (Found.Statement g v z n) Found.Nothing → Tells t u ws r s f
 unfolding Tells
-settled r x ex p q f e =
+settled t ws r x ex p w q f e =
     by-test (same (words r) (words x))
-    (λ h. rw (e, h)
-    (record { names = p .names; strings = p .strings; bits = p .bits; wires = p .wires; row = same-eq (words r) (words x) h ∙ ex; fine = p .fine }, q))
+    (λ h. rw (e, h) (record { parts = p; row = same-eq (words r) (words x) h ∙ ex; fine = w }, q))
     (λ h. rw (e, h) (λ d. never (same (words r) (words x)) (ap (same (words r)) (ex ∙ sym (d .row)) ∙ same-refl (words r)) h))
 
 -- a name
@@ -71,14 +62,14 @@ module _ (names : List ℕ) (u : Used) (r : Row) (kind : ℕ) where
   unfolding fineParts all holds nameBytes stringBytes bitCodes wireRows flatMap zip zipWith sameLength signalSize valueSize stringSize nameSize sum
   named-settled h x ex f ef strings bits wires ws s k e q =
       let l : r .b ≡ length (span names (u .names) (r .b)) = name-long names (u .names) (r .b) h in
-      settled r x (ex ∙ ap (λ (n : ℕ). row (kind ∷ u .names ∷ n ∷ [])) l ∙ sym q)
+      settled (tabled names strings bits wires) ws r x (ex ∙ ap (λ (n : ℕ). row (kind ∷ u .names ∷ n ∷ [])) l ∙ sym q)
       (record {
-        names = rw (e, append-nil) (has-span names (u .names) (r .b));
-        strings = rw e (has-none strings (u .strings));
-        bits = rw e (has-none bits (u .bits));
-        wires = rw e (has-none wires (8 * u .wires));
-        fine = rw (e, name-legal names (u .names) (r .b) h);
+        names-has = rw (e, append-nil) (has-span names (u .names) (r .b));
+        strings-has = rw e (has-none strings (u .strings));
+        bits-has = rw e (has-none bits (u .bits));
+        wires-has = rw e (has-none wires (8 * u .wires));
       })
+      (rw (e, name-legal names (u .names) (r .b) h))
       (record { signals = rw e; values = rw e; strings = rw e; names = rw e (omega arith) })
       f ef
 
@@ -95,20 +86,19 @@ module _ (names strings bits : List ℕ) (u : Used) (r : Row) (kind sort : ℕ) 
     read-constant q d =
         record {
           columns = columns-read u c r kind (u .names) (length n) sort (d .row ∙ q);
-          strings-has = rw (e, append-nil) at (d .strings);
-          bits-has = rw (e, append-nil, append-nil) at (d .bits);
+          strings-has = rw (e, append-nil) at (d .parts .strings-has);
+          bits-has = rw (e, append-nil, append-nil) at (d .parts .bits-has);
           fine = and-true-right (legal n) (fineConstant c) (sym valued-fine ∙ d .fine);
         }
 
-    valued-parts : Has names (u .names) n → legal n ≡ true → ReadsConstant strings bits u (r .c) (r .d) (r .e) c → Parts (tabled names strings bits wires) u ws s
+    valued-parts : Has names (u .names) n → ReadsConstant strings bits u (r .c) (r .d) (r .e) c → Parts names strings bits wires u s
     unfolding holds nameBytes stringBytes bitCodes wireRows flatMap zip zipWith
-    valued-parts h l d =
+    valued-parts h d =
         record {
-          names = rw (e, append-nil) h;
-          strings = rw (e, append-nil) (d .strings-has);
-          bits = rw (e, append-nil, append-nil) (d .bits-has);
-          wires = rw e (has-none wires (8 * u .wires));
-          fine = valued-fine ∙ rw (l, d .fine);
+          names-has = rw (e, append-nil) h;
+          strings-has = rw (e, append-nil) (d .strings-has);
+          bits-has = rw (e, append-nil, append-nil) (d .bits-has);
+          wires-has = rw e (has-none wires (8 * u .wires));
         }
 
     valued-counts : (v z m : ℕ) → v ≡ length (digitsOf c) → z ≡ length (bytesOf c) → m ≡ length n → Counts s 0 v z m
@@ -137,10 +127,11 @@ module _ (names strings bits : List ℕ) (u : Used) (r : Row) (kind sort : ℕ) 
       let c = constantOf strings bits u (r .c) (r .d) (r .e) in
       let l : r .b ≡ length n = name-long names (u .names) (r .b) h in
       let g = rw eh at d in
-      settled r x
+      settled (tabled names strings bits wires) ws r x
       (ex
       ∙ ap₂ (λ (m : ℕ) (cs : List ℕ). row (kind ∷ u .names ∷ m ∷ cs ++ sort ∷ [])) l (sym (g .0 .columns))
       ∙ sym q)
-      (valued-parts wires ws s k os n c e (has-span names (u .names) (r .b)) (name-legal names (u .names) (r .b) h) (g .0))
+      (valued-parts wires ws s k os n c e (has-span names (u .names) (r .b)) (g .0))
+      (valued-fine wires ws s k os n c e ∙ rw (name-legal names (u .names) (r .b) h, g .0 .fine))
       (valued-counts wires ws s k os n c e v z (r .b) (g .1) (g .2) l)
       f ef

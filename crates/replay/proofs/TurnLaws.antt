@@ -6,7 +6,7 @@ use mathlib.Core.List.{List, _∷_}
 use mathlib.Core.Bool.{Bool, true, false, not}
 use native.Mathlib.Omega.{arith}
 use lib.Dec.{eqb, leb}
-use lib.ListN.{length, getD, take, drop}
+use lib.ListN.{length, getD}
 use borrow.Author.Tests.{le-leb, leb-true, not-true, not-false}
 use Rattle.rules.specs.Bytes.{any}
 use Rattle.rules.specs.Tokens.{Name}
@@ -22,12 +22,11 @@ use Rattle.tables.specs.Row.{words, rowAt}
 use Rattle.tables.specs.declared.Row.{Row}
 use Rattle.scanner.specs.Laws.{by-test, and-true-left, and-true-right, never}
 use Rattle.wires.specs.Rows.{wiresFrom}
-use Rattle.wires.specs.RowLaws.{RowIs, row-taken}
+use Rattle.wires.specs.RowLaws.{RowIs}
 use Rattle.netlist.specs.Rows.{nameAt, namesBetween}
 use Rattle.netlist.specs.Kinds.{ofKinds, hasName}
-use Rattle.netlist.specs.RowLaws.{row-own, length-statement-row}
+use Rattle.netlist.specs.RowLaws.{row-own}
 use Rattle.netlist.specs.Laid.{roomsOf, Laid}
-use Rattle.netlist.specs.LaidLaws.{length-rows}
 use Rattle.netlist.specs.WireLaws.{wires-laid}
 use Rattle.netlist.specs.Found.{spaceFrom, foundIn}
 use Rattle.netlist.specs.FoundLaws.{takes-found}
@@ -41,14 +40,17 @@ use Rattle.admitted.specs.CountLaws.{context-scope}
 use Rattle.netlist.specs.Used.{usedBy}
 use Rattle.netlist.specs.Spans.{Has}
 use Rattle.replay.specs.Reads.{Tables, tabled, Reads, Counts, Tells, statementOf, Small}
-use Rattle.replay.specs.Begins.{Fronts}
+use Rattle.netlist.specs.Fronts.{Fronts, Stands}
+use Rattle.netlist.specs.FrontLaws.{fronts-laid, fronts-wired, fronts-stand, stand-fronts, stand-row}
+use Rattle.replay.specs.Begins.{withRows}
 use Rattle.replay.specs.Turns.{standsAt, closesAt, Reached, TurnIs, Told, Rowed, CountsAs, Counted, smallParts}
 use Rattle.replay.specs.declared.statements.Found.{Found}
 use Rattle.replay.specs.declared.turns.Turn.{Turn}
 use Rattle.designs.specs.CodeLaws.{narrow, narrow-past}
+use Rattle.admitted.specs.CountLaws.{never-process}
 use Rattle.replay.proofs.UniqueLaws.{read-only}
 use Rattle.netlist.specs.UsedLaws.{used-past}
-use Rattle.replay.proofs.BeginLaws.{Stands, fronts-stand, stand-fronts, fronts-laid, fronts-wired, stand-long, stand-reads, reads-stand}
+use Rattle.replay.proofs.BeginLaws.{stand-long, stand-reads, reads-stand}
 
 -- ---- the place
 
@@ -199,9 +201,9 @@ module _ (t : Tables) (rows : List ℕ) (p : Place) (u : Sizes) where
     narrow-here = ap narrow (sym wires-are) ∙ narrow-past ss (at .admits)
 
     -- a statement that can stand there is read there
-    module _ (x : Statement) (f : Fronts (roomsOf (x ∷ ss)) t rows) (h : admits ss x ≡ true) where
-      standing : Stands t rows (usedBy p u) x
-      standing = subst (λ (y : Used). Stands t rows y x) used-is (fronts-stand t rows x ss f)
+    module _ (x : Statement) (f : Fronts (roomsOf (x ∷ ss)) (withRows t rows)) (h : admits ss x ≡ true) where
+      standing : Stands (withRows t rows) (usedBy p u) x
+      standing = subst (λ (y : Used). Stands (withRows t rows) y x) used-is (fronts-stand x ss f)
 
       read : Reads t (usedBy p u) here next x
       read = stand-reads t rows (usedBy p u) here x standing (ap (λ (y : Wires). fineParts y x) (sym wires-are) ∙ admits-all ss x h .parts)
@@ -236,8 +238,8 @@ module _ (t : Tables) (rows : List ℕ) (p : Place) (u : Sizes) where
           subst (λ (y : Row). Tells t (usedBy p u) here y (statementOf t (usedBy p u) y) f) er
           (subst (λ (w : Used). Tells t w (wiresFrom (t .names) (t .wires) (p .«wires_from») (w .wires - p .«wires_from»)) r (statementOf t w r) f) eU h)
 
-      only-found : (ss : Past) → Reached t rows ss p u → (x : Statement) → Fronts (roomsOf (x ∷ ss)) t rows → admits ss x ≡ true → found ≡ x
-      only-found ss at x fr ad = read-only t (usedBy p u) here (narrow-here ss at) next x (read ss at x fr ad)
+      only-found : (ss : Past) → Reached t rows ss p u → (x : Statement) → Fronts (roomsOf (x ∷ ss)) (withRows t rows) → admits ss x ≡ true → found ≡ x
+      only-found ss at x fr ad = read-only t (usedBy p u) here (narrow-here ss at) next x (read ss at x fr ad) (never-process x ss (admits-all ss x ad .standing))
 
       pub turn-not : f ≡ Found.Nothing → TurnIs t rows p u Turn.Nothing
       unfolding TurnIs Tells
@@ -261,24 +263,18 @@ module _ (t : Tables) (rows : List ℕ) (p : Place) (u : Sizes) where
         turn-told = record { statement = found; kind-is = kind-found; counts = counts-found }
 
         module _ (l : 8 * p .rows + 8 ≤ length rows) where
-          stands-found : Stands t rows (usedBy p u) found
+          stands-found : Stands (withRows t rows) (usedBy p u) found
           stands-found = reads-stand t rows (usedBy p u) here found l reads-found
 
           module _ (ss : Past) (at : Reached t rows ss p u) where
-            stands-past : Stands t rows (used (roomsOf ss)) found
-            stands-past = subst (λ (y : Used). Stands t rows y found) (sym (used-is ss at)) stands-found
-
-            row-past : (w : Used) → Stands t rows w found → RowIs rows (w .rows) (statementRow w found)
-            unfolding Has
-            row-past w d =
-                row-taken rows (w .rows) (statementRow w found) (ap (λ (k : ℕ). take k (drop (8 * w .rows) rows)) (sym (length-statement-row w found)) ∙ d .row)
+            stands-past : Stands (withRows t rows) (used (roomsOf ss)) found
+            stands-past = subst (λ (y : Used). Stands (withRows t rows) y found) (sym (used-is ss at)) stands-found
 
             rowed-found : Rowed t rows ss found (r .kind) g v z n
-            unfolding used
             rowed-found =
                 record {
-                  row = subst (λ (k : ℕ). RowIs rows k (statementRow (used (roomsOf ss)) found)) (length-rows ss) (row-past (used (roomsOf ss)) stands-past);
-                  names = stands-past .names;
+                  row = stand-row found ss stands-past;
+                  names = stands-past .parts .names-has;
                   kind = kind-found;
                   counts = counts-found;
                 }
@@ -297,7 +293,7 @@ module _ (t : Tables) (rows : List ℕ) (p : Place) (u : Sizes) where
             reached-found e q w new room ep es =
                 record {
                   admits = rw (at .admits, admits-found e new room);
-                  fronts = stand-fronts t rows found ss (at .fronts) stands-past;
+                  fronts = stand-fronts found ss (at .fronts) stands-past;
                   place = ep;
                   sums = es;
                 }

@@ -76,15 +76,15 @@ module _ (names bits wires : List ℕ) (u : Used) (first : ℕ) (r : Row) where
   port-settled h k x ex f ef strings =
       let l : r .b ≡ length (span names (u .names) (r .b)) = name-long names (u .names) (r .b) h in
       let m : r .d ≡ length (signalOf (span bits (u .bits) (r .d))) = signal-bits here bits (u .bits) (r .d) k in
-      settled r x
+      settled (tabled names strings bits wires) here r x
       (ex ∙ ap₂ (λ (n m : ℕ). row (9 ∷ u .names ∷ n ∷ u .bits ∷ m ∷ [])) l m)
       (record {
-        names = rw append-nil (has-span names (u .names) (r .b));
-        strings = has-none strings (u .strings);
-        bits = rw (append-nil, codes-back) (has-span bits (u .bits) (r .d));
-        wires = has-none wires (8 * u .wires);
-        fine = port-fine here (span names (u .names) (r .b)) (signalOf (span bits (u .bits) (r .d))) ∙ rw (name-legal names (u .names) (r .b) h, signal-good here bits (u .bits) (r .d) k);
+        names-has = rw append-nil (has-span names (u .names) (r .b));
+        strings-has = has-none strings (u .strings);
+        bits-has = rw (append-nil, codes-back) (has-span bits (u .bits) (r .d));
+        wires-has = has-none wires (8 * u .wires);
       })
+      (port-fine here (span names (u .names) (r .b)) (signalOf (span bits (u .bits) (r .d))) ∙ rw (name-legal names (u .names) (r .b) h, signal-good here bits (u .bits) (r .d) k))
       (record { signals = omega arith; values = refl; strings = refl; names = omega arith })
       f ef
 
@@ -130,17 +130,16 @@ module _ (bits wires : List ℕ) (u : Used) (first : ℕ) (r : Row) where
   connection-settled h k e x ex f ef names strings =
       let l : r .b ≡ length (signalOf (span bits (u .bits) (r .b))) = signal-bits (inside names) bits (u .bits) (r .b) (h names) in
       let m : r .d ≡ length (signalOf (span bits (u .bits + r .b) (r .d))) = signal-bits (inside names) bits (u .bits + r .b) (r .d) (k names) in
-      settled r x
+      settled (tabled names strings bits wires) (inside names) r x
       (ex ∙ ap₂ (λ (n m : ℕ). row (10 ∷ u .bits ∷ n ∷ (u .bits + n) ∷ m ∷ [])) l m)
       (record {
-        names = has-none names (u .names);
-        strings = has-none strings (u .strings);
-        bits = rw (append-nil, codes-back, codes-back, spans) (has-span bits (u .bits) (r .b + r .d));
-        wires = has-none wires (8 * u .wires);
-        fine =
-            connection-fine (inside names) (signalOf (span bits (u .bits) (r .b))) (signalOf (span bits (u .bits + r .b) (r .d)))
-            ∙ rw (signal-good (inside names) bits (u .bits) (r .b) (h names), signal-good (inside names) bits (u .bits + r .b) (r .d) (k names), ← l, ← m) (eq-eqb (r .b) (r .d) e);
+        names-has = has-none names (u .names);
+        strings-has = has-none strings (u .strings);
+        bits-has = rw (append-nil, codes-back, codes-back, spans) (has-span bits (u .bits) (r .b + r .d));
+        wires-has = has-none wires (8 * u .wires);
       })
+      (connection-fine (inside names) (signalOf (span bits (u .bits) (r .b))) (signalOf (span bits (u .bits + r .b) (r .d)))
+      ∙ rw (signal-good (inside names) bits (u .bits) (r .b) (h names), signal-good (inside names) bits (u .bits + r .b) (r .d) (k names), ← l, ← m) (eq-eqb (r .b) (r .d) e))
       (record { signals = omega arith; values = refl; strings = refl; names = refl })
       f ef
 
@@ -174,7 +173,7 @@ module _ (names wires : List ℕ) (u : Used) (first : ℕ) (r : Row) where
   wire-row b h e strings bits d =
       let l : length named ≡ r .b = sym (ap (λ (l : List ℕ). getD l 2 0) (d .row)) in
       let k = rw e at (h named l) in
-      k (rw append-nil at (d .wires))
+      k (rw append-nil at (d .parts .wires-has))
 
   pub wire-settled :
       nameStands names (u .names) (r .b) ≡ true → (b : Bool) → WireRowStands wires u (r .b) b → b ≡ true → fineWire before (wireOf wires (u .wires)) ≡ true →
@@ -184,15 +183,15 @@ module _ (names wires : List ℕ) (u : Used) (first : ℕ) (r : Row) where
   wire-settled h b q e k x ex f ef strings bits =
       let l : r .b ≡ length named = name-long names (u .names) (r .b) h in
       let w = rw e at (q named (sym l)) in
-      settled r x
+      settled (tabled names strings bits wires) before r x
       (ex ∙ ap (λ (n : ℕ). row (5 ∷ u .names ∷ n ∷ u .wires ∷ [])) l)
       (record {
-        names = rw append-nil (has-span names (u .names) (r .b));
-        strings = has-none strings (u .strings);
-        bits = has-none bits (u .bits);
-        wires = rw append-nil w;
-        fine = wire-fine before (wireOf wires (u .wires)) named ∙ rw (name-legal names (u .names) (r .b) h, k);
+        names-has = rw append-nil (has-span names (u .names) (r .b));
+        strings-has = has-none strings (u .strings);
+        bits-has = has-none bits (u .bits);
+        wires-has = rw append-nil w;
       })
+      (wire-fine before (wireOf wires (u .wires)) named ∙ rw (name-legal names (u .names) (r .b) h, k))
       (record { signals = refl; values = refl; strings = refl; names = omega arith })
       f ef
 

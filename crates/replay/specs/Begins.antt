@@ -8,30 +8,26 @@ use Rattle.rules.specs.Bytes.{within}
 use Rattle.rules.specs.Judgement.{Past}
 use Rattle.rules.specs.Layout.{Rooms}
 use Rattle.admitted.specs.Admitted.{admitted, closes}
-use Rattle.tables.specs.Flat.{flat}
 use Rattle.wires.specs.Rows.{wordAt}
 use Rattle.netlist.specs.Laid.{roomsOf}
 use Rattle.past.specs.Place.{placeOf}
 use Rattle.past.specs.Sizes.{sumsOf}
-use Rattle.netlist.specs.Spans.{Starts}
+use Rattle.netlist.specs.Tables as netlist
+use Rattle.netlist.specs.Fronts.{Fronts}
 use Rattle.replay.specs.Reads.{Tables}
 use Rattle.replay.specs.declared.Replayed.{Replayed}
 
--- each table begins with what the rooms hold
-pub record Fronts (R : Rooms) (t : Tables) (rows : List ℕ) : Type 0 where
-  pub names-start : Starts (t .names) (R .names)
-  pub strings-start : Starts (t .strings) (R .strings)
-  pub bits-start : Starts (t .bits) (R .bits)
-  pub wires-start : Starts (t .wires) (flat (R .wires))
-  pub rows-start : Starts rows (flat (R .rows))
+-- the tables of parts and the table of rows
+abbrev pub withRows : Tables → List ℕ → netlist.Tables
+withRows t rows = netlist.tabled (t .names) (t .strings) (t .bits) (t .wires) rows
 
 -- the kinds of statements are 1 to 12
 unfoldable pub isStatement : ℕ → Bool
 isStatement k = within 1 12 k
 
--- and the row behind the last one is no statement's
+-- each table begins with what the rooms hold, and the row behind the last one is no statement's
 pub record Begins (R : Rooms) (t : Tables) (rows : List ℕ) : Type 0 where
-  pub fronts : Fronts R t rows
+  pub fronts : Fronts R (withRows t rows)
   pub ends : isStatement (wordAt rows (8 * length (R .rows))) ≡ false
 
 -- these statements may stand one after another, the last one ends a file, and the tables hold them

@@ -10,15 +10,15 @@ use Rattle.rules.specs.Tokens.{Name}
 use Rattle.rules.specs.Statements.{Sort, Constant, value, integer, string, digitsOf, bytesOf, Statement, Memory, autoidx-stmt, attr-stmt, module-stmt, param-stmt, wire-stmt, memory-stmt, cell-stmt, cell-param-stmt, cell-conn-stmt, conn-stmt, proc-stmt, end-stmt, Kind, contents, holds}
 use Rattle.rules.specs.Signals.{Wires}
 use Rattle.rules.specs.Judgement.{signalSize, valueSize, stringSize, nameSize}
-use Rattle.rules.specs.Layout.{Used, row, digitCode, nameBytes, stringBytes, bitCodes, wireRow, wireRows, constantColumns, statementRow}
+use Rattle.rules.specs.Layout.{Used, row, digitCode, wireRow, constantColumns, statementRow}
 use Rattle.admitted.specs.Admitted.{fineConstant, fineParts}
 use Rattle.tables.specs.Row.{words}
-use Rattle.tables.specs.Flat.{flat}
 use Rattle.tables.specs.declared.Row.{Row}
 use Rattle.numbers.specs.Signed.{signedOf}
 use Rattle.numbers.specs.Kinds.{digitOf, sortOf}
 use Rattle.wires.specs.Rows.{wireOf, wiresFrom}
 use Rattle.netlist.specs.Spans.{Has}
+use Rattle.netlist.specs.Fronts.{Parts}
 use Rattle.replay.specs.Parts.{span, signalOf}
 use Rattle.replay.specs.declared.statements.Found.{Found}
 use Rattle.replay.specs.declared.statements.Held.{Held}
@@ -92,10 +92,7 @@ module _ (t : Tables) (u : Used) (r : Row) where
 
 -- the row is the statement's, its parts stand behind what is used, and they keep the rules
 pub record Reads (t : Tables) (u : Used) (ws : Wires) (r : Row) (s : Statement) : Type 0 where
-  pub names : Has (t .names) (u .names) (nameBytes s)
-  pub strings : Has (t .strings) (u .strings) (stringBytes s)
-  pub bits : Has (t .bits) (u .bits) (bitCodes s)
-  pub wires : Has (t .wires) (8 * u .wires) (flat (wireRows u s))
+  pub parts : Parts (t .names) (t .strings) (t .bits) (t .wires) u s
   pub row : words r ≡ statementRow u s
   pub fine : fineParts ws s ≡ true
 

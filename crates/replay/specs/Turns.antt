@@ -19,7 +19,8 @@ use Rattle.past.specs.declared.place.Place.{Place}
 use Rattle.past.specs.declared.sizes.Sizes.{Sizes}
 use Rattle.netlist.specs.Spans.{Has}
 use Rattle.replay.specs.Reads.{Tables, Counts}
-use Rattle.replay.specs.Begins.{Fronts}
+use Rattle.netlist.specs.Fronts.{Fronts}
+use Rattle.replay.specs.Begins.{withRows}
 use Rattle.replay.specs.declared.turns.Turn.{Turn}
 
 -- whether a statement of this kind has a form at a place
@@ -39,7 +40,7 @@ pub record Ready (p : Place) (u : Sizes) : Type 0 where
 -- the tables begin with these statements, behind which stand this place and these sums
 pub record Reached (t : Tables) (rows : List ℕ) (ss : Past) (p : Place) (u : Sizes) : Type 0 where
   pub admits : admitted ss ≡ true
-  pub fronts : Fronts (roomsOf ss) t rows
+  pub fronts : Fronts (roomsOf ss) (withRows t rows)
   pub place : placeOf ss ≡ p
   pub sums : sumsOf ss ≡ u
 
@@ -47,9 +48,9 @@ pub record Reached (t : Tables) (rows : List ℕ) (ss : Past) (p : Place) (u : S
 unfoldable pub TurnIs : Tables → List ℕ → Place → Sizes → Turn → Type 0
 TurnIs t rows p u (Turn.Next q v) =
     (ss : Past) → Reached t rows ss p u →
-    (s : Statement) × Reached t rows (s ∷ ss) q v × ((x : Statement) → Fronts (roomsOf (x ∷ ss)) t rows → admits ss x ≡ true → x ≡ s)
+    (s : Statement) × Reached t rows (s ∷ ss) q v × ((x : Statement) → Fronts (roomsOf (x ∷ ss)) (withRows t rows) → admits ss x ≡ true → x ≡ s)
 TurnIs t rows p u Turn.Nothing =
-    (ss : Past) → Reached t rows ss p u → (x : Statement) → Fronts (roomsOf (x ∷ ss)) t rows → admits ss x ≡ true → ⊥
+    (ss : Past) → Reached t rows ss p u → (x : Statement) → Fronts (roomsOf (x ∷ ss)) (withRows t rows) → admits ss x ≡ true → ⊥
 
 -- there is a statement of this kind that holds so much
 pub record Told (k g v x n : ℕ) : Type 0 where

@@ -1,4 +1,4 @@
--- Laws of lists: joined lists, an element by its number, tests of all elements, the bits of a wire.
+-- Laws of lists: joined lists, an element by its number, tests of all elements, the bits of a wire, nothing before the bytes of a string.
 -- Assumes nothing.
 use mathlib.Core.Path.{_≡_, refl, sym, ap, ap₂, _∙_}
 use mathlib.Core.Bool.{Bool, true, _&&_}
@@ -8,6 +8,7 @@ use Prim.Native.Nat.{ℕ, zero, suc, _+_, _≤_}
 use native.Mathlib.Omega.{arith}
 use lib.ListN.{length, getElem?}
 use Rattle.rules.specs.Bytes.{all}
+use Rattle.rules.specs.Tokens.{Quoted, closed, broken, quotedOnto}
 use Rattle.rules.specs.Signals.{wireBits}
 use Rattle.scanner.specs.Laws.{by-test, and-true-left, and-true-right}
 
@@ -75,3 +76,8 @@ pub length-wire : (n i w : ℕ) → length (wireBits n i w) ≡ w
 unfolding wireBits
 length-wire n i zero = refl
 length-wire n i (suc w) = ap suc (length-wire n (i + 1) w)
+
+pub onto-none : (q : Quoted) → quotedOnto [] q ≡ q
+unfolding quotedOnto
+onto-none (closed cs l) = refl
+onto-none broken = refl

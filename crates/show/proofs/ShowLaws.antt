@@ -30,9 +30,9 @@ use Rattle.designs.specs.NowLaws.{wire-now}
 use Rattle.designs.specs.declared.Range.{Range}
 use Rattle.wire_names.specs.Now as table
 use Rattle.reader.specs.Read.{lent}
-use Rattle.replay.specs.Reads.{Tables, tabled}
-use Rattle.replay.specs.Begins.{Fronts}
-use Rattle.replay.proofs.BeginLaws.{fronts-before}
+use Rattle.netlist.specs.Tables.{Tables, tabled}
+use Rattle.netlist.specs.Fronts.{Fronts}
+use Rattle.netlist.specs.FrontLaws.{fronts-before, fronts-behind}
 use Rattle.standing.specs.TakenLaws.{wire-missing}
 use Rattle.held.specs.HeldLaws.{holds-stored}
 use Rattle.session.specs.Called.{Called, wrong-lengths, damaged, holding, answer}
@@ -44,7 +44,7 @@ use Rattle.show.specs.Rows.{wireLine, hdlnameRow, textAt, shownName}
 use Rattle.show.specs.Parts.{shownPart, shownIn, numberOf, bytesIn, InRange, firstByte, ShownAs, ShownAt, LiesAt}
 use Rattle.show.specs.declared.Shown.{Shown}
 use Rattle.show.proofs.PartLaws.{shown-part}
-use Rattle.show.proofs.FoundLaws.{line-found, fronts-behind, hdlname-found}
+use Rattle.show.proofs.FoundLaws.{line-found, hdlname-found}
 
 at-map : {A B : Type 0} (f : A → B) (xs : List A) (i : ℕ) → getElem? (map f xs) i ≡ Option·map f (getElem? xs i)
 at-map f [] i = refl
@@ -78,9 +78,9 @@ module _ {names strings bits wires rows : List ℕ} {renames room : ℕ} {p : Pl
   past = reverse (h .statements)
 
   abbrev parts : Tables
-  parts = tabled names strings bits wires
+  parts = tabled names strings bits wires rows
 
-  fronts : Fronts (roomsOf past) parts rows
+  fronts : Fronts (roomsOf past) parts
   fronts = holds-stored (h .holds) .begins .fronts
 
   range-is : own ≡ wireRange wires (wiresIn past) m
@@ -116,8 +116,8 @@ module _ {names strings bits wires rows : List ℕ} {renames room : ℕ} {p : Pl
     name-now = sym (name-now-is h m w (own .first + w)) ∙ ap (nameNow (h .renames) m w) (sym name-is)
 
     -- its statement, and the attribute before it
-    all-fronts : Fronts (roomsOf (declared .behind ++ wire-stmt (declared .body) (declared .name) ∷ declared .before)) parts rows
-    all-fronts = subst (λ (x : Past). Fronts (roomsOf x) parts rows) (declared .all) fronts
+    all-fronts : Fronts (roomsOf (declared .behind ++ wire-stmt (declared .body) (declared .name) ∷ declared .before)) parts
+    all-fronts = subst (λ (x : Past). Fronts (roomsOf x) parts) (declared .all) fronts
 
     line-is : wireLine rows (p .rows) (own .first + w) ≡ length (declared .before)
     line-is =
@@ -125,15 +125,15 @@ module _ {names strings bits wires rows : List ℕ} {renames room : ℕ} {p : Pl
         declared-number past m w declared (headed h m) (wired h m) ∙ ap (λ (x : Range). x .first + w) (sym range-is) in
         let l : p .rows ≡ length (declared .behind ++ wire-stmt (declared .body) (declared .name) ∷ declared .before) =
         sym (rows-before h) ∙ sym (length-reverse (h .statements)) ∙ ap length (declared .all) in
-        ap₂ (wireLine rows) l (sym k) ∙ line-found parts rows (declared .body) (declared .name) (declared .before) (declared .behind) all-fronts
+        ap₂ (wireLine rows) l (sym k) ∙ line-found parts (declared .body) (declared .name) (declared .before) (declared .behind) all-fronts
 
     text-is : textAt strings rows (hdlnameRow names rows (wireLine rows (p .rows) (own .first + w)) 0) ≡ hdlname (settingsBefore (declared .before))
     unfolding textAt hdlname
     text-is =
         let s : Statement = wire-stmt (declared .body) (declared .name) in
-        let f : Fronts (roomsOf (declared .before)) parts rows =
-        fronts-before parts rows s (declared .before) (fronts-behind parts rows (declared .behind) (s ∷ declared .before) all-fronts) in
-        rw line-is (hdlname-found parts rows (declared .before) f [] 0 refl ∙ ap hdlname (append-nil (settingsBefore (declared .before))))
+        let f : Fronts (roomsOf (declared .before)) parts =
+        fronts-before s (declared .before) (fronts-behind (declared .behind) (s ∷ declared .before) all-fronts) in
+        rw line-is (hdlname-found parts (declared .before) f [] 0 refl ∙ ap hdlname (append-nil (settingsBefore (declared .before))))
 
     show-is : show (now (design (h .statements)) (h .renames)) m w ≡ accepted (shownName names strings wires rows (p .rows) renames m w (own .first + w))
     unfolding show shownName wireNow Option·elim

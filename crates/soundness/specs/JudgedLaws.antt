@@ -21,7 +21,8 @@ use Rattle.admitted.specs.StandLaws.{meaning-kind, judge-passed, accepted-stand
 use Rattle.meaning.specs.Parts.{all-map}
 use Rattle.written.specs.TokenLaws.{fineToken}
 use Rattle.soundness.specs.ShapeLaws.{FineShape, FineShaped, no-shape, fine-shape, shape-fine}
-use Rattle.soundness.specs.PartLaws.{both, translated, contents-translated, constants-fine, wire-fine, memory-fine, narrow, signals-fine, equal-lengths}
+use Rattle.past.specs.Forms.{translated, contents-translated}
+use Rattle.soundness.specs.PartLaws.{both, constants-fine, wire-fine, memory-fine, narrow, signals-fine, equal-lengths}
 
 -- the tests of a shape that no number refuses
 record GoodShape (ws : Wires) (sh : Shape) : Type 0 where

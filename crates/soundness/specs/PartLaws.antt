@@ -3,7 +3,6 @@
 use Prim.Native.Nat.{ℕ}
 use mathlib.Core.Path.{_≡_, refl}
 use mathlib.Core.List.{List, [], _∷_, _++_, map, flatMap, Option·toList}
-use mathlib.Core.Option.{none, some}
 use mathlib.Core.Bool.{Bool, true, _&&_, false≢true}
 use lib.Dec.{leb}
 use lib.IntN.{ℤ, pos, negsuc, natAbs}
@@ -11,7 +10,7 @@ use lib.ListN.{length}
 use borrow.Author.Tests.{le-leb}
 use Rattle.rules.specs.Bytes.{all, within}
 use Rattle.rules.specs.Tokens.{Digit, Literal, value, integer, string}
-use Rattle.rules.specs.Statements.{Sig, constant, wire, slice, bundle, Opt, Direction, Contents, Stmt, autoidx-stmt, attr-stmt, module-stmt, param-stmt, wire-stmt, memory-stmt, cell-stmt, cell-param-stmt, cell-conn-stmt, conn-stmt, proc-stmt, end-stmt, holds, contents, translate}
+use Rattle.rules.specs.Statements.{Sig, constant, wire, slice, bundle, Opt, Direction}
 use Rattle.rules.specs.Numbers.{inRange, goodLiteral, goodNumbers, numberOr, ports, portOf, wireOf, memoryOf, once, goodOptions, goodWire, goodMemory}
 use Rattle.rules.specs.Signals.{Wires, kept, valueBits, literalBits, literalWidth, width, bits, goodSlice, parts, partsOf}
 use Rattle.rules.specs.Judgement.{portNumbers, newPort, equalWidths}
@@ -26,27 +25,6 @@ use Rattle.soundness.specs.SignalLaws.{bits-fine, bits-long}
 
 pub both : (a b : Bool) → a ≡ true → b ≡ true → a && b ≡ true
 both a b h k = rw (h, k)
-
--- what a translated statement holds
-module _ {C S W M C′ S′ W′ M′ : Type 0} (f : C → C′) (g : S → S′) (h : W → W′) (k : M → M′) where
-  unfoldable pub translated : Contents C S W M → Contents C′ S′ W′ M′
-  translated c = holds (c .kind) (c .names) (map f (c .constants)) (map g (c .signals)) (map h (c .wires)) (map k (c .memories)) (c .integers) (c .sorts)
-
-  pub contents-translated : (s : Stmt C S W M) → contents (translate f g h k s) ≡ translated (contents s)
-  unfolding translated contents holds translate Option·toList
-  contents-translated (autoidx-stmt i) = refl
-  contents-translated (attr-stmt n c) = refl
-  contents-translated (module-stmt n) = refl
-  contents-translated (param-stmt n none) = refl
-  contents-translated (param-stmt n (some c)) = refl
-  contents-translated (wire-stmt w n) = refl
-  contents-translated (memory-stmt m n) = refl
-  contents-translated (cell-stmt t n) = refl
-  contents-translated (cell-param-stmt o n c) = refl
-  contents-translated (cell-conn-stmt n s) = refl
-  contents-translated (conn-stmt s t) = refl
-  contents-translated (proc-stmt n) = refl
-  contents-translated end-stmt = refl
 
 -- ---- constants
 

@@ -10,15 +10,11 @@ use native.Mathlib.Omega.{arith}
 use lib.ListN.{length, getD, drop, length-append, drop-of-length-le}
 use lib.Seq.{drop-cons}
 use Rattle.rules.specs.Tokens.{Inside, plain, goes, ends, breaks, turn, Quoted, closed, broken, quotedOnto, quotedBy, quoted}
+use Rattle.scanner.specs.Lists.{onto-none}
 use Rattle.strings.specs.declared.Close.the-variants.{At, Broken}
 use Rattle.strings.specs.Decoded.{bytesOf, isClosed, decodedBy, decoded, closes, closing, CloseIs}
 use Rattle.strings.proofs.Turns.{held, Fine, turn-fine}
 use Rattle.strings.proofs.Laws.{closed-decoded}
-
-onto-none : (q : Quoted) → quotedOnto [] q ≡ q
-unfolding quotedOnto
-onto-none (closed ds l) = refl
-onto-none broken = refl
 
 onto-onto : (bs cs : List ℕ) (q : Quoted) → quotedOnto bs (quotedOnto cs q) ≡ quotedOnto (bs ++ cs) q
 unfolding quotedOnto

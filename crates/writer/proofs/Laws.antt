@@ -21,7 +21,8 @@ use Rattle.session.specs.Called.{Called, wrong-lengths, damaged, holding, answe
 use Rattle.session.specs.Steps.{Holding, NotOpen, wrong-sizes, none-held, OpenedIs}
 use Rattle.session.specs.declared.Opened.{Opened}
 use Rattle.session.specs.declared.Opened.the-variants.{Refused}
-use Rattle.design_text.specs.Rows.{tabled, textRows}
+use Rattle.netlist.specs.Tables.{tabled}
+use Rattle.design_text.specs.Rows.{textRows}
 use Rattle.design_text.specs.declared.Counts.{Counts}
 use Rattle.design_text.proofs.Text.{text-held}
 use Rattle.writer.specs.Write.{measureText, writeText, wrote}

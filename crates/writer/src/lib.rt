@@ -10,7 +10,8 @@ ghost use lib.ListN.{length};
 ghost use Rattle.reader.specs.Read.{lent};
 ghost use Rattle.session.specs.Called.{answer};
 ghost use Rattle.text.specs.Written.{moved};
-ghost use Rattle.design_text.specs.Rows.{tabled, textRows};
+ghost use Rattle.netlist.specs.Tables.{tabled};
+ghost use Rattle.design_text.specs.Rows.{textRows};
 ghost use Rattle.writer.specs.Write.{measureText, writeText, wrote, MeasuredAs, WrittenAs};
 
 // Number 0 is none; a refusal's length is 0.

@@ -8,11 +8,12 @@ use lib.ListN.{length}
 use Rattle.rules.specs.Bytes.{all, legal}
 use Rattle.rules.specs.Tokens.{Name, good, tokens}
 use Rattle.rules.specs.Lines.{Line, linesFrom, place}
-use Rattle.rules.specs.Statements.{Shape, Wire, Statement, aModule, autoidx-stmt, attr-stmt, module-stmt, param-stmt, wire-stmt, memory-stmt, cell-stmt, cell-param-stmt, cell-conn-stmt, conn-stmt, proc-stmt, end-stmt, contents, is}
+use Rattle.rules.specs.Statements.{Shape, Wire, Statement, aModule, contents, is}
 use Rattle.rules.specs.Shapes.{shape}
 use Rattle.rules.specs.Judgement.{Past, until, scope, context, ofModule, wires, takesName, exceedsSize}
 use Rattle.rules.specs.Text.{written, shapeTokens, indent, lineText, textFrom}
 use Rattle.rules.specs.Reading.{shaped, stated, judged, lexed, outcome}
+use Rattle.past.specs.Forms.{by-form}
 use Rattle.admitted.specs.Admitted.{stands, fineParts, admits, admitted}
 use Rattle.scanner.specs.Laws.{by-cond, and-true-left, and-true-right}
 use Rattle.scanner.specs.Lists.{all-append}
@@ -24,18 +25,7 @@ use Rattle.written.specs.WrittenLaws.{legalNames, parts-names, fine-writ
 -- a written line has a token
 lexed-shape : (ss : Past) (l : Line) (sh : Shape) → lexed ss l (good (shapeTokens sh)) ≡ judged (place l) (stated ss (l .ended) (shapeTokens sh))
 unfolding shapeTokens lexed
-lexed-shape ss l (autoidx-stmt i) = refl
-lexed-shape ss l (attr-stmt n c) = refl
-lexed-shape ss l (module-stmt n) = refl
-lexed-shape ss l (param-stmt n c) = refl
-lexed-shape ss l (wire-stmt os n) = refl
-lexed-shape ss l (memory-stmt os n) = refl
-lexed-shape ss l (cell-stmt t n) = refl
-lexed-shape ss l (cell-param-stmt o n c) = refl
-lexed-shape ss l (cell-conn-stmt n s) = refl
-lexed-shape ss l (conn-stmt s t) = refl
-lexed-shape ss l (proc-stmt n) = refl
-lexed-shape ss l end-stmt = refl
+lexed-shape ss l = by-form _ (λ i. refl) (λ n c. refl) (λ n. refl) (λ n c. refl) (λ w n. refl) (λ m n. refl) (λ t n. refl) (λ o n c. refl) (λ n x. refl) (λ x y. refl) (λ n. refl) refl
 
 module _ (ss : Past) (s : Statement) (h : legalNames (wires ss) ≡ true) (f : fineParts (wires ss) s ≡ true) where
   -- its tokens

@@ -8,15 +8,11 @@ use native.Mathlib.Omega.{arith}
 use lib.Dec.{ltb, eqb}
 use borrow.Author.Tests.{ltb-true, ltb-false, eqb-true, ne-eqb}
 use Rattle.rules.specs.Bytes.{all, within, isOctal, isStringByte, isLineEnd, bytesOpen}
-use Rattle.rules.specs.Tokens.{Inside, plain, escape, octal, goes, Quoted, closed, broken, turn, octalTurn, octalByte, onto, plainTurn, escapeTurn, quotedOnto, quotedBy, quoted}
+use Rattle.rules.specs.Tokens.{Inside, plain, escape, octal, goes, closed, turn, octalTurn, octalByte, onto, plainTurn, escapeTurn, quotedOnto, quotedBy, quoted}
 use Rattle.rules.specs.Text.{escaped}
 use Rattle.scanner.specs.Laws.{by-cond, within-yes, within-low, within-high}
+use Rattle.scanner.specs.Lists.{onto-none}
 use Rattle.written.specs.Lists.{all-first, all-later}
-
-onto-none : (q : Quoted) → quotedOnto [] q ≡ q
-unfolding quotedOnto
-onto-none (closed cs l) = refl
-onto-none broken = refl
 
 -- a byte that gives bytes, and one that gives none
 module _ (i j : Inside) (b : ℕ) (l : List ℕ) where

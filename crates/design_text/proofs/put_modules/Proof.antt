@@ -3,7 +3,8 @@
 use Prim.Native.Nat.{_-_, _≤_}
 use native.Mathlib.Omega.{arith}
 use Rattle.text.specs.Written.{written-most}
-use Rattle.design_text.specs.Rows.{tabled, moduleRows}
+use Rattle.netlist.specs.Tables.{tabled}
+use Rattle.design_text.specs.Rows.{moduleRows}
 use Rattle.design_text.proofs.Loops.{Reaches, reaches-next, reaches-end, module-next, module-none, modules-start, one-at-most}
 use Rattle.design_text.proofs.put_modules.Statement.{statement}
 use Rattle.design_text.proofs.put_modules.Tie as tie

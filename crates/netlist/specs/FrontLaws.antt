@@ -1,0 +1,160 @@
+-- Tables that begin with rooms: before a statement and before renames, with one statement more, and what the last statement left there.
+-- Assumes nothing.
+use Prim.Native.Nat.{ℕ, _-_, _*_}
+use mathlib.Core.Path.{_≡_, refl, sym, ap, _∙_}
+use mathlib.Core.List.{List, [], _∷_, _++_, zip, zipWith, flatMap, append-assoc, append-nil}
+use native.Mathlib.Omega.{arith}
+use lib.ListN.{length, take, drop, replicate, take-append-drop}
+use lib.Seq.{drop-append-seam}
+use Rattle.rules.specs.Tokens.{Name}
+use Rattle.rules.specs.Statements.{Statement, Wire, wire-stmt, contents, code, statementsOpen}
+use Rattle.rules.specs.Judgement.{Past}
+use Rattle.rules.specs.Session.{Rename}
+use Rattle.rules.specs.Layout.{Rooms, Used, used, padded, row, columns, nameBytes, stringBytes, bitCodes, wireRow, wireRows, statementRow, put, renameRow, putRename, putRenames, rooms, memory, layout}
+use Rattle.tables.specs.Flat.{flat, flat-append, flat-snoc, length-flat}
+use Rattle.wires.specs.Rows.{column}
+use Rattle.wires.specs.RowLaws.{RowIs, row-taken}
+use Rattle.wires.specs.StoreLaws.{length-wire-row}
+use Rattle.netlist.specs.Rows.{kindAt}
+use Rattle.netlist.specs.RowLaws.{length-statement-row, row-kind}
+use Rattle.netlist.specs.Laid.{roomsOf, Laid, Wired}
+use Rattle.netlist.specs.LaidLaws.{length-rows, eights-rows}
+use Rattle.netlist.specs.WireLaws.{eights-wires}
+use Rattle.netlist.specs.Spans.{Starts, Has, starts-first, starts-has}
+use Rattle.netlist.specs.Tables.{Tables, tablesIn}
+use Rattle.netlist.specs.Fronts.{Fronts, Parts, Stands}
+
+-- ---- one table
+
+starts-more : (t xs ys : List ℕ) (at : ℕ) → at ≡ length xs → Starts t xs → Has t at ys → Starts t (xs ++ ys)
+unfolding Has
+starts-more t xs ys at e s h =
+    let m = s .0 in
+    let d : drop (length xs) t ≡ m = ap (drop (length xs)) (s .1) ∙ drop-append-seam xs m in
+    let k : take (length ys) m ≡ ys = ap (take (length ys)) (sym d) ∙ ap (λ (n : ℕ). take (length ys) (drop n t)) (sym e) ∙ h in (
+      drop (length ys) m,
+      s .1
+          ∙ ap (λ (x : List ℕ). xs ++ x) (sym (take-append-drop (length ys) m) ∙ ap (λ (x : List ℕ). x ++ drop (length ys) m) k)
+          ∙ sym (append-assoc xs ys (drop (length ys) m)),
+    )
+
+-- rows of eight columns
+module _ (ss : Past) where
+  wires-long : 8 * length (roomsOf ss .wires) ≡ length (flat (roomsOf ss .wires))
+  wires-long = sym (length-flat (roomsOf ss .wires) (eights-wires ss))
+
+  rows-long : 8 * length (roomsOf ss .rows) ≡ length (flat (roomsOf ss .rows))
+  rows-long = sym (length-flat (roomsOf ss .rows) (eights-rows ss))
+
+-- the columns of a row
+has-columns : (t : List ℕ) (k : ℕ) (r : List ℕ) → length r ≡ 8 → Has t (8 * k) r → RowIs t k r
+unfolding Has
+has-columns t k r e h = row-taken t k r (ap (λ (n : ℕ). take n (drop (8 * k) t)) (sym e) ∙ h)
+
+-- ---- the five tables
+
+module _ {t : Tables} where
+  module _ {R : Rooms} (f : Fronts R t) where
+    pub fronts-laid : Laid R (t .names) (t .rows)
+    fronts-laid = record { more-names = f .names-start .0; more-rows = f .rows-start .0; names-are = f .names-start .1; rows-are = f .rows-start .1 }
+
+    pub fronts-wired : Wired R (t .names) (t .wires)
+    fronts-wired = record { more-names = f .names-start .0; more-wires = f .wires-start .0; names-are = f .names-start .1; wires-are = f .wires-start .1 }
+
+  fronts-rename : (R : Rooms) (r : Rename) → Fronts (putRename R r) t → Fronts R t
+  unfolding putRename
+  fronts-rename R r f =
+      record {
+        names-start = starts-first (t .names) (R .names) (r .newName) (f .names-start);
+        strings-start = f .strings-start;
+        bits-start = f .bits-start;
+        wires-start = f .wires-start;
+        rows-start = starts-first (t .rows) (flat (R .rows)) (renameRow (length (R .names)) r) (rw flat-snoc at (f .rows-start));
+      }
+
+  pub fronts-renames : (R : Rooms) (rs : List Rename) → Fronts (putRenames R rs) t → Fronts R t
+  unfolding putRenames
+  fronts-renames R [] f = f
+  fronts-renames R (r ∷ rs) f = fronts-rename R r (fronts-renames (putRename R r) rs f)
+
+  -- the last of the statements so far
+  module _ (s : Statement) (ss : Past) where
+    pub fronts-before : Fronts (roomsOf (s ∷ ss)) t → Fronts (roomsOf ss) t
+    unfolding roomsOf put
+    fronts-before f =
+        let R = roomsOf ss in
+        record {
+          names-start = starts-first (t .names) (R .names) (nameBytes s) (f .names-start);
+          strings-start = starts-first (t .strings) (R .strings) (stringBytes s) (f .strings-start);
+          bits-start = starts-first (t .bits) (R .bits) (bitCodes s) (f .bits-start);
+          wires-start = starts-first (t .wires) (flat (R .wires)) (flat (wireRows (used R) s)) (rw flat-append at (f .wires-start));
+          rows-start = starts-first (t .rows) (flat (R .rows)) (statementRow (used R) s) (rw flat-snoc at (f .rows-start));
+        }
+
+    pub fronts-stand : Fronts (roomsOf (s ∷ ss)) t → Stands t (used (roomsOf ss)) s
+    unfolding roomsOf put used
+    fronts-stand f =
+        let R = roomsOf ss in
+        record {
+          parts = record {
+            names-has = starts-has (t .names) (R .names) (nameBytes s) (length (R .names)) refl (f .names-start);
+            strings-has = starts-has (t .strings) (R .strings) (stringBytes s) (length (R .strings)) refl (f .strings-start);
+            bits-has = starts-has (t .bits) (R .bits) (bitCodes s) (length (R .bits)) refl (f .bits-start);
+            wires-has = starts-has (t .wires) (flat (R .wires)) (flat (wireRows (used R) s)) (8 * length (R .wires)) (wires-long ss) (rw flat-append at (f .wires-start));
+          };
+          row = starts-has (t .rows) (flat (R .rows)) (statementRow (used R) s) (8 * length (R .rows)) (rows-long ss) (rw flat-snoc at (f .rows-start));
+        }
+
+    pub stand-fronts : Fronts (roomsOf ss) t → Stands t (used (roomsOf ss)) s → Fronts (roomsOf (s ∷ ss)) t
+    unfolding roomsOf put used
+    stand-fronts f h =
+        let R = roomsOf ss in
+        let p = h .parts in
+        record {
+          names-start = starts-more (t .names) (R .names) (nameBytes s) (length (R .names)) refl (f .names-start) (p .names-has);
+          strings-start = starts-more (t .strings) (R .strings) (stringBytes s) (length (R .strings)) refl (f .strings-start) (p .strings-has);
+          bits-start = starts-more (t .bits) (R .bits) (bitCodes s) (length (R .bits)) refl (f .bits-start) (p .bits-has);
+          wires-start = rw flat-append (starts-more (t .wires) (flat (R .wires)) (flat (wireRows (used R) s)) (8 * length (R .wires)) (wires-long ss) (f .wires-start) (p .wires-has));
+          rows-start = rw flat-snoc (starts-more (t .rows) (flat (R .rows)) (statementRow (used R) s) (8 * length (R .rows)) (rows-long ss) (f .rows-start) (h .row));
+        }
+
+    pub stand-row : Stands t (used (roomsOf ss)) s → RowIs (t .rows) (length ss) (statementRow (used (roomsOf ss)) s)
+    unfolding used
+    stand-row h = rw (← length-rows ss) (has-columns (t .rows) (length (roomsOf ss .rows)) (statementRow (used (roomsOf ss)) s) (length-statement-row (used (roomsOf ss)) s) (h .row))
+
+    pub fronts-row : Fronts (roomsOf (s ∷ ss)) t → RowIs (t .rows) (length ss) (statementRow (used (roomsOf ss)) s)
+    fronts-row f = stand-row (fronts-stand f)
+
+    pub fronts-kind : Fronts (roomsOf (s ∷ ss)) t → kindAt (t .rows) (length ss) ≡ code (contents s .kind)
+    fronts-kind f = row-kind (t .rows) (length ss) (used (roomsOf ss)) s (fronts-row f)
+
+  pub fronts-behind : (xs ss : Past) → Fronts (roomsOf (xs ++ ss)) t → Fronts (roomsOf ss) t
+  fronts-behind [] ss f = f
+  fronts-behind (x ∷ xs) ss f = fronts-behind xs ss (fronts-before x (xs ++ ss) f)
+
+  -- a wire's row of the table of statements holds the number of its row of the table of wires
+  pub fronts-wire : (w : Wire) (n : Name) (ss : Past) → Fronts (roomsOf (wire-stmt w n ∷ ss)) t → column (t .rows) (length ss) 3 ≡ length (roomsOf ss .wires)
+  unfolding statementRow row padded used columns statementsOpen
+  fronts-wire w n ss f = fronts-row (wire-stmt w n) ss f 3 (omega arith)
+
+-- the design memory begins with what is stored in it
+starts-padded : (n : ℕ) (xs : List ℕ) → Starts (padded n xs) xs
+unfolding padded
+starts-padded n xs = (replicate (n - length xs) 0, refl)
+
+pub fronts-layout : (ss : List Statement) (rs : List Rename) → Fronts (rooms ss rs) (tablesIn (layout ss rs))
+unfolding layout memory
+fronts-layout ss rs =
+    let R = rooms ss rs in
+    record {
+      names-start = starts-padded 16384 (R .names);
+      strings-start = starts-padded 8192 (R .strings);
+      bits-start = starts-padded 16384 (R .bits);
+      wires-start = starts-padded (8 * 512) (flat (R .wires));
+      rows-start = starts-padded (8 * 4769) (flat (R .rows));
+    }
+
+-- the row of a wire in the table of wires
+pub parts-wire : {names strings bits wires : List ℕ} (u : Used) (w : Wire) (n : Name) → Parts names strings bits wires u (wire-stmt w n) → RowIs wires (u .wires) (wireRow u (n, w))
+unfolding wireRows zip zipWith flatMap statementsOpen
+parts-wire {names} {strings} {bits} {wires} u w n p = has-columns wires (u .wires) (wireRow u (n, w)) (length-wire-row u (n, w)) (rw append-nil at (p .wires-has))

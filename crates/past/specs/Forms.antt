@@ -1,0 +1,48 @@
+-- What holds of each form of a statement holds of every statement; what stands in a translated one.
+-- Assumes nothing.
+use mathlib.Core.Path.{_≡_, refl}
+use mathlib.Core.List.{List, map, Option·toList}
+use mathlib.Core.Option.{Option, none, some}
+use lib.IntN.{ℤ}
+use Rattle.rules.specs.Tokens.{Name}
+use Rattle.rules.specs.Statements.{Stmt, Sort, Contents, holds, contents, translate, autoidx-stmt, attr-stmt, module-stmt, param-stmt, wire-stmt, memory-stmt, cell-stmt, cell-param-stmt, cell-conn-stmt, conn-stmt, proc-stmt, end-stmt}
+
+pub by-form :
+    {C S W M : Type 0} (P : Stmt C S W M → Type 0) →
+    ((i : ℤ) → P (autoidx-stmt i)) → ((n : Name) (c : C) → P (attr-stmt n c)) → ((n : Name) → P (module-stmt n)) → ((n : Name) (c : Option C) → P (param-stmt n c)) →
+    ((w : W) (n : Name) → P (wire-stmt w n)) → ((m : M) (n : Name) → P (memory-stmt m n)) → ((t n : Name) → P (cell-stmt t n)) →
+    ((o : Sort) (n : Name) (c : C) → P (cell-param-stmt o n c)) → ((n : Name) (x : S) → P (cell-conn-stmt n x)) → ((x y : S) → P (conn-stmt x y)) →
+    ((n : Name) → P (proc-stmt n)) → P end-stmt → (s : Stmt C S W M) → P s
+by-form P f₁ f₂ f₃ f₄ f₅ f₆ f₇ f₈ f₉ f₁₀ f₁₁ f₁₂ (autoidx-stmt i) = f₁ i
+by-form P f₁ f₂ f₃ f₄ f₅ f₆ f₇ f₈ f₉ f₁₀ f₁₁ f₁₂ (attr-stmt n c) = f₂ n c
+by-form P f₁ f₂ f₃ f₄ f₅ f₆ f₇ f₈ f₉ f₁₀ f₁₁ f₁₂ (module-stmt n) = f₃ n
+by-form P f₁ f₂ f₃ f₄ f₅ f₆ f₇ f₈ f₉ f₁₀ f₁₁ f₁₂ (param-stmt n c) = f₄ n c
+by-form P f₁ f₂ f₃ f₄ f₅ f₆ f₇ f₈ f₉ f₁₀ f₁₁ f₁₂ (wire-stmt w n) = f₅ w n
+by-form P f₁ f₂ f₃ f₄ f₅ f₆ f₇ f₈ f₉ f₁₀ f₁₁ f₁₂ (memory-stmt m n) = f₆ m n
+by-form P f₁ f₂ f₃ f₄ f₅ f₆ f₇ f₈ f₉ f₁₀ f₁₁ f₁₂ (cell-stmt t n) = f₇ t n
+by-form P f₁ f₂ f₃ f₄ f₅ f₆ f₇ f₈ f₉ f₁₀ f₁₁ f₁₂ (cell-param-stmt o n c) = f₈ o n c
+by-form P f₁ f₂ f₃ f₄ f₅ f₆ f₇ f₈ f₉ f₁₀ f₁₁ f₁₂ (cell-conn-stmt n x) = f₉ n x
+by-form P f₁ f₂ f₃ f₄ f₅ f₆ f₇ f₈ f₉ f₁₀ f₁₁ f₁₂ (conn-stmt x y) = f₁₀ x y
+by-form P f₁ f₂ f₃ f₄ f₅ f₆ f₇ f₈ f₉ f₁₀ f₁₁ f₁₂ (proc-stmt n) = f₁₁ n
+by-form P f₁ f₂ f₃ f₄ f₅ f₆ f₇ f₈ f₉ f₁₀ f₁₁ f₁₂ end-stmt = f₁₂
+
+-- what a translated statement holds
+module _ {C S W M C′ S′ W′ M′ : Type 0} (f : C → C′) (g : S → S′) (h : W → W′) (k : M → M′) where
+  unfoldable pub translated : Contents C S W M → Contents C′ S′ W′ M′
+  translated c = holds (c .kind) (c .names) (map f (c .constants)) (map g (c .signals)) (map h (c .wires)) (map k (c .memories)) (c .integers) (c .sorts)
+
+  pub contents-translated : (s : Stmt C S W M) → contents (translate f g h k s) ≡ translated (contents s)
+  unfolding translated contents holds translate Option·toList
+  contents-translated (autoidx-stmt i) = refl
+  contents-translated (attr-stmt n c) = refl
+  contents-translated (module-stmt n) = refl
+  contents-translated (param-stmt n none) = refl
+  contents-translated (param-stmt n (some c)) = refl
+  contents-translated (wire-stmt w n) = refl
+  contents-translated (memory-stmt m n) = refl
+  contents-translated (cell-stmt t n) = refl
+  contents-translated (cell-param-stmt o n c) = refl
+  contents-translated (cell-conn-stmt n s) = refl
+  contents-translated (conn-stmt s t) = refl
+  contents-translated (proc-stmt n) = refl
+  contents-translated end-stmt = refl
