@@ -1,4 +1,8 @@
--- The steps that the walks of the calls with a lent card share.
+-- Steps of `types.Kit`'s calculus for a walk of a function with many locals, so that its context stays short:
+--     starts           every local is allocated and the arguments are stored. Local n is entry n of the context, and one entry behind them says that all can be freed
+--     relends          a slice that is lent by `&mut` is lent again, which is two assignments
+--     ends             every local is freed
+--     apart, rejoined  of the lifetimes' tokens, one is taken out of the others, and put back
 -- Assumes `Given`, as `types.Run`.
 use mathlib.Core.Path.{_≡_, refl, sym, subst}
 use Prim.Native.Nat.{ℕ, zero}
@@ -9,15 +13,16 @@ use lib.Dec.{T}
 use lib.ListN.{getD}
 use mir.Syntax.{Sym, Lifetime, Mutability, Ty, tyInt, tyRef, tyStruct, tcons, tnil, w64, Step as PStep, deref, field, place, copy, addrOf, aggregate, Body, seq, assign, Home, Local, local}
 use mir.Val.{Val, vint, vptr, WT, hasTy}
-use base.Logic.{SProp, ent, sep, wand, emp, all, id⊢, via, emp∗, fst∗, snd∗, comm∗, assoc∗, assoc′, monoL, monoR, wandI, allI, guardI}
-use base.Fml.{Lft, Share, fat, froom, fdies, flft, ftrue}
+use base.Logic.{SProp, ent, sep, wand, emp, id⊢, via, emp∗, snd∗, assoc∗, assoc′, monoL, monoR, wandI, allI, guardI}
+use base.Fml.{Lft, Share, fat, froom, flft, ftrue}
 use prog.Wp.{Heap, Env, Spot, noLocal, Calls, Loops, alloc, pass, release, params}
 use ghost.Atoms.{Atoms}
-use types.Kit.{Given, Item, ‵, raw, mean, _⊛_, ⋆, push, pop, nth, put, Post, runs, Goal, prop, allocs, params′, frees, aim, Seq, Step, step, _$_, _∵_, !, qed, move, split, join, frame, done}
+use types.Kit.{Given, Item, ‵, raw, mean, _⊛_, ⋆, push, pop, nth, put, Post, runs, Goal, allocs, params′, frees, aim, Seq, Step, step, _$_, _∵_, !, qed, move, split, join, frame, done}
 use types.Run.{Reads, Walks, Finds, look, init, stop, hop, fld, from, load, addr, and-then, no-more, assigns}
 use types.Part.{Part, agg, whole, sub, look-in}
 use denote.Slice.{sliceVal}
 
+-- the type of a slice lent with elements of the type
 abbrev sliceOf : Sym → Lifetime → Mutability → Ty → Ty
 sliceOf ν ℓ u τ = tyStruct ν (tcons (tyRef ℓ u τ) (tcons (tyInt w64) tnil))
 
@@ -32,7 +37,7 @@ Typed ls [] = Unit {0}
 Typed [] (v ∷ vs) = ⊥
 Typed (local τ h ∷ ls) (v ∷ vs) = (T (hasTy τ v) × WT v) × Typed ls vs
 
--- of a context, what is left without a cell of each local, which stand in the locals' order, and D behind them
+-- Of a context, what is left without the locals' cells, which stand in the locals' order, and without D behind them. `past` leaves an entry in front of them.
 pub data Freed {M : Type 1} (𝓤 : URA M) (H : Heap 𝓤) (D : SProp 𝓤) : Env 𝓤 H → List (Item 𝓤) → List (Item 𝓤) → Type 2 where
   none : {Γ : List (Item 𝓤)} → Freed 𝓤 H D [] (raw D ∷ Γ) Γ
   cell : {τ : Ty} {b : ℕ} {v : Val} {E : Env 𝓤 H} {Γ Γ′ : List (Item 𝓤)} → Freed 𝓤 H D E Γ Γ′ → Freed 𝓤 H D ((τ, b) ∷ E) (‵ (fat fullShare τ b zero v) ∷ Γ) Γ′
@@ -49,24 +54,26 @@ module _ {M : Type 1} (𝓤 : URA M) (H : Heap 𝓤) (A : Atoms 𝓤) where
   cells (local τ h ∷ ls) bs [] Γ = ‵ (froom τ (bs .0) zero) ∷ cells ls (bs .1) [] Γ
   cells (local τ h ∷ ls) bs (v ∷ vs) Γ = ‵ (fat fullShare τ (bs .0) zero v) ∷ cells ls (bs .1) vs Γ
 
+  -- room for each local, and that each can be freed
   abbrev pub rooms : Env 𝓤 H → SProp 𝓤
   rooms [] = emp 𝓤
   rooms (e ∷ E) = sep 𝓤 (H .room (e .0) (e .1) zero) (rooms E)
 
-  abbrev pub deaths : Env 𝓤 H → SProp 𝓤
-  deaths [] = emp 𝓤
-  deaths (e ∷ E) = sep 𝓤 (H .dies (e .0) (e .1)) (deaths E)
+  abbrev pub freeable : Env 𝓤 H → SProp 𝓤
+  freeable [] = emp 𝓤
+  freeable (e ∷ E) = sep 𝓤 (H .dies (e .0) (e .1)) (freeable E)
 
   module _ (W : Given 𝓤 H A) where
+    -- Entries in another order, then what `alloc`, `pass` and `release` ask.
     one-more : (P Q R D X : SProp 𝓤) → ent 𝓤 (sep 𝓤 R (sep 𝓤 D (sep 𝓤 X (sep 𝓤 P Q)))) (sep 𝓤 (sep 𝓤 P R) (sep 𝓤 (sep 𝓤 Q D) X))
     one-more P Q R D X = qed W (raw R ∷ raw D ∷ raw X ∷ raw P ∷ raw Q ∷ []) ∵ move ! (3 ∷ 0 ∷ []) $ join ! $ frame ! $ move ! (2 ∷ 0 ∷ []) $ join ! $ frame ! $ done !
 
-    alloc⊢ : (ls : List Local) (X : SProp 𝓤) (Kt : Env 𝓤 H → SProp 𝓤) → ((bs : Blocks ls) → ent 𝓤 (sep 𝓤 (rooms (envOf ls bs)) (sep 𝓤 (deaths (envOf ls bs)) X)) (Kt (envOf ls bs))) → ent 𝓤 X (alloc 𝓤 H ls Kt)
+    alloc⊢ : (ls : List Local) (X : SProp 𝓤) (Kt : Env 𝓤 H → SProp 𝓤) → ((bs : Blocks ls) → ent 𝓤 (sep 𝓤 (rooms (envOf ls bs)) (sep 𝓤 (freeable (envOf ls bs)) X)) (Kt (envOf ls bs))) → ent 𝓤 X (alloc 𝓤 H ls Kt)
     alloc⊢ [] X Kt k = via 𝓤 (sep 𝓤 (emp 𝓤) X) (emp∗ 𝓤 X) (via 𝓤 (sep 𝓤 (emp 𝓤) (sep 𝓤 (emp 𝓤) X)) (emp∗ 𝓤 (sep 𝓤 (emp 𝓤) X)) (k tt))
     alloc⊢ (local τ h ∷ ls) X Kt k = allI 𝓤 (λ (b : ℕ). wand 𝓤 (sep 𝓤 (H .room τ b zero) (H .dies τ b)) (alloc 𝓤 H ls (λ E. Kt ((τ, b) ∷ E))))
         (λ b. wandI 𝓤 X (sep 𝓤 (H .room τ b zero) (H .dies τ b)) (alloc 𝓤 H ls (λ E. Kt ((τ, b) ∷ E)))
         (alloc⊢ ls (sep 𝓤 X (sep 𝓤 (H .room τ b zero) (H .dies τ b))) (λ E. Kt ((τ, b) ∷ E))
-        (λ bs. via 𝓤 _ (one-more (H .room τ b zero) (H .dies τ b) (rooms (envOf ls bs)) (deaths (envOf ls bs)) X) (k (b, bs)))))
+        (λ bs. via 𝓤 _ (one-more (H .room τ b zero) (H .dies τ b) (rooms (envOf ls bs)) (freeable (envOf ls bs)) X) (k (b, bs)))))
 
     rooms⊢ : (ls : List Local) (bs : Blocks ls) (Γ : List (Item 𝓤)) → ent 𝓤 (sep 𝓤 (rooms (envOf ls bs)) (⋆ 𝓤 H A Γ)) (⋆ 𝓤 H A (cells ls bs [] Γ))
     rooms⊢ [] bs Γ = snd∗ 𝓤 (emp 𝓤) (⋆ 𝓤 H A Γ)
@@ -97,9 +104,9 @@ module _ {M : Type 1} (𝓤 : URA M) (H : Heap 𝓤) (A : Atoms 𝓤) where
     together : (P Q R D X : SProp 𝓤) → ent 𝓤 (sep 𝓤 (sep 𝓤 P R) (sep 𝓤 (sep 𝓤 Q D) X)) (sep 𝓤 (sep 𝓤 P Q) (sep 𝓤 R (sep 𝓤 D X)))
     together P Q R D X = qed W ((raw P ⊛ raw R) ∷ (raw Q ⊛ raw D) ∷ raw X ∷ []) ∵ split ! $ move ! (2 ∷ []) $ split ! $ move ! (2 ∷ 0 ∷ []) $ join ! $ frame ! $ move ! (1 ∷ 0 ∷ []) $ done !
 
-    release⊢ : (E : Env 𝓤 H) {X P : SProp 𝓤} → ent 𝓤 X P → ent 𝓤 (sep 𝓤 (rooms E) (sep 𝓤 (deaths E) X)) (release 𝓤 H E P)
+    release⊢ : (E : Env 𝓤 H) {X P : SProp 𝓤} → ent 𝓤 X P → ent 𝓤 (sep 𝓤 (rooms E) (sep 𝓤 (freeable E) X)) (release 𝓤 H E P)
     release⊢ [] {X} k = via 𝓤 _ (snd∗ 𝓤 (emp 𝓤) (sep 𝓤 (emp 𝓤) X)) (via 𝓤 _ (snd∗ 𝓤 (emp 𝓤) X) k)
-    release⊢ (e ∷ E) {X} k = via 𝓤 _ (together (H .room (e .0) (e .1) zero) (H .dies (e .0) (e .1)) (rooms E) (deaths E) X) (monoR 𝓤 (sep 𝓤 (H .room (e .0) (e .1) zero) (H .dies (e .0) (e .1))) (release⊢ E k))
+    release⊢ (e ∷ E) {X} k = via 𝓤 _ (together (H .room (e .0) (e .1) zero) (H .dies (e .0) (e .1)) (rooms E) (freeable E) X) (monoR 𝓤 (sep 𝓤 (H .room (e .0) (e .1) zero) (H .dies (e .0) (e .1))) (release⊢ E k))
 
     behind : (P R D X : SProp 𝓤) → ent 𝓤 (sep 𝓤 P (sep 𝓤 R (sep 𝓤 D X))) (sep 𝓤 R (sep 𝓤 D (sep 𝓤 P X)))
     behind P R D X = qed W (raw P ∷ raw R ∷ raw D ∷ raw X ∷ []) ∵ move ! (1 ∷ 2 ∷ []) $ done !
@@ -136,11 +143,11 @@ module _ {M : Type 1} (𝓤 : URA M) (H : Heap 𝓤) (A : Atoms 𝓤) where
 module _ {M : Type 1} {𝓤 : URA M} {H : Heap 𝓤} {A : Atoms 𝓤} {K : Type 0} {W : Given 𝓤 H A} {Γ : List (Item 𝓤)} where
   -- the locals are allocated and the arguments are stored
   pub starts : K → {τ : Ty} {h : Home} {ls : List Local} {vs : List Val} {g : Env 𝓤 H → Goal 𝓤 H} → Typed ls vs
-      → ((b : ℕ) (bs : Blocks ls) → Seq K W (‵ (froom τ b zero) ∷ cells 𝓤 H A ls bs vs (raw (deaths 𝓤 H A ((τ, b) ∷ envOf 𝓤 H A ls bs)) ∷ Γ)) (g ((τ, b) ∷ envOf 𝓤 H A ls bs)))
+      → ((b : ℕ) (bs : Blocks ls) → Seq K W (‵ (froom τ b zero) ∷ cells 𝓤 H A ls bs vs (raw (freeable 𝓤 H A ((τ, b) ∷ envOf 𝓤 H A ls bs)) ∷ Γ)) (g ((τ, b) ∷ envOf 𝓤 H A ls bs)))
       → Seq K W Γ (allocs (local τ h ∷ ls) (λ E. params′ E vs (g E)))
   starts t {τ} {h} {ls} {vs} {g} typed k = record {
     prf = alloc⊢ 𝓤 H A W (local τ h ∷ ls) (⋆ 𝓤 H A Γ) (λ E. params 𝓤 H E vs (aim 𝓤 H (g E))) (λ bs.
-        let E = envOf 𝓤 H A ls (bs .1) in let D = deaths 𝓤 H A ((τ, bs .0) ∷ E) in let room = H .room τ (bs .0) zero in
+        let E = envOf 𝓤 H A ls (bs .1) in let D = freeable 𝓤 H A ((τ, bs .0) ∷ E) in let room = H .room τ (bs .0) zero in
         via 𝓤 _ (assoc∗ 𝓤 room (rooms 𝓤 H A E) (sep 𝓤 D (⋆ 𝓤 H A Γ)))
         (via 𝓤 _ (monoR 𝓤 room (monoR 𝓤 (rooms 𝓤 H A E) (push 𝓤 H A (raw D) Γ)))
         (pass⊢ 𝓤 H A W ls (bs .1) vs typed room (raw D ∷ Γ) (aim 𝓤 H (g ((τ, bs .0) ∷ E)))
@@ -148,7 +155,7 @@ module _ {M : Type 1} {𝓤 : URA M} {H : Heap 𝓤} {A : Atoms 𝓤} {K : Type 
   }
 
   -- the locals are freed
-  pub ends : K → {E : Env 𝓤 H} {Γ′ : List (Item 𝓤)} {g : Goal 𝓤 H} → Freed 𝓤 H (deaths 𝓤 H A E) E Γ Γ′ → Step K W Γ′ g Γ (frees E g)
+  pub ends : K → {E : Env 𝓤 H} {Γ′ : List (Item 𝓤)} {g : Goal 𝓤 H} → Freed 𝓤 H (freeable 𝓤 H A E) E Γ Γ′ → Step K W Γ′ g Γ (frees E g)
   ends t {E} {Γ′} {g} f = step (λ s. record {
     prf = via 𝓤 _ (freed⊢ 𝓤 H A W f) (release⊢ 𝓤 H A W E (s .prf));
   })

@@ -1,7 +1,7 @@
 -- `card::skytassel_read` meets its contract: a walk of its MIR, by hand. The card's borrow is opened, its counts are read, the tables go to `read` for good at their own lifetimes, the counts that it returns are stored in the card, and the borrow is closed at the new record.
 -- All that the proof knows of `read` is that it meets its contract.
 -- Assumes nothing.
-use Rattle.card.proofs.Walk.{_≡_, refl, ℕ, _<_, _^_, [], _∷_, List, length, URA, named, w32, Val, vint, vptr, SProp, ent, sep, emp, via, fst∗, id⊢, Lft, Share, GName, Fml, flft, fobs, fbor, Memory, Routine, Heap, Calls, Loops, WpFn, Tables, Atoms, sem, Fun, fact, givenOf, tables, tablesOf, AllOutlive, Given, ‵, raw, some, later, mean, _⊛_, ⋆, _$_, _∵_, !, qed, by, move, drop, use1, use2, split, pick, fsplit, fsplit3, fjoin, fjoin3, feqL, feqI, suffices, frame, await, done, look, init, stop, hop, fld, from, load, of-opd, and-then, no-more, assigns, returns, enter, agg, whole, sub, look-in, store-in, Body, FmC, fmOf, WpFn-mono, owns, mem, Is, u8, u32, RefT, MutRef, ptr-vals, mut-tells, MutSlice, ShrSlice, Room, slice-vals, mut-slice-tells, shr-slice-tells, shr-slice-lawful, heard, nothing, onEntry, Meets, tripleOf, Contract, Triple, calls-at, ensured, lasts, entered, cited, says, Stays, stay-ref, stay-none-slice, gave-slice, walkOf, goes-ref, goes-none-slice, goes-gave-slice, Walks, ends-at, walked, walk-meets, yes, plain, tokens, apart, rejoined, starts, relends, ends, none, cell, past, result, lent, Card, Left, Answer, R, leftRow, sliced, h, answer, card-opens, card-closes, number, answers, copies, left-lands}
+use Rattle.card.proofs.Walk.{_≡_, refl, ℕ, _<_, _^_, [], _∷_, List, length, URA, named, w32, Val, vint, vptr, SProp, ent, emp, via, fst∗, id⊢, Lft, Share, GName, Fml, flft, fobs, fbor, Memory, Routine, Heap, Calls, Loops, WpFn, Tables, Atoms, sem, Fun, fact, givenOf, tables, tablesOf, Lfts, Shares, AllOutlive, Given, Item, ‵, raw, some, later, mean, _⊛_, ⋆, _$_, _∵_, !, qed, by, move, drop, use1, use2, split, pick, fsplit, fsplit3, fjoin, fjoin3, feqL, feqI, suffices, frame, await, done, look, init, stop, hop, fld, from, load, of-opd, and-then, no-more, assigns, returns, enter, agg, whole, sub, look-in, store-in, Body, FmC, fmOf, WpFn-mono, RattleType, owns, mem, Is, u8, u32, RefT, MutRef, ptr-vals, mut-tells, MutSlice, ShrSlice, Room, slice-vals, mut-slice-tells, shr-slice-tells, shr-slice-lawful, heard, nothing, onEntry, Meets, tripleOf, Contract, Triple, calls-at, ensured, lasts, entered, cited, says, Stays, stay-ref, stay-none-slice, gave-slice, walkOf, goes-ref, goes-none-slice, goes-gave-slice, Walks, ends-at, walked, walk-meets, yes, plain, tokens, apart, rejoined, starts, relends, ends, none, cell, past, result, lent, Card, Left, Answer, R, leftRow, sliced, h, answer, card-opens, card-closes, number, answers, copies, left-lands}
 use Rattle.reader.specs.Read.{readInto}
 use Rattle.reader.proofs.read as core
 use Rattle.reader.proofs.read.Symbol as core-def
@@ -33,15 +33,31 @@ module _ {M : Type 1} (𝓤 : URA M) (H : Heap 𝓤) (A : Atoms 𝓤) (W : Given
   abbrev vals : List Val × (List Val × (List Val × (List Val × (List Val × (List Val × (List Val × Unit {0}))))))
   vals = (sliced x₀ ∷ [], (sliced x₁ ∷ [], (sliced x₂ ∷ [], (sliced x₃ ∷ [], (sliced x₄ ∷ [], (sliced x₅ ∷ [], (vptr b o ∷ [], tt)))))))
 
-  abbrev Post : Val → SProp 𝓤
-  Post = walkOf 𝓤 H A thin.ended stayed (thin.clauses 𝓤 H A at-mem run) .post (((κ₀, (κ₁, (κ₂, (κ₃, (κ₄, (κ₅, (κ₆, tt))))))), (q₀, (q₁, (q₂, (q₃, (q₄, (q₅, (q₆, tt))))))), bounds, a, vals), tt)
+  abbrev Thin : Contract 𝓤
+  Thin = walkOf 𝓤 H A thin.ended stayed (thin.clauses 𝓤 H A at-mem run)
+
+  abbrev here : Thin .Ghost
+  here = (((κ₀, (κ₁, (κ₂, (κ₃, (κ₄, (κ₅, (κ₆, tt))))))), (q₀, (q₁, (q₂, (q₃, (q₄, (q₅, (q₆, tt))))))), bounds, a, vals), tt)
+
+  abbrev Params : List RattleType
+  Params = ShrSlice (named 0) κ₀ u8 ∷ MutSlice (named 1) κ₁ u8 ∷ MutSlice (named 2) κ₂ u8 ∷ MutSlice (named 3) κ₃ u32 ∷ MutSlice (named 4) κ₄ u32 ∷ MutSlice (named 5) κ₅ u32 ∷ MutRef (named 6) κ₆ R ∷ []
+
+  -- the tokens, and those but for the card's
+  abbrev Tokens : Item 𝓤
+  Tokens = tokens 𝓤 H A ((κ₀, q₀) ∷ (κ₁, q₁) ∷ (κ₂, q₂) ∷ (κ₃, q₃) ∷ (κ₄, q₄) ∷ (κ₅, q₅) ∷ (κ₆, q₆) ∷ [])
+
+  abbrev Others : Item 𝓤
+  Others = tokens 𝓤 H A ((κ₀, q₀) ∷ (κ₁, q₁) ∷ (κ₂, q₂) ∷ (κ₃, q₃) ∷ (κ₄, q₄) ∷ (κ₅, q₅) ∷ [])
+
+  abbrev CardLent : Fml
+  CardLent = MutRef (named 6) κ₆ R .own (record { ptr = (b, o); name = γ; now = h n₀ n₁ }) (vptr b o ∷ [])
 
   abbrev Own₀ : Fml
   Own₀ = ShrSlice (named 0) κ₀ u8 .own x₀ (sliced x₀ ∷ [])
 
-  -- what the parameters own but for the card
-  abbrev Lent : Fml
-  Lent = owns (ShrSlice (named 0) κ₀ u8 ∷ MutSlice (named 1) κ₁ u8 ∷ MutSlice (named 2) κ₂ u8 ∷ MutSlice (named 3) κ₃ u32 ∷ MutSlice (named 4) κ₄ u32 ∷ MutSlice (named 5) κ₅ u32 ∷ []) (x₀, (x₁, (x₂, (x₃, (x₄, (x₅, tt)))))) (sliced x₀ ∷ [], (sliced x₁ ∷ [], (sliced x₂ ∷ [], (sliced x₃ ∷ [], (sliced x₄ ∷ [], (sliced x₅ ∷ [], tt))))))
+  -- what the other parameters own
+  abbrev RestLent : Fml
+  RestLent = owns (ShrSlice (named 0) κ₀ u8 ∷ MutSlice (named 1) κ₁ u8 ∷ MutSlice (named 2) κ₂ u8 ∷ MutSlice (named 3) κ₃ u32 ∷ MutSlice (named 4) κ₄ u32 ∷ MutSlice (named 5) κ₅ u32 ∷ []) (x₀, (x₁, (x₂, (x₃, (x₄, (x₅, tt)))))) (sliced x₀ ∷ [], (sliced x₁ ∷ [], (sliced x₂ ∷ [], (sliced x₃ ∷ [], (sliced x₄ ∷ [], (sliced x₅ ∷ [], tt))))))
 
   abbrev ca : RefT (List ℕ) × (RefT (List ℕ) × (RefT (List ℕ) × (RefT (List ℕ) × (RefT (List ℕ) × (RefT (List ℕ) × (ℕ × (ℕ × Unit {0})))))))
   ca = (x₀, (x₁, (x₂, (x₃, (x₄, (x₅, (n₀, (n₁, tt))))))))
@@ -49,32 +65,44 @@ module _ {M : Type 1} (𝓤 : URA M) (H : Heap 𝓤) (A : Atoms 𝓤) (W : Given
   abbrev cv : List Val × (List Val × (List Val × (List Val × (List Val × (List Val × (List Val × (List Val × Unit {0})))))))
   cv = (sliced x₀ ∷ [], (sliced x₁ ∷ [], (sliced x₂ ∷ [], (sliced x₃ ∷ [], (sliced x₄ ∷ [], (sliced x₅ ∷ [], (vint w32 n₀ ∷ [], (vint w32 n₁ ∷ [], tt))))))))
 
+  abbrev κs : Lfts (core.signature .lifetimes)
+  κs = (κ₀, (κ₁, (κ₂, (κ₃, (κ₄, (κ₅, tt))))))
+
+  abbrev qs : Shares (core.signature .lifetimes)
+  qs = (q₀, (q₁, (q₂, (q₃, (q₄, (q₅, tt))))))
+
   abbrev to : Core 𝓤 H A at-mem run .Ghost
-  to = (((κ₀, (κ₁, (κ₂, (κ₃, (κ₄, (κ₅, tt)))))), (q₀, (q₁, (q₂, (q₃, (q₄, (q₅, tt)))))), tt, ca, cv), tt)
+  to = ((κs, qs, tt, ca, cv), tt)
 
-  parted : ent 𝓤 (sem 𝓤 H A (owns (ShrSlice (named 0) κ₀ u8 ∷ MutSlice (named 1) κ₁ u8 ∷ MutSlice (named 2) κ₂ u8 ∷ MutSlice (named 3) κ₃ u32 ∷ MutSlice (named 4) κ₄ u32 ∷ MutSlice (named 5) κ₅ u32 ∷ MutRef (named 6) κ₆ R ∷ []) a vals)) (sep 𝓤 (sem 𝓤 H A (MutRef (named 6) κ₆ R .own (record { ptr = (b, o); name = γ; now = h n₀ n₁ }) (vptr b o ∷ []))) (sem 𝓤 H A Lent))
-  parted = qed W (‵ (owns (ShrSlice (named 0) κ₀ u8 ∷ MutSlice (named 1) κ₁ u8 ∷ MutSlice (named 2) κ₂ u8 ∷ MutSlice (named 3) κ₃ u32 ∷ MutSlice (named 4) κ₄ u32 ∷ MutSlice (named 5) κ₅ u32 ∷ MutRef (named 6) κ₆ R ∷ []) a vals) ∷ []) ∵ fsplit ! $ move ! (1 ∷ []) $ fsplit ! $ move ! (1 ∷ []) $ fsplit ! $ move ! (1 ∷ []) $ fsplit ! $ move ! (1 ∷ []) $ fsplit ! $ move ! (1 ∷ []) $ fsplit ! $ move ! (1 ∷ []) $ fsplit ! $ move ! (1 ∷ []) $ move ! (2 ∷ 0 ∷ []) $ fjoin ! $ move ! (2 ∷ 0 ∷ []) $ fjoin ! $ move ! (2 ∷ 0 ∷ []) $ fjoin ! $ move ! (2 ∷ 0 ∷ []) $ fjoin ! $ move ! (2 ∷ 0 ∷ []) $ fjoin ! $ move ! (2 ∷ 0 ∷ []) $ fjoin ! $ move ! (1 ∷ []) $ frame ! $ done !
+  abbrev Ensured : Left → SProp 𝓤
+  Ensured r = ensured 𝓤 H A core.ended (core.clauses 𝓤 H A at-mem run) κs ca tt r
 
-  asked : ent 𝓤 (onEntry 𝓤 H A core.signature (κ₀, (κ₁, (κ₂, (κ₃, (κ₄, (κ₅, tt)))))) (q₀, (q₁, (q₂, (q₃, (q₄, (q₅, tt)))))) ca cv) (Core 𝓤 H A at-mem run .pre to)
-  asked = qed W ((tokens 𝓤 H A ((κ₀, q₀) ∷ (κ₁, q₁) ∷ (κ₂, q₂) ∷ (κ₃, q₃) ∷ (κ₄, q₄) ∷ (κ₅, q₅) ∷ []) ⊛ ‵ (owns (ShrSlice (named 0) κ₀ u8 ∷ MutSlice (named 1) κ₁ u8 ∷ MutSlice (named 2) κ₂ u8 ∷ MutSlice (named 3) κ₃ u32 ∷ MutSlice (named 4) κ₄ u32 ∷ MutSlice (named 5) κ₅ u32 ∷ u32 ∷ u32 ∷ []) ca cv)) ∷ []) ∵ frame ! $ done !
+  abbrev Pre : SProp 𝓤
+  Pre = Core 𝓤 H A at-mem run .pre to
+
+  parted : ent 𝓤 (sem 𝓤 H A (owns Params a vals)) (mean 𝓤 H A (‵ CardLent ⊛ ‵ RestLent))
+  parted = qed W (‵ (owns Params a vals) ∷ []) ∵ fsplit ! $ move ! (1 ∷ []) $ fsplit ! $ move ! (1 ∷ []) $ fsplit ! $ move ! (1 ∷ []) $ fsplit ! $ move ! (1 ∷ []) $ fsplit ! $ move ! (1 ∷ []) $ fsplit ! $ move ! (1 ∷ []) $ fsplit ! $ move ! (1 ∷ []) $ move ! (2 ∷ 0 ∷ []) $ fjoin ! $ move ! (2 ∷ 0 ∷ []) $ fjoin ! $ move ! (2 ∷ 0 ∷ []) $ fjoin ! $ move ! (2 ∷ 0 ∷ []) $ fjoin ! $ move ! (2 ∷ 0 ∷ []) $ fjoin ! $ move ! (2 ∷ 0 ∷ []) $ fjoin ! $ move ! (1 ∷ []) $ frame ! $ done !
+
+  asked : ent 𝓤 (onEntry 𝓤 H A core.signature κs qs ca cv) Pre
+  asked = qed W ((Others ⊛ ‵ (owns (ShrSlice (named 0) κ₀ u8 ∷ MutSlice (named 1) κ₁ u8 ∷ MutSlice (named 2) κ₂ u8 ∷ MutSlice (named 3) κ₃ u32 ∷ MutSlice (named 4) κ₄ u32 ∷ MutSlice (named 5) κ₅ u32 ∷ u32 ∷ u32 ∷ []) ca cv)) ∷ []) ∵ frame ! $ done !
 
   -- what the callee asks, and what is kept
-  passed : n₀ < 2 ^ 32 → n₁ < 2 ^ 32 → ent 𝓤 (mean 𝓤 H A (tokens 𝓤 H A ((κ₀, q₀) ∷ (κ₁, q₁) ∷ (κ₂, q₂) ∷ (κ₃, q₃) ∷ (κ₄, q₄) ∷ (κ₅, q₅) ∷ []) ⊛ ‵ Lent)) (mean 𝓤 H A (raw (Core 𝓤 H A at-mem run .pre to) ⊛ ‵ Own₀))
-  passed f₀ f₁ = qed W ((tokens 𝓤 H A ((κ₀, q₀) ∷ (κ₁, q₁) ∷ (κ₂, q₂) ∷ (κ₃, q₃) ∷ (κ₄, q₄) ∷ (κ₅, q₅) ∷ [])) ∷ ‵ Lent ∷ []) ∵ move ! (1 ∷ []) $ fsplit ! $ copies ! (named 0) κ₀ u8 x₀ (sliced x₀ ∷ []) $ move ! (2 ∷ []) $ fsplit ! $ move ! (1 ∷ []) $ fsplit ! $ move ! (1 ∷ []) $ fsplit ! $ move ! (1 ∷ []) $ fsplit ! $ move ! (1 ∷ []) $ fsplit ! $ move ! (1 ∷ []) $ number ! n₁ f₁ $ fjoin ! $ number ! n₀ f₀ $ fjoin ! $ move ! (1 ∷ 0 ∷ []) $ fjoin ! $ move ! (1 ∷ 0 ∷ []) $ fjoin ! $ move ! (1 ∷ 0 ∷ []) $ fjoin ! $ move ! (1 ∷ 0 ∷ []) $ fjoin ! $ move ! (1 ∷ 0 ∷ []) $ fjoin ! $ move ! (1 ∷ 0 ∷ []) $ fjoin ! $ move ! (2 ∷ 0 ∷ []) $ use2 W (raw (Core 𝓤 H A at-mem run .pre to)) asked $ frame ! $ done !
+  passed : n₀ < 2 ^ 32 → n₁ < 2 ^ 32 → ent 𝓤 (mean 𝓤 H A (Others ⊛ ‵ RestLent)) (mean 𝓤 H A (raw Pre ⊛ ‵ Own₀))
+  passed f₀ f₁ = qed W (Others ∷ ‵ RestLent ∷ []) ∵ move ! (1 ∷ []) $ fsplit ! $ copies ! (named 0) κ₀ u8 x₀ (sliced x₀ ∷ []) $ move ! (2 ∷ []) $ fsplit ! $ move ! (1 ∷ []) $ fsplit ! $ move ! (1 ∷ []) $ fsplit ! $ move ! (1 ∷ []) $ fsplit ! $ move ! (1 ∷ []) $ fsplit ! $ move ! (1 ∷ []) $ number ! n₁ f₁ $ fjoin ! $ number ! n₀ f₀ $ fjoin ! $ move ! (1 ∷ 0 ∷ []) $ fjoin ! $ move ! (1 ∷ 0 ∷ []) $ fjoin ! $ move ! (1 ∷ 0 ∷ []) $ fjoin ! $ move ! (1 ∷ 0 ∷ []) $ fjoin ! $ move ! (1 ∷ 0 ∷ []) $ fjoin ! $ move ! (1 ∷ 0 ∷ []) $ fjoin ! $ move ! (2 ∷ 0 ∷ []) $ use2 W (raw Pre) asked $ frame ! $ done !
 
   abbrev Lasts : Type 0
   Lasts = Unit {0} × (List ℕ × (List ℕ × (List ℕ × (List ℕ × (List ℕ × (Unit {0} × (Unit {0} × Unit {0})))))))
 
-  exits : (r : Left) → ansOf r .number < 2 ^ 32 → ansOf r .place < 2 ^ 32 → ent 𝓤 (⋆ 𝓤 H A (‵ (fobs γ (R .coded .code (newOf r))) ∷ ‵ (fbor κ₆ (Body (mem R) b o γ)) ∷ ‵ (flft κ₆ q₆) ∷ tokens 𝓤 H A ((κ₀, q₀) ∷ (κ₁, q₁) ∷ (κ₂, q₂) ∷ (κ₃, q₃) ∷ (κ₄, q₄) ∷ (κ₅, q₅) ∷ []) ∷ raw (ensured 𝓤 H A core.ended (core.clauses 𝓤 H A at-mem run) (κ₀, (κ₁, (κ₂, (κ₃, (κ₄, (κ₅, tt)))))) ca tt r) ∷ (‵ Own₀) ∷ [])) (Post (answer (ansOf r)))
+  exits : (r : Left) → ansOf r .number < 2 ^ 32 → ansOf r .place < 2 ^ 32 → ent 𝓤 (⋆ 𝓤 H A (‵ (fobs γ (R .coded .code (newOf r))) ∷ ‵ (fbor κ₆ (Body (mem R) b o γ)) ∷ ‵ (flft κ₆ q₆) ∷ Others ∷ raw (Ensured r) ∷ ‵ Own₀ ∷ [])) (Thin .post here (answer (ansOf r)))
   exits r g₀ g₁ =
-      qed W (‵ (fobs γ (R .coded .code (newOf r))) ∷ ‵ (fbor κ₆ (Body (mem R) b o γ)) ∷ ‵ (flft κ₆ q₆) ∷ tokens 𝓤 H A ((κ₀, q₀) ∷ (κ₁, q₁) ∷ (κ₂, q₂) ∷ (κ₃, q₃) ∷ (κ₄, q₄) ∷ (κ₅, q₅) ∷ []) ∷ raw (ensured 𝓤 H A core.ended (core.clauses 𝓤 H A at-mem run) (κ₀, (κ₁, (κ₂, (κ₃, (κ₄, (κ₅, tt)))))) ca tt r) ∷ (‵ Own₀) ∷ []) ∵
-      move ! (4 ∷ []) $ use1 W (some (λ (zs : Lasts). ‵ (lasts core.ended (κ₀, (κ₁, (κ₂, (κ₃, (κ₄, (κ₅, tt)))))) ca zs) ⊛ raw (fact 𝓤 (result (r .number) (r .place) (lent (zs .1 .0) (zs .1 .1 .0) (zs .1 .1 .1 .0) (zs .1 .1 .1 .1 .0) (zs .1 .1 .1 .1 .1 .0) (r .renames) (r .room)) ≡ readInto (x₀ .now) (lent (x₁ .now) (x₂ .now) (x₃ .now) (x₄ .now) (x₅ .now) n₀ n₁))))) (id⊢ 𝓤 _) $ pick ! (λ zs. split ! $ move ! (1 ∷ []) $ heard ! _ (λ e. fsplit ! $ drop ! $ fsplit ! $ fsplit ! $ move ! (1 ∷ []) $ feqL ! (λ l₁. move ! (1 ∷ []) $ fsplit ! $ fsplit ! $ move ! (1 ∷ []) $ feqL ! (λ l₂. move ! (1 ∷ []) $ fsplit ! $ fsplit ! $ move ! (1 ∷ []) $ feqL ! (λ l₃. move ! (1 ∷ []) $ fsplit ! $ fsplit ! $ move ! (1 ∷ []) $ feqL ! (λ l₄. move ! (1 ∷ []) $ fsplit ! $ fsplit ! $ move ! (1 ∷ []) $ feqL ! (λ l₅. move ! (1 ∷ []) $ drop ! $ suffices ! _ (ends-at 𝓤 H A thin.ended stayed (thin.clauses 𝓤 H A at-mem run) W (((κ₀, (κ₁, (κ₂, (κ₃, (κ₄, (κ₅, (κ₆, tt))))))), (q₀, (q₁, (q₂, (q₃, (q₄, (q₅, (q₆, tt))))))), bounds, a, vals), tt) (answer (ansOf r)) (ansOf r) (tt, ((zs .1 .0), ((zs .1 .1 .0), ((zs .1 .1 .1 .0), ((zs .1 .1 .1 .1 .0), ((zs .1 .1 .1 .1 .1 .0), (newOf r, tt))))))) (tt, (l₁, (l₂, (l₃, (l₄, (l₅, (tt, tt)))))))) $ says ! e $ move ! (7 ∷ 8 ∷ []) $ use2 W (tokens 𝓤 H A ((κ₀, q₀) ∷ (κ₁, q₁) ∷ (κ₂, q₂) ∷ (κ₃, q₃) ∷ (κ₄, q₄) ∷ (κ₅, q₅) ∷ (κ₆, q₆) ∷ [])) (rejoined 𝓤 H A W κ₆ q₆ [] ((κ₀, q₀) ∷ (κ₁, q₁) ∷ (κ₂, q₂) ∷ (κ₃, q₃) ∷ (κ₄, q₄) ∷ (κ₅, q₅) ∷ [])) $ frame ! $ move ! (5 ∷ 6 ∷ []) $ feqI ! (List Val) (vptr b o ∷ []) (vptr b o ∷ []) refl $ fjoin3 ! $ nothing ! $ move ! (1 ∷ 0 ∷ []) $ fjoin ! $ move ! (1 ∷ 0 ∷ []) $ fjoin ! $ move ! (1 ∷ 0 ∷ []) $ fjoin ! $ move ! (1 ∷ 0 ∷ []) $ fjoin ! $ move ! (1 ∷ 0 ∷ []) $ fjoin ! $ move ! (1 ∷ 0 ∷ []) $ fjoin ! $ move ! (1 ∷ 0 ∷ []) $ fjoin ! $ answers ! (ansOf r) g₀ g₁ $ move ! (1 ∷ 0 ∷ []) $ done !)))))))
+      qed W (‵ (fobs γ (R .coded .code (newOf r))) ∷ ‵ (fbor κ₆ (Body (mem R) b o γ)) ∷ ‵ (flft κ₆ q₆) ∷ Others ∷ raw (Ensured r) ∷ ‵ Own₀ ∷ []) ∵
+      move ! (4 ∷ []) $ use1 W (some (λ (zs : Lasts). ‵ (lasts core.ended κs ca zs) ⊛ raw (fact 𝓤 (result (r .number) (r .place) (lent (zs .1 .0) (zs .1 .1 .0) (zs .1 .1 .1 .0) (zs .1 .1 .1 .1 .0) (zs .1 .1 .1 .1 .1 .0) (r .renames) (r .room)) ≡ readInto (x₀ .now) (lent (x₁ .now) (x₂ .now) (x₃ .now) (x₄ .now) (x₅ .now) n₀ n₁))))) (id⊢ 𝓤 _) $ pick ! (λ zs. split ! $ move ! (1 ∷ []) $ heard ! _ (λ e. fsplit ! $ drop ! $ fsplit ! $ fsplit ! $ move ! (1 ∷ []) $ feqL ! (λ l₁. move ! (1 ∷ []) $ fsplit ! $ fsplit ! $ move ! (1 ∷ []) $ feqL ! (λ l₂. move ! (1 ∷ []) $ fsplit ! $ fsplit ! $ move ! (1 ∷ []) $ feqL ! (λ l₃. move ! (1 ∷ []) $ fsplit ! $ fsplit ! $ move ! (1 ∷ []) $ feqL ! (λ l₄. move ! (1 ∷ []) $ fsplit ! $ fsplit ! $ move ! (1 ∷ []) $ feqL ! (λ l₅. move ! (1 ∷ []) $ drop ! $ suffices ! _ (ends-at 𝓤 H A thin.ended stayed (thin.clauses 𝓤 H A at-mem run) W here (answer (ansOf r)) (ansOf r) (tt, ((zs .1 .0), ((zs .1 .1 .0), ((zs .1 .1 .1 .0), ((zs .1 .1 .1 .1 .0), ((zs .1 .1 .1 .1 .1 .0), (newOf r, tt))))))) (tt, (l₁, (l₂, (l₃, (l₄, (l₅, (tt, tt)))))))) $ says ! e $ move ! (7 ∷ 8 ∷ []) $ use2 W (Tokens) (rejoined 𝓤 H A W κ₆ q₆ [] ((κ₀, q₀) ∷ (κ₁, q₁) ∷ (κ₂, q₂) ∷ (κ₃, q₃) ∷ (κ₄, q₄) ∷ (κ₅, q₅) ∷ [])) $ frame ! $ move ! (5 ∷ 6 ∷ []) $ feqI ! (List Val) (vptr b o ∷ []) (vptr b o ∷ []) refl $ fjoin3 ! $ nothing ! $ move ! (1 ∷ 0 ∷ []) $ fjoin ! $ move ! (1 ∷ 0 ∷ []) $ fjoin ! $ move ! (1 ∷ 0 ∷ []) $ fjoin ! $ move ! (1 ∷ 0 ∷ []) $ fjoin ! $ move ! (1 ∷ 0 ∷ []) $ fjoin ! $ move ! (1 ∷ 0 ∷ []) $ fjoin ! $ move ! (1 ∷ 0 ∷ []) $ fjoin ! $ answers ! (ansOf r) g₀ g₁ $ move ! (1 ∷ 0 ∷ []) $ done !)))))))
 
   module _ (C : Calls 𝓤 H) (Λ : Loops 𝓤 H) (fm : FmC 𝓤 H (W .laws) C) (known : Triple 𝓤 (C #reader·read) (Core 𝓤 H A at-mem run)) where
-    walk : Is (ShrSlice (named 0) κ₀ u8) x₀ (sliced x₀ ∷ []) → Room u8 (length (x₁ .now)) → Room u8 (length (x₂ .now)) → Room u32 (length (x₃ .now)) → Room u32 (length (x₄ .now)) → Room u32 (length (x₅ .now)) → ent 𝓤 (onEntry 𝓤 H A thin.signature (κ₀, (κ₁, (κ₂, (κ₃, (κ₄, (κ₅, (κ₆, tt))))))) (q₀, (q₁, (q₂, (q₃, (q₄, (q₅, (q₆, tt))))))) a vals) (WpFn 𝓤 H C Λ code.function (sliced x₀ ∷ sliced x₁ ∷ sliced x₂ ∷ sliced x₃ ∷ sliced x₄ ∷ sliced x₅ ∷ vptr b o ∷ []) Post)
+    walk : Is (ShrSlice (named 0) κ₀ u8) x₀ (sliced x₀ ∷ []) → Room u8 (length (x₁ .now)) → Room u8 (length (x₂ .now)) → Room u32 (length (x₃ .now)) → Room u32 (length (x₄ .now)) → Room u32 (length (x₅ .now)) → ent 𝓤 (onEntry 𝓤 H A thin.signature (κ₀, (κ₁, (κ₂, (κ₃, (κ₄, (κ₅, (κ₆, tt))))))) (q₀, (q₁, (q₂, (q₃, (q₄, (q₅, (q₆, tt))))))) a vals) (WpFn 𝓤 H C Λ code.function (sliced x₀ ∷ sliced x₁ ∷ sliced x₂ ∷ sliced x₃ ∷ sliced x₄ ∷ sliced x₅ ∷ vptr b o ∷ []) (Thin .post here))
     walk is₀ room₁ room₂ room₃ room₄ room₅ =
-        qed W (tokens 𝓤 H A ((κ₀, q₀) ∷ (κ₁, q₁) ∷ (κ₂, q₂) ∷ (κ₃, q₃) ∷ (κ₄, q₄) ∷ (κ₅, q₅) ∷ (κ₆, q₆) ∷ []) ∷ ‵ (owns (ShrSlice (named 0) κ₀ u8 ∷ MutSlice (named 1) κ₁ u8 ∷ MutSlice (named 2) κ₂ u8 ∷ MutSlice (named 3) κ₃ u32 ∷ MutSlice (named 4) κ₄ u32 ∷ MutSlice (named 5) κ₅ u32 ∷ MutRef (named 6) κ₆ R ∷ []) a vals) ∷ []) ∵ use1 W (‵ (flft κ₆ q₆) ⊛ tokens 𝓤 H A ((κ₀, q₀) ∷ (κ₁, q₁) ∷ (κ₂, q₂) ∷ (κ₃, q₃) ∷ (κ₄, q₄) ∷ (κ₅, q₅) ∷ [])) (apart 𝓤 H A W κ₆ q₆ [] ((κ₀, q₀) ∷ (κ₁, q₁) ∷ (κ₂, q₂) ∷ (κ₃, q₃) ∷ (κ₄, q₄) ∷ (κ₅, q₅) ∷ [])) $ split ! $ move ! (2 ∷ []) $
-        use1 W (‵ (MutRef (named 6) κ₆ R .own (record { ptr = (b, o); name = γ; now = h n₀ n₁ }) (vptr b o ∷ [])) ⊛ ‵ Lent) parted $ split ! $ fsplit3 ! $ drop ! $ move ! (0 ∷ 1 ∷ 3 ∷ 4 ∷ []) $
+        qed W (Tokens ∷ ‵ (owns Params a vals) ∷ []) ∵ use1 W (‵ (flft κ₆ q₆) ⊛ Others) (apart 𝓤 H A W κ₆ q₆ [] ((κ₀, q₀) ∷ (κ₁, q₁) ∷ (κ₂, q₂) ∷ (κ₃, q₃) ∷ (κ₄, q₄) ∷ (κ₅, q₅) ∷ [])) $ split ! $ move ! (2 ∷ []) $
+        use1 W (‵ CardLent ⊛ ‵ RestLent) parted $ split ! $ fsplit3 ! $ drop ! $ move ! (0 ∷ 1 ∷ 3 ∷ 4 ∷ []) $
         enter ! C Λ code.function (sliced x₀ ∷ sliced x₁ ∷ sliced x₂ ∷ sliced x₃ ∷ sliced x₄ ∷ sliced x₅ ∷ vptr b o ∷ []) _ $ starts ! (shr-slice-lawful 𝓤 H A W (named 0) κ₀ u8 .typed x₀ (sliced x₀ ∷ []) is₀ .0, ((tt, (tt, (record { fits = room₁ .0 }, tt))), ((tt, (tt, (record { fits = room₂ .0 }, tt))), ((tt, (tt, (record { fits = room₃ .0 }, tt))), ((tt, (tt, (record { fits = room₄ .0 }, tt))), ((tt, (tt, (record { fits = room₅ .0 }, tt))), ((tt, tt), tt))))))) (λ l₀ ls.
         -- [the locals; that they can be freed; the card's observation, its borrow and its token; the other tokens; what the other parameters own]
         relends ! 2 9 10 refl refl refl refl refl refl refl refl (record { fits = room₁ .0 }) $
@@ -85,9 +113,9 @@ module _ {M : Type 1} (𝓤 : URA M) (H : Heap 𝓤) (A : Atoms 𝓤) (W : Given
         move ! (22 ∷ 23 ∷ 24 ∷ []) $ card-opens ! tt b o n₀ n₁ (λ f₀ f₁.
         assigns ! (of-opd ! (load ! (from ! (hop ! (look ! 11 refl) (fld ! refl (stop !)))) (look-in ! 0 (sub ! 0 refl (whole !))))) (from ! (stop !)) (init ! 23 refl (tt, record { fits = f₀ })) $
         assigns ! (of-opd ! (load ! (from ! (hop ! (look ! 11 refl) (fld ! refl (stop !)))) (look-in ! 0 (sub ! 1 refl (whole !))))) (from ! (stop !)) (init ! 24 refl (tt, record { fits = f₁ })) $
-        move ! (26 ∷ 27 ∷ []) $ use2 W (raw (Core 𝓤 H A at-mem run .pre to) ⊛ ‵ Own₀) (passed f₀ f₁) $ split ! $
+        move ! (26 ∷ 27 ∷ []) $ use2 W (raw Pre ⊛ ‵ Own₀) (passed f₀ f₁) $ split ! $
         calls-at ! fm (Core 𝓤 H A at-mem run) known to (and-then ! (load ! (from ! (stop !)) (look ! 7 refl)) (and-then ! (load ! (from ! (stop !)) (look ! 16 refl)) (and-then ! (load ! (from ! (stop !)) (look ! 18 refl)) (and-then ! (load ! (from ! (stop !)) (look ! 20 refl)) (and-then ! (load ! (from ! (stop !)) (look ! 22 refl)) (and-then ! (load ! (from ! (stop !)) (look ! 24 refl)) (and-then ! (load ! (from ! (stop !)) (look ! 25 refl)) (and-then ! (load ! (from ! (stop !)) (look ! 26 refl)) (no-more !))))))))) (λ w.
-        use1 W (later (some (λ (r : Left). (tokens 𝓤 H A ((κ₀, q₀) ∷ (κ₁, q₁) ∷ (κ₂, q₂) ∷ (κ₃, q₃) ∷ (κ₄, q₄) ∷ (κ₅, q₅) ∷ []) ⊛ ‵ (leftRow .own r (w ∷ []))) ⊛ raw (ensured 𝓤 H A core.ended (core.clauses 𝓤 H A at-mem run) (κ₀, (κ₁, (κ₂, (κ₃, (κ₄, (κ₅, tt)))))) ca tt r)))) (id⊢ 𝓤 _) $ await ! tt $ pick ! (λ r. split ! $ split ! $ move ! (1 ∷ []) $
+        use1 W (later (some (λ (r : Left). (Others ⊛ ‵ (leftRow .own r (w ∷ []))) ⊛ raw (Ensured r)))) (id⊢ 𝓤 _) $ await ! tt $ pick ! (λ r. split ! $ split ! $ move ! (1 ∷ []) $
         left-lands ! 8 15 r w refl refl refl (λ g₀ g₁ g₂ g₃.
         assigns ! (of-opd ! (load ! (from ! (fld ! refl (stop !))) (look-in ! 15 (sub ! 2 refl (whole !))))) (from ! (hop ! (look ! 14 refl) (fld ! refl (stop !)))) (store-in ! 3 (sub ! 0 refl (whole !)) (tt, record { fits = g₂ })) $
         assigns ! (of-opd ! (load ! (from ! (fld ! refl (stop !))) (look-in ! 15 (sub ! 3 refl (whole !))))) (from ! (hop ! (look ! 14 refl) (fld ! refl (stop !)))) (store-in ! 3 (sub ! 1 refl (whole !)) (tt, record { fits = g₃ })) $

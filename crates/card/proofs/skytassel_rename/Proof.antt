@@ -1,7 +1,7 @@
 -- `card::skytassel_rename` meets its contract: a walk of its MIR, by hand. The card's borrow is opened, its counts are read, the tables go to `rename_by_number` for good at their own lifetimes, the counts that it returns are stored in the card, and the borrow is closed at the new record.
 -- All that the proof knows of `rename_by_number` is that it meets its contract.
 -- Assumes nothing.
-use Rattle.card.proofs.Walk.{refl, ℕ, _<_, _^_, [], _∷_, List, length, URA, named, w32, Val, vint, vptr, SProp, ent, sep, emp, via, fst∗, id⊢, Lft, Share, GName, Fml, flft, fobs, fbor, Memory, Routine, Heap, Calls, Loops, WpFn, Tables, Atoms, sem, Fun, fact, givenOf, tables, tablesOf, AllOutlive, Given, ‵, raw, some, later, mean, _⊛_, ⋆, _$_, _∵_, !, qed, by, move, drop, use1, use2, split, pick, fsplit, fsplit3, fjoin, fjoin3, feqL, feqI, suffices, frame, await, done, look, init, stop, hop, fld, from, load, of-opd, and-then, no-more, assigns, returns, enter, agg, whole, sub, look-in, store-in, Body, FmC, fmOf, WpFn-mono, owns, mem, Is, uint-vals, uint-tells, u8, u32, RefT, MutRef, ptr-vals, mut-tells, MutSlice, ShrSlice, Room, slice-vals, mut-slice-tells, shr-slice-tells, shr-slice-lawful, heard, nothing, onEntry, Meets, tripleOf, Contract, Triple, calls-at, ensured, lasts, entered, cited, says, Stays, stay-ref, stay-none, stay-none-slice, gave-slice, walkOf, goes-ref, goes-none, goes-none-slice, goes-gave-slice, Walks, ends-at, walked, walk-meets, yes, plain, tokens, apart, rejoined, starts, relends, ends, none, cell, past, result, lent, Card, Left, Answer, R, leftRow, sliced, h, answer, card-opens, card-closes, number, answers, copies, left-lands}
+use Rattle.card.proofs.Walk.{refl, ℕ, _<_, _^_, [], _∷_, List, length, URA, named, w32, Val, vint, vptr, SProp, ent, emp, via, fst∗, id⊢, Lft, Share, GName, Fml, flft, fobs, fbor, Memory, Routine, Heap, Calls, Loops, WpFn, Tables, Atoms, sem, Fun, fact, givenOf, tables, tablesOf, Lfts, Shares, AllOutlive, Given, Item, ‵, raw, some, later, mean, _⊛_, ⋆, _$_, _∵_, !, qed, by, move, drop, use1, use2, split, pick, fsplit, fsplit3, fjoin, fjoin3, feqL, feqI, suffices, frame, await, done, look, init, stop, hop, fld, from, load, of-opd, and-then, no-more, assigns, returns, enter, agg, whole, sub, look-in, store-in, Body, FmC, fmOf, WpFn-mono, RattleType, owns, mem, Is, uint-vals, uint-tells, u8, u32, RefT, MutRef, ptr-vals, mut-tells, MutSlice, ShrSlice, Room, slice-vals, mut-slice-tells, shr-slice-tells, shr-slice-lawful, heard, nothing, onEntry, Meets, tripleOf, Contract, Triple, calls-at, ensured, lasts, entered, cited, says, Stays, stay-ref, stay-none, stay-none-slice, gave-slice, walkOf, goes-ref, goes-none, goes-none-slice, goes-gave-slice, Walks, ends-at, walked, walk-meets, yes, plain, tokens, apart, rejoined, starts, relends, ends, none, cell, past, result, lent, Card, Left, Answer, R, leftRow, sliced, h, answer, card-opens, card-closes, number, answers, copies, left-lands}
 use Rattle.rules.specs.Session.{Call}
 use Rattle.session.specs.Called.{CalledAs}
 use Rattle.card.proofs.rename_by_number as core
@@ -34,8 +34,24 @@ module _ {M : Type 1} (𝓤 : URA M) (H : Heap 𝓤) (A : Atoms 𝓤) (W : Given
   abbrev vals : List Val × (List Val × (List Val × (List Val × (List Val × (List Val × (List Val × (List Val × (List Val × Unit {0}))))))))
   vals = (sliced x₀ ∷ [], (sliced x₁ ∷ [], (sliced x₂ ∷ [], (sliced x₃ ∷ [], (sliced x₄ ∷ [], (vptr b o ∷ [], (vint w32 x₆ ∷ [], (vint w32 x₇ ∷ [], (sliced x₈ ∷ [], tt)))))))))
 
-  abbrev Post : Val → SProp 𝓤
-  Post = walkOf 𝓤 H A thin.ended stayed (thin.clauses 𝓤 H A at-mem run) .post (((κ₀, (κ₁, (κ₂, (κ₃, (κ₄, (κ₅, (κ₆, tt))))))), (q₀, (q₁, (q₂, (q₃, (q₄, (q₅, (q₆, tt))))))), bounds, a, vals), tt)
+  abbrev Thin : Contract 𝓤
+  Thin = walkOf 𝓤 H A thin.ended stayed (thin.clauses 𝓤 H A at-mem run)
+
+  abbrev here : Thin .Ghost
+  here = (((κ₀, (κ₁, (κ₂, (κ₃, (κ₄, (κ₅, (κ₆, tt))))))), (q₀, (q₁, (q₂, (q₃, (q₄, (q₅, (q₆, tt))))))), bounds, a, vals), tt)
+
+  abbrev Params : List RattleType
+  Params = MutSlice (named 0) κ₀ u8 ∷ ShrSlice (named 1) κ₁ u8 ∷ ShrSlice (named 2) κ₂ u32 ∷ ShrSlice (named 3) κ₃ u32 ∷ MutSlice (named 4) κ₄ u32 ∷ MutRef (named 5) κ₅ R ∷ u32 ∷ u32 ∷ ShrSlice (named 6) κ₆ u8 ∷ []
+
+  -- the tokens, and those but for the card's
+  abbrev Tokens : Item 𝓤
+  Tokens = tokens 𝓤 H A ((κ₀, q₀) ∷ (κ₁, q₁) ∷ (κ₂, q₂) ∷ (κ₃, q₃) ∷ (κ₄, q₄) ∷ (κ₅, q₅) ∷ (κ₆, q₆) ∷ [])
+
+  abbrev Others : Item 𝓤
+  Others = tokens 𝓤 H A ((κ₀, q₀) ∷ (κ₁, q₁) ∷ (κ₂, q₂) ∷ (κ₃, q₃) ∷ (κ₄, q₄) ∷ (κ₆, q₆) ∷ [])
+
+  abbrev CardLent : Fml
+  CardLent = MutRef (named 5) κ₅ R .own (record { ptr = (b, o); name = γ; now = h n₀ n₁ }) (vptr b o ∷ [])
 
   abbrev Own₁ : Fml
   Own₁ = ShrSlice (named 1) κ₁ u8 .own x₁ (sliced x₁ ∷ [])
@@ -49,9 +65,9 @@ module _ {M : Type 1} (𝓤 : URA M) (H : Heap 𝓤) (A : Atoms 𝓤) (W : Given
   abbrev Own₈ : Fml
   Own₈ = ShrSlice (named 6) κ₆ u8 .own x₈ (sliced x₈ ∷ [])
 
-  -- what the parameters own but for the card
-  abbrev Lent : Fml
-  Lent = owns (MutSlice (named 0) κ₀ u8 ∷ ShrSlice (named 1) κ₁ u8 ∷ ShrSlice (named 2) κ₂ u32 ∷ ShrSlice (named 3) κ₃ u32 ∷ MutSlice (named 4) κ₄ u32 ∷ u32 ∷ u32 ∷ ShrSlice (named 6) κ₆ u8 ∷ []) (x₀, (x₁, (x₂, (x₃, (x₄, (x₆, (x₇, (x₈, tt)))))))) (sliced x₀ ∷ [], (sliced x₁ ∷ [], (sliced x₂ ∷ [], (sliced x₃ ∷ [], (sliced x₄ ∷ [], (vint w32 x₆ ∷ [], (vint w32 x₇ ∷ [], (sliced x₈ ∷ [], tt))))))))
+  -- what the other parameters own
+  abbrev RestLent : Fml
+  RestLent = owns (MutSlice (named 0) κ₀ u8 ∷ ShrSlice (named 1) κ₁ u8 ∷ ShrSlice (named 2) κ₂ u32 ∷ ShrSlice (named 3) κ₃ u32 ∷ MutSlice (named 4) κ₄ u32 ∷ u32 ∷ u32 ∷ ShrSlice (named 6) κ₆ u8 ∷ []) (x₀, (x₁, (x₂, (x₃, (x₄, (x₆, (x₇, (x₈, tt)))))))) (sliced x₀ ∷ [], (sliced x₁ ∷ [], (sliced x₂ ∷ [], (sliced x₃ ∷ [], (sliced x₄ ∷ [], (vint w32 x₆ ∷ [], (vint w32 x₇ ∷ [], (sliced x₈ ∷ [], tt))))))))
 
   abbrev ca : RefT (List ℕ) × (RefT (List ℕ) × (RefT (List ℕ) × (RefT (List ℕ) × (RefT (List ℕ) × (ℕ × (ℕ × (ℕ × (ℕ × (RefT (List ℕ) × Unit {0})))))))))
   ca = (x₀, (x₁, (x₂, (x₃, (x₄, (n₀, (n₁, (x₆, (x₇, (x₈, tt))))))))))
@@ -59,32 +75,47 @@ module _ {M : Type 1} (𝓤 : URA M) (H : Heap 𝓤) (A : Atoms 𝓤) (W : Given
   abbrev cv : List Val × (List Val × (List Val × (List Val × (List Val × (List Val × (List Val × (List Val × (List Val × (List Val × Unit {0})))))))))
   cv = (sliced x₀ ∷ [], (sliced x₁ ∷ [], (sliced x₂ ∷ [], (sliced x₃ ∷ [], (sliced x₄ ∷ [], (vint w32 n₀ ∷ [], (vint w32 n₁ ∷ [], (vint w32 x₆ ∷ [], (vint w32 x₇ ∷ [], (sliced x₈ ∷ [], tt))))))))))
 
+  abbrev κs : Lfts (core.signature .lifetimes)
+  κs = (κ₀, (κ₁, (κ₂, (κ₃, (κ₄, (κ₆, tt))))))
+
+  abbrev qs : Shares (core.signature .lifetimes)
+  qs = (q₀, (q₁, (q₂, (q₃, (q₄, (q₆, tt))))))
+
   abbrev to : Core 𝓤 H A at-mem run .Ghost
-  to = (((κ₀, (κ₁, (κ₂, (κ₃, (κ₄, (κ₆, tt)))))), (q₀, (q₁, (q₂, (q₃, (q₄, (q₆, tt)))))), tt, ca, cv), tt)
+  to = ((κs, qs, tt, ca, cv), tt)
 
-  parted : ent 𝓤 (sem 𝓤 H A (owns (MutSlice (named 0) κ₀ u8 ∷ ShrSlice (named 1) κ₁ u8 ∷ ShrSlice (named 2) κ₂ u32 ∷ ShrSlice (named 3) κ₃ u32 ∷ MutSlice (named 4) κ₄ u32 ∷ MutRef (named 5) κ₅ R ∷ u32 ∷ u32 ∷ ShrSlice (named 6) κ₆ u8 ∷ []) a vals)) (sep 𝓤 (sem 𝓤 H A (MutRef (named 5) κ₅ R .own (record { ptr = (b, o); name = γ; now = h n₀ n₁ }) (vptr b o ∷ []))) (sem 𝓤 H A Lent))
-  parted = qed W (‵ (owns (MutSlice (named 0) κ₀ u8 ∷ ShrSlice (named 1) κ₁ u8 ∷ ShrSlice (named 2) κ₂ u32 ∷ ShrSlice (named 3) κ₃ u32 ∷ MutSlice (named 4) κ₄ u32 ∷ MutRef (named 5) κ₅ R ∷ u32 ∷ u32 ∷ ShrSlice (named 6) κ₆ u8 ∷ []) a vals) ∷ []) ∵ fsplit ! $ move ! (1 ∷ []) $ fsplit ! $ move ! (1 ∷ []) $ fsplit ! $ move ! (1 ∷ []) $ fsplit ! $ move ! (1 ∷ []) $ fsplit ! $ move ! (1 ∷ []) $ fsplit ! $ move ! (1 ∷ []) $ move ! (2 ∷ 0 ∷ []) $ fjoin ! $ move ! (2 ∷ 0 ∷ []) $ fjoin ! $ move ! (2 ∷ 0 ∷ []) $ fjoin ! $ move ! (2 ∷ 0 ∷ []) $ fjoin ! $ move ! (2 ∷ 0 ∷ []) $ fjoin ! $ move ! (1 ∷ []) $ frame ! $ done !
+  abbrev Ensured : Left → SProp 𝓤
+  Ensured r = ensured 𝓤 H A core.ended (core.clauses 𝓤 H A at-mem run) κs ca tt r
 
-  asked : ent 𝓤 (onEntry 𝓤 H A core.signature (κ₀, (κ₁, (κ₂, (κ₃, (κ₄, (κ₆, tt)))))) (q₀, (q₁, (q₂, (q₃, (q₄, (q₆, tt)))))) ca cv) (Core 𝓤 H A at-mem run .pre to)
-  asked = qed W ((tokens 𝓤 H A ((κ₀, q₀) ∷ (κ₁, q₁) ∷ (κ₂, q₂) ∷ (κ₃, q₃) ∷ (κ₄, q₄) ∷ (κ₆, q₆) ∷ []) ⊛ ‵ (owns (MutSlice (named 0) κ₀ u8 ∷ ShrSlice (named 1) κ₁ u8 ∷ ShrSlice (named 2) κ₂ u32 ∷ ShrSlice (named 3) κ₃ u32 ∷ MutSlice (named 4) κ₄ u32 ∷ u32 ∷ u32 ∷ u32 ∷ u32 ∷ ShrSlice (named 5) κ₆ u8 ∷ []) ca cv)) ∷ []) ∵ frame ! $ done !
+  abbrev Pre : SProp 𝓤
+  Pre = Core 𝓤 H A at-mem run .pre to
+
+  abbrev Kept : Item 𝓤
+  Kept = ‵ Own₁ ⊛ ‵ Own₂ ⊛ ‵ Own₃ ⊛ ‵ Own₈
+
+  parted : ent 𝓤 (sem 𝓤 H A (owns Params a vals)) (mean 𝓤 H A (‵ CardLent ⊛ ‵ RestLent))
+  parted = qed W (‵ (owns Params a vals) ∷ []) ∵ fsplit ! $ move ! (1 ∷ []) $ fsplit ! $ move ! (1 ∷ []) $ fsplit ! $ move ! (1 ∷ []) $ fsplit ! $ move ! (1 ∷ []) $ fsplit ! $ move ! (1 ∷ []) $ fsplit ! $ move ! (1 ∷ []) $ move ! (2 ∷ 0 ∷ []) $ fjoin ! $ move ! (2 ∷ 0 ∷ []) $ fjoin ! $ move ! (2 ∷ 0 ∷ []) $ fjoin ! $ move ! (2 ∷ 0 ∷ []) $ fjoin ! $ move ! (2 ∷ 0 ∷ []) $ fjoin ! $ move ! (1 ∷ []) $ frame ! $ done !
+
+  asked : ent 𝓤 (onEntry 𝓤 H A core.signature κs qs ca cv) Pre
+  asked = qed W ((Others ⊛ ‵ (owns (MutSlice (named 0) κ₀ u8 ∷ ShrSlice (named 1) κ₁ u8 ∷ ShrSlice (named 2) κ₂ u32 ∷ ShrSlice (named 3) κ₃ u32 ∷ MutSlice (named 4) κ₄ u32 ∷ u32 ∷ u32 ∷ u32 ∷ u32 ∷ ShrSlice (named 5) κ₆ u8 ∷ []) ca cv)) ∷ []) ∵ frame ! $ done !
 
   -- what the callee asks, and what is kept
-  passed : n₀ < 2 ^ 32 → n₁ < 2 ^ 32 → x₆ < 2 ^ 32 → x₇ < 2 ^ 32 → ent 𝓤 (mean 𝓤 H A (tokens 𝓤 H A ((κ₀, q₀) ∷ (κ₁, q₁) ∷ (κ₂, q₂) ∷ (κ₃, q₃) ∷ (κ₄, q₄) ∷ (κ₆, q₆) ∷ []) ⊛ ‵ Lent)) (mean 𝓤 H A (raw (Core 𝓤 H A at-mem run .pre to) ⊛ ‵ Own₁ ⊛ ‵ Own₂ ⊛ ‵ Own₃ ⊛ ‵ Own₈))
-  passed f₀ f₁ fit₆ fit₇ = qed W ((tokens 𝓤 H A ((κ₀, q₀) ∷ (κ₁, q₁) ∷ (κ₂, q₂) ∷ (κ₃, q₃) ∷ (κ₄, q₄) ∷ (κ₆, q₆) ∷ [])) ∷ ‵ Lent ∷ []) ∵ move ! (1 ∷ []) $ fsplit ! $ move ! (1 ∷ []) $ fsplit ! $ copies ! (named 1) κ₁ u8 x₁ (sliced x₁ ∷ []) $ move ! (2 ∷ []) $ fsplit ! $ copies ! (named 2) κ₂ u32 x₂ (sliced x₂ ∷ []) $ move ! (2 ∷ []) $ fsplit ! $ copies ! (named 3) κ₃ u32 x₃ (sliced x₃ ∷ []) $ move ! (2 ∷ []) $ fsplit ! $ move ! (1 ∷ []) $ fsplit ! $ drop ! $ fsplit ! $ drop ! $ fsplit ! $ copies ! (named 6) κ₆ u8 x₈ (sliced x₈ ∷ []) $ move ! (2 ∷ []) $ move ! (1 ∷ 0 ∷ []) $ fjoin ! $ number ! x₇ fit₇ $ fjoin ! $ number ! x₆ fit₆ $ fjoin ! $ number ! n₁ f₁ $ fjoin ! $ number ! n₀ f₀ $ fjoin ! $ move ! (2 ∷ 0 ∷ []) $ fjoin ! $ move ! (2 ∷ 0 ∷ []) $ fjoin ! $ move ! (3 ∷ 0 ∷ []) $ fjoin ! $ move ! (4 ∷ 0 ∷ []) $ fjoin ! $ move ! (5 ∷ 0 ∷ []) $ fjoin ! $ move ! (5 ∷ 0 ∷ []) $ use2 W (raw (Core 𝓤 H A at-mem run .pre to)) asked $ frame ! $ move ! (3 ∷ 2 ∷ 1 ∷ 0 ∷ []) $ done !
+  passed : n₀ < 2 ^ 32 → n₁ < 2 ^ 32 → x₆ < 2 ^ 32 → x₇ < 2 ^ 32 → ent 𝓤 (mean 𝓤 H A (Others ⊛ ‵ RestLent)) (mean 𝓤 H A (raw Pre ⊛ Kept))
+  passed f₀ f₁ fit₆ fit₇ = qed W (Others ∷ ‵ RestLent ∷ []) ∵ move ! (1 ∷ []) $ fsplit ! $ move ! (1 ∷ []) $ fsplit ! $ copies ! (named 1) κ₁ u8 x₁ (sliced x₁ ∷ []) $ move ! (2 ∷ []) $ fsplit ! $ copies ! (named 2) κ₂ u32 x₂ (sliced x₂ ∷ []) $ move ! (2 ∷ []) $ fsplit ! $ copies ! (named 3) κ₃ u32 x₃ (sliced x₃ ∷ []) $ move ! (2 ∷ []) $ fsplit ! $ move ! (1 ∷ []) $ fsplit ! $ drop ! $ fsplit ! $ drop ! $ fsplit ! $ copies ! (named 6) κ₆ u8 x₈ (sliced x₈ ∷ []) $ move ! (2 ∷ []) $ move ! (1 ∷ 0 ∷ []) $ fjoin ! $ number ! x₇ fit₇ $ fjoin ! $ number ! x₆ fit₆ $ fjoin ! $ number ! n₁ f₁ $ fjoin ! $ number ! n₀ f₀ $ fjoin ! $ move ! (2 ∷ 0 ∷ []) $ fjoin ! $ move ! (2 ∷ 0 ∷ []) $ fjoin ! $ move ! (3 ∷ 0 ∷ []) $ fjoin ! $ move ! (4 ∷ 0 ∷ []) $ fjoin ! $ move ! (5 ∷ 0 ∷ []) $ fjoin ! $ move ! (5 ∷ 0 ∷ []) $ use2 W (raw Pre) asked $ frame ! $ move ! (3 ∷ 2 ∷ 1 ∷ 0 ∷ []) $ done !
 
   abbrev Lasts : Type 0
   Lasts = List ℕ × (Unit {0} × (Unit {0} × (Unit {0} × (List ℕ × (Unit {0} × (Unit {0} × (Unit {0} × (Unit {0} × (Unit {0} × Unit {0})))))))))
 
-  exits : x₆ < 2 ^ 32 → x₇ < 2 ^ 32 → (r : Left) → ansOf r .number < 2 ^ 32 → ansOf r .place < 2 ^ 32 → ent 𝓤 (⋆ 𝓤 H A (‵ (fobs γ (R .coded .code (newOf r))) ∷ ‵ (fbor κ₅ (Body (mem R) b o γ)) ∷ ‵ (flft κ₅ q₅) ∷ tokens 𝓤 H A ((κ₀, q₀) ∷ (κ₁, q₁) ∷ (κ₂, q₂) ∷ (κ₃, q₃) ∷ (κ₄, q₄) ∷ (κ₆, q₆) ∷ []) ∷ raw (ensured 𝓤 H A core.ended (core.clauses 𝓤 H A at-mem run) (κ₀, (κ₁, (κ₂, (κ₃, (κ₄, (κ₆, tt)))))) ca tt r) ∷ (‵ Own₁ ⊛ ‵ Own₂ ⊛ ‵ Own₃ ⊛ ‵ Own₈) ∷ [])) (Post (answer (ansOf r)))
+  exits : x₆ < 2 ^ 32 → x₇ < 2 ^ 32 → (r : Left) → ansOf r .number < 2 ^ 32 → ansOf r .place < 2 ^ 32 → ent 𝓤 (⋆ 𝓤 H A (‵ (fobs γ (R .coded .code (newOf r))) ∷ ‵ (fbor κ₅ (Body (mem R) b o γ)) ∷ ‵ (flft κ₅ q₅) ∷ Others ∷ raw (Ensured r) ∷ Kept ∷ [])) (Thin .post here (answer (ansOf r)))
   exits fit₆ fit₇ r g₀ g₁ =
-      qed W (‵ (fobs γ (R .coded .code (newOf r))) ∷ ‵ (fbor κ₅ (Body (mem R) b o γ)) ∷ ‵ (flft κ₅ q₅) ∷ tokens 𝓤 H A ((κ₀, q₀) ∷ (κ₁, q₁) ∷ (κ₂, q₂) ∷ (κ₃, q₃) ∷ (κ₄, q₄) ∷ (κ₆, q₆) ∷ []) ∷ raw (ensured 𝓤 H A core.ended (core.clauses 𝓤 H A at-mem run) (κ₀, (κ₁, (κ₂, (κ₃, (κ₄, (κ₆, tt)))))) ca tt r) ∷ (‵ Own₁ ⊛ ‵ Own₂ ⊛ ‵ Own₃ ⊛ ‵ Own₈) ∷ []) ∵
-      move ! (4 ∷ []) $ use1 W (some (λ (zs : Lasts). ‵ (lasts core.ended (κ₀, (κ₁, (κ₂, (κ₃, (κ₄, (κ₆, tt)))))) ca zs) ⊛ raw (fact 𝓤 (CalledAs (lent (x₀ .now) (x₁ .now) (x₂ .now) (x₃ .now) (x₄ .now) n₀ n₁) (Call.rename (record { moduleNumber = x₆; wireNumber = x₇; newName = x₈ .now })) (result (r .number) (r .place) (lent (zs .0) (x₁ .now) (x₂ .now) (x₃ .now) (zs .1 .1 .1 .1 .0) (r .renames) (r .room))))))) (id⊢ 𝓤 _) $ pick ! (λ zs. split ! $ move ! (1 ∷ []) $ heard ! _ (λ e. fsplit ! $ fsplit ! $ move ! (1 ∷ []) $ feqL ! (λ l₀. move ! (1 ∷ []) $ fsplit ! $ drop ! $ fsplit ! $ drop ! $ fsplit ! $ drop ! $ fsplit ! $ fsplit ! $ move ! (1 ∷ []) $ feqL ! (λ l₄. move ! (1 ∷ []) $ drop ! $ suffices ! _ (ends-at 𝓤 H A thin.ended stayed (thin.clauses 𝓤 H A at-mem run) W (((κ₀, (κ₁, (κ₂, (κ₃, (κ₄, (κ₅, (κ₆, tt))))))), (q₀, (q₁, (q₂, (q₃, (q₄, (q₅, (q₆, tt))))))), bounds, a, vals), tt) (answer (ansOf r)) (ansOf r) ((zs .0), (tt, (tt, (tt, ((zs .1 .1 .1 .1 .0), (newOf r, (tt, (tt, (tt, tt))))))))) (l₀, (tt, (tt, (tt, (l₄, (tt, (tt, (tt, (tt, tt)))))))))) $ says ! e $ move ! (4 ∷ 5 ∷ []) $ use2 W (tokens 𝓤 H A ((κ₀, q₀) ∷ (κ₁, q₁) ∷ (κ₂, q₂) ∷ (κ₃, q₃) ∷ (κ₄, q₄) ∷ (κ₅, q₅) ∷ (κ₆, q₆) ∷ [])) (rejoined 𝓤 H A W κ₅ q₅ ((κ₆, q₆) ∷ []) ((κ₀, q₀) ∷ (κ₁, q₁) ∷ (κ₂, q₂) ∷ (κ₃, q₃) ∷ (κ₄, q₄) ∷ [])) $ frame ! $ move ! (4 ∷ []) $ split ! $ move ! (1 ∷ []) $ split ! $ move ! (1 ∷ []) $ split ! $ move ! (6 ∷ 7 ∷ []) $ feqI ! (List Val) (vptr b o ∷ []) (vptr b o ∷ []) refl $ fjoin3 ! $ nothing ! $ move ! (3 ∷ 0 ∷ []) $ fjoin ! $ number ! x₇ fit₇ $ fjoin ! $ number ! x₆ fit₆ $ fjoin ! $ move ! (1 ∷ 0 ∷ []) $ fjoin ! $ move ! (4 ∷ 0 ∷ []) $ fjoin ! $ move ! (1 ∷ 0 ∷ []) $ fjoin ! $ move ! (1 ∷ 0 ∷ []) $ fjoin ! $ move ! (1 ∷ 0 ∷ []) $ fjoin ! $ move ! (1 ∷ 0 ∷ []) $ fjoin ! $ answers ! (ansOf r) g₀ g₁ $ move ! (1 ∷ 0 ∷ []) $ done !))))
+      qed W (‵ (fobs γ (R .coded .code (newOf r))) ∷ ‵ (fbor κ₅ (Body (mem R) b o γ)) ∷ ‵ (flft κ₅ q₅) ∷ Others ∷ raw (Ensured r) ∷ Kept ∷ []) ∵
+      move ! (4 ∷ []) $ use1 W (some (λ (zs : Lasts). ‵ (lasts core.ended κs ca zs) ⊛ raw (fact 𝓤 (CalledAs (lent (x₀ .now) (x₁ .now) (x₂ .now) (x₃ .now) (x₄ .now) n₀ n₁) (Call.rename (record { moduleNumber = x₆; wireNumber = x₇; newName = x₈ .now })) (result (r .number) (r .place) (lent (zs .0) (x₁ .now) (x₂ .now) (x₃ .now) (zs .1 .1 .1 .1 .0) (r .renames) (r .room))))))) (id⊢ 𝓤 _) $ pick ! (λ zs. split ! $ move ! (1 ∷ []) $ heard ! _ (λ e. fsplit ! $ fsplit ! $ move ! (1 ∷ []) $ feqL ! (λ l₀. move ! (1 ∷ []) $ fsplit ! $ drop ! $ fsplit ! $ drop ! $ fsplit ! $ drop ! $ fsplit ! $ fsplit ! $ move ! (1 ∷ []) $ feqL ! (λ l₄. move ! (1 ∷ []) $ drop ! $ suffices ! _ (ends-at 𝓤 H A thin.ended stayed (thin.clauses 𝓤 H A at-mem run) W here (answer (ansOf r)) (ansOf r) ((zs .0), (tt, (tt, (tt, ((zs .1 .1 .1 .1 .0), (newOf r, (tt, (tt, (tt, tt))))))))) (l₀, (tt, (tt, (tt, (l₄, (tt, (tt, (tt, (tt, tt)))))))))) $ says ! e $ move ! (4 ∷ 5 ∷ []) $ use2 W (Tokens) (rejoined 𝓤 H A W κ₅ q₅ ((κ₆, q₆) ∷ []) ((κ₀, q₀) ∷ (κ₁, q₁) ∷ (κ₂, q₂) ∷ (κ₃, q₃) ∷ (κ₄, q₄) ∷ [])) $ frame ! $ move ! (4 ∷ []) $ split ! $ move ! (1 ∷ []) $ split ! $ move ! (1 ∷ []) $ split ! $ move ! (6 ∷ 7 ∷ []) $ feqI ! (List Val) (vptr b o ∷ []) (vptr b o ∷ []) refl $ fjoin3 ! $ nothing ! $ move ! (3 ∷ 0 ∷ []) $ fjoin ! $ number ! x₇ fit₇ $ fjoin ! $ number ! x₆ fit₆ $ fjoin ! $ move ! (1 ∷ 0 ∷ []) $ fjoin ! $ move ! (4 ∷ 0 ∷ []) $ fjoin ! $ move ! (1 ∷ 0 ∷ []) $ fjoin ! $ move ! (1 ∷ 0 ∷ []) $ fjoin ! $ move ! (1 ∷ 0 ∷ []) $ fjoin ! $ move ! (1 ∷ 0 ∷ []) $ fjoin ! $ answers ! (ansOf r) g₀ g₁ $ move ! (1 ∷ 0 ∷ []) $ done !))))
 
   module _ (C : Calls 𝓤 H) (Λ : Loops 𝓤 H) (fm : FmC 𝓤 H (W .laws) C) (known : Triple 𝓤 (C #card·rename-by-number) (Core 𝓤 H A at-mem run)) where
-    walk : Room u8 (length (x₀ .now)) → Is (ShrSlice (named 1) κ₁ u8) x₁ (sliced x₁ ∷ []) → Is (ShrSlice (named 2) κ₂ u32) x₂ (sliced x₂ ∷ []) → Is (ShrSlice (named 3) κ₃ u32) x₃ (sliced x₃ ∷ []) → Room u32 (length (x₄ .now)) → x₆ < 2 ^ 32 → x₇ < 2 ^ 32 → Is (ShrSlice (named 6) κ₆ u8) x₈ (sliced x₈ ∷ []) → ent 𝓤 (onEntry 𝓤 H A thin.signature (κ₀, (κ₁, (κ₂, (κ₃, (κ₄, (κ₅, (κ₆, tt))))))) (q₀, (q₁, (q₂, (q₃, (q₄, (q₅, (q₆, tt))))))) a vals) (WpFn 𝓤 H C Λ code.function (sliced x₀ ∷ sliced x₁ ∷ sliced x₂ ∷ sliced x₃ ∷ sliced x₄ ∷ vptr b o ∷ vint w32 x₆ ∷ vint w32 x₇ ∷ sliced x₈ ∷ []) Post)
+    walk : Room u8 (length (x₀ .now)) → Is (ShrSlice (named 1) κ₁ u8) x₁ (sliced x₁ ∷ []) → Is (ShrSlice (named 2) κ₂ u32) x₂ (sliced x₂ ∷ []) → Is (ShrSlice (named 3) κ₃ u32) x₃ (sliced x₃ ∷ []) → Room u32 (length (x₄ .now)) → x₆ < 2 ^ 32 → x₇ < 2 ^ 32 → Is (ShrSlice (named 6) κ₆ u8) x₈ (sliced x₈ ∷ []) → ent 𝓤 (onEntry 𝓤 H A thin.signature (κ₀, (κ₁, (κ₂, (κ₃, (κ₄, (κ₅, (κ₆, tt))))))) (q₀, (q₁, (q₂, (q₃, (q₄, (q₅, (q₆, tt))))))) a vals) (WpFn 𝓤 H C Λ code.function (sliced x₀ ∷ sliced x₁ ∷ sliced x₂ ∷ sliced x₃ ∷ sliced x₄ ∷ vptr b o ∷ vint w32 x₆ ∷ vint w32 x₇ ∷ sliced x₈ ∷ []) (Thin .post here))
     walk room₀ is₁ is₂ is₃ room₄ fit₆ fit₇ is₈ =
-        qed W (tokens 𝓤 H A ((κ₀, q₀) ∷ (κ₁, q₁) ∷ (κ₂, q₂) ∷ (κ₃, q₃) ∷ (κ₄, q₄) ∷ (κ₅, q₅) ∷ (κ₆, q₆) ∷ []) ∷ ‵ (owns (MutSlice (named 0) κ₀ u8 ∷ ShrSlice (named 1) κ₁ u8 ∷ ShrSlice (named 2) κ₂ u32 ∷ ShrSlice (named 3) κ₃ u32 ∷ MutSlice (named 4) κ₄ u32 ∷ MutRef (named 5) κ₅ R ∷ u32 ∷ u32 ∷ ShrSlice (named 6) κ₆ u8 ∷ []) a vals) ∷ []) ∵ use1 W (‵ (flft κ₅ q₅) ⊛ tokens 𝓤 H A ((κ₀, q₀) ∷ (κ₁, q₁) ∷ (κ₂, q₂) ∷ (κ₃, q₃) ∷ (κ₄, q₄) ∷ (κ₆, q₆) ∷ [])) (apart 𝓤 H A W κ₅ q₅ ((κ₆, q₆) ∷ []) ((κ₀, q₀) ∷ (κ₁, q₁) ∷ (κ₂, q₂) ∷ (κ₃, q₃) ∷ (κ₄, q₄) ∷ [])) $ split ! $ move ! (2 ∷ []) $
-        use1 W (‵ (MutRef (named 5) κ₅ R .own (record { ptr = (b, o); name = γ; now = h n₀ n₁ }) (vptr b o ∷ [])) ⊛ ‵ Lent) parted $ split ! $ fsplit3 ! $ drop ! $ move ! (0 ∷ 1 ∷ 3 ∷ 4 ∷ []) $
+        qed W (Tokens ∷ ‵ (owns Params a vals) ∷ []) ∵ use1 W (‵ (flft κ₅ q₅) ⊛ Others) (apart 𝓤 H A W κ₅ q₅ ((κ₆, q₆) ∷ []) ((κ₀, q₀) ∷ (κ₁, q₁) ∷ (κ₂, q₂) ∷ (κ₃, q₃) ∷ (κ₄, q₄) ∷ [])) $ split ! $ move ! (2 ∷ []) $
+        use1 W (‵ CardLent ⊛ ‵ RestLent) parted $ split ! $ fsplit3 ! $ drop ! $ move ! (0 ∷ 1 ∷ 3 ∷ 4 ∷ []) $
         enter ! C Λ code.function (sliced x₀ ∷ sliced x₁ ∷ sliced x₂ ∷ sliced x₃ ∷ sliced x₄ ∷ vptr b o ∷ vint w32 x₆ ∷ vint w32 x₇ ∷ sliced x₈ ∷ []) _ $ starts ! ((tt, (tt, (record { fits = room₀ .0 }, tt))), (shr-slice-lawful 𝓤 H A W (named 1) κ₁ u8 .typed x₁ (sliced x₁ ∷ []) is₁ .0, (shr-slice-lawful 𝓤 H A W (named 2) κ₂ u32 .typed x₂ (sliced x₂ ∷ []) is₂ .0, (shr-slice-lawful 𝓤 H A W (named 3) κ₃ u32 .typed x₃ (sliced x₃ ∷ []) is₃ .0, ((tt, (tt, (record { fits = room₄ .0 }, tt))), ((tt, tt), ((tt, record { fits = fit₆ }), ((tt, record { fits = fit₇ }), (shr-slice-lawful 𝓤 H A W (named 6) κ₆ u8 .typed x₈ (sliced x₈ ∷ []) is₈ .0, tt))))))))) (λ l₀ ls.
         -- [the locals; that they can be freed; the card's observation, its borrow and its token; the other tokens; what the other parameters own]
         relends ! 1 11 12 refl refl refl refl refl refl refl refl (record { fits = room₀ .0 }) $
@@ -92,9 +123,9 @@ module _ {M : Type 1} (𝓤 : URA M) (H : Heap 𝓤) (A : Atoms 𝓤) (W : Given
         move ! (18 ∷ 19 ∷ 20 ∷ []) $ card-opens ! tt b o n₀ n₁ (λ f₀ f₁.
         assigns ! (of-opd ! (load ! (from ! (hop ! (look ! 10 refl) (fld ! refl (stop !)))) (look-in ! 0 (sub ! 0 refl (whole !))))) (from ! (stop !)) (init ! 19 refl (tt, record { fits = f₀ })) $
         assigns ! (of-opd ! (load ! (from ! (hop ! (look ! 10 refl) (fld ! refl (stop !)))) (look-in ! 0 (sub ! 1 refl (whole !))))) (from ! (stop !)) (init ! 20 refl (tt, record { fits = f₁ })) $
-        move ! (22 ∷ 23 ∷ []) $ use2 W (raw (Core 𝓤 H A at-mem run .pre to) ⊛ ‵ Own₁ ⊛ ‵ Own₂ ⊛ ‵ Own₃ ⊛ ‵ Own₈) (passed f₀ f₁ fit₆ fit₇) $ split ! $
+        move ! (22 ∷ 23 ∷ []) $ use2 W (raw Pre ⊛ Kept) (passed f₀ f₁ fit₆ fit₇) $ split ! $
         calls-at ! fm (Core 𝓤 H A at-mem run) known to (and-then ! (load ! (from ! (stop !)) (look ! 18 refl)) (and-then ! (load ! (from ! (stop !)) (look ! 8 refl)) (and-then ! (load ! (from ! (stop !)) (look ! 9 refl)) (and-then ! (load ! (from ! (stop !)) (look ! 10 refl)) (and-then ! (load ! (from ! (stop !)) (look ! 20 refl)) (and-then ! (load ! (from ! (stop !)) (look ! 21 refl)) (and-then ! (load ! (from ! (stop !)) (look ! 22 refl)) (and-then ! (load ! (from ! (stop !)) (look ! 13 refl)) (and-then ! (load ! (from ! (stop !)) (look ! 14 refl)) (and-then ! (load ! (from ! (stop !)) (look ! 15 refl)) (no-more !))))))))))) (λ w.
-        use1 W (later (some (λ (r : Left). (tokens 𝓤 H A ((κ₀, q₀) ∷ (κ₁, q₁) ∷ (κ₂, q₂) ∷ (κ₃, q₃) ∷ (κ₄, q₄) ∷ (κ₆, q₆) ∷ []) ⊛ ‵ (leftRow .own r (w ∷ []))) ⊛ raw (ensured 𝓤 H A core.ended (core.clauses 𝓤 H A at-mem run) (κ₀, (κ₁, (κ₂, (κ₃, (κ₄, (κ₆, tt)))))) ca tt r)))) (id⊢ 𝓤 _) $ await ! tt $ pick ! (λ r. split ! $ split ! $ move ! (1 ∷ []) $
+        use1 W (later (some (λ (r : Left). (Others ⊛ ‵ (leftRow .own r (w ∷ []))) ⊛ raw (Ensured r)))) (id⊢ 𝓤 _) $ await ! tt $ pick ! (λ r. split ! $ split ! $ move ! (1 ∷ []) $
         left-lands ! 10 17 r w refl refl refl (λ g₀ g₁ g₂ g₃.
         assigns ! (of-opd ! (load ! (from ! (fld ! refl (stop !))) (look-in ! 17 (sub ! 2 refl (whole !))))) (from ! (hop ! (look ! 13 refl) (fld ! refl (stop !)))) (store-in ! 3 (sub ! 0 refl (whole !)) (tt, record { fits = g₂ })) $
         assigns ! (of-opd ! (load ! (from ! (fld ! refl (stop !))) (look-in ! 17 (sub ! 3 refl (whole !))))) (from ! (hop ! (look ! 13 refl) (fld ! refl (stop !)))) (store-in ! 3 (sub ! 1 refl (whole !)) (tt, record { fits = g₃ })) $
