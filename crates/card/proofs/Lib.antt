@@ -1,1 +1,3 @@
+mod Locals
 mod PartLaws
+mod Walk

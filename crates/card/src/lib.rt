@@ -104,6 +104,7 @@ fn rename_by_number(
 ) -> Left
     ensures { λ r. ⌜ CalledAs (lent (now (names .entry)) (now (strings .entry)) (now (bits .entry)) (now (wires .entry)) (now (rows .entry)) renames room) (Call.rename (record { moduleNumber = m; wireNumber = w; newName = now (new .entry) })) (result (r .number) (r .place) (lent (now (names .exit)) (now (strings .entry)) (now (bits .entry)) (now (wires .entry)) (now (rows .exit)) (r .renames) (r .room))) ⌝ }
 {
+    let wire = WireNumber(w);
     rename(
         names,
         strings,
@@ -113,7 +114,7 @@ fn rename_by_number(
         renames,
         room,
         ModuleNumber(m),
-        WireNumber(w),
+        wire,
         new,
     )
 }
@@ -218,7 +219,6 @@ pub extern "C" fn skytassel_index(
 ) -> IndexAnswer
     ensures { λ r. ⌜ IndexGiven (lent (now (names .entry)) (now (strings .entry)) (now (bits .entry)) (now (wires .entry)) (now (rows .entry)) renames room) m w bit (indexedBy r) ⌝ }
 {
-    let wire = WireNumber(w);
     let given = index(
         names,
         strings,
@@ -228,7 +228,7 @@ pub extern "C" fn skytassel_index(
         renames,
         room,
         ModuleNumber(m),
-        wire,
+        WireNumber(w),
         bit,
     );
     IndexAnswer {
