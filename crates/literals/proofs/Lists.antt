@@ -1,13 +1,12 @@
--- Lists read from their end, and a table that a loop fills with a list.
+-- Lists read from their end, and the beginning of a table.
 -- Assumes nothing.
-use mathlib.Core.Path.{_≡_, refl, sym, ap, _∙_}
+use mathlib.Core.Path.{_≡_, refl, sym, ap, ap₂, _∙_}
 use mathlib.Core.List.{List, [], _∷_, _++_, map, map-append, flatMap, reverse, reverse-cons, append-nil}
 use Prim.Native.Nat.{ℕ, zero, suc, _+_, _*_, _≤_, _<_}
-use native.Mathlib.Numerals.{add-one}
 use native.Mathlib.Omega.{arith}
-use lib.ListN.{length, getD, set, take, drop, replicate, length-append, length-take, length-reverse, drop-of-length-le, List·getD-append}
-use lib.Seq.{slice, length-take-le, take-all, take-suc, take-at, getD-at}
-use Rattle.tables.specs.Store.{store, store-more, store-eq}
+use lib.ListN.{length, getD, take, replicate, length-append, length-take, length-reverse, drop-of-length-le, List·getD-append}
+use lib.Seq.{slice, getD-at}
+use Rattle.tables.specs.Store.{store, store-slice}
 use Rattle.scanner.specs.Lists.{flatMap-append}
 
 pub map-reverse : {A B : Type 0} (g : A → B) (xs : List A) → map g (reverse xs) ≡ reverse (map g xs)
@@ -46,22 +45,10 @@ module _ {A B : Type 0} (f : A → List B) where
   length-flatMap k h [] = omega arith
   length-flatMap k h (x ∷ xs) = length-append (f x) (flatMap f xs) ∙ omega (arith, h x, length-flatMap k h xs)
 
--- a turn of a loop that stores the next value of a list
-pub filled : (d l xs : List ℕ) (at j v : ℕ) → l ≡ store d at (take j xs) → j < length xs → v ≡ getD xs j 0 → set l (at + j) v ≡ store d at (take (j + 1) xs)
-filled d l xs at j v e h ev =
-    store-more d l at (at + j) v (take j xs) (take (j + 1) xs) e
-    (ap (λ (n : ℕ). at + n) (sym (length-take-le j xs (omega arith))))
-    (rw (add-one, ev) (take-suc xs j 0 h))
-
-pub filled-end : (d l xs : List ℕ) (at j : ℕ) → l ≡ store d at (take j xs) → length xs ≤ j → l ≡ store d at xs
-filled-end d l xs at j e h = e ∙ ap (store d at) (take-all j xs h)
-
 -- behind a list's end there is nothing
 pub slice-past : (s : List ℕ) (i e : ℕ) → length s ≤ i → slice (i + 1) e s ≡ []
 slice-past s i e h = drop-of-length-le (take e s) {i = i + 1} (rw length-take (omega arith))
 
 -- the beginning of a table where values were stored
 pub stored-front : (l t r vs : List ℕ) (n : ℕ) → length vs ≤ length l → t ≡ store l 0 vs → n ≡ 0 + length vs → r ≡ slice 0 n t → r ≡ vs
-stored-front l t r vs n h e en er =
-    let q : List ℕ = drop (0 + length vs) l in
-    er ∙ ap (take n) (e ∙ store-eq l 0 vs (omega arith)) ∙ take-at vs q n (omega arith)
+stored-front l t r vs n h e en er = er ∙ ap₂ (slice 0) en e ∙ store-slice l 0 vs (omega arith)

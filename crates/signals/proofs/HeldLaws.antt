@@ -15,7 +15,7 @@ use Rattle.rules.specs.Statements.{Sig, constant, wire, Wire, digit}
 use Rattle.rules.specs.Signals.{Wires, find, wireBits, literalBits, literalWidth, width, bits, declaredWire, goodSlice, parts}
 use Rattle.rules.specs.Numbers.{goodLiteral, goodNumbers}
 use Rattle.rules.specs.Layout.{digitCode, bitCode}
-use Rattle.tables.specs.Store.{store, length-store}
+use Rattle.tables.specs.Store.{store, length-store, store-slice, store-take}
 use Rattle.scanner.specs.Laws.{by-cond}
 use Rattle.numbers.specs.declared.kinds.WireNumber.{WireNumber}
 use Rattle.wires.specs.Found.{widthFound, foundOf}
@@ -27,7 +27,7 @@ use Rattle.signals.specs.Faults.{fault, tooWide, mild}
 use Rattle.signals.specs.Held.{codes, Held, Kept, Put}
 use Rattle.signals.specs.declared.Bits.{Bits}
 use Rattle.signals.proofs.FaultLaws.{mild-none, own-number, own-wire, own-width}
-use Rattle.signals.proofs.Lists.{store-slice, store-take, length-wire-codes}
+use Rattle.signals.proofs.Lists.{length-wire-codes}
 
 pub kept-same : (o : ℕ) (out : List ℕ) → Kept o out out
 kept-same o out = record { long = refl; below = refl }

@@ -1,18 +1,17 @@
--- Parts of tables: behind one another, after a store, and the codes of bits.
+-- Parts of tables behind one another, and the codes of bits.
 -- Assumes nothing.
 use mathlib.Core.Path.{_≡_, refl, sym, ap, ap₂, _∙_}
 use mathlib.Core.List.{List, [], _∷_, _++_, map, reverse, append-assoc, reverse-append, map-append}
 use Prim.Native.Nat.{ℕ, zero, suc, _+_, _-_, _<_, _≤_}
 use native.Mathlib.Nat.{add-zero}
 use native.Mathlib.Omega.{arith}
-use lib.ListN.{length, take, drop, getD, set, length-append, length-drop, length-reverse, length-map, take-append-drop}
-use lib.Seq.{slice, length-take-le, length-slice, take-take, take-at, drop-at, drop-drop, take-add, take-all, getD-take, getD-drop}
+use lib.ListN.{length, take, drop, getD, set, length-drop, length-reverse, length-map, take-append-drop}
+use lib.Seq.{slice, length-take-le, length-slice, take-take, take-at, drop-at, drop-drop, take-add, getD-take, getD-drop}
 use Rattle.rules.specs.Statements.{bit, Signal}
 use Rattle.rules.specs.Signals.{wireBits}
 use Rattle.rules.specs.Layout.{bitCode}
-use Rattle.tables.specs.Store.{store, store-eq, store-behind}
+use Rattle.tables.specs.Store.{store, store-behind, filled}
 use Rattle.wires.specs.RowLaws.{slice-span}
-use Rattle.tables.proofs.Laws.{copied}
 use Rattle.scanner.specs.Lists.{length-wire}
 use Rattle.signals.specs.Held.{codes}
 
@@ -41,26 +40,6 @@ slice-within l o w x n h =
     ∙ ap (drop x) (sym (take-take (x + n) w (drop o l) h))
     ∙ slice-span x n (take w (drop o l))
     ∙ ap (λ (y : List ℕ). take n (drop x y)) (sym (slice-span o w l))
-
-module _ (l : List ℕ) (at : ℕ) (vs : List ℕ) (room : at + length vs ≤ length l) where
-  front-long : length (take at l ++ vs) ≡ at + length vs
-  front-long = length-append (take at l) vs ∙ ap (λ (n : ℕ). n + length vs) (length-take-le at l (omega arith))
-
-  -- the part that was stored, and what stands below it
-  pub store-slice : slice at (at + length vs) (store l at vs) ≡ vs
-  store-slice =
-      ap (slice at (at + length vs)) (store-eq l at vs room)
-      ∙ ap (drop at) (take-at (take at l ++ vs) (drop (at + length vs) l) (at + length vs) front-long)
-      ∙ drop-at (take at l) vs at (length-take-le at l (omega arith))
-
-  pub store-take : take at (store l at vs) ≡ take at l
-  store-take =
-      ap (take at) (store-eq l at vs room ∙ append-assoc (take at l) vs (drop (at + length vs) l))
-      ∙ take-at (take at l) (vs ++ drop (at + length vs) l) at (length-take-le at l (omega arith))
-
--- all values stored
-pub stored : (d l : List ℕ) (at j : ℕ) (s : List ℕ) (n : ℕ) → l ≡ store d at (take j s) → length s ≡ n → n ≤ j → l ≡ store d at s
-stored d l at j s n e h k = e ∙ ap (store d at) (take-all j s (omega arith))
 
 -- ---- codes
 
@@ -116,8 +95,8 @@ length-wire-codes n w = length-codes (wireBits n 0 w) ∙ length-wire n 0 w
 -- one bit of a wire more
 pub wire-put : (d l : List ℕ) (o n w k v : ℕ) → l ≡ store d o (take k (codes (wireBits n 0 w))) → k < w → v ≡ bitCode (bit n (w - 1 - k)) → set l (o + k) v ≡ store d o (take (k + 1) (codes (wireBits n 0 w)))
 wire-put d l o n w k v e h ev =
-    let c : getD (codes (wireBits n 0 w)) k 0 ≡ v = ap (λ (y : List ℕ). getD y k 0) (wire-codes n w) ∙ wire-code-at n w k h ∙ sym ev in
-    ap (set l (o + k)) (sym c) ∙ copied d (codes (wireBits n 0 w)) l o k e (omega (arith, length-wire-codes n w))
+    let c : v ≡ getD (codes (wireBits n 0 w)) k 0 = sym (ap (λ (y : List ℕ). getD y k 0) (wire-codes n w) ∙ wire-code-at n w k h ∙ sym ev) in
+    filled d l (codes (wireBits n 0 w)) o k e v (omega (arith, length-wire-codes n w)) c
 
 -- one word more moved down
 pub move-put : (d l : List ℕ) (from count o k : ℕ) → l ≡ store d o (take k (slice from (from + count) d)) → k < count → o ≤ from → from + count ≤ length d → set l (o + k) (getD l (from + k) 0) ≡ store d o (take (k + 1) (slice from (from + count) d))
@@ -127,4 +106,4 @@ move-put d l from count o k e h q room =
     let lk : length (take k s) ≡ k = length-take-le k s (omega arith) in
     let a : getD l (from + k) 0 ≡ getD d (from + k) 0 = ap (λ (y : List ℕ). getD y (from + k) 0) e ∙ store-behind d o (take k s) (from + k) (omega arith) (omega arith) in
     let b : getD s k 0 ≡ getD d (from + k) 0 = getD-drop from (take (from + count) d) k 0 ∙ getD-take (from + count) d (from + k) 0 (omega arith) in
-    ap (set l (o + k)) (a ∙ sym b) ∙ copied d s l o k e (omega arith)
+    filled d l s o k e (getD l (from + k) 0) (omega arith) (a ∙ sym b)

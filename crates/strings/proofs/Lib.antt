@@ -1,4 +1,3 @@
 pub mod Turns
 pub mod Laws
 mod Reached
-mod Stores

@@ -1,4 +1,4 @@
--- A turn of each kind of loop over a table: one value copied, one zero stored, one value stored from the end, one value looked at.
+-- A turn of each kind of loop over a table: one zero stored, one value stored from the end, one value looked at.
 -- Assumes nothing.
 use mathlib.Core.Path.{_≡_, sym, ap, _∙_}
 use mathlib.Core.Bool.{Bool, true, false, _&&_}
@@ -8,16 +8,10 @@ use native.Mathlib.Omega.{arith}
 use native.Mathlib.Numerals.{add-one}
 use borrow.Author.Tests.{eq-eqb, ne-eqb}
 use lib.Dec.{eqb}
-use lib.ListN.{length, getD, set, take, drop, replicate, length-replicate, length-reverse, drop-of-length-le, replicate-append-replicate}
-use lib.Seq.{slice, slice-cons, length-slice, length-take-le, take-suc, drop-cons}
+use lib.ListN.{length, getD, set, drop, replicate, length-replicate, length-reverse, drop-of-length-le, replicate-append-replicate}
+use lib.Seq.{slice, slice-cons, length-slice, drop-cons}
 use Rattle.rules.specs.Bytes.{all}
 use Rattle.tables.specs.Store.{store, store-more}
-
-pub copied : (d s l : List ℕ) (at j : ℕ) → l ≡ store d at (take j s) → j < length s → set l (at + j) (getD s j 0) ≡ store d at (take (j + 1) s)
-copied d s l at j e h =
-    store-more d l at (at + j) (getD s j 0) (take j s) (take (j + 1) s) e
-    (ap (λ (k : ℕ). at + k) (sym (length-take-le j s (omega arith))))
-    (rw add-one (take-suc s j 0 h))
 
 pub zeroed : (d l : List ℕ) (from j k m : ℕ) → l ≡ store d from (replicate k 0) → j ≡ from + k → m ≡ k + 1 → set l j 0 ≡ store d from (replicate m 0)
 zeroed d l from j k m e ej em =

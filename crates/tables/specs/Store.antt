@@ -4,9 +4,10 @@ use mathlib.Core.Path.{_≡_, refl, sym, ap, ap₂, _∙_}
 use mathlib.Core.List.{List, [], _∷_, _++_, append-assoc, append-nil}
 use Prim.Native.Nat.{ℕ, suc, _+_, _-_, _≤_, _<_}
 use native.Mathlib.Nat.{add-zero}
+use native.Mathlib.Numerals.{add-one}
 use native.Mathlib.Omega.{arith}
 use lib.ListN.{length, take, drop, getD, set, length-append, List·getD-append}
-use lib.Seq.{sets, sets-eq, length-sets, length-take-le, take-append-seam, drop-append-seam, getD-take, getD-drop, getD-append-add}
+use lib.Seq.{slice, sets, sets-eq, length-sets, length-take-le, take-all, take-suc, take-at, drop-at, take-append-seam, drop-append-seam, getD-take, getD-drop, getD-append-add}
 
 -- values stored one behind another, from a place on
 unfoldable pub store : List ℕ → ℕ → List ℕ → List ℕ
@@ -43,6 +44,37 @@ store-snoc l at vs v = sym (sets-sets l at vs (v ∷ []))
 -- a turn of a loop that stores one value more
 pub store-more : (d l : List ℕ) (at i v : ℕ) (vs ws : List ℕ) → l ≡ store d at vs → i ≡ at + length vs → ws ≡ vs ++ v ∷ [] → set l i v ≡ store d at ws
 store-more d l at i v vs ws el ei ew = rw (el, ei, ew, store-snoc)
+
+-- a run behind a run, in tables and at a place that are known by equations
+pub store-then : (d l l′ : List ℕ) (at end : ℕ) (vs ws : List ℕ) → l ≡ store d at vs → end ≡ at + length vs → l′ ≡ store l end ws → l′ ≡ store d at (vs ++ ws)
+store-then d l l′ at end vs ws el ee e = rw (e, el, ee) (store-store d at vs ws)
+
+-- a turn of a loop that stores the next value of a list, and the loop's end
+module _ (d l vs : List ℕ) (at j : ℕ) (e : l ≡ store d at (take j vs)) where
+  pub filled : (v : ℕ) → j < length vs → v ≡ getD vs j 0 → set l (at + j) v ≡ store d at (take (j + 1) vs)
+  filled v h ev =
+      store-more d l at (at + j) v (take j vs) (take (j + 1) vs) e
+      (ap (λ (k : ℕ). at + k) (sym (length-take-le j vs (omega arith))))
+      (rw (add-one, ev) (take-suc vs j 0 h))
+
+  pub filled-end : length vs ≤ j → l ≡ store d at vs
+  filled-end h = e ∙ ap (store d at) (take-all j vs h)
+
+-- the part that was stored, and what stands in front of it
+module _ (l : List ℕ) (at : ℕ) (vs : List ℕ) (room : at + length vs ≤ length l) where
+  front-long : length (take at l ++ vs) ≡ at + length vs
+  front-long = length-append (take at l) vs ∙ ap (λ (n : ℕ). n + length vs) (length-take-le at l (omega arith))
+
+  pub store-slice : slice at (at + length vs) (store l at vs) ≡ vs
+  store-slice =
+      ap (slice at (at + length vs)) (store-eq l at vs room)
+      ∙ ap (drop at) (take-at (take at l ++ vs) (drop (at + length vs) l) (at + length vs) front-long)
+      ∙ drop-at (take at l) vs at (length-take-le at l (omega arith))
+
+  pub store-take : take at (store l at vs) ≡ take at l
+  store-take =
+      ap (take at) (store-eq l at vs room ∙ append-assoc (take at l) vs (drop (at + length vs) l))
+      ∙ take-at (take at l) (vs ++ drop (at + length vs) l) at (length-take-le at l (omega arith))
 
 -- a read inside a run, in front of it, and behind it
 pub store-inside : (l : List ℕ) (at : ℕ) (vs : List ℕ) (i : ℕ) → at + length vs ≤ length l → i < length vs → getD (store l at vs) (at + i) 0 ≡ getD vs i 0

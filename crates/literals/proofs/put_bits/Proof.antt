@@ -3,9 +3,8 @@ use mathlib.Core.Path.{_≡_, refl, sym, _∙_}
 use Prim.Native.Nat.{_-_, _≤_}
 use native.Mathlib.Omega.{arith}
 use lib.ListN.{length, take, length-set}
-use Rattle.tables.specs.Store.{store, store-none}
+use Rattle.tables.specs.Store.{store, store-none, filled, filled-end}
 use Rattle.literals.specs.Codes.{wordCodes}
-use Rattle.literals.proofs.Lists.{filled, filled-end}
 use Rattle.literals.proofs.Laws.{word-long, word-at}
 use Rattle.literals.proofs.put_bits.Statement.{statement}
 use Rattle.literals.proofs.put_bits.Tie as tie
@@ -53,7 +52,7 @@ loop-again : tie.Need-loop-again Inv-loop μ-loop
 loop-again c =
     let n = word-long (c .before .before .before .before .args .k) (c .before .before .before .before .args .w) in
     let v = c .bit-of .ensures ∙ word-at _ _ _ (c .before .loop-test .taken) in
-    (omega arith, simp length-set (c .before .before .loop .inv .1), filled _ _ _ _ _ _ (c .before .before .loop .inv .2) (omega arith) v)
+    (omega arith, simp length-set (c .before .before .loop .inv .1), filled _ _ _ _ _ (c .before .before .loop .inv .2) _ (omega arith) v)
 
 same-length : tie.Need-same-length Inv-loop μ-loop
 same-length c = omega arith

@@ -4,9 +4,8 @@ use Prim.Native.Nat.{_-_, _≤_}
 use native.Mathlib.Omega.{arith}
 use denote.Ref.{now}
 use lib.ListN.{length, take, length-set}
-use Rattle.tables.specs.Store.{store, store-none}
+use Rattle.tables.specs.Store.{store, store-none, filled, filled-end}
 use Rattle.literals.specs.Codes.{filledCodes}
-use Rattle.literals.proofs.Lists.{filled, filled-end}
 use Rattle.literals.proofs.Laws.{filled-long, value-codes}
 use Rattle.literals.proofs.put_digits.Statement.{statement}
 use Rattle.literals.proofs.put_digits.Tie as tie
@@ -45,7 +44,7 @@ loop-again : tie.Need-loop-again Inv-loop μ-loop
 loop-again c =
     let ds = now (c .before .before .before .before .before .args .ds) in
     let n = filled-long (c .before .before .before .before .before .args .width - length ds) ds in
-    (omega arith, simp length-set (c .before .before .loop .inv .1), filled _ _ _ _ _ _ (c .before .before .loop .inv .2) (omega arith) (c .filled-code .ensures))
+    (omega arith, simp length-set (c .before .before .loop .inv .1), filled _ _ _ _ _ (c .before .before .loop .inv .2) _ (omega arith) (c .filled-code .ensures))
 
 same-length : tie.Need-same-length Inv-loop μ-loop
 same-length c = omega arith

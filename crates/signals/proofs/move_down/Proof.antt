@@ -6,8 +6,8 @@ use native.Mathlib.Omega.{arith}
 use denote.Ref.{now}
 use lib.ListN.{length, take, length-set}
 use lib.Seq.{slice, length-slice}
-use Rattle.tables.specs.Store.{store, store-none}
-use Rattle.signals.proofs.Lists.{move-put, stored}
+use Rattle.tables.specs.Store.{store, store-none, filled-end}
+use Rattle.signals.proofs.Lists.{move-put}
 use Rattle.signals.proofs.move_down.Statement.{statement}
 use Rattle.signals.proofs.move_down.Tie as tie
 
@@ -51,7 +51,11 @@ same-length : tie.Need-same-length Inv-loop μ-loop
 same-length c = omega arith
 
 returns : tie.Need-returns Inv-loop μ-loop
-returns c = stored _ _ _ _ _ _ (c .before .loop .inv .2) (length-slice (c .before .before .args .from) (c .before .before .args .from + c .before .before .args .count) (now (c .before .before .args .scratch)) (c .before .before .pre .1) ∙ omega arith) (c .loop-test .left)
+returns c =
+    let a = c .before .before .args in
+    let from = a .from in
+    let end = from + a .count in
+    filled-end _ _ (slice from end (now (a .scratch))) _ (c .before .loop .k) (c .before .loop .inv .2) (omega (arith, length-slice from end (now (a .scratch)) (c .before .before .pre .1)))
 
 pub move-down-spec : {M : Type 1} → statement M
 move-down-spec =

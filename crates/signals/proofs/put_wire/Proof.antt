@@ -6,10 +6,10 @@ use native.Mathlib.Omega.{arith}
 use denote.Ref.{now}
 use lib.ListN.{length, take, length-set}
 use Rattle.rules.specs.Signals.{wireBits}
-use Rattle.tables.specs.Store.{store, store-none}
+use Rattle.tables.specs.Store.{store, store-none, filled-end}
 use Rattle.numbers.specs.Kinds.{bitOf, Valid}
 use Rattle.signals.specs.Held.{codes}
-use Rattle.signals.proofs.Lists.{wire-put, length-wire-codes, stored}
+use Rattle.signals.proofs.Lists.{wire-put, length-wire-codes}
 use Rattle.signals.proofs.put_wire.Statement.{statement}
 use Rattle.signals.proofs.put_wire.Tie as tie
 
@@ -58,7 +58,10 @@ same-length : tie.Need-same-length Inv-loop μ-loop
 same-length c = omega arith
 
 returns : tie.Need-returns Inv-loop μ-loop
-returns c = stored _ _ _ _ _ _ (c .before .loop .inv .2) (length-wire-codes (c .before .before .before .args .number) (c .before .before .before .args .width)) (c .loop-test .left)
+returns c =
+    let number = c .before .before .before .args .number in
+    let width = c .before .before .before .args .width in
+    filled-end _ _ (codes (wireBits number 0 width)) _ (c .before .loop .k) (c .before .loop .inv .2) (omega (arith, length-wire-codes number width))
 
 pub put-wire-spec : {M : Type 1} → statement M
 put-wire-spec =

@@ -4,11 +4,10 @@ use Prim.Native.Nat.{ℕ, _+_, _-_}
 use native.Mathlib.Omega.{arith}
 use lib.ListN.{length, length-append}
 use borrow.Author.Needs.{needs}
-use Rattle.tables.specs.Store.{store, store-none}
+use Rattle.tables.specs.Store.{store, store-none, store-then}
 use Rattle.strings.specs.Machine.{insideOf, turnOf}
 use Rattle.strings.proofs.Laws.{closed-decoded, never-broken}
 use Rattle.strings.proofs.Reached.{Reached, reached-none, reached-goes, reached-ends, reached-breaks, reached-end, reached-room}
-use Rattle.strings.proofs.Stores.{stored}
 use Rattle.strings.proofs.put_string.Statement.{statement}
 use Rattle.strings.proofs.put_string.Tie as tie
 
@@ -53,7 +52,7 @@ loop-again c =
     let l = c .before .before .before .before .before .before .before .before .before .before .loop in
     let r = reached-goes _ _ _ _ _ (l .inv .1) _ _ (c .before .before .before .before .before .before .before .before .before .loop-test .taken) (rw (c .before .before .before .before .before .g .given .1) at (c .before .before .before .before .before .before .before .turn-on .ensures)) in
     let p = c .before .before .put-given .ensures in
-    (_, r, simp length-append (omega (arith, l .inv .2, p .0)), stored _ _ _ _ _ _ _ (l .inv .3) (l .inv .2) (p .1), search needs)
+    (_, r, simp length-append (omega (arith, l .inv .2, p .0)), store-then _ _ _ _ _ _ _ (l .inv .3) (l .inv .2) (p .1), search needs)
 
 enum-known-g-2 : tie.Need-enum-known-g-2 Inv-loop μ-loop
 enum-known-g-2 c = search needs
@@ -76,7 +75,7 @@ returns c =
     let q = reached-ends _ _ _ _ _ (l .inv .1) _ (c .before .before .before .before .before .before .before .before .before .loop-test .taken) (rw (c .before .before .before .before .before .g2 .given .1) at (c .before .before .before .before .before .before .before .turn-on .ensures)) in
     let e = closed-decoded _ _ _ q in
     let p = c .before .before .put-given2 .ensures in
-    rw e (simp length-append (omega (arith, l .inv .2, p .0)), stored _ _ _ _ _ _ _ (l .inv .3) (l .inv .2) (p .1))
+    rw e (simp length-append (omega (arith, l .inv .2, p .0)), store-then _ _ _ _ _ _ _ (l .inv .3) (l .inv .2) (p .1))
 
 enum-told : tie.Need-enum-told Inv-loop μ-loop
 enum-told c = search needs

@@ -1,12 +1,10 @@
 -- The loop's invariant: the first j values of src are stored.
-use mathlib.Core.Path.{_≡_, refl, sym, ap, _∙_}
+use mathlib.Core.Path.{_≡_, refl, sym}
 use Prim.Native.Nat.{_≤_, _-_}
 use native.Mathlib.Omega.{arith}
 use denote.Ref.{now}
 use lib.ListN.{length, take, length-set}
-use lib.Seq.{take-length}
-use Rattle.tables.specs.Store.{store, store-none}
-use Rattle.tables.proofs.Laws.{copied}
+use Rattle.tables.specs.Store.{store, store-none, filled, filled-end}
 use Rattle.tables.proofs.put_words.Statement.{statement}
 use Rattle.tables.proofs.put_words.Tie as tie
 
@@ -44,7 +42,7 @@ loop-again : tie.Need-loop-again Inv-loop μ-loop
 loop-again c =
     let l = c .before .before .loop in
     let a = c .before .before .before .args in
-    (omega arith, simp length-set (l .inv .1), copied (now (a .table)) (now (a .src)) (l .table) (a .at) (l .j) (l .inv .2) (omega arith))
+    (omega arith, simp length-set (l .inv .1), filled (now (a .table)) (l .table) (now (a .src)) (a .at) (l .j) (l .inv .2) _ (omega arith) refl)
 
 same-length : tie.Need-same-length Inv-loop μ-loop
 same-length c = omega arith
@@ -53,8 +51,7 @@ returns : tie.Need-returns Inv-loop μ-loop
 returns c =
     let l = c .before .loop in
     let a = c .before .before .args in
-    let e : l .j ≡ length (now (a .src)) = omega arith in
-    l .inv .2 ∙ ap (store (now (a .table)) (a .at)) (rw e (take-length (now (a .src))))
+    filled-end (now (a .table)) _ (now (a .src)) (a .at) (l .j) (l .inv .2) (omega arith)
 
 pub put-words-spec : {M : Type 1} → statement M
 put-words-spec =
