@@ -3,29 +3,24 @@
 use Prim.Native.Nat.{ℕ, _+_, _≤_}
 use mathlib.Core.Path.{_≡_, refl, sym, ap, ap₂, _∙_}
 use mathlib.Core.Bool.{true, cond}
-use mathlib.Core.List.{List, map}
+use mathlib.Core.List.{List}
 use mathlib.Core.Option.{Option, none, some}
 use native.Mathlib.Omega.{arith}
-use borrow.Author.Tests.{leb-true}
-use lib.Dec.{eqb, leb}
+use lib.Dec.{eqb}
 use lib.ListN.{length, take, drop, replicate, length-take, length-drop, length-replicate}
-use lib.Seq.{slice}
-use Rattle.rules.specs.Tokens.{decimal, digit}
 use Rattle.rules.specs.Statements as rules
 use Rattle.rules.specs.Statements.{statementsOpen, code, contents, ownName}
 use Rattle.rules.specs.Numbers.{goodLiteral}
 use Rattle.rules.specs.Signals.{kept, literalBits, literalWidth}
 use Rattle.rules.specs.Judgement.{sum, signalSize, valueSize, stringSize, nameSize}
-use Rattle.scanner.specs.Laws.{and-true-left}
 use Rattle.scanner.specs.Numbers.{capped}
-use Rattle.scanner.proofs.NumberLaws.{capped-small}
 use Rattle.strings.specs.Decoded.{decoded}
 use Rattle.strings.proofs.Laws.{decoded-length}
 use Rattle.tokens.specs.Rows.{literalIn}
 use Rattle.tokens.specs.declared.Constant.the-variants as constant
 use Rattle.tokens.specs.declared.Literal.{Literal}
 use Rattle.tokens.specs.declared.Literal.the-variants as literal
-use Rattle.literals.proofs.Laws.{literal-long}
+use Rattle.literals.proofs.Laws.{value-few, value-width}
 use Rattle.forms.specs.Forms.{nameIn, valueIn}
 use Rattle.forms.specs.declared.Span.{Span}
 use Rattle.syntax.specs.Statements.{numberOf, lateOf, statementIn, kindIn, namesIn, Sound, GoodOptional}
@@ -131,27 +126,20 @@ name-few f n = omega (arith, length-drop (n .start) (take (n .end) f), length-ta
 pub text-few : (f : List ℕ) (at : ℕ) → length (decoded (drop at f)) ≤ length f
 text-few f at = omega (arith, decoded-length (drop at f), length-drop at f)
 
-module _ (f : List ℕ) (i j e : ℕ) (good : goodLiteral (literalIn f (constant.Value i j e)) ≡ true) where
-  value-narrow : literalWidth (literalIn f (constant.Value i j e)) ≤ 2048
-  unfolding literalIn goodLiteral literalWidth
-  value-narrow =
-      let w : ℕ = decimal (slice i j f) in
-      leb-true w 2048 (and-true-left (leb w 2048) (leb (length (map digit (slice (j + 1) e f))) w) good)
+digits-are : (f : List ℕ) (i j e : ℕ) → digitsIn f (literal.Read (constant.Value i j e)) ≡ length (literalBits (literalIn f (constant.Value i j e)))
+unfolding digitsIn constantsIn valueIn literalIn literalBits kept sum statementsOpen
+digits-are f i j e = omega arith
 
-  value-long : digitsIn f (literal.Read (constant.Value i j e)) ≡ literalWidth (literalIn f (constant.Value i j e))
-  unfolding digitsIn constantsIn valueIn literalIn literalBits kept sum statementsOpen
-  value-long = omega (arith, literal-long (literalIn f (constant.Value i j e)) good)
-
-  pub value-digits : (n : ℕ) → n ≡ capped (literalWidth (literalIn f (constant.Value i j e))) → n ≡ digitsIn f (literal.Read (constant.Value i j e))
-  value-digits n r =
-      let k : literalWidth (literalIn f (constant.Value i j e)) ≤ 2048 = value-narrow in
-      r ∙ capped-small (literalWidth (literalIn f (constant.Value i j e))) (omega arith) ∙ sym value-long
+pub value-digits :
+    (f : List ℕ) (i j e : ℕ) → goodLiteral (literalIn f (constant.Value i j e)) ≡ true →
+    (n : ℕ) → n ≡ capped (literalWidth (literalIn f (constant.Value i j e))) → n ≡ digitsIn f (literal.Read (constant.Value i j e))
+value-digits f i j e good n r = value-width f i j e good n r ∙ sym (digits-are f i j e)
 
 digits-few : (f : List ℕ) (c : Literal) → GoodOptional f c → digitsIn f c ≤ 2048
 unfolding digitsIn constantsIn valueIn literalIn kept sum statementsOpen
 digits-few f literal.Nothing h = omega arith
 digits-few f (literal.Read (constant.Integer z)) h = omega arith
-digits-few f (literal.Read (constant.Value i j e)) h = omega (arith, value-long f i j e (h .good), value-narrow f i j e (h .good))
+digits-few f (literal.Read (constant.Value i j e)) h = omega (arith, digits-are f i j e, value-few f i j e (h .good))
 digits-few f (literal.Read (constant.Text i)) h = omega arith
 
 bytes-few : (f : List ℕ) (c : Literal) → bytesIn f c ≤ length f

@@ -6,23 +6,19 @@ use mathlib.Core.Bool.{true}
 use mathlib.Core.List.{List, [], _∷_, _++_, map, flatMap, reverse, reverse-reverse, append-nil}
 use native.Mathlib.Nat.{zero-add}
 use native.Mathlib.Omega.{arith}
-use borrow.Author.Tests.{leb-true}
-use lib.Dec.{leb}
-use lib.ListN.{length, take, drop, length-map, length-reverse}
-use lib.Seq.{slice, take-at}
-use Rattle.rules.specs.Tokens.{Name, decimal, digit}
+use lib.ListN.{length, length-map, length-reverse}
+use lib.Seq.{slice}
+use Rattle.rules.specs.Tokens.{Name}
 use Rattle.rules.specs.Statements.{Statement, Wire, wire-stmt, contents, holds}
 use Rattle.rules.specs.Numbers.{goodLiteral}
 use Rattle.rules.specs.Signals.{literalBits, literalWidth}
 use Rattle.rules.specs.Layout.{Used, row, digitCode, nameBytes, bitCodes, wireRow, wireRows}
-use Rattle.tables.specs.Store.{store, store-eq, store-store}
+use Rattle.tables.specs.Store.{store, store-slice, store-then}
 use Rattle.tables.specs.Flat.{flat}
-use Rattle.scanner.specs.Laws.{and-true-left}
 use Rattle.scanner.specs.Numbers.{capped}
-use Rattle.scanner.proofs.NumberLaws.{capped-small}
 use Rattle.tokens.specs.Rows.{literalIn}
 use Rattle.tokens.specs.declared.Constant.the-variants as constant
-use Rattle.literals.proofs.Laws.{literal-long}
+use Rattle.literals.proofs.Laws.{value-few, value-width}
 use Rattle.syntax.specs.Statements.{signalIn}
 use Rattle.layout.specs.Put.{WireHas}
 use Rattle.syntax.specs.SignalLaws.{signal-words}
@@ -32,49 +28,29 @@ use Rattle.layout.specs.PartLaws.{one-name, two-names, one-signal, two-s
 -- values stored highest first, read from the last on
 stored-back : (d t vs : List ℕ) (n : ℕ) → t ≡ store d 0 (reverse vs) → length vs ≡ n → n ≤ length d → reverse (slice 0 n t) ≡ vs
 stored-back d t vs n e en h =
-    let k : length (reverse vs) ≡ n = length-reverse vs ∙ en in
-    ap (λ (x : List ℕ). reverse (take n x)) (e ∙ store-eq d 0 (reverse vs) (omega arith))
-    ∙ ap reverse (take-at (reverse vs) (drop (0 + length (reverse vs)) d) n k)
-    ∙ reverse-reverse vs
+    let k : n ≡ 0 + length (reverse vs) = omega (arith, length-reverse vs) in
+    ap reverse (ap₂ (slice 0) k e ∙ store-slice d 0 (reverse vs) (omega arith)) ∙ reverse-reverse vs
 
--- a value that keeps the number rules has 2,048 digits at most, and its width as it is read is how many it has
+-- the digits of a value that keeps the number rules
 module _ (f : List ℕ) (a b e : ℕ) (h : goodLiteral (literalIn f (constant.Value a b e)) ≡ true) where
-  pub value-narrow : literalWidth (literalIn f (constant.Value a b e)) ≤ 2048
-  unfolding literalIn goodLiteral literalWidth
-  value-narrow =
-      let w : ℕ = decimal (slice a b f) in
-      leb-true w 2048 (and-true-left (leb w 2048) (leb (length (map digit (slice (b + 1) e f))) w) h)
-
-  pub value-width : (n : ℕ) → n ≡ capped (literalWidth (literalIn f (constant.Value a b e))) → n ≡ length (literalBits (literalIn f (constant.Value a b e)))
-  value-width n r =
-      let k : literalWidth (literalIn f (constant.Value a b e)) ≤ 2048 = value-narrow in
-      r ∙ capped-small (literalWidth (literalIn f (constant.Value a b e))) (omega arith) ∙ sym (literal-long (literalIn f (constant.Value a b e)) h)
-
-  pub value-few : length (literalBits (literalIn f (constant.Value a b e))) ≤ 2048
-  value-few = rw (literal-long (literalIn f (constant.Value a b e)) h) value-narrow
-
   pub value-stored :
       (d t : List ℕ) (n : ℕ) → 2048 ≤ length d → n ≡ capped (literalWidth (literalIn f (constant.Value a b e))) →
       t ≡ store d 0 (reverse (map digitCode (literalBits (literalIn f (constant.Value a b e))))) →
       reverse (slice 0 n t) ≡ map digitCode (literalBits (literalIn f (constant.Value a b e)))
   value-stored d t n k r et =
       let ds = literalBits (literalIn f (constant.Value a b e)) in
-      let en : length (map digitCode ds) ≡ n = length-map ds digitCode ∙ sym (value-width n r) in
-      stored-back d t (map digitCode ds) n et en (omega (arith, value-few, value-width n r))
+      let en : length (map digitCode ds) ≡ n = length-map ds digitCode ∙ sym (value-width f a b e h n r) in
+      stored-back d t (map digitCode ds) n et en (omega (arith, value-few f a b e h, value-width f a b e h n r))
 
 -- a statement's one name
 module _ (s : Statement) (t t′ : List ℕ) (at : ℕ) where
   pub name-put : (n : Name) → contents s .names ≡ n ∷ [] → t′ ≡ store t at n → t′ ≡ store t at (nameBytes s)
   name-put n e h = h ∙ ap (store t at) (sym (one-name s n e))
 
--- two runs, one behind the other
-both-put : (t t₁ t₂ xs ys : List ℕ) (at i : ℕ) → t₁ ≡ store t at xs → i ≡ at + length xs → t₂ ≡ store t₁ i ys → t₂ ≡ store t at (xs ++ ys)
-both-put t t₁ t₂ xs ys at i e ei g = g ∙ ap₂ (λ (x : List ℕ) (k : ℕ). store x k ys) e ei ∙ store-store t at xs ys
-
 pub names-put :
     (s : Statement) (t t₁ t₂ : List ℕ) (at i : ℕ) (m n : Name) → contents s .names ≡ m ∷ n ∷ [] →
     t₁ ≡ store t at m → i ≡ at + length m → t₂ ≡ store t₁ i n → t₂ ≡ store t at (nameBytes s)
-names-put s t t₁ t₂ at i m n e h₁ ei h₂ = both-put t t₁ t₂ m n at i h₁ ei h₂ ∙ ap (store t at) (sym (two-names s m n e))
+names-put s t t₁ t₂ at i m n e h₁ ei h₂ = store-then t t₁ t₂ at i m n h₁ ei h₂ ∙ ap (store t at) (sym (two-names s m n e))
 
 -- the codes of a signal from the start of scratch on, and those of a second one behind them
 module _ (s : Statement) (t t′ : List ℕ) (at : ℕ) (scratch : List ℕ) (w : ℕ) (none : contents s .constants ≡ []) (h : t′ ≡ store t at (reverse (slice 0 w scratch))) where
@@ -88,7 +64,7 @@ module _ (s : Statement) (t t′ : List ℕ) (at : ℕ) (scratch : List ℕ) (w 
       (o v : ℕ) (t″ : List ℕ) → contents s .signals ≡ signalIn scratch 0 w ∷ signalIn scratch o v ∷ [] → w ≤ length scratch →
       t″ ≡ store t′ (at + w) (reverse (slice o (o + v) scratch)) → t″ ≡ store t at (bitCodes s)
   signals-put o v t″ e k g =
-      both-put t t′ t″ _ _ at (at + w) from-start (ap (λ (n : ℕ). at + n) (sym (signal-words scratch 0 w (omega arith)))) g
+      store-then t t′ t″ at (at + w) _ _ from-start (ap (λ (n : ℕ). at + n) (sym (signal-words scratch 0 w (omega arith)))) g
       ∙ ap (store t at)
       (sym (two-signals s (signalIn scratch 0 w) (signalIn scratch o v) none e ∙ ap₂ (λ (x y : List ℕ). x ++ y) (signal-codes scratch 0 w) (signal-codes scratch o v)))
 

@@ -44,14 +44,28 @@ literal-long (string s) h = length-flatMap (binary 8) 8 (binary-length 8) (rever
 pub codes-long : (l : Literal) → goodLiteral l ≡ true → length (codes l) ≡ literalWidth l
 codes-long l h = length-reverse (map digitCode (literalBits l)) ∙ length-map (literalBits l) digitCode ∙ literal-long l h
 
+-- a value that keeps them has 2,048 digits at most, and its width as it is read is how many it has
+module _ (f : List ℕ) (a b e : ℕ) (h : goodLiteral (literalIn f (constant.Value a b e)) ≡ true) where
+  pub value-narrow : literalWidth (literalIn f (constant.Value a b e)) ≤ 2048
+  unfolding literalIn goodLiteral literalWidth
+  value-narrow =
+      let w : ℕ = decimal (slice a b f) in
+      leb-true w 2048 (and-true-left (leb w 2048) (leb (length (map digit (slice (b + 1) e f))) w) h)
+
+  pub value-few : length (literalBits (literalIn f (constant.Value a b e))) ≤ 2048
+  value-few = rw (literal-long (literalIn f (constant.Value a b e)) h) value-narrow
+
+  value-capped : capped (literalWidth (literalIn f (constant.Value a b e))) ≡ literalWidth (literalIn f (constant.Value a b e))
+  value-capped = capped-small (literalWidth (literalIn f (constant.Value a b e))) (omega (arith, value-narrow))
+
+  pub value-width : (n : ℕ) → n ≡ capped (literalWidth (literalIn f (constant.Value a b e))) → n ≡ length (literalBits (literalIn f (constant.Value a b e)))
+  value-width n r = r ∙ value-capped ∙ sym (literal-long (literalIn f (constant.Value a b e)) h)
+
 -- the width of a constant in a file that is not too long is below the cap
 pub width-small : (f : List ℕ) (c : Constant) → length f ≤ 268435456 → goodLiteral (literalIn f c) ≡ true → capped (literalWidth (literalIn f c)) ≡ literalWidth (literalIn f c)
 unfolding literalIn goodLiteral literalWidth
 width-small f (constant.Integer z) k h = capped-small 32 (omega arith)
-width-small f (constant.Value a b e) k h =
-    let w : ℕ = decimal (slice a b f) in
-    let l : leb w 2048 ≡ true = and-true-left (leb w 2048) (leb (length (map digit (slice (b + 1) e f))) w) h in
-    capped-small w (omega (arith, leb-true w 2048 l))
+width-small f (constant.Value a b e) k h = value-capped f a b e h
 width-small f (constant.Text a) k h = capped-small (8 * length (decoded (drop a f))) (omega (arith, decoded-length (drop a f), length-drop a f))
 
 -- ---- integers
