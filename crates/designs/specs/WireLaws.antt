@@ -19,8 +19,7 @@ use Rattle.rules.specs.Layout.{Rooms, used, padded, row, wireRow, wireRows, put
 use Rattle.tables.specs.Flat.{flat, Eights, flat-snoc}
 use Rattle.past.specs.Forms.{by-form}
 use Rattle.wires.specs.Rows.{column, wiresFrom}
-use Rattle.wires.specs.RowLaws.{RowIs}
-use Rattle.wires.specs.StoreLaws.{length-wire-row}
+use Rattle.wires.specs.RowLaws.{length-wire-row, RowIs}
 use Rattle.scanner.specs.Laws.{by-test}
 use Rattle.past.specs.Place.{wiresIn, placeOf}
 use Rattle.past.specs.Offsets.{Offsets, more-offsets}

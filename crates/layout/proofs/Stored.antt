@@ -1,27 +1,26 @@
 -- From what storing an answer needs to what its parts need, and from what the parts store to what the statement puts.
 -- Assumes nothing.
-use Prim.Native.Nat.{ℕ, zero, suc, _+_, _*_, _/_, _%_, _≤_, _<_}
+use Prim.Native.Nat.{ℕ, _+_, _*_, _≤_, _<_}
 use mathlib.Core.Path.{_≡_, refl, sym, ap, _∙_}
-use mathlib.Core.Bool.{cond}
 use mathlib.Core.List.{List, [], _∷_, map, Option·toList}
 use mathlib.Core.Option.{Option, none, some, Option·elim, Option·map, Option·some-injective, Option·none-ne-some}
 use native.Mathlib.Omega.{arith}
 use types.Run.{OneOf, miss}
 use denote.Enum.Declared.{tagOf}
-use lib.Dec.{eqb}
-use lib.ListN.{length, getD}
+use lib.ListN.{length}
 use Rattle.rules.specs.Tokens.{Name}
 use Rattle.rules.specs.Statements as rules
 use Rattle.rules.specs.Statements.{autoidx-stmt, attr-stmt, module-stmt, param-stmt, wire-stmt, memory-stmt, cell-stmt, cell-param-stmt, cell-conn-stmt, conn-stmt, end-stmt, code, holds, contents}
 use Rattle.rules.specs.Layout as rooms
-use Rattle.rules.specs.Layout.{padded, row, digitCode, directionCode, flags, stringBytes, bitCodes, columns, statementRow}
+use Rattle.rules.specs.Layout.{padded, row, digitCode, stringBytes, bitCodes, columns, statementRow}
 use Rattle.tables.specs.Store.{store}
 use Rattle.numbers.specs.Signed.{signedOf}
 use Rattle.numbers.specs.SignedLaws.{word-signed}
 use Rattle.tokens.specs.declared.Constant.{Constant}
 use Rattle.tokens.specs.declared.Literal.{Literal}
 use Rattle.tokens.specs.declared.Literal.the-variants as literal
-use Rattle.wires.specs.Rows.{wordAt, column, portOf, wireOf}
+use Rattle.wires.specs.Rows.{wordAt, column, wireOf}
+use Rattle.wires.specs.RowLaws.{flags-back, port-number-back}
 use Rattle.numbers.specs.Kinds.{sortOf}
 use Rattle.numbers.specs.KindLaws.{sort-code}
 use Rattle.forms.specs.Forms.{nameIn, valueIn}
@@ -47,39 +46,15 @@ puts-is f s r u t t′ y e p x q = rw (← Option·some-injective y x (sym e ∙
 
 -- ---- a wire and a sort by their numbers
 
-bit-weight : (b n : ℕ) → b < 2 → cond (eqb b 1) n 0 ≡ b * n
-bit-weight zero n h = omega arith
-bit-weight (suc zero) n h = omega arith
-bit-weight (suc (suc b)) n h = absurd (omega arith)
-
-port-flags : (d p : ℕ) → d < 4 → Option·elim (portOf d p) 0 (λ q. directionCode (q .0)) ≡ 4 * d
-unfolding portOf directionCode Option·elim
-port-flags zero p h = refl
-port-flags (suc zero) p h = refl
-port-flags (suc (suc zero)) p h = refl
-port-flags (suc (suc (suc zero))) p h = refl
-port-flags (suc (suc (suc (suc d)))) p h = absurd (omega arith)
-
-port-number : (d p : ℕ) → d < 4 → (d ≡ 0 → p ≡ 0) → Option·elim (portOf d p) 0 (λ q. q .1) ≡ p
-unfolding portOf Option·elim
-port-number zero p h k = sym (k refl)
-port-number (suc zero) p h k = refl
-port-number (suc (suc zero)) p h k = refl
-port-number (suc (suc (suc zero))) p h k = refl
-port-number (suc (suc (suc (suc d)))) p h k = absurd (omega arith)
-
 wire-has : (w t k p : ℕ) → t < 4294967296 → k < 16 → (k < 4 → p ≡ 0) → WireHas w t k p (wireFrom w t k p)
-unfolding wireFrom wireOf column wordAt getD flags
+unfolding wireFrom wireOf column wordAt
 wire-has w t k p ht hk hp =
-    let d : k / 4 < 4 = omega arith in
-    let one : cond (eqb (k % 2) 1) 1 0 ≡ k % 2 * 1 = bit-weight (k % 2) 1 (omega arith) in
-    let two : cond (eqb (k / 2 % 2) 1) 2 0 ≡ k / 2 % 2 * 2 = bit-weight (k / 2 % 2) 2 (omega arith) in
-    let port : Option·elim (portOf (k / 4) p) 0 (λ q. directionCode (q .0)) ≡ 4 * (k / 4) = port-flags (k / 4) p d in
+    let r : List ℕ = 0 ∷ 0 ∷ 0 ∷ w ∷ t ∷ k ∷ p ∷ 0 ∷ [] in
     record {
       width-is = refl;
       offset-is = word-signed t ht;
-      flags-are = rw (one, two, port) (omega arith);
-      port-is = port-number (k / 4) p d (λ e. hp (omega arith));
+      flags-are = flags-back r 0 (omega arith);
+      port-is = port-number-back r 0 (omega arith) hp;
     }
 
 -- ---- answers without a constant or a wire's row

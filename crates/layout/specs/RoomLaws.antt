@@ -7,11 +7,11 @@ use native.Mathlib.Omega.{arith}
 use lib.ListN.{length, length-append, length-map}
 use Rattle.rules.specs.Tokens.{Name}
 use Rattle.rules.specs.Statements.{Statement, Constant, Signal, Wire, contents, digitsOf, bytesOf}
-use Rattle.rules.specs.Layout.{Rooms, Used, empty, padded, used, nameBytes, stringBytes, bitCodes, wireRow, wireRows, statementRow, put, memory}
+use Rattle.rules.specs.Layout.{Rooms, Used, padded, used, nameBytes, stringBytes, bitCodes, wireRow, wireRows, statementRow, put, memory}
 use Rattle.tables.specs.Store.{store, store-none}
 use Rattle.tables.specs.Padded.{store-padded}
-use Rattle.tables.specs.Flat.{flat, Eights, eights-none, eights-more, eights-append, eights-map, flat-append, length-flat, store-row}
-use Rattle.wires.specs.StoreLaws.{length-wire-row}
+use Rattle.tables.specs.Flat.{flat, Eights, eights-map, flat-append, length-flat, store-row}
+use Rattle.wires.specs.RowLaws.{length-wire-row}
 use Rattle.netlist.specs.RowLaws.{length-statement-row}
 use Rattle.netlist.specs.Tables.{Tables}
 use Rattle.layout.specs.Put.{tablesOf, Puts, usedAfter, RoomFor, Fits}
@@ -32,17 +32,6 @@ pub record Rowed (R : Rooms) : Type 0 where
 eights-wires : (u : Used) (s : Statement) → Eights (wireRows u s)
 unfolding wireRows
 eights-wires u s = eights-map (wireRow u) (zip (contents s .names) (contents s .wires)) (length-wire-row u)
-
-pub rowed-empty : Rowed empty
-rowed-empty = record { wires = eights-none; rows = eights-none }
-
-pub rowed-put : (R : Rooms) (s : Statement) → Rowed R → Rowed (put R s)
-unfolding put
-rowed-put R s h =
-    record {
-      wires = eights-append (R .wires) (wireRows (used R) s) (h .wires) (eights-wires (used R) s);
-      rows = eights-append (R .rows) (statementRow (used R) s ∷ []) (h .rows) (eights-more (length-statement-row (used R) s) eights-none);
-    }
 
 -- ---- the tables
 

@@ -13,8 +13,7 @@ use Rattle.rules.specs.Session.{Rename}
 use Rattle.rules.specs.Layout.{Rooms, Used, used, padded, row, columns, nameBytes, stringBytes, bitCodes, wireRow, wireRows, statementRow, put, renameRow, putRename, putRenames, rooms, memory, layout}
 use Rattle.tables.specs.Flat.{flat, flat-append, flat-snoc, length-flat}
 use Rattle.wires.specs.Rows.{column}
-use Rattle.wires.specs.RowLaws.{RowIs, row-taken}
-use Rattle.wires.specs.StoreLaws.{length-wire-row}
+use Rattle.wires.specs.RowLaws.{length-wire-row, RowIs, row-taken}
 use Rattle.netlist.specs.Rows.{kindAt}
 use Rattle.netlist.specs.RowLaws.{length-statement-row, row-kind}
 use Rattle.netlist.specs.Laid.{roomsOf, Laid, Wired}

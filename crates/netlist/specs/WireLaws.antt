@@ -17,8 +17,7 @@ use Rattle.rules.specs.Layout.{Rooms, empty, padded, used, nameBytes, wireRow, 
 use Rattle.tables.specs.Flat.{flat, Eights, eights-none, eights-append, eights-map, flat-append, flat-snoc}
 use Rattle.scanner.specs.Laws.{and-true-left}
 use Rattle.wires.specs.Rows.{nameOf, wireOf, wiresFrom}
-use Rattle.wires.specs.RowLaws.{RowIs, row-wire, row-name}
-use Rattle.wires.specs.StoreLaws.{length-wire-row}
+use Rattle.wires.specs.RowLaws.{length-wire-row, RowIs, row-wire, row-name}
 use Rattle.past.specs.Place.{placeOf}
 use Rattle.past.specs.Offsets.{Offsets, more-offsets}
 use Rattle.past.proofs.PlaceLaws.{bounds, length-all-wires, wires-last}

@@ -1,6 +1,6 @@
 -- Connections and wires: where the row and the parts of such a statement stand, and where not.
 -- Assumes nothing.
-use Prim.Native.Nat.{ℕ, zero, suc, _+_, _-_, _*_, _/_, _%_, _≤_, _<_}
+use Prim.Native.Nat.{ℕ, _+_, _-_, _*_, _/_, _≤_, _<_}
 use mathlib.Core.Path.{_≡_, refl, sym, ap, ap₂, _∙_}
 use mathlib.Core.List.{List, [], _∷_, flatMap, zip, zipWith, append-nil}
 use mathlib.Core.Option.{Option·elim}
@@ -14,7 +14,7 @@ use Rattle.rules.specs.Tokens.{Name}
 use Rattle.rules.specs.Statements.{Statement, Wire, Signal, contents, holds, code, wire-stmt, cell-conn-stmt, conn-stmt}
 use Rattle.rules.specs.Signals.{Wires, twosComplement}
 use Rattle.rules.specs.Judgement.{sum, signalSize, valueSize, stringSize, nameSize}
-use Rattle.rules.specs.Layout.{Used, padded, row, nameBytes, stringBytes, bitCodes, directionCode, flags, wireRow, wireRows, columns, statementRow}
+use Rattle.rules.specs.Layout.{Used, padded, row, nameBytes, stringBytes, bitCodes, flags, wireRow, wireRows, columns, statementRow}
 use Rattle.admitted.specs.Admitted.{fineWire, fineSignal, sameLength, fineParts}
 use Rattle.tables.specs.Row.{words, rowAt, words-rowAt}
 use Rattle.tables.specs.declared.Row.{Row}
@@ -22,8 +22,7 @@ use Rattle.numbers.specs.Signed.{signedOf}
 use Rattle.numbers.specs.SignedLaws.{word-signed}
 use Rattle.scanner.specs.Laws.{by-test, same-refl, same-eq, and-true-left, and-true-right, never}
 use Rattle.wires.specs.Rows.{wordAt, column, portOf, wireOf, wiresFrom}
-use Rattle.wires.specs.StoreLaws.{length-wire-row}
-use Rattle.wires.specs.RowLaws.{port-small}
+use Rattle.wires.specs.RowLaws.{length-wire-row, port-small, flags-back, port-number-back}
 use Rattle.replay.specs.Parts.{span, nameStands, signalOf, signalStands}
 use Rattle.netlist.specs.Spans.{Has}
 use Rattle.replay.specs.Reads.{tabled, Decides, Reads, Tells, TellsWire, TellsCellConnection, TellsConnection, WireRowStands}
@@ -205,44 +204,10 @@ flags-few : (w : Wire) → flags w ≤ 15
 unfolding flags
 flags-few w = omega (arith, cond-few (w .upto) 1, cond-few (w .signed) 2, port-small (w .port))
 
-bit-flag : (m n : ℕ) → m < 2 → cond (eqb m 1) n 0 ≡ n * m
-bit-flag zero n h = omega arith
-bit-flag (suc zero) n h = omega arith
-bit-flag (suc (suc m)) n h = absurd (omega arith)
-
-direction-back : (d p : ℕ) → d ≤ 3 → Option·elim (portOf d p) 0 (λ q. directionCode (q .0)) ≡ 4 * d
-unfolding Option·elim directionCode portOf
-direction-back zero p h = refl
-direction-back (suc zero) p h = refl
-direction-back (suc (suc zero)) p h = refl
-direction-back (suc (suc (suc zero))) p h = refl
-direction-back (suc (suc (suc (suc d)))) p h = absurd (omega arith)
-
-port-back : (d p : ℕ) → d ≤ 3 → (d ≡ 0 → p ≡ 0) → Option·elim (portOf d p) 0 (λ q. q .1) ≡ p
-unfolding Option·elim portOf
-port-back zero p h e = sym (e refl)
-port-back (suc zero) p h e = refl
-port-back (suc (suc zero)) p h e = refl
-port-back (suc (suc (suc zero))) p h e = refl
-port-back (suc (suc (suc (suc d)))) p h e = absurd (omega arith)
-
 module _ (wires : List ℕ) (k : ℕ) where
-  flags-back : column wires k 5 ≤ 15 → flags (wireOf wires k) ≡ column wires k 5
-  unfolding flags wireOf
-  flags-back h =
-      let e : ℕ = column wires k 5 in
-      let x = bit-flag (e % 2) 1 (omega arith) in
-      let y = bit-flag (e / 2 % 2) 2 (omega arith) in
-      let z = direction-back (e / 4) (column wires k 6) (omega arith) in
-      rw (x, y, z) (omega arith)
-
   no-port : column wires k 5 < 4 → Option·elim (wireOf wires k .port) 0 (λ q. q .1) ≡ 0
   unfolding wireOf Option·elim portOf
   no-port h = let e : column wires k 5 / 4 ≡ 0 = omega arith in rw e
-
-  port-number : column wires k 5 ≤ 15 → (column wires k 5 < 4 → column wires k 6 ≡ 0) → Option·elim (wireOf wires k .port) 0 (λ q. q .1) ≡ column wires k 6
-  unfolding wireOf
-  port-number h e = port-back (column wires k 5 / 4) (column wires k 6) (omega arith) (λ z. e (omega arith))
 
   -- eight values from a row's place on are the row
   pub row-has : 8 * k + 8 ≤ length wires → (xs : List ℕ) → length xs ≡ 8 → Has wires (8 * k) xs → words (rowAt wires (8 * k)) ≡ xs
@@ -307,7 +272,7 @@ module _ (wires : List ℕ) (u : Used) (size : ℕ) where
     wire-row-settled g z o x ex b eb n e =
         let w : Wire = wireOf wires (u .wires) in
         let ff : flags w ≡ q .e = flags-back wires (u .wires) (omega (arith, flags-are)) ∙ sym flags-are in
-        let fp : Option·elim (w .port) 0 (λ q. q .1) ≡ q .f = port-number wires (u .wires) (omega (arith, flags-are)) (λ y. sym port-is ∙ numbered z (omega (arith, flags-are))) ∙ sym port-is in
+        let fp : Option·elim (w .port) 0 (λ q. q .1) ≡ q .f = port-number-back wires (u .wires) (omega (arith, flags-are)) (λ y. sym port-is ∙ numbered z (omega (arith, flags-are))) ∙ sym port-is in
         let fo = ap (λ (m : ℕ). twosComplement (signedOf m)) (sym offset-is) ∙ word-signed (q .d) o in
         let rx : words x ≡ wireRow u (n, w) = ex ∙ rw (ff, fp, fo, e, ← width-is) in
         by-test (same (words q) (words x))

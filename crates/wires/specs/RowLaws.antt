@@ -1,7 +1,7 @@
 -- A row of the layout holds its wire, and wires depend on their rows and spans only.
 -- Assumes nothing.
 use Prim.Native.Nat.{ℕ, zero, suc, _+_, _*_, _/_, _%_, _≤_, _<_}
-use mathlib.Core.Path.{_≡_, refl, sym, ap, ap₂, _∙_}
+use mathlib.Core.Path.{_≡_, refl, sym, ap, _∙_}
 use mathlib.Core.List.{List, [], _∷_, reverse, reverseAux}
 use mathlib.Core.Option.{Option, none, some, Option·elim}
 use mathlib.Core.Bool.{Bool, true, false, cond}
@@ -15,9 +15,6 @@ use Rattle.rules.specs.Tokens.{Name}
 use Rattle.rules.specs.Statements.{Wire, Direction, input, output, inout}
 use Rattle.rules.specs.Numbers.{int32}
 use Rattle.rules.specs.Layout.{Used, padded, row, directionCode, flags, wireRow}
-use Rattle.tables.specs.Padded.{padded-getD}
-use Rattle.tables.specs.Row.{words-rowAt}
-use Rattle.tables.specs.Flat.{flat, Eights, length-flat, words-flat}
 use Rattle.scanner.specs.Laws.{by-test}
 use Rattle.scanner.specs.Lists.{element-behind}
 use Rattle.numbers.specs.SignedLaws.{signed-word}
@@ -33,6 +30,10 @@ pub slice-span : (i n : ℕ) (s : List ℕ) → slice i (i + n) s ≡ take n (dr
 slice-span zero n s = let q : 0 + n ≡ n = omega arith in rw q
 slice-span (suc i) n [] = let q : suc i + n ≡ suc (i + n) = omega arith in rw (q, take-nil)
 slice-span (suc i) n (x ∷ xs) = let q : suc i + n ≡ suc (i + n) = omega arith in rw q (slice-span i n xs)
+
+pub length-wire-row : (u : Used) (x : Name × Wire) → length (wireRow u x) ≡ 8
+unfolding wireRow row padded
+length-wire-row u x = refl
 
 -- row k of a table has these eight columns
 abbrev pub RowIs : List ℕ → ℕ → List ℕ → Type 0
@@ -92,41 +93,50 @@ module _ (t : List ℕ) (k : ℕ) (u : Used) (n : Name) (w : Wire) (h : RowIs t 
   unfolding wireRow row padded nameOf spanAt
   row-name names e = rw (h 1 (omega arith), h 2 (omega arith)) (slice-span (u .names) (length n) names ∙ e)
 
--- wires are the same where their names and their rows' wires are
-pub wires-same :
-    (names names′ t t′ : List ℕ) (first count : ℕ) →
-    ((k : ℕ) → k < count → nameOf names t (first + k) ≡ nameOf names′ t′ (first + k)) →
-    ((k : ℕ) → k < count → wireOf t (first + k) ≡ wireOf t′ (first + k)) →
-    wiresFrom names t first count ≡ wiresFrom names′ t′ first count
-unfolding wiresFrom
-wires-same names names′ t t′ first zero h l = refl
-wires-same names names′ t t′ first (suc k) h l =
-    ap₂ _∷_ (ap₂ (λ (n : Name) (w : Wire). (n, w)) (h k (omega arith)) (l k (omega arith)))
-    (wires-same names names′ t t′ first k (λ i b. h i (omega arith)) (λ i b. l i (omega arith)))
+-- ---- from a row's columns to its wire's parts: the flags and the port's number are the columns again
 
--- so words outside their rows don't matter
-module _ (names t t′ : List ℕ) (first count : ℕ) (h : (i : ℕ) → 8 * first ≤ i → i < 8 * (first + count) → getD t i 0 ≡ getD t′ i 0) where
-  same-column : (k c : ℕ) → k < count → c < 8 → column t (first + k) c ≡ column t′ (first + k) c
-  unfolding column wordAt
-  same-column k c l b = h (8 * (first + k) + c) (omega arith) (omega arith)
+bit-weight : (b n : ℕ) → b < 2 → cond (eqb b 1) n 0 ≡ b * n
+bit-weight zero n h = omega arith
+bit-weight (suc zero) n h = omega arith
+bit-weight (suc (suc b)) n h = absurd (omega arith)
 
-  pub wires-rows : wiresFrom names t first count ≡ wiresFrom names t′ first count
-  unfolding nameOf spanAt wireOf
-  wires-rows =
-      wires-same names names t t′ first count (λ k l. rw (same-column k 1 l (omega arith), same-column k 2 l (omega arith)))
-      (λ k l. rw (same-column k 3 l (omega arith), same-column k 4 l (omega arith), same-column k 5 l (omega arith), same-column k 6 l (omega arith)))
+direction-back : (d p : ℕ) → d ≤ 3 → Option·elim (portOf d p) 0 (λ q. directionCode (q .0)) ≡ 4 * d
+unfolding Option·elim directionCode portOf
+direction-back zero p h = refl
+direction-back (suc zero) p h = refl
+direction-back (suc (suc zero)) p h = refl
+direction-back (suc (suc (suc zero))) p h = refl
+direction-back (suc (suc (suc (suc d)))) p h = absurd (omega arith)
 
--- the row of eight words from 8 * k on, and a row of the rows that a padded table holds
+number-back : (d p : ℕ) → d ≤ 3 → (d ≡ 0 → p ≡ 0) → Option·elim (portOf d p) 0 (λ q. q .1) ≡ p
+unfolding Option·elim portOf
+number-back zero p h e = sym (e refl)
+number-back (suc zero) p h e = refl
+number-back (suc (suc zero)) p h e = refl
+number-back (suc (suc (suc zero))) p h e = refl
+number-back (suc (suc (suc (suc d)))) p h e = absurd (omega arith)
+
+module _ (t : List ℕ) (k : ℕ) (h : column t k 5 ≤ 15) where
+  pub flags-back : flags (wireOf t k) ≡ column t k 5
+  unfolding flags wireOf
+  flags-back =
+      let e : ℕ = column t k 5 in
+      let x = bit-weight (e % 2) 1 (omega arith) in
+      let y = bit-weight (e / 2 % 2) 2 (omega arith) in
+      let z = direction-back (e / 4) (column t k 6) (omega arith) in
+      rw (x, y, z) (omega arith)
+
+  -- without a port it has to be 0
+  pub port-number-back : (column t k 5 < 4 → column t k 6 ≡ 0) → Option·elim (wireOf t k .port) 0 (λ q. q .1) ≡ column t k 6
+  unfolding wireOf
+  port-number-back e = number-back (column t k 5 / 4) (column t k 6) (omega arith) (λ z. e (omega arith))
+
+-- ---- rows in a table
+
+-- the row of eight words from 8 * k on
 pub row-taken : (t : List ℕ) (k : ℕ) (r : List ℕ) → take 8 (drop (8 * k) t) ≡ r → RowIs t k r
 unfolding column wordAt
 row-taken t k r e c l = sym (ap (λ (x : List ℕ). getD x c 0) (sym e) ∙ getD-take 8 (drop (8 * k) t) c 0 l ∙ getD-drop (8 * k) t c 0)
-
-pub row-padded : (n : ℕ) (rs : List (List ℕ)) (k : ℕ) → Eights rs → k < length rs → RowIs (padded n (flat rs)) k (getD rs k [])
-unfolding column wordAt
-row-padded n rs k h l c b =
-    let room : length (flat rs) ≡ 8 * length rs = length-flat rs h in
-    padded-getD n (flat rs) (8 * k + c)
-    ∙ row-taken (flat rs) k (getD rs k []) (sym (words-rowAt (flat rs) (8 * k) (omega arith)) ∙ words-flat rs k h l) c b
 
 -- wire j of the module, in the order of the rows, is row first + j
 module _ (names t : List ℕ) (first j : ℕ) where
