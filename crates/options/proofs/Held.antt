@@ -13,7 +13,8 @@ use Rattle.rules.specs.Bytes.{same, any, all}
 use Rattle.rules.specs.Statements.{Opt}
 use Rattle.rules.specs.Numbers.{once}
 use Rattle.scanner.specs.Words.{keywordAt}
-use Rattle.scanner.specs.Laws.{by-test, or-false-right}
+use Rattle.scanner.specs.Laws.{by-test, or-true-right, or-false-left, or-false-right}
+use Rattle.scanner.specs.Lists.{_then_, by-any}
 use Rattle.tokens.specs.Rows.{integerIn}
 use Rattle.tokens.specs.declared.Integer.{Integer}
 use Rattle.tokens.specs.declared.Slot.{Slot}
@@ -22,7 +23,6 @@ use Rattle.tokens.proofs.Words.{keyword-same}
 use Rattle.options.specs.Forms.{isFlag, numberCodes, optionCodes, isOption}
 use Rattle.options.specs.Holds.{first, isGiven, slotOf, flagOf, slotAt, at, given, isSome, fits, allFit, Holds, noOptions, Took}
 use Rattle.options.specs.declared.Options.{Options}
-use Rattle.options.proofs.Each.{each, done, _then_}
 
 -- ---- what the code holds of an option
 
@@ -84,7 +84,7 @@ module _ (f : List ℕ) (o r : Options) (c : ℕ) where
       record {
         twice = again ∙ ap (λ (b : Bool). o .twice || b) (given-at f o c);
         fields =
-            each (λ d. at f r d ≡ cond (eqb c d) (some (some (integerIn f z))) (at f o d))
+            by-any (λ d. at f r d ≡ cond (eqb c d) (some (some (integerIn f z))) (at f o d)) optionCodes
             ((rw (ne-eqb c 12 (flag-not c h .0), u)) then
             (rw (ne-eqb c 13 (flag-not c h .1), g)) then
             slot-pick f z (eqb c 7) (r .width) (o .width) w then
@@ -93,7 +93,7 @@ module _ (f : List ℕ) (o r : Options) (c : ℕ) where
             slot-pick f z (eqb c 9) (r .input) (o .input) a then
             slot-pick f z (eqb c 10) (r .output) (o .output) b then
             slot-pick f z (eqb c 11) (r .inout) (o .inout) d then
-            done);
+            tt);
       }
 
   pub took-flag :
@@ -110,7 +110,7 @@ module _ (f : List ℕ) (o r : Options) (c : ℕ) where
       record {
         twice = again ∙ ap (λ (b : Bool). o .twice || b) (given-at f o c);
         fields =
-            each (λ d. at f r d ≡ cond (eqb c d) (some none) (at f o d))
+            by-any (λ d. at f r d ≡ cond (eqb c d) (some none) (at f o d)) optionCodes
             (flag-pick (r .upto) (o .upto) (eqb c 12) u then
             flag-pick (r .signed) (o .signed) (eqb c 13) g then
             kept 7 (λ e. omega arith) then
@@ -119,7 +119,7 @@ module _ (f : List ℕ) (o r : Options) (c : ℕ) where
             kept 9 (λ e. omega arith) then
             kept 10 (λ e. omega arith) then
             kept 11 (λ e. omega arith) then
-            done);
+            tt);
       }
 
 -- ---- and one more written
@@ -134,10 +134,6 @@ singly-by o true true e = refl
 singly-by o true false e = e
 singly-by o false true e = refl
 singly-by o false false e = e
-
-or-left : (a b : Bool) → (a || b) ≡ false → a ≡ false
-or-left true b h = h
-or-left false b h = refl
 
 allFit-none : (x : Option (Option ℤ)) → isSome x ≡ false → allFit x ≡ true
 unfolding isSome allFit
@@ -158,21 +154,17 @@ all-pick : (p q : ℕ → Bool) (c : ℕ) (v : Bool) (ds : List ℕ) → p c ≡
 unfolding any all
 all-pick p q c v [] t h = refl
 all-pick p q c v (d ∷ ds) t h =
-    rw (h d (rw (eq-eqb d d refl)), all-pick p q c v ds t (λ k l. h k (later (eqb k d) l)))
+    rw (h d (rw (eq-eqb d d refl)), all-pick p q c v ds t (λ k l. h k (or-true-right (eqb k d) _ l)))
     (all-by (eqb c d) (any (eqb c) ds) v (p d) (all p ds) (λ e. rw (← eqb-true c d e) t))
-  where
-    later : (a : Bool) {b : Bool} → b ≡ true → (a || b) ≡ true
-    later true e = refl
-    later false e = e
 
 small : (d : ℕ) → isOption d ≡ true → d < 32
 unfolding isOption optionCodes numberCodes
 small =
-    each (λ d. d < 32) (omega arith then omega arith then omega arith then omega arith then omega arith then omega arith then omega arith then omega arith then done)
+    by-any (λ d. d < 32) optionCodes (omega arith then omega arith then omega arith then omega arith then omega arith then omega arith then omega arith then omega arith then tt)
 
 number-option : (d : ℕ) → any (eqb d) numberCodes ≡ true → isOption d ≡ true
 unfolding isOption optionCodes numberCodes any
-number-option = each (λ d. isOption d ≡ true) (refl then refl then refl then refl then refl then refl then done)
+number-option = by-any (λ d. isOption d ≡ true) numberCodes (refl then refl then refl then refl then refl then refl then tt)
 
 -- where the option is no number, or has none, its place in the list of numbers is left alone
 pub counts : (c : ℕ) → any (eqb c) numberCodes ≡ true → (v : Option ℤ) → cond (any (eqb c) numberCodes) (fits v) true ≡ fits v
@@ -200,7 +192,7 @@ module _ (f : List ℕ) (o r : Options) (os : List Opt) (c : ℕ) (v : Option �
             let t : (o .twice || isSome (at f o c)) ≡ false = sym (T .twice) ∙ e in
             let p : ℕ → Bool = λ d. allFit (at f o d) in
             let q : ℕ → Bool = λ d. allFit (at f r d) in
-            ap (λ (b : Bool). fits v && b) (H .numbers (or-left (o .twice) (isSome (at f o c)) t))
+            ap (λ (b : Bool). fits v && b) (H .numbers (or-false-left (o .twice) (isSome (at f o c)) t))
             ∙ ap (λ (b : Bool). b && all p numberCodes) (sym n)
             ∙ sym (all-pick p q c (fits v) numberCodes
             (allFit-none (at f o c) (or-false-right (o .twice) (isSome (at f o c)) t))
@@ -217,6 +209,6 @@ holds-none f =
     record {
       singly = refl;
       fields =
-          each (λ c. at f noOptions c ≡ none) (refl then refl then refl then refl then refl then refl then refl then refl then done);
+          by-any (λ c. at f noOptions c ≡ none) optionCodes (refl then refl then refl then refl then refl then refl then refl then refl then tt);
       numbers = λ e. refl;
     }

@@ -16,7 +16,7 @@ use Rattle.scanner.specs.Words.{keywordAt}
 use Rattle.scanner.specs.Laws.{by-test}
 use Rattle.tokens.proofs.Words.{word-is}
 use Rattle.options.specs.Forms.{forms, codes, accepted, isFlag, numberCodes, optionCodes, isOption}
-use Rattle.options.proofs.Each.{each, done, _then_}
+use Rattle.scanner.specs.Lists.{_then_, by-any}
 
 pub offers-word : (m : Bool) (c : ℕ) → offers (forms m) (word (keywordAt c)) ≡ accepted m c
 unfolding offers any forms accepted codes wireOptionForms memoryOptionForms numbered flag keywords keywordAt
@@ -40,14 +40,14 @@ parsed c ts = cond (isFlag c) (some ((keywordAt c, none), ts)) (of₁ (λ i. (ke
 pub choice-word : (m : Bool) (ts : List Token) (c : ℕ) → accepted m c ≡ true → choice (forms m) (word (keywordAt c) ∷ ts) ≡ parsed c ts
 unfolding shapesOpen bytesOpen keywords keywordAt forms accepted codes parsed isFlag
 choice-word true ts =
-    each (λ c. choice (forms true) (word (keywordAt c) ∷ ts) ≡ parsed c ts) (refl then refl then refl then done)
+    by-any (λ c. choice (forms true) (word (keywordAt c) ∷ ts) ≡ parsed c ts) (codes true) (refl then refl then refl then tt)
 choice-word false ts =
-    each (λ c. choice (forms false) (word (keywordAt c) ∷ ts) ≡ parsed c ts) (refl then refl then refl then refl then refl then refl then refl then done)
+    by-any (λ c. choice (forms false) (word (keywordAt c) ∷ ts) ≡ parsed c ts) (codes false) (refl then refl then refl then refl then refl then refl then refl then tt)
 
 pub accepted-option : (m : Bool) (c : ℕ) → accepted m c ≡ true → isOption c ≡ true
 unfolding accepted codes isOption optionCodes numberCodes any
-accepted-option true = each (λ c. isOption c ≡ true) (refl then refl then refl then done)
-accepted-option false = each (λ c. isOption c ≡ true) (refl then refl then refl then refl then refl then refl then refl then done)
+accepted-option true = by-any (λ c. isOption c ≡ true) (codes true) (refl then refl then refl then tt)
+accepted-option false = by-any (λ c. isOption c ≡ true) (codes false) (refl then refl then refl then refl then refl then refl then refl then tt)
 
 -- an option starts with a word
 pub offers-name : (m : Bool) (n : Name) → offers (forms m) (name n) ≡ false
