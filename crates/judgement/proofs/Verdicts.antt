@@ -16,11 +16,10 @@ use Rattle.rules.specs.Reading.{shaped}
 use Rattle.tokens.specs.Rows.{line}
 use Rattle.wires.specs.Rows.{wiresFrom}
 use Rattle.forms.specs.Forms.{nameIn}
-use Rattle.syntax.specs.Statements.{numberOf, lateOf, late, contextOf, scopeOf, Sound, Judged, Says, StatementIs}
+use Rattle.syntax.specs.Statements.{numberOf, lateOf, late, Sound, Judged, Says, StatementIs}
 use Rattle.syntax.specs.declared.Statement.{Statement}
 use Rattle.syntax.specs.declared.Statement.the-variants.{Autoidx, Attribute, Module, Parameter, Wire, Memory, Cell, CellParameter, CellConnection, Connection, End, NoShape, Process, BadNumber, MissingWire}
 use Rattle.syntax.proofs.Verdicts.{behind, judged-early, judged-late, says-judged, says-sound}
-use Rattle.past.specs.Place as past
 use Rattle.past.specs.Sizes.{sumsOf, plusOf, exceeds}
 use Rattle.past.specs.declared.place.Place.{Place}
 use Rattle.past.specs.declared.sizes.Sizes.{Sizes}
@@ -123,10 +122,9 @@ module _ (ss : Past) (f s names ws rows : List ℕ) (o : Option Shape) (a : Stat
 -- ---- the line of these rows, where the statements so far stand so
 
 module _ (p : Place) (f t names ws s : List ℕ) (a : Statement)
-    (h : StatementIs (record { scope = p .scope; first = p .first; attributed = p .attributed }) f t (wiresFrom names ws (p .«wires_from») (p .wires - p .«wires_from»)) s a) where
+    (h : StatementIs p f t (wiresFrom names ws (p .«wires_from») (p .wires - p .«wires_from»)) s a) where
   pub line-sound : Sound f a
   line-sound = says-sound _ _ _ _ a h
 
   pub line-says : (ss : Past) (u : Sizes) (rows : List ℕ) → Stands ss p u names ws rows → Says (wires ss) f s (shape (context ss) (line f t 0)) a
-  unfolding past.contextOf past.scopeOf contextOf scopeOf
   line-says ss u rows st = rw (context-is ss, st .place-is, ← st .wires-are) h

@@ -247,15 +247,10 @@ pub fn judge_line(
     ensures { λ r. ⌜ Storable (now (f .entry)) r ⌝ }
     ensures { λ r. ⌜ JudgedAs (now (f .entry)) (now (tokens .entry)) place sums (now (names .entry)) (now (wires .entry)) (now (rows .entry)) (now (scratch .exit)) r ⌝ }
 {
-    let here = syntax::Place {
-        scope: place.scope,
-        first: place.first,
-        attributed: place.attributed,
-    };
     let scope = Scope {
         first: place.wires_from,
         count: place.wires - place.wires_from,
     };
-    let statement = line_statement(f, tokens, here, names, wires, scope, scratch);
+    let statement = line_statement(f, tokens, place, names, wires, scope, scratch);
     judge_statement(f, names, rows, place, sums, statement)
 }

@@ -16,6 +16,8 @@ use Rattle.rules.specs.Signals.{Wires, kept}
 use Rattle.rules.specs.Judgement.{breaksNumber, lacksWire, breaksWidth, partTooWide, lowest, meaning}
 use Rattle.numbers.specs.Signed.{signedOf}
 use Rattle.numbers.specs.Kinds.{bitOf, bitAt, sortOf}
+use Rattle.past.specs.Place.{contextOf}
+use Rattle.past.specs.declared.place.Place.{Place}
 use Rattle.tokens.specs.Rows.{literalIn, line}
 use Rattle.tokens.specs.declared.Constant.{Constant}
 use Rattle.tokens.specs.declared.Literal.{Literal}
@@ -29,7 +31,6 @@ use Rattle.forms.specs.declared.Kind.the-variants as kind
 use Rattle.signals.specs.Held.{Held}
 use Rattle.signals.specs.Reads.{Readable}
 use Rattle.signals.specs.declared.Bits.{Bits}
-use Rattle.syntax.specs.declared.Place.{Place}
 use Rattle.syntax.specs.declared.Statement.{Statement}
 use Rattle.syntax.specs.declared.Statement.the-variants.{Autoidx, Attribute, Module, Parameter, Wire as WireOf, Memory as MemoryOf, Cell, CellParameter, CellConnection, Connection, End, NoShape, Process, BadNumber, MissingWire}
 
@@ -221,13 +222,6 @@ FormIs f x r = WholeForm f x → PlainIs f (formOf f x) r
 
 abbrev pub WireIs : (f t wires : List ℕ) (first count : ℕ) → Statement → Type 0
 WireIs f t wires first count r = (names s : List ℕ) → Says (wiresFrom names wires first count) f s (kindOf f t kind.Wire) r
-
--- the context of a place
-unfoldable pub scopeOf : ℕ → shapes.Scope
-scopeOf k = cond (eqb k 0) shapes.top (cond (eqb k 1) shapes.inModule shapes.inCell)
-
-unfoldable pub contextOf : Place → shapes.Context
-contextOf p = record { scope = scopeOf (p .scope); first = p .first; attributed = p .attributed }
 
 -- the line in its context
 abbrev pub StatementIs : Place → (f t : List ℕ) → Wires → (s : List ℕ) → Statement → Type 0

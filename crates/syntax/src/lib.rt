@@ -17,6 +17,7 @@ use options::limits::memory_rules;
 use options::limits::wire_rules;
 use options::memory_line;
 use options::wire_line;
+use past::place::Place;
 use signals::Answer;
 use signals::Bits;
 use signals::Scope;
@@ -34,14 +35,6 @@ ghost use Rattle.forms.specs.declared.CellKind.the-variants as cellKind;
 ghost use Rattle.forms.specs.declared.Form.the-variants as form;
 ghost use Rattle.forms.specs.declared.Kind.the-variants as kind;
 ghost use Rattle.syntax.specs.Statements.{FormIs, PlainIs, WireIs, faulted, ConnectedIs, Says, ModuleIs, CellIs, StatementIs, Ready};
-
-// Where a line stands: scope 0 outside of modules, 1 in a module, 2 in a cell; first: no statement stands before it; attributed: it follows
-// attributes.
-pub struct Place {
-    pub scope: u32,
-    pub first: bool,
-    pub attributed: bool,
-}
 
 // A line's statement, or its first refusal of 5, 6, 7 and 8. Offsets and the number of `autoidx` are words in two's complement.
 pub enum Statement {

@@ -5,8 +5,8 @@ use borrow.Author.Needs.{needs}
 use Rattle.judgement.proofs.judge_line.Statement.{statement}
 use Rattle.judgement.proofs.judge_line.Tie as tie
 
-sub-t12 : tie.Need-sub-t12
-sub-t12 c = search needs
+sub-t11 : tie.Need-sub-t11
+sub-t11 c = search needs
 
 line-statement-requires : tie.Need-line-statement-requires
 line-statement-requires c κs = search needs
@@ -23,4 +23,4 @@ returns c = (c .judge-statement .ensures .0, λ ss st. c .judge-statement .ensur
 pub judge-line-spec : {M : Type 1} → statement M
 judge-line-spec =
     tie.close
-    (tie.spec sub-t12 line-statement-requires judge-statement-requires same-length returns)
+    (tie.spec sub-t11 line-statement-requires judge-statement-requires same-length returns)
