@@ -11,11 +11,9 @@ use lib.Seq.{length-take-le}
 use borrow.Author.Tests.{ltb-false, lt-ltb, le-ltb}
 use Rattle.rules.specs.Lines as rules
 use Rattle.rules.specs.Lines.{linesFrom, lines, place}
-use Rattle.rules.specs.Tokens.{tokensFrom}
-use Rattle.rules.specs.Tokens as tokens
 use Rattle.rules.specs.Judgement.{Past, context}
 use Rattle.rules.specs.Reading as reading
-use Rattle.rules.specs.Reading.{lexed, outcome, isTop, finish, next, readLines, readAny, read}
+use Rattle.rules.specs.Reading.{outcome, isTop, finish, next, readLines, readAny, read}
 use Rattle.rules.specs.Layout.{Rooms, empty, putAll, putRenames, rooms, used, memory, layout}
 use Rattle.rules.specs.Layout as layouts
 use Rattle.tables.specs.Padded.{padded-nil}
@@ -26,7 +24,7 @@ use Rattle.scanner.specs.Laws.{by-test, by-cond}
 use Rattle.scanner.specs.declared.lines.Line.{Line}
 use Rattle.scanner.proofs.ClassLaws.{class-blank}
 use Rattle.scanner.proofs.RunLaws.{endOf-low, endOf-high}
-use Rattle.scanner.proofs.LineLaws.{lines-from, line-low, line-high, line-next}
+use Rattle.scanner.proofs.LineLaws.{lines-from, line-low, line-high, line-next, last-line}
 use Rattle.past.specs.Place.{placeOf, scopeOf, contextOf}
 use Rattle.past.specs.Sizes.{sumsOf}
 use Rattle.past.specs.declared.place.Place.{Place}
@@ -61,11 +59,6 @@ end-small f l lo hi r e low high file =
     let q : length (take (l .end - 0) f) ≡ l .end - 0 = length-take-le (l .end - 0) f (omega arith) in
     omega (arith, endOf-high (inClass lo hi) (take (l .end - 0) f) (l .start) (omega arith))
 
--- behind the last byte stands a line without a token
-end-line : (size at : ℕ) (ss : Past) → readLines size (linesFrom at []) ss ≡ finish size ss
-unfolding readLines linesFrom outcome tokens.tokens tokensFrom lexed next
-end-line size at ss = refl
-
 module _ (f : List ℕ) (at : ℕ) (l : Line) (is : l ≡ lineFrom f at) where
   fits : (tokens scratch : List ℕ) → at ≤ length f → length f ≤ 32768 → length tokens ≡ 131072 → length scratch ≡ 36864 → LineFits f l tokens scratch
   unfolding lineFrom
@@ -94,7 +87,7 @@ module _ (f : List ℕ) (at : ℕ) (l : Line) (is : l ≡ lineFrom f at) where
       let z : ℕ = endOf (inClass 1 14) f at in
       by-test (ltb z (length f))
       (λ e. rw e)
-      (λ e. let h : length f ≤ z = ltb-false z (length f) e in rw (e, drop-of-length-le f h) (sym (end-line size z ss)))
+      (λ e. let h : length f ≤ z = ltb-false z (length f) e in rw (e, drop-of-length-le f h) (sym (last-line size z ss)))
 
   lines-at : (size : ℕ) (ss : Past) → readLines size (linesFrom at (drop at f)) ss
       ≡ next (readLines size (cond (l .ended) (linesFrom (l .next) (drop (l .next) f)) [])) ss (outcome ss (lineOf f l))
@@ -208,7 +201,7 @@ module _ {f tokens scratch : List ℕ} {p : Place} {u : Sizes} {t : Tables} {at 
   pub landed-end : (a : Answer) → length f ≤ at → a ≡ finishOf (length f) p u → Landed (readAny f) t a
   landed-end a h ea =
       let q : readAny f ≡ finish (length f) (r .past) =
-      r .rest ∙ ap (λ (s : List ℕ). readLines (length f) (linesFrom at s) (r .past)) (drop-of-length-le f {i = at} h) ∙ end-line (length f) at (r .past) in
+      r .rest ∙ ap (λ (s : List ℕ). readLines (length f) (linesFrom at s) (r .past)) (drop-of-length-le f {i = at} h) ∙ last-line (length f) at (r .past) in
       rw (q, ea) (finish-landed (length f))
 
 -- ---- the whole file

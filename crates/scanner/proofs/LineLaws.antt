@@ -10,13 +10,16 @@ use lib.Dec.{ltb}
 use lib.ListN.{length, drop, drop-of-length-le}
 use lib.Seq.{slice, drop-cons}
 use borrow.Author.Tests.{ltb-true, ltb-false}
-use Rattle.rules.specs.Bytes.{isLineEnd, all, run, rest}
+use Rattle.rules.specs.Bytes.{isLineEnd, run, rest}
 use Rattle.rules.specs.Lines.{linesFrom, longer}
 use Rattle.rules.specs.Lines as rules
+use Rattle.rules.specs.Tokens.{tokens, tokensFrom}
+use Rattle.rules.specs.Judgement.{Past}
+use Rattle.rules.specs.Reading.{lexed, outcome, finish, next, readLines}
 use Rattle.scanner.specs.Class.{inClass}
 use Rattle.scanner.specs.Runs.{endOf}
 use Rattle.scanner.specs.Lines.{lineFrom}
-use Rattle.scanner.specs.Laws.{by-test, by-cond, run-all}
+use Rattle.scanner.specs.Laws.{by-test, by-cond}
 use Rattle.scanner.proofs.ClassLaws.{class-in-line}
 use Rattle.scanner.proofs.RunLaws.{endOf-low, endOf-high, endOf-slice, endOf-rest}
 
@@ -76,10 +79,6 @@ module _ (s : List ℕ) (at : ℕ) where
   unfolding lineFrom endOf
   size = rw (endOf-slice (inClass 1 14) s at)
 
-  -- no byte of a line ends a line
-  pub line-bytes : all inLine (slice at (lineFrom s at .end) s) ≡ true
-  line-bytes = rw text (run-all inLine (drop at s))
-
   pub lines-from :
       linesFrom at (drop at s) ≡
       record { start = at; text = slice at (lineFrom s at .end) s; ended = lineFrom s at .ended } ∷
@@ -89,3 +88,8 @@ module _ (s : List ℕ) (at : ℕ) where
       let e : ℕ = endOf (inClass 1 14) s at in
       let left : rest inLine (drop at s) ≡ drop e s = rw class-in-line (sym (endOf-rest (inClass 1 14) s at)) in
       lines-led at (drop at s) ∙ rw (← text, left) (led-at at e (slice at e s) s size)
+
+-- behind the last byte stands a line without a token
+pub last-line : (size at : ℕ) (ss : Past) → readLines size (linesFrom at []) ss ≡ finish size ss
+unfolding readLines linesFrom outcome tokens tokensFrom lexed next
+last-line size at ss = refl

@@ -1,20 +1,20 @@
 -- A written text is read back, line by line.
 -- Assumes nothing.
-use mathlib.Core.Path.{_≡_, refl, ap, _∙_}
+use mathlib.Core.Path.{_≡_, ap, _∙_}
 use mathlib.Core.Bool.{true}
 use mathlib.Core.List.{List, [], _∷_, reverseAux, reverse, reverse-reverse}
 use Prim.Native.Nat.{ℕ, _+_, _≤_}
 use lib.ListN.{length}
 use borrow.Author.Tests.{le-ltb}
-use Rattle.rules.specs.Tokens.{tokens, tokensFrom}
 use Rattle.rules.specs.Lines.{lines, linesFrom, place}
 use Rattle.rules.specs.Statements.{Statement}
 use Rattle.rules.specs.Judgement.{Past}
 use Rattle.rules.specs.Text.{lineText, textFrom}
-use Rattle.rules.specs.Reading.{states, judged, lexed, outcome, accepted, finish, next, readLines, readAny, read}
+use Rattle.rules.specs.Reading.{states, judged, outcome, accepted, finish, next, readLines, readAny, read}
 use Rattle.admitted.specs.Admitted.{admits, admitted, closes}
 use Rattle.meaning.specs.Judged.{shaped-written}
 use Rattle.scanner.specs.Laws.{and-true-right}
+use Rattle.scanner.proofs.LineLaws.{last-line}
 use Rattle.admitted.specs.AdmitLaws.{admitted-past}
 use Rattle.written.specs.LineLaws.{lineAt}
 use Rattle.written.specs.OutcomeLaws.{admits-fine, wires-legal, outcome-written, lines-written}
@@ -23,11 +23,6 @@ use Rattle.written.specs.OutcomeLaws.{admits-fine, wires-legal, outcome-
 admitted-next : (s : Statement) (more : List Statement) (ss : Past) → admitted (reverseAux more (s ∷ ss)) ≡ true → admits ss s ≡ true
 unfolding admitted
 admitted-next s more ss a = and-true-right (admitted ss) (admits ss s) (admitted-past more (s ∷ ss) a)
-
--- the empty line behind the last line end
-last-skipped : (at : ℕ) (ss : Past) (size : ℕ) → readLines size (linesFrom at []) ss ≡ finish size ss
-unfolding linesFrom readLines outcome tokens tokensFrom lexed next
-last-skipped at ss size = refl
 
 -- a line gives its statement
 pub states-written : (ss : Past) (s : Statement) (at : ℕ) → admitted ss ≡ true → admits ss s ≡ true → outcome ss (lineAt at (lineText ss s) true) ≡ states s
@@ -39,7 +34,7 @@ states-written ss s at a m =
 -- the lines of statements behind others give those statements
 pub lines-read : (size at : ℕ) (ss : Past) (more : List Statement) → admitted (reverseAux more ss) ≡ true → readLines size (linesFrom at (textFrom ss more)) ss ≡ finish size (reverseAux more ss)
 unfolding readLines next textFrom
-lines-read size at ss [] a = last-skipped at ss size
+lines-read size at ss [] a = last-line size at ss
 lines-read size at ss (s ∷ more) a =
     let m : admits ss s ≡ true = admitted-next s more ss a in
     let p : admitted ss ≡ true = admitted-past (s ∷ more) ss a in
