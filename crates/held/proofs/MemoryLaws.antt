@@ -3,7 +3,7 @@
 use Prim.Native.Nat.{ℕ, _≤_}
 use mathlib.Core.Path.{_≡_, sym, ap, _∙_, subst}
 use mathlib.Core.List.{List, [], _∷_, _++_, reverse, reverse-reverse, append-nil}
-use mathlib.Core.Bool.{Bool, true, false}
+use mathlib.Core.Bool.{true, false}
 use native.Mathlib.Omega.{arith}
 use lib.ListN.{length, length-append}
 use Rattle.rules.specs.Statements.{Statement}
@@ -22,13 +22,10 @@ use Rattle.standing.specs.Judged.{Lies}
 use Rattle.held.specs.declared.Held.{Held}
 use Rattle.held.specs.declared.Renamed.{Renamed}
 use Rattle.held.specs.Renamed.{RenamesAre}
-use Rattle.netlist.specs.Lengths.{rightSizes, sizes-exact}
+use Rattle.netlist.specs.Lengths.{rightSizes, rightLengths, sizes-exact}
 use Rattle.held.specs.Held.{restZero, HeldIs}
 use Rattle.held.specs.RenameLaws.{file-only}
 use Rattle.held.specs.HeldLaws.{partsOf, holds-many, holds-room, holds-laid, holds-sizes, holds-rest, holds-stored, stored-lies, lies-holds}
-
-abbrev sizesFit : Memory → Bool
-sizesFit m = rightSizes (length (m .names)) (length (m .strings)) (length (m .bits)) (length (m .wires)) (length (m .rows))
 
 pub names-short : (names strings bits wires rows : ℕ) → rightSizes names strings bits wires rows ≡ true → names ≤ 16384
 names-short names strings bits wires rows e = omega (arith, sizes-exact names strings bits wires rows e .0)
@@ -38,9 +35,9 @@ none-more xs ys [] e l = e ∙ append-nil ys
 none-more xs ys (y ∷ more) e l = absurd (omega (arith, ap length e, length-append ys (y ∷ more)))
 
 module _ (m : Memory) where
-  pub other-sizes : sizesFit m ≡ false → HeldIs m Held.Damaged
+  pub other-sizes : rightLengths m ≡ false → HeldIs m Held.Damaged
   unfolding HeldIs
-  other-sizes e ss rs h = never (sizesFit m) (holds-sizes h) e
+  other-sizes e ss rs h = never (rightLengths m) (holds-sizes h) e
 
   module _ (o : Replayed) (r : Replays (partsOf m) (m .rows) o) where
     pub no-statements : o ≡ Replayed.Damaged → HeldIs m Held.Damaged
@@ -89,7 +86,7 @@ module _ (m : Memory) where
           unfolding HeldIs
           other-room b ss rs h = b (room-is h)
 
-          pub memory-holds : n ≡ m .room → sizesFit m ≡ true → restZero m p u ≡ true → HeldIs m (Held.Holding p u)
+          pub memory-holds : n ≡ m .room → rightLengths m ≡ true → restZero m p u ≡ true → HeldIs m (Held.Holding p u)
           unfolding HeldIs RenamesAre
           memory-holds b z r₀ =
               let f = rw d at k in

@@ -42,7 +42,7 @@ use Rattle.standing.specs.Judged.{Lies}
 use Rattle.netlist.specs.RoomLaws.{rooms-file, Kept, renames-keep}
 use Rattle.standing.specs.RoomLaws.{room-used}
 use Rattle.held.specs.Renamed.{isRename}
-use Rattle.netlist.specs.Lengths.{rightSizes, sizes-exact}
+use Rattle.netlist.specs.Lengths.{rightSizes, rightLengths, sizes-exact}
 use Rattle.held.specs.Held.{zeroFrom, restZero}
 use Rattle.held.specs.AllowedLaws.{allowed-few, allowed-room}
 use Rattle.held.specs.RenameLaws.{RowOf, words-rename, laid-next, eights-file, length-file}
@@ -146,8 +146,8 @@ module _ {m : layouts.Memory} {ss : List Statement} {rs : List Rename} (h : Hold
   unfolding placeOf wiresIn sumsOf sizesBy
   wires-fit = sums-fit .wires
 
-  pub holds-sizes : rightSizes (length (m .names)) (length (m .strings)) (length (m .bits)) (length (m .wires)) (length (m .rows)) ≡ true
-  unfolding rightSizes placeOf
+  pub holds-sizes : rightLengths m ≡ true
+  unfolding rightLengths rightSizes placeOf
   holds-sizes =
       let a : length (m .names) ≡ 16384 = ap length (sym names-are) ∙ length-padded 16384 (S .names) names-fit in
       let b : length (m .strings) ≡ 8192 = ap length (sym strings-are) ∙ length-padded 8192 (S .strings) (omega (arith, in-place .strings, sums-fit .string-bytes)) in
@@ -240,9 +240,9 @@ module _ (m : layouts.Memory) (ss : List Statement) (p : Place) (u : Sizes)
 
   pub lies-holds :
       (rs : List Rename) → Lies (m .names) (m .wires) (m .rows) p (m .renames) (m .room) ss rs → Allowed (design ss) rs →
-      rightSizes (length (m .names)) (length (m .strings)) (length (m .bits)) (length (m .wires)) (length (m .rows)) ≡ true →
+      rightLengths m ≡ true →
       restZero m p u ≡ true → Holds m ss rs
-  unfolding restZero layout memory
+  unfolding rightLengths restZero layout memory
   lies-holds rs l a s r =
       let z = sized ss rs p u (m .renames) ep eu (l .standing) in
       let k = file-keeps ss rs in

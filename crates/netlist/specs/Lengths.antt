@@ -4,11 +4,16 @@ use Prim.Native.Nat.{ℕ, _*_}
 use mathlib.Core.Path.{_≡_}
 use mathlib.Core.Bool.{Bool, true, _&&_}
 use lib.Dec.{eqb}
+use lib.ListN.{length}
 use borrow.Author.Tests.{eqb-true}
+use Rattle.rules.specs.Layout.{Memory}
 use Rattle.scanner.specs.Laws.{and-true-left, and-true-right}
 
 unfoldable pub rightSizes : (names strings bits wires rows : ℕ) → Bool
 rightSizes n s b w r = eqb n 16384 && eqb s 8192 && eqb b 16384 && eqb w (8 * 512) && eqb r (8 * 4769)
+
+unfoldable pub rightLengths : Memory → Bool
+rightLengths m = rightSizes (length (m .names)) (length (m .strings)) (length (m .bits)) (length (m .wires)) (length (m .rows))
 
 pub sizes-exact : (n s b w r : ℕ) → rightSizes n s b w r ≡ true → (n ≡ 16384) × (s ≡ 8192) × (b ≡ 16384) × (w ≡ 8 * 512) × (r ≡ 8 * 4769)
 unfolding rightSizes

@@ -1,11 +1,11 @@
 -- Reading a file into design memory: what each outcome leaves.
 use Prim.Native.Nat.{ℕ}
 use mathlib.Core.List.{List, []}
-use mathlib.Core.Bool.{Bool, cond}
-use lib.ListN.{length}
+use mathlib.Core.Bool.{cond}
 use Rattle.rules.specs.Reading.{Answer, accepted, refused, read}
 use Rattle.rules.specs.Layout.{Memory, empty, memory, layout}
-use Rattle.netlist.specs.Lengths.{rightSizes}
+-- 1: a table or the card is lent at the wrong length
+unfoldable pub use Rattle.netlist.specs.Lengths.{rightLengths}
 
 -- number, place, and all memory lent
 pub record Result : Type 0 where
@@ -19,10 +19,6 @@ result n p m = record { number = n; place = p; memory = m }
 -- the five tables with the counts of the card
 abbrev pub lent : (names strings bits wires rows : List ℕ) (renames room : ℕ) → Memory
 lent n s b w r k m = record { names = n; strings = s; bits = b; wires = w; rows = r; renames = k; room = m }
-
--- 1: a table or the card is lent at the wrong length
-unfoldable pub rightLengths : Memory → Bool
-rightLengths m = rightSizes (length (m .names)) (length (m .strings)) (length (m .bits)) (length (m .wires)) (length (m .rows))
 
 -- on any other refusal all tables and the card are zero; on success unused room is zero
 unfoldable pub leaves : Answer → Result

@@ -4,6 +4,7 @@ use mathlib.Core.Path.{sym, _∙_}
 use native.Mathlib.Omega.{arith}
 use borrow.Author.Needs.{needs}
 use borrow.Author.Tests.{not-true, not-false}
+use Rattle.netlist.specs.Lengths.{rightLengths}
 use Rattle.held.proofs.MemoryLaws.{names-short, other-sizes, no-statements, no-renames-there, other-room, rest-left, memory-holds}
 use Rattle.held.proofs.judge_memory.Statement.{statement}
 use Rattle.held.proofs.judge_memory.Tie as tie
@@ -12,6 +13,7 @@ right-lengths-requires : tie.Need-right-lengths-requires
 right-lengths-requires c κs = search needs
 
 returns : tie.Need-returns
+unfolding rightLengths
 returns c = other-sizes _ (sym (c .before .right-lengths .ensures) ∙ not-true _ (c .if1 .taken))
 
 replay-requires : tie.Need-replay-requires
@@ -45,6 +47,7 @@ rest-is-zero-requires : tie.Need-rest-is-zero-requires
 rest-is-zero-requires c κs = search needs
 
 returns-5 : tie.Need-returns-5
+unfolding rightLengths
 returns-5 c =
     memory-holds _ _ (c .before .before .before .before .before .before .before .before .before .before .replay .ensures) _ _ (c .before .before .before .before .before .before .before .before .r .given .1) _ (c .before .before .before .before .before .before .all-renames .ensures) _ (c .before .before .before .before .s .given .1) (omega arith) (sym (c .before .before .before .before .before .before .before .before .before .before .before .before .right-lengths .ensures) ∙ not-false _ (c .before .before .before .before .before .before .before .before .before .before .before .if1 .left)) (sym (c .before .rest-is-zero .ensures) ∙ c .if3 .taken)
 
