@@ -1,109 +1,18 @@
 -- Each token of a line is fine: a name is legal, a string has no byte 0, a word is a keyword, a mark is a mark.
 -- Assumes nothing.
 use mathlib.Core.Path.{_≡_, refl}
-use mathlib.Core.Bool.{true, not}
-use mathlib.Core.List.{List, [], _∷_, _++_}
+use mathlib.Core.Bool.{true}
+use mathlib.Core.List.{List, [], _∷_}
 use Prim.Native.Nat.{ℕ, zero, suc}
-use lib.Dec.{eqb, ltb}
+use lib.Dec.{eqb}
 use lib.IntN.{pos}
 use lib.ListN.{length}
-use Rattle.rules.specs.Bytes.{byte, all, within, isLineEnd, isBlank, isNameStart, isLower, isDigit, isOctal, isValueDigit, isStringByte, isMark, legal, rest, bytesOpen}
-use Rattle.rules.specs.Tokens.{integer, Token, word, literal, isKeyword, Inside, plain, escape, octal, Turn, goes, ends, breaks, plainTurn, escapeTurn, onto, octalByte, octalTurn, turn, Quoted, closed, broken, quotedOnto, quotedBy, quoted, Step, token, done, wrong, parted, separate, nameStep, wordStep, integerStep, valueStep, numberStep, minusStep, stringStep, stepAt, step, Lexed, good, bad, tokensOnto, tokensBy, tokensFrom, tokens}
-use Rattle.scanner.specs.Laws.{by-cond, and-true-left}
+use Rattle.rules.specs.Bytes.{byte, all, within, isBlank, isNameStart, isLower, isDigit, isValueDigit, isMark, legal, rest}
+use Rattle.rules.specs.Tokens.{integer, Token, word, literal, isKeyword, plain, Quoted, closed, broken, quoted, Step, token, done, wrong, parted, separate, nameStep, wordStep, integerStep, valueStep, numberStep, minusStep, stringStep, stepAt, step, Lexed, good, bad, tokensOnto, tokensBy, tokensFrom, tokens}
+use Rattle.scanner.specs.Laws.{by-cond}
+use Rattle.strings.proofs.Laws.{quoted-bytes}
 use Rattle.written.specs.Lists.{all-cons}
 use Rattle.written.specs.TokenLaws.{fineLiteral, fineToken}
-use Rattle.scanner.specs.Lists.{all-append}
-
--- ---- strings
-
--- (shut, so that the bytes are found)
-unfoldable Raw : List ℕ → Type 0
-Raw bs = all (within 1 255) bs ≡ true
-
-raw-none : Raw []
-unfolding Raw all
-raw-none = refl
-
-raw-more : (b : ℕ) (bs : List ℕ) → within 1 255 b ≡ true → Raw bs → Raw (b ∷ bs)
-unfolding Raw
-raw-more b bs h k = all-cons (within 1 255) b bs h k
-
-raw-append : (bs cs : List ℕ) → Raw bs → Raw cs → Raw (bs ++ cs)
-unfolding Raw
-raw-append bs cs h k = all-append (within 1 255) bs cs h k
-
--- the bytes that a byte of a string gives
-data RawTurn : Turn → Type 0 where
-  raw-goes : {bs : List ℕ} {i : Inside} → Raw bs → RawTurn (goes bs i)
-  raw-ends : {bs : List ℕ} → Raw bs → RawTurn (ends bs)
-  raw-breaks : RawTurn breaks
-
--- a byte that gives itself
-raw-self : (b : ℕ) → isStringByte b ≡ true → RawTurn (goes (b ∷ []) plain)
-unfolding isStringByte
-raw-self b h = raw-goes (raw-more b [] (and-true-left (within 1 255 b) (not (isLineEnd b)) h) raw-none)
-
-plain-raw : (b : ℕ) → RawTurn (plainTurn b)
-unfolding plainTurn
-plain-raw b =
-    by-cond RawTurn (eqb b (byte "\"")) (λ e. raw-ends raw-none)
-    (λ e. by-cond RawTurn (eqb b (byte "\\")) (λ e. raw-goes raw-none)
-    (λ e. by-cond RawTurn (isStringByte b) (raw-self b) (λ e. raw-breaks)))
-
-line-end-raw : Raw (10 ∷ [])
-unfolding bytesOpen
-line-end-raw = raw-more 10 [] refl raw-none
-
-tab-raw : Raw (9 ∷ [])
-unfolding bytesOpen
-tab-raw = raw-more 9 [] refl raw-none
-
-escape-raw : (b : ℕ) → RawTurn (escapeTurn b)
-unfolding escapeTurn
-escape-raw b =
-    by-cond RawTurn (isOctal b) (λ e. raw-goes raw-none)
-    (λ e. by-cond RawTurn (eqb b (byte "n")) (λ e. raw-goes line-end-raw)
-    (λ e. by-cond RawTurn (eqb b (byte "t")) (λ e. raw-goes tab-raw)
-    (λ e. by-cond RawTurn (isStringByte b) (raw-self b) (λ e. raw-breaks))))
-
-onto-raw : (n : ℕ) {t : Turn} → within 1 255 n ≡ true → RawTurn t → RawTurn (onto n t)
-unfolding onto
-onto-raw n h (raw-goes r) = raw-goes (raw-more n _ h r)
-onto-raw n h (raw-ends r) = raw-ends (raw-more n _ h r)
-onto-raw n h raw-breaks = raw-breaks
-
-octal-raw : (n : ℕ) (t : Turn) → RawTurn t → RawTurn (octalByte n t)
-unfolding octalByte
-octal-raw n t r = by-cond RawTurn (within 1 255 n) (λ e. onto-raw n e r) (λ e. raw-breaks)
-
-turn-raw : (i : Inside) (b : ℕ) → RawTurn (turn i b)
-unfolding turn octalTurn
-turn-raw plain b = plain-raw b
-turn-raw escape b = escape-raw b
-turn-raw (octal k n) b =
-    by-cond RawTurn (isOctal b)
-    (λ e. by-cond RawTurn (ltb k 2) (λ e. raw-goes raw-none) (λ e. octal-raw _ _ (raw-goes raw-none)))
-    (λ e. octal-raw n _ (plain-raw b))
-
-data RawQuoted : Quoted → Type 0 where
-  raw-closed : {bs l : List ℕ} → Raw bs → RawQuoted (closed bs l)
-  raw-broken : RawQuoted broken
-
-quoted-onto : (bs : List ℕ) {q : Quoted} → Raw bs → RawQuoted q → RawQuoted (quotedOnto bs q)
-unfolding quotedOnto
-quoted-onto bs r (raw-closed s) = raw-closed (raw-append bs _ r s)
-quoted-onto bs r raw-broken = raw-broken
-
-quoted-by : (more : Inside → Quoted) (l : List ℕ) {t : Turn} → ((i : Inside) → RawQuoted (more i)) → RawTurn t → RawQuoted (quotedBy more l t)
-unfolding quotedBy
-quoted-by more l h (raw-goes r) = quoted-onto _ r (h _)
-quoted-by more l h (raw-ends r) = raw-closed r
-quoted-by more l h raw-breaks = raw-broken
-
-quoted-raw : (i : Inside) (l : List ℕ) → RawQuoted (quoted i l)
-unfolding quoted
-quoted-raw i [] = raw-broken
-quoted-raw i (b ∷ l) = quoted-by (λ j. quoted j l) l (λ j. quoted-raw j l) (turn-raw i b)
 
 -- ---- tokens
 
@@ -143,10 +52,10 @@ module _ (from : List ℕ) where
   minus-fine [] l = bad-token
   minus-fine (d ∷ ds) l = separate-fine _ l refl
 
-  string-fine : {q : Quoted} → RawQuoted q → FineStep (stringStep from q)
-  unfolding stringStep fineToken fineLiteral Raw
-  string-fine (raw-closed r) = separate-fine _ _ r
-  string-fine raw-broken = bad-token
+  string-fine : (q : Quoted) → ((ds l : List ℕ) → q ≡ closed ds l → all (within 1 255) ds ≡ true) → FineStep (stringStep from q)
+  unfolding stringStep fineToken fineLiteral
+  string-fine (closed ds l) h = separate-fine _ _ (h ds l refl)
+  string-fine broken h = bad-token
 
 step-at-fine : (b : ℕ) (bs : List ℕ) → FineStep (stepAt b bs)
 unfolding stepAt fineToken
@@ -155,7 +64,7 @@ step-at-fine b bs =
     (λ e. by-cond FineStep (isLower b) (λ e. word-fine (b ∷ bs) _ _)
     (λ e. by-cond FineStep (isDigit b) (λ e. number-fine (b ∷ bs) _ _)
     (λ e. by-cond FineStep (eqb b (byte "-")) (λ e. minus-fine (b ∷ bs) _ _)
-    (λ e. by-cond FineStep (eqb b (byte "\"")) (λ e. string-fine (b ∷ bs) (quoted-raw plain bs))
+    (λ e. by-cond FineStep (eqb b (byte "\"")) (λ e. string-fine (b ∷ bs) (quoted plain bs) (quoted-bytes plain bs))
     (λ e. by-cond FineStep (isMark b) (λ e. one-token e)
     (λ e. by-cond FineStep (eqb b (byte "#")) (λ e. no-token) (λ e. bad-token)))))))
 

@@ -1,12 +1,12 @@
 -- What holds of every string: of the bytes that it stands for, and of where it ends.
 -- Assumes nothing.
-use mathlib.Core.Path.{_≡_, refl}
+use mathlib.Core.Path.{_≡_}
 use mathlib.Core.Bool.{true}
 use mathlib.Core.List.{List, [], _∷_}
 use Prim.Native.Nat.{ℕ, suc, _+_, _<_, _≤_}
 use native.Mathlib.Omega.{arith}
-use lib.ListN.{length, drop, length-append, length-drop}
-use Rattle.rules.specs.Bytes.{all, within}
+use lib.ListN.{length, drop, length-append}
+use Rattle.rules.specs.Bytes.{within}
 use Rattle.rules.specs.Tokens.{Inside, plain, Turn, goes, ends, breaks, turn, Quoted, closed, broken, quotedOnto, quotedBy, quoted}
 use Rattle.strings.specs.declared.Close.{Close}
 use Rattle.strings.specs.declared.Close.the-variants.{At, Broken}
@@ -36,21 +36,20 @@ unfolding quoted
 quoted-fine j [] = tt
 quoted-fine j (b ∷ l) = turn-quoted j l (λ k. quoted k l) (λ k. quoted-fine k l) (turn j b) (turn-fine j b)
 
-fine-bytes : (n : ℕ) (q : Quoted) → FineQuoted n q → (length (bytesOf q) ≤ n) × AllBytes (bytesOf q)
-unfolding bytesOf all
-fine-bytes n (closed ds r) f = (omega (arith, f .0), f .1)
-fine-bytes n broken f = (omega arith, refl)
+few-bytes : (n : ℕ) (q : Quoted) → FineQuoted n q → length (bytesOf q) ≤ n
+unfolding bytesOf
+few-bytes n (closed ds r) f = omega (arith, f .0)
+few-bytes n broken f = omega arith
+
+-- the bytes that a string stands for are from 1 to 255
+pub quoted-bytes : (j : Inside) (l ds r : List ℕ) → quoted j l ≡ closed ds r → AllBytes ds
+quoted-bytes j l ds r e = let f : FineQuoted (length l + held j) (closed ds r) = rw e at (quoted-fine j l) in f .1
 
 module _ (l : List ℕ) where
   -- a string stands for no more bytes than are written
   pub decoded-length : length (decoded l) ≤ length l
   unfolding decoded decodedBy held
-  decoded-length = omega (arith, fine-bytes (length l + held plain) (quoted plain l) (quoted-fine plain l) .0)
-
-  -- the bytes that a string stands for are from 1 to 255
-  pub decoded-bytes : AllBytes (decoded l)
-  unfolding decoded decodedBy
-  decoded-bytes = fine-bytes (length l + held plain) (quoted plain l) (quoted-fine plain l) .1
+  decoded-length = omega (arith, few-bytes (length l + held plain) (quoted plain l) (quoted-fine plain l))
 
   pub broken-decoded : quoted plain l ≡ broken → decoded l ≡ []
   unfolding decoded decodedBy bytesOf
@@ -69,11 +68,6 @@ module _ (l : List ℕ) where
     unfolding closes isClosed
     closed-closes = rw e
 
-    -- the closing quote is read too
-    pub closed-length : length ds + length r < length l
-    unfolding held
-    closed-length = let f : FineQuoted (length l + held plain) (closed ds r) = rw e at (quoted-fine plain l) in omega (arith, f .0)
-
 -- what the answer of `string_end` says
 module _ (s : List ℕ) (at : ℕ) (r : Close) (c : CloseIs s at r) where
   pub close-broken : r ≡ Broken → quoted plain (drop at s) ≡ broken
@@ -90,9 +84,3 @@ module _ (s : List ℕ) (at : ℕ) (r : Close) (c : CloseIs s at r) where
 
     pub close-between : (at < end) × (end ≤ length s)
     close-between = rw e at (c .between)
-
-    -- the bytes between the quotes are no fewer than those that they stand for
-    pub close-length : at + length (decoded (drop at s)) < end
-    close-length =
-        let f = closed-length (drop at s) (decoded (drop at s)) (drop end s) close-closed in
-        omega (arith, simp length-drop at f, close-between .0, close-between .1)
