@@ -1,19 +1,13 @@
 -- What storing the answer about a line needs, and what it leaves in the tables.
-use Prim.Native.Nat.{ℕ, _+_, _*_, _≤_}
+use Prim.Native.Nat.{ℕ, _*_, _≤_}
 use mathlib.Core.Path.{_≡_}
 use mathlib.Core.List.{List, [], _∷_, Option·toList}
 use mathlib.Core.Option.{some}
 use lib.ListN.{length}
 use Rattle.rules.specs.Statements as rules
 use Rattle.rules.specs.Statements.{contents}
-use Rattle.rules.specs.Judgement.{Past}
 use Rattle.rules.specs.Layout as rooms
-use Rattle.rules.specs.Layout.{statementRow, used}
-use Rattle.netlist.specs.Laid.{roomsOf}
-use Rattle.past.specs.Place.{placeOf}
-use Rattle.past.specs.Sizes.{sumsOf}
-use Rattle.past.specs.declared.place.Place.{Place}
-use Rattle.past.specs.declared.sizes.Sizes.{Sizes}
+use Rattle.rules.specs.Layout.{statementRow}
 use Rattle.tokens.specs.declared.Literal.{Literal}
 use Rattle.forms.specs.Forms.{nameIn}
 use Rattle.forms.specs.declared.Span.{Span}

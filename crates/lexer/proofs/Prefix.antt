@@ -42,9 +42,6 @@ module _ (m : List ℕ) where
   carries i [] = tt
   carries i (b ∷ l) = carries-by l (λ j. quoted j l) (λ j. quoted j (l ++ m)) (λ j. carries j l) (turn i b)
 
-  pub quoted-more : (i : Inside) (l ds r : List ℕ) → quoted i l ≡ closed ds r → quoted i (l ++ m) ≡ closed ds (r ++ m)
-  quoted-more i l ds r e = rw e at (carries i l)
-
   bytes-more : (q r : Quoted) → Carries q r → isClosed q ≡ true → (bytesOf r ≡ bytesOf q) × (isClosed r ≡ true)
   unfolding bytesOf isClosed
   bytes-more (closed ds l) r c h = (rw c, rw c)

@@ -12,6 +12,7 @@ use Rattle.scanner.specs.Laws.{and-true-left, and-true-right}
 unfoldable pub rightSizes : (names strings bits wires rows : ℕ) → Bool
 rightSizes n s b w r = eqb n 16384 && eqb s 8192 && eqb b 16384 && eqb w (8 * 512) && eqb r (8 * 4769)
 
+-- of the memory that a call is lent
 unfoldable pub rightLengths : Memory → Bool
 rightLengths m = rightSizes (length (m .names)) (length (m .strings)) (length (m .bits)) (length (m .wires)) (length (m .rows))
 

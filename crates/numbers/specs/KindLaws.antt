@@ -9,7 +9,7 @@ use mathlib.Core.List.{List, [], _∷_, map}
 use Rattle.rules.specs.Tokens.{Digit, S0, S1, Sx, Sz, Sm, Sa}
 use Rattle.rules.specs.Statements.{Bit, digit, bit, Sort}
 use Rattle.rules.specs.Layout.{digitCode, bitCode, sortCode}
-use Rattle.numbers.specs.Kinds.{digitOf, bitOf, bitAt, Valid, sortOf}
+use Rattle.numbers.specs.Kinds.{digitOf, bitOf, bitAt, sortOf}
 use Rattle.numbers.specs.declared.kinds.SignalBit.{SignalBit}
 
 pub digit-back : (d : Digit) → digitOf (digitCode d) ≡ d
@@ -56,12 +56,6 @@ unfolding bitOf bitAt bitCode Within
 bit-back n (digit d) h = rw (lt-ltb (digitCode d) 6 (digit-code d)) (ap digit (digit-back d))
 bit-back n (bit w i) h = rw (le-ltb (6 + 2048 * w + i) 6 (omega arith), high w i (h .1), low w i (h .1))
 
--- (with 512 wires a code is below 1048582)
-pub code-below : (n : ℕ) (b : Bit) → Within n b → bitCode b < 6 + 2048 * n
-unfolding bitCode Within
-code-below n (digit d) h = omega (arith, digit-code d)
-code-below n (bit w i) h = omega arith
-
 -- what holds of digits and of bits of wires holds of the bit of each code
 by-code :
     (P : SignalBit → Type 0) (c : ℕ) →
@@ -82,15 +76,6 @@ code-back c = by-code (λ b. bitCode (bitOf b) ≡ c) c (λ l. code-digit c l) (
 pub codes-back : (cs : List ℕ) → map bitCode (map (λ c. bitOf (bitAt c)) cs) ≡ cs
 codes-back [] = refl
 codes-back (c ∷ cs) = ap₂ (λ (x : ℕ) (l : List ℕ). x ∷ l) (code-back c) (codes-back cs)
-
-pub valid-at : (c : ℕ) → c < 1048582 → Valid (bitAt c)
-unfolding Valid
-valid-at c h = by-code Valid c (λ l. l) (λ l. (omega arith, omega arith))
-
-pub valid-within : (b : SignalBit) → Valid b → Within 512 (bitOf b)
-unfolding Valid Within bitOf
-valid-within (SignalBit.Digit c) v = tt
-valid-within (SignalBit.Wire w i) v = v
 
 pub sort-back : (o : Sort) → sortOf (sortCode o) ≡ o
 unfolding sortOf sortCode

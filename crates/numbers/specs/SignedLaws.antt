@@ -11,13 +11,10 @@ use lib.Signed.{mag}
 use lib.Dec.{ltb, eqb}
 use borrow.Author.Tests.{lt-ltb, le-ltb, ltb-true, ltb-false, eqb-true, eqb-false}
 use Rattle.rules.specs.Tokens.{S0, S1}
-use Rattle.rules.specs.Statements.{Wire}
 use Rattle.rules.specs.Numbers.{int32}
 use Rattle.rules.specs.Signals.{twosComplement, binary}
-use Rattle.rules.specs.Session.{indexIn}
 use Rattle.rules.specs.Layout.{digitCode}
-use Rattle.numbers.specs.Signed.{signedOf, integerOf, verdictOf, IndexIs}
-use Rattle.numbers.specs.declared.signed.Index.{Index}
+use Rattle.numbers.specs.Signed.{signedOf, integerOf}
 
 pub signed-word : (z : ℤ) → int32 z ≡ true → signedOf (twosComplement z) ≡ z
 unfolding signedOf twosComplement int32
@@ -25,11 +22,6 @@ signed-word (pos n) h = rw h
 signed-word (negsuc n) h =
     let l : n < 2147483648 = ltb-true n 2147483648 h in
     rw (le-ltb (4294967295 - n) 2147483648 (omega arith)) (ap negsuc (omega arith))
-
-pub word-below : (z : ℤ) → int32 z ≡ true → twosComplement z < 4294967296
-unfolding twosComplement int32
-word-below (pos n) h = omega (arith, ltb-true n 2147483648 h)
-word-below (negsuc n) h = omega arith
 
 -- what holds of both halves of the words holds of each word's integer
 pub by-half :
@@ -60,14 +52,6 @@ unfolding int32 integerOf
 fits-size true zero h = omega arith
 fits-size true (suc n) h = omega (arith, ltb-true n 2147483648 h)
 fits-size false n h = omega (arith, ltb-true n 2147483648 h)
-
--- the author's index in a wire whose offset stands in a table as its word
-pub index-of :
-    (w : Wire) (i : ℕ) (r : Index) →
-    int32 (w .offset) ≡ true →
-    IndexIs (twosComplement (w .offset)) (w .width) (w .upto) i r →
-    indexIn w i ≡ verdictOf r
-index-of w i r h e = rw (signed-word (w .offset) h) at (e (w .signed) (w .port))
 
 -- From 2147483649 on no size fits, so a size may be cut to that
 too-large : (s : Bool) (n : ℕ) → 2147483649 ≤ n → int32 (integerOf s n) ≡ false

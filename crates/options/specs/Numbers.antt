@@ -2,7 +2,7 @@
 use Prim.Native.Nat.{ℕ}
 use mathlib.Core.Path.{_≡_}
 use mathlib.Core.List.{List}
-use mathlib.Core.Bool.{Bool, true, false, not, _&&_}
+use mathlib.Core.Bool.{Bool, true, not, _&&_}
 use lib.IntN.{ℤ, pos}
 use Rattle.rules.specs.Numbers.{int32}
 use Rattle.rules.specs.Signals.{twosComplement}

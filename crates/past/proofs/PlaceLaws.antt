@@ -1,8 +1,8 @@
--- Laws of the place behind a past: it is carried on by one statement; its fields tell the parts of the past, the context of the
--- next line and how many wires the module has.
+-- Laws of the place behind a past: it is carried on by one statement; its fields tell the context of the next line and how many wires the
+-- module has.
 -- Assumes nothing.
 use Prim.Native.Nat.{ℕ, _+_, _-_, _≤_}
-use mathlib.Core.Path.{_≡_, refl, ap, _∙_}
+use mathlib.Core.Path.{_≡_, refl, ap}
 use mathlib.Core.Bool.{Bool, true, false, not, cond}
 use mathlib.Core.List.{List, [], _∷_, _++_, flatMap, zip, zipWith}
 use native.Mathlib.Omega.{arith}
@@ -43,13 +43,6 @@ module _ {A : Type 0} where
   until-take f [] = refl
   until-take f (x ∷ xs) = by-test (f x) (λ e. rw e) (λ e. rw e (ap (λ (l : List A). x ∷ l) (until-take f xs)))
 
-  -- the last elements, by how many stand before them
-  last-take : (f : A → Bool) (xs : List A) → until f xs ≡ take (length xs - (length xs - length (until f xs))) xs
-  last-take f xs =
-      let e : length (until f xs) ≡ length xs - (length xs - length (until f xs)) =
-      omega (arith, until-le length (λ x. 1) refl length-more f xs) in
-      until-take f xs ∙ ap (λ (n : ℕ). take n xs) e
-
   sum-le : (g : A → ℕ) → ((x : A) → g x ≤ 1) → (xs : List A) → sum g xs ≤ length xs
   unfolding sum
   sum-le g h [] = omega arith
@@ -67,20 +60,6 @@ module _ {A : Type 0} where
       by-test (f x)
       (λ e. rw e)
       (λ e. rw (e, length-append, take-append-add) (ap (λ l. h x ++ l) (flatMap-take h f xs)))
-
--- each part of the past is its last statements: those behind the row where it begins
-module _ (ss : Past) where
-  pub of-module : ofModule ss ≡ take (placeOf ss .rows - placeOf ss .«module_from») ss
-  unfolding placeOf ofModule
-  of-module = last-take (is aModule) ss
-
-  pub of-cell : ofCell ss ≡ take (placeOf ss .rows - placeOf ss .«cell_from») ss
-  unfolding placeOf ofCell
-  of-cell = last-take (is aCell) ss
-
-  pub of-object : ofObject ss ≡ take (placeOf ss .rows - placeOf ss .«object_from») ss
-  unfolding placeOf ofObject
-  of-object = last-take (λ s. not (is anAttribute s)) ss
 
 -- no field is above the statements so far
 pub bounds : (ss : Past) → Bounds (placeOf ss)

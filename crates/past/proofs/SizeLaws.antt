@@ -32,10 +32,6 @@ pub same-wires : (ss : Past) → placeOf ss .wires ≡ sumsOf ss .wires
 unfolding sizesBy sumsOf placeOf wiresIn
 same-wires ss = refl
 
-pub same-modules : (ss : Past) → placeOf ss .modules ≡ sumsOf ss .modules
-unfolding sizesBy sumsOf placeOf
-same-modules ss = refl
-
 -- no size exceeds its limit exactly where each is within it
 Below : List (ℕ × ℕ) → Type 0
 Below [] = Unit {0}

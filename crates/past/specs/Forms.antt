@@ -1,7 +1,7 @@
 -- What holds of each form of a statement holds of every statement; what stands in a translated one.
 -- Assumes nothing.
 use mathlib.Core.Path.{_≡_, refl}
-use mathlib.Core.List.{List, map, Option·toList}
+use mathlib.Core.List.{map, Option·toList}
 use mathlib.Core.Option.{Option, none, some}
 use lib.IntN.{ℤ}
 use Rattle.rules.specs.Tokens.{Name}

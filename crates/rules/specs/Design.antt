@@ -1,10 +1,10 @@
 -- The design.
 use mathlib.Core.List.{List, [], _∷_, _++_, map, flatMap, zip, head?, Option·toList}
-use mathlib.Core.Option.{Option, none, some}
+use mathlib.Core.Option.{Option}
 use mathlib.Core.Bool.{Bool, cond}
 use lib.IntN.{ℤ}
 use Rattle.rules.specs.Tokens.{Name}
-use Rattle.rules.specs.Statements.{Sort, Constant, Signal, Wire, Memory, Statement, autoidx-stmt, attr-stmt, module-stmt, param-stmt, wire-stmt, memory-stmt, cell-stmt, cell-param-stmt, cell-conn-stmt, conn-stmt, proc-stmt, end-stmt, Contents, anAttribute, aModule, aParameter, aCell, is, contents, ownName}
+use Rattle.rules.specs.Statements.{Sort, Constant, Signal, Wire, Memory, Statement, autoidx-stmt, attr-stmt, module-stmt, param-stmt, wire-stmt, memory-stmt, cell-stmt, cell-param-stmt, cell-conn-stmt, conn-stmt, end-stmt, Contents, anAttribute, aModule, aParameter, aCell, is, contents, ownName}
 use Rattle.rules.specs.Judgement.{until}
 
 -- an attribute or a cell's parameter: its name and its constant

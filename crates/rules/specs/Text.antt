@@ -1,6 +1,5 @@
 -- The one written text.
 use Prim.Native.Nat.{ℕ, zero, suc, _+_, _-_, _*_, _/_, _%_}
-use Prim.Native.Char.{Char}
 use Prim.Native.String.{String}
 use mathlib.Core.List.{List, [], _∷_, _++_, map, flatMap, reverse, Option·toList}
 use mathlib.Core.Option.{Option, none, some}

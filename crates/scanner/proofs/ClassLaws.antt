@@ -1,4 +1,4 @@
--- Each test of a byte in the rules is a range of classes.
+-- Each test of a byte that a scan makes is a range of classes.
 -- Assumes nothing.
 use mathlib.Core.Path.{_≡_, refl, fun-ext}
 use mathlib.Core.Bool.{Bool, true, false, not, Bool·beq, _&&_, _||_, and-false}
@@ -8,7 +8,7 @@ use native.Mathlib.Omega.{arith}
 use lib.Dec.{T, eqb, leb, ltb, leb→le}
 use lib.ListN.{replicate, length-replicate}
 use borrow.Author.Tests.{le-leb, lt-leb, eq-eqb, ne-eqb, ltb-true, ltb-false, leb-true, leb-false}
-use Rattle.rules.specs.Bytes.{bytes, byte, within, any, all, bytesOpen, isLineEnd, isBlank, isMark, isNameStart, isNameByte, isLower, isDigit, isOctal, isValueDigit, isStringByte}
+use Rattle.rules.specs.Bytes.{bytes, byte, within, any, all, bytesOpen, isLineEnd, isBlank, isMark, isNameStart, isNameByte, isLower, isDigit, isValueDigit}
 use Rattle.scanner.specs.Class.{classOf, inClass, classOpen}
 use Rattle.scanner.specs.Laws.{by-test}
 use Rattle.scanner.proofs.Table.{both-left, both-right, every, at}
@@ -92,10 +92,6 @@ pub class-digit : isDigit ≡ inClass 9 11
 unfolding agree classOpen bytesOpen
 class-digit = range isDigit 9 11 tt (λ b h. out b h (byte "0") (byte "9") tt)
 
-pub class-octal : isOctal ≡ inClass 10 11
-unfolding agree classOpen bytesOpen
-class-octal = range isOctal 10 11 tt (λ b h. out b h (byte "0") (byte "7") tt)
-
 pub class-value-digit : isValueDigit ≡ inClass 11 13
 unfolding agree classOpen bytesOpen
 class-value-digit = range isValueDigit 11 13 tt (λ b h. none b h (bytes "01xzm-") tt)
@@ -111,10 +107,6 @@ class-lower = range isLower 13 14 tt (λ b h. out b h (byte "a") (byte "z") tt)
 pub class-name-byte : isNameByte ≡ inClass 4 14
 unfolding agree classOpen bytesOpen
 class-name-byte = range isNameByte 4 14 tt (λ b h. out b h 33 255 tt)
-
-pub class-string-byte : isStringByte ≡ inClass 2 14
-unfolding agree classOpen bytesOpen
-class-string-byte = range isStringByte 2 14 tt (λ b h. rw (out b h 1 255 tt))
 
 -- a byte of a line
 pub class-in-line : (λ b. not (isLineEnd b)) ≡ inClass 1 14

@@ -2,15 +2,12 @@
 -- Assumes nothing.
 use mathlib.Core.Path.{_≡_, sym, _∙_}
 use mathlib.Core.List.{List, [], _∷_}
-use Prim.Native.Nat.{ℕ, suc, min, _+_, _-_, _*_, _<_, _≤_}
+use Prim.Native.Nat.{ℕ, suc, _+_, _-_, _*_, _<_, _≤_}
 use native.Mathlib.Numerals.{add-one}
 use native.Mathlib.Omega.{arith}
-use lib.Dec.{leb}
 use lib.ListN.{length, getD, drop, drop-of-length-le}
 use lib.Seq.{drop-cons}
-use borrow.Author.Tests.{leb-true, leb-false, le-leb, lt-leb}
 use Rattle.rules.specs.Tokens.{number}
-use Rattle.scanner.specs.Laws.{by-test}
 use Rattle.scanner.specs.Numbers.{capped}
 
 pub capped-small : (n : ℕ) → n ≤ 2147483649 → capped n ≡ n
@@ -20,14 +17,6 @@ capped-small n h = omega arith
 pub capped-le : (n : ℕ) → capped n ≤ 2147483649
 unfolding capped
 capped-le n = omega arith
-
--- a test against a number below the cap sees no difference
-pub capped-leb : (n k : ℕ) → k < 2147483649 → leb (capped n) k ≡ leb n k
-unfolding capped
-capped-leb n k h =
-    by-test (leb n k)
-    (λ e. rw (e, le-leb (min n 2147483649) k (omega (arith, leb-true n k e))))
-    (λ e. rw (e, lt-leb (min n 2147483649) k (omega (arith, leb-false n k e))))
 
 capped-digit : (n d : ℕ) → capped (capped n * 10 + d) ≡ capped (n * 10 + d)
 unfolding capped

@@ -47,11 +47,6 @@ start-part (w ∷ ws) (suc k) h =
     rw (q, drop-append-add) (start-part ws k (omega arith))
 
 module _ (w : List ℕ) where
-  placeIn-le : (ks : List (List ℕ)) → placeIn w ks ≤ length ks
-  unfolding placeIn
-  placeIn-le [] = omega arith
-  placeIn-le (k ∷ ks) = by-test (same w k) (λ e. rw e (omega arith)) (λ e. rw e (omega (arith, placeIn-le ks)))
-
   placeIn-any : (ks : List (List ℕ)) → any (same w) ks ≡ ltb (placeIn w ks) (length ks)
   unfolding placeIn any
   placeIn-any [] = refl
@@ -71,10 +66,6 @@ module _ (w : List ℕ) where
     placeIn-found : same w (getD ks k []) ≡ true → placeIn w (drop k ks) ≡ 0
     unfolding placeIn
     placeIn-found e = rw (drop-cons ks k [], e)
-
-  pub keyword-le : keywordNumber w ≤ 32
-  unfolding keywordNumber keywords
-  keyword-le = placeIn-le keywords
 
   pub keyword-number : isKeyword w ≡ ltb (keywordNumber w) 32
   unfolding keywordNumber isKeyword keywords

@@ -79,17 +79,9 @@ module _ (f : ℕ → Bool) where
     unfolding run
     run-more t = rw t
 
-    pub run-stop : f b ≡ false → run f (b ∷ bs) ≡ []
-    unfolding run
-    run-stop t = rw t
-
     pub rest-more : f b ≡ true → rest f (b ∷ bs) ≡ rest f bs
     unfolding rest
     rest-more t = rw t
-
-    pub rest-stop : f b ≡ false → rest f (b ∷ bs) ≡ b ∷ bs
-    unfolding rest
-    rest-stop t = rw t
 
   pub run-rest : (l : List ℕ) → run f l ++ rest f l ≡ l
   unfolding run rest
@@ -104,12 +96,6 @@ module _ (f : ℕ → Bool) where
 
   pub drop-run : (l : List ℕ) → drop (length (run f l)) l ≡ rest f l
   drop-run l = ap (drop (length (run f l))) (sym (run-rest l)) ∙ drop-append-seam (run f l) (rest f l)
-
-  -- every byte of a run passes the test
-  pub run-all : (l : List ℕ) → all f (run f l) ≡ true
-  unfolding run all
-  run-all [] = refl
-  run-all (b ∷ bs) = by-cond (λ (r : List ℕ). all f r ≡ true) (f b) (λ e. rw (e, run-all bs)) (λ e. refl)
 
   -- all bytes pass the test just where the run is the whole
   pub all-run : (l : List ℕ) → all f l ≡ eqb (length (run f l)) (length l)

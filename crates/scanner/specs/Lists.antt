@@ -1,4 +1,5 @@
--- Laws of lists: joined lists, an element by its number, tests of all elements, the bits of a wire, nothing before the bytes of a string.
+-- Laws of lists: joined lists, an element by its number, tests of all elements, what holds of each, the bits of a wire, nothing before the bytes of a
+-- string.
 -- Assumes nothing.
 use mathlib.Core.Path.{_≡_, refl, sym, ap, ap₂, _∙_}
 use mathlib.Core.Bool.{Bool, true, _&&_, false≢true}

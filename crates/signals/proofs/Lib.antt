@@ -6,4 +6,3 @@ mod CutLaws
 mod SliceLaws
 mod AnswerLaws
 mod BundleLaws
-pub mod Laws

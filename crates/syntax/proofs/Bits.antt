@@ -9,7 +9,7 @@ use native.Mathlib.Omega.{arith}
 use lib.Dec.{leb}
 use lib.IntN.{natAbs}
 use lib.ListN.{take, drop}
-use lib.Seq.{slice, take-take}
+use lib.Seq.{take-take}
 use borrow.Author.Tests.{leb-true}
 use Rattle.rules.specs.Bytes.{all}
 use Rattle.rules.specs.Tokens.{Digit}

@@ -11,7 +11,7 @@ use lib.Dec.{eqb}
 use lib.IntN.{ℤ, pos}
 use Rattle.rules.specs.Bytes.{bytes, same, any, all}
 use Rattle.rules.specs.Tokens.{Name}
-use Rattle.rules.specs.Statements.{Opt, Wire, Memory, Direction, wire-stmt, memory-stmt}
+use Rattle.rules.specs.Statements.{Opt, Wire, Direction, wire-stmt, memory-stmt}
 use Rattle.rules.specs.Numbers.{int32, numberOr, goodOptions, once, goodWire, goodMemory, wireOf, memoryOf}
 use Rattle.rules.specs.Signals.{Wires, twosComplement}
 use Rattle.rules.specs.Judgement.{portNumbers, newPort}

@@ -2,15 +2,12 @@
 -- Assumes nothing.
 use mathlib.Core.Path.{_≡_, refl, sym, ap, _∙_}
 use mathlib.Core.List.{List, [], _∷_, _++_, map, flatMap, append-assoc, append-nil}
-use Prim.Native.Nat.{ℕ, zero, suc, _+_, _*_, _≤_, _<_}
+use Prim.Native.Nat.{ℕ, _+_, _*_, _≤_}
 use native.Mathlib.Omega.{arith}
-use lib.ListN.{length, getD, take, drop, length-append}
-use lib.Seq.{drop-nil, take-at, drop-append-add}
+use lib.ListN.{length, length-append}
 use Rattle.rules.specs.Layout.{padded}
 use Rattle.tables.specs.Store.{store}
 use Rattle.tables.specs.Padded.{store-padded}
-use Rattle.tables.specs.Row.{words, rowAt, words-rowAt, words-injective}
-use Rattle.tables.specs.declared.Row.{Row}
 
 -- the rows' columns in one list, as the rules write it
 abbrev pub flat : List (List ℕ) → List ℕ
@@ -42,23 +39,6 @@ pub length-flat : (rs : List (List ℕ)) → Eights rs → length (flat rs) ≡ 
 unfolding flatMap
 length-flat [] eights-none = refl
 length-flat (r ∷ rs) (eights-more e h) = let k : length (flat rs) ≡ 8 * length rs = length-flat rs h in rw length-append (omega arith)
-
--- the k-th row of them
-take-flat : (rs : List (List ℕ)) (k : ℕ) → Eights rs → take 8 (drop (8 * k) (flat rs)) ≡ getD rs k []
-unfolding flatMap
-take-flat [] k eights-none = ap (take 8) (drop-nil (8 * k))
-take-flat (r ∷ rs) zero (eights-more e h) = take-at r (flat rs) 8 e
-take-flat (r ∷ rs) (suc k) (eights-more e h) =
-    let n : 8 * suc k ≡ length r + 8 * k = omega arith in
-    ap (λ (i : ℕ). take 8 (drop i (r ++ flat rs))) n ∙ ap (take 8) (drop-append-add r (flat rs) (8 * k)) ∙ take-flat rs k h
-
-pub words-flat : (rs : List (List ℕ)) (k : ℕ) → Eights rs → k < length rs → words (rowAt (flat rs) (8 * k)) ≡ getD rs k []
-words-flat rs k h l =
-    let n : length (flat rs) ≡ 8 * length rs = length-flat rs h in
-    words-rowAt (flat rs) (8 * k) (omega arith) ∙ take-flat rs k h
-
-pub rowAt-flat : (rs : List (List ℕ)) (k : ℕ) (r : Row) → Eights rs → k < length rs → getD rs k [] ≡ words r → rowAt (flat rs) (8 * k) ≡ r
-rowAt-flat rs k r h l e = words-injective (rowAt (flat rs) (8 * k)) r (words-flat rs k h l ∙ e)
 
 -- a row stored behind the rows of a padded table
 pub store-row : (n : ℕ) (rs : List (List ℕ)) (r l : List ℕ) (at : ℕ) → l ≡ padded n (flat rs) → at ≡ 8 * length rs → Eights rs → length r ≡ 8 → 8 * length rs + 8 ≤ n → store l at r ≡ padded n (flat (rs ++ r ∷ []))

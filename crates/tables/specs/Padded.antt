@@ -8,7 +8,7 @@ use native.Mathlib.Nat.{sub-zero}
 use native.Mathlib.Omega.{arith}
 use lib.Dec.{eqb, eqb·zero-suc}
 use lib.ListN.{length, take, drop, getD, replicate, length-append, length-replicate, length-drop, take-append-drop, List·getD-eq-default, replicate-append-replicate}
-use lib.Seq.{take-append-seam, drop-append-seam, take-append-le, drop-append-le}
+use lib.Seq.{drop-append-seam}
 use Rattle.rules.specs.Bytes.{all}
 use Rattle.rules.specs.Layout.{padded, row}
 use Rattle.tables.specs.Store.{store, store-over}
@@ -55,33 +55,9 @@ padded-getD n xs i = getD-zeros xs (n - length xs) i
 pub padded-behind : (n : ℕ) (xs : List ℕ) (i : ℕ) → length xs ≤ i → _≡_ {A = ℕ} (getD (padded n xs) i 0) 0
 padded-behind n xs i h = padded-getD n xs i ∙ List·getD-eq-default xs 0 {n = i} h
 
-pub padded-take : (n : ℕ) (xs : List ℕ) → take (length xs) (padded n xs) ≡ xs
-unfolding padded
-padded-take n xs = take-append-seam xs (replicate (n - length xs) 0)
-
 pub padded-drop : (n : ℕ) (xs : List ℕ) → drop (length xs) (padded n xs) ≡ replicate (n - length xs) 0
 unfolding padded
 padded-drop n xs = drop-append-seam xs (replicate (n - length xs) 0)
-
--- a span of what is used, and a part of it that is known
-pub padded-span : (n : ℕ) (xs : List ℕ) (at k : ℕ) → at + k ≤ length xs → take k (drop at (padded n xs)) ≡ take k (drop at xs)
-unfolding padded
-padded-span n xs at k h =
-    let z : List ℕ = replicate (n - length xs) 0 in
-    let l : k ≤ length (drop at xs) = rw length-drop (omega arith) in
-    ap (take k) (drop-append-le at xs z (omega arith)) ∙ take-append-le k (drop at xs) z l
-
-pub padded-part : (n : ℕ) (xs ys zs : List ℕ) → take (length ys) (drop (length xs) (padded n (xs ++ ys ++ zs))) ≡ ys
-padded-part n xs ys zs =
-    let room : length xs + length ys ≤ length (xs ++ ys ++ zs) = simp length-append (omega arith) in
-    padded-span n (xs ++ ys ++ zs) (length xs) (length ys) room
-    ∙ ap (λ (x : List ℕ). take (length ys) (drop (length xs) x)) (append-assoc xs ys zs)
-    ∙ ap (take (length ys)) (drop-append-seam xs (ys ++ zs))
-    ∙ take-append-seam ys zs
-
--- of a given length it holds one list only
-pub padded-injective : (n : ℕ) (xs ys : List ℕ) → padded n xs ≡ padded n ys → length xs ≡ length ys → xs ≡ ys
-padded-injective n xs ys e h = sym (padded-take n xs) ∙ ap₂ take h e ∙ padded-take n ys
 
 -- behind the list stand zeros, and a table that holds the list in front and zeros behind it is the padded list
 pub padded-rest : (n : ℕ) (xs : List ℕ) → all (eqb 0) (drop (length xs) (padded n xs)) ≡ true

@@ -1,15 +1,12 @@
 -- A row of a table: its eight columns as words, and the row that stands at a place.
 -- Assumes nothing.
 use mathlib.Core.Path.{_≡_, refl, sym, ap, _∙_}
-use mathlib.Core.List.{List, [], _∷_, _++_}
+use mathlib.Core.List.{List, [], _∷_}
 use Prim.Native.Nat.{ℕ, zero, suc, _+_, _≤_}
-use native.Mathlib.Nat.{add-assoc}
 use native.Mathlib.Numerals.{towards-suc}
 use native.Mathlib.Omega.{arith}
 use lib.ListN.{length, getD, take, drop}
-use lib.Seq.{drop-cons, getD-drop}
-use Rattle.rules.specs.Layout.{padded}
-use Rattle.tables.specs.Padded.{padded-getD}
+use lib.Seq.{drop-cons}
 use Rattle.tables.specs.declared.Row.{Row}
 
 -- a row's columns, in the order in which a table holds them
@@ -30,10 +27,6 @@ rowAt l at =
       g = getD l (at + 7) 0;
     }
 
-pub length-words : (r : Row) → length (words r) ≡ 8
-unfolding words
-length-words r = refl
-
 -- words read one by one from a place on
 abbrev reads : List ℕ → ℕ → ℕ → List ℕ
 reads l at zero = []
@@ -48,20 +41,3 @@ reads-take l at (suc n) h =
 pub words-rowAt : (l : List ℕ) (at : ℕ) → at + 8 ≤ length l → words (rowAt l at) ≡ take 8 (drop at l)
 unfolding words rowAt
 words-rowAt l at h = simp towards-suc (reads-take l at 8 h)
-
--- a row put in front of other words is got back
-pub rowAt-words : (r : Row) (ys : List ℕ) → rowAt (words r ++ ys) 0 ≡ r
-unfolding words rowAt
-rowAt-words r ys = refl
-
-pub words-injective : (r s : Row) → words r ≡ words s → r ≡ s
-words-injective r s e = sym (rowAt-words r []) ∙ ap (λ (x : List ℕ). rowAt (x ++ []) 0) e ∙ rowAt-words s []
-
-pub rowAt-drop : (l : List ℕ) (at i : ℕ) → rowAt (drop at l) i ≡ rowAt l (at + i)
-unfolding rowAt
-rowAt-drop l at i = simp (getD-drop, add-assoc)
-
--- padding changes no row
-pub rowAt-padded : (n : ℕ) (xs : List ℕ) (at : ℕ) → rowAt (padded n xs) at ≡ rowAt xs at
-unfolding rowAt
-rowAt-padded n xs at = simp padded-getD

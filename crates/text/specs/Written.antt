@@ -34,10 +34,6 @@ pub written-end : {at : ℕ} {xs o p : List ℕ} {r : ℕ} → Written at xs o p
 unfolding moved
 written-end w h = omega (arith, w .place)
 
-pub written-fits : {at : ℕ} {xs o p : List ℕ} {r : ℕ} → Written at xs o p r → r ≤ 32768 → at + length xs ≤ 32768
-unfolding moved
-written-fits w h = omega (arith, w .place)
-
 -- one piece behind another
 pub written-then : {at r t : ℕ} {xs ys o p q : List ℕ} → Written at xs o p r → Written r ys p q t → Written at (xs ++ ys) o q t
 written-then {at} {r} {t} {xs} {ys} {o} {p} {q} w v =

@@ -1,4 +1,4 @@
--- A row of the layout holds its wire, and wires depend on their rows and spans only.
+-- A row of the layout holds its wire; the flags and the port's number of a row's wire are the row's.
 -- Assumes nothing.
 use Prim.Native.Nat.{ℕ, zero, suc, _+_, _*_, _/_, _%_, _≤_, _<_}
 use mathlib.Core.Path.{_≡_, refl, sym, ap, _∙_}
