@@ -60,6 +60,18 @@ fn make_call(
     )
 }
 
+// Number and place 0, with these counts.
+fn accepted(renames: u32, room: u32) -> Left
+    ensures { λ r. ⌜ r ≡ record { number = 0; place = 0; renames = renames; room = room } ⌝ }
+{
+    Left {
+        number: 0,
+        place: 0,
+        renames: renames,
+        room: room,
+    }
+}
+
 // The calls one after another, on memory that holds a design.
 fn make_calls(
     calls: &[u32],
@@ -98,12 +110,7 @@ fn make_calls(
         used = left.room;
         i = i + 1;
     }
-    Left {
-        number: 0,
-        place: 0,
-        renames: standing,
-        room: used,
-    }
+    accepted(standing, used)
 }
 
 pub fn run_calls(

@@ -1,13 +1,12 @@
--- A place that shows gives its part.
+-- A part that lies in its table is in order.
 -- Assumes nothing.
 use Prim.Native.Nat.{ℕ}
-use mathlib.Core.Path.{_≡_, refl, subst}
-use Rattle.rules.specs.Layout.{Memory}
-use Rattle.show.specs.Parts.{numberOf, bytesIn, InRange, ShownAs, ShownAt}
+use mathlib.Core.List.{List}
+use Rattle.show.specs.Parts.{InRange}
 use Rattle.show.specs.declared.Shown.{Shown}
-use Rattle.card.specs.Lent.{partOf, PartGiven}
+use Rattle.card.specs.Lent.{Ordered}
 
-pub part-given :
-    (m : Memory) (k w : ℕ) (s : Shown) → ShownAt m k w s → InRange (m .names) (m .strings) s → ShownAs m k w (numberOf s) (bytesIn (m .names) (m .strings) s) →
-    (t : Shown) → s ≡ t → PartGiven m k w (partOf t)
-part-given m k w s p i h t e = subst (λ (x : Shown). PartGiven m k w (partOf x)) e (s, p, i, h, refl)
+pub in-order : (names strings : List ℕ) (s : Shown) → InRange names strings s → Ordered s
+in-order names strings (Shown.Name s e) h = h .0
+in-order names strings (Shown.Text s e) h = h .0
+in-order names strings (Shown.Refused n) h = tt

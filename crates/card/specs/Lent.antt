@@ -1,6 +1,6 @@
 -- What a call with a lent card answers and leaves.
 use mathlib.Core.List.{List}
-use Prim.Native.Nat.{ℕ, _-_}
+use Prim.Native.Nat.{ℕ, _-_, _≤_}
 use mathlib.Core.Path.{_≡_}
 use Rattle.rules.specs.Layout.{Memory}
 use Rattle.reader.specs.Read.{Result, result, lent}
@@ -39,6 +39,12 @@ unfoldable pub partOf : Shown → PartAnswer
 partOf (Shown.Name s e) = record { number = 0; table = 1; start = s; length = e - s }
 partOf (Shown.Text s e) = record { number = 0; table = 2; start = s; length = e - s }
 partOf (Shown.Refused n) = record { number = n; table = 0; start = 0; length = 0 }
+
+-- its end is not before its start
+abbrev pub Ordered : Shown → Type 0
+Ordered (Shown.Name s e) = s ≤ e
+Ordered (Shown.Text s e) = s ≤ e
+Ordered (Shown.Refused n) = Unit {0}
 
 -- of the one part that show gives
 abbrev pub PartGiven : Memory → (k w : ℕ) → PartAnswer → Type 0

@@ -16,7 +16,7 @@ ghost use Rattle.rules.specs.Session.{Call};
 ghost use Rattle.reader.specs.Read.{result, lent, readInto};
 ghost use Rattle.session.specs.Called.{CalledAs, LookedUp, IndexGiven};
 ghost use Rattle.writer.specs.Write.{MeasuredAs, WrittenAs};
-ghost use Rattle.card.specs.Lent.{lentWith, answered, foundBy, indexedBy, writtenBy, PartGiven};
+ghost use Rattle.card.specs.Lent.{lentWith, answered, foundBy, indexedBy, writtenBy, partOf, Ordered, PartGiven};
 
 // The session card: renames standing, name room used.
 #[repr(C)]
@@ -276,6 +276,33 @@ pub extern "C" fn skytassel_write(
     }
 }
 
+// The table, the start and the length of what is shown.
+fn part_of(shown: Shown) -> PartAnswer
+    requires { ⌜ Ordered shown ⌝ }
+    ensures { λ r. ⌜ r ≡ partOf shown ⌝ }
+{
+    match shown {
+        Shown::Name { start, end } => PartAnswer {
+            number: 0,
+            table: 1,
+            start,
+            length: end - start,
+        },
+        Shown::Text { start, end } => PartAnswer {
+            number: 0,
+            table: 2,
+            start,
+            length: end - start,
+        },
+        Shown::Refused(number) => PartAnswer {
+            number,
+            table: 0,
+            start: 0,
+            length: 0,
+        },
+    }
+}
+
 #[no_mangle]
 pub extern "C" fn skytassel_show(
     names: &[u8],
@@ -301,24 +328,5 @@ pub extern "C" fn skytassel_show(
         ModuleNumber(m),
         WireNumber(w),
     );
-    match shown {
-        Shown::Name { start, end } => PartAnswer {
-            number: 0,
-            table: 1,
-            start,
-            length: end - start,
-        },
-        Shown::Text { start, end } => PartAnswer {
-            number: 0,
-            table: 2,
-            start,
-            length: end - start,
-        },
-        Shown::Refused(number) => PartAnswer {
-            number,
-            table: 0,
-            start: 0,
-            length: 0,
-        },
-    }
+    part_of(shown)
 }

@@ -139,40 +139,14 @@ fn put_cell(
 {
     let from = k + 1;
     let end = next_row(rows, 12, from, to);
+    let span = Span {
+        from: from,
+        to: end,
+    };
     let line = put_line(names, strings, bits, wires, rows, m, k, 1, out, at);
-    let parameters = put_kind(
-        names,
-        strings,
-        bits,
-        wires,
-        rows,
-        m,
-        8,
-        2,
-        Span {
-            from: from,
-            to: end,
-        },
-        out,
-        line,
-    );
-    let connections = put_kind(
-        names,
-        strings,
-        bits,
-        wires,
-        rows,
-        m,
-        9,
-        2,
-        Span {
-            from: from,
-            to: end,
-        },
-        out,
-        parameters,
-    );
-    put_bytes(out, connections, b"  end\n")
+    let set = put_kind(names, strings, bits, wires, rows, m, 8, 2, span, out, line);
+    let tied = put_kind(names, strings, bits, wires, rows, m, 9, 2, span, out, set);
+    put_bytes(out, tied, b"  end\n")
 }
 
 // An object of this kind, if the row is of it, with its attributes before it.
@@ -195,35 +169,14 @@ fn put_object(
     if row_kind(rows, k) != kind {
         return at;
     }
-    let line = put_kind(
-        names,
-        strings,
-        bits,
-        wires,
-        rows,
-        m,
-        2,
-        1,
-        Span {
-            from: object.first,
-            to: k,
-        },
-        out,
-        at,
-    );
+    let span = Span {
+        from: object.first,
+        to: k,
+    };
+    let line = put_kind(names, strings, bits, wires, rows, m, 2, 1, span, out, at);
     if kind == 7 {
-        return put_cell(
-            names,
-            strings,
-            bits,
-            wires,
-            rows,
-            m,
-            k,
-            object.to,
-            out,
-            line,
-        );
+        let to = object.to;
+        return put_cell(names, strings, bits, wires, rows, m, k, to, out, line);
     }
     put_line(names, strings, bits, wires, rows, m, k, 1, out, line)
 }
@@ -285,19 +238,8 @@ fn put_body(
     requires { ⌜ (at ≤ 32769) × (length (now bits) ≤ 16384) ⌝ }
     ensures { λ r. ⌜ Written at (bodyRows (tabled (now (names .entry)) (now (strings .entry)) (now (bits .entry)) (now (wires .entry)) (now (rows .entry))) m (span .from) (span .to - span .from)) (now (out .entry)) (now (out .exit)) r ⌝ }
 {
-    let parameters = put_kind(names, strings, bits, wires, rows, m, 4, 1, span, out, at);
-    let declared = put_objects(
-        names,
-        strings,
-        bits,
-        wires,
-        rows,
-        m,
-        5,
-        span,
-        out,
-        parameters,
-    );
+    let set = put_kind(names, strings, bits, wires, rows, m, 4, 1, span, out, at);
+    let declared = put_objects(names, strings, bits, wires, rows, m, 5, span, out, set);
     let memories = put_objects(names, strings, bits, wires, rows, m, 6, span, out, declared);
     let cells = put_objects(names, strings, bits, wires, rows, m, 7, span, out, memories);
     put_kind(
@@ -352,31 +294,11 @@ fn put_module(
     let m = module_of(wires, counts, number);
     let from = k + 1;
     let to = next_row(rows, 3, from, counts.statements);
-    let attributes = put_kind(
-        names,
-        strings,
-        bits,
-        wires,
-        rows,
-        m,
-        2,
-        0,
-        Span { from: first, to: k },
-        out,
-        at,
-    );
-    let line = put_line(names, strings, bits, wires, rows, m, k, 0, out, attributes);
-    let body = put_body(
-        names,
-        strings,
-        bits,
-        wires,
-        rows,
-        m,
-        Span { from: from, to: to },
-        out,
-        line,
-    );
+    let before = Span { from: first, to: k };
+    let inside = Span { from: from, to: to };
+    let set = put_kind(names, strings, bits, wires, rows, m, 2, 0, before, out, at);
+    let line = put_line(names, strings, bits, wires, rows, m, k, 0, out, set);
+    let body = put_body(names, strings, bits, wires, rows, m, inside, out, line);
     put_bytes(out, body, b"end\n")
 }
 

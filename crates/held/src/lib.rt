@@ -15,6 +15,7 @@ use tables::zero_from;
 ghost use mathlib.Core.Path.{_≡_};
 ghost use Prim.Native.Nat.{_≤_};
 ghost use lib.ListN.{length};
+ghost use Rattle.netlist.specs.Lengths.{rightSizes};
 ghost use Rattle.held.specs.Renamed.{isRename, RenameIs, RenamesAre};
 ghost use Rattle.held.specs.Held.{tabled, restZero, HeldIs};
 
@@ -144,6 +145,19 @@ fn rest_is_zero(
     zero_from(rows, behind)
 }
 
+// Whether the tables have their exact lengths.
+fn right_tables(names: &[u8], strings: &[u8], bits: &[u32], wires: &[u32], rows: &[u32]) -> bool
+    ensures { λ r. ⌜ r ≡ rightSizes (length (now (names .entry))) (length (now (strings .entry))) (length (now (bits .entry))) (length (now (wires .entry))) (length (now (rows .entry))) ⌝ }
+{
+    right_lengths(
+        names.len(),
+        strings.len(),
+        bits.len(),
+        wires.len(),
+        rows.len(),
+    )
+}
+
 // Damaged is memory that no file read and no renames accepted after it leave: refusal 3.
 pub fn judge_memory(
     names: &[u8],
@@ -156,13 +170,7 @@ pub fn judge_memory(
 ) -> Held
     ensures { λ r. ⌜ HeldIs (tabled (now (names .entry)) (now (strings .entry)) (now (bits .entry)) (now (wires .entry)) (now (rows .entry)) renames room) r ⌝ }
 {
-    if !right_lengths(
-        names.len(),
-        strings.len(),
-        bits.len(),
-        wires.len(),
-        rows.len(),
-    ) {
+    if !right_tables(names, strings, bits, wires, rows) {
         return Held::Damaged;
     }
     let r = replay(names, strings, bits, wires, rows);

@@ -6,6 +6,7 @@ use lib.ListN.{length}
 use Rattle.reader.specs.Read.{lent}
 use Rattle.calls.specs.Calls.{callsFrom, callsIn}
 use Rattle.calls.proofs.CallLaws.{Going, going-start, going-step, going-end, calls-start, calls-next, calls-end}
+use borrow.Author.Needs.{needs}
 use Rattle.calls.proofs.make_calls.Statement.{statement}
 use Rattle.calls.proofs.make_calls.Tie as tie
 
@@ -42,17 +43,20 @@ loop-again c = (
   going-step (c .before .before .before .before .before .before .before .before .before .before .before .before .loop .inv .5) _ _ (calls-next (now (c .before .before .before .before .before .before .before .before .before .before .before .before .before .before .before .before .before .before .before .before .before .args .calls)) (now (c .before .before .before .before .before .before .before .before .before .before .before .before .before .before .before .before .before .before .before .before .before .args .texts)) _ (c .before .before .before .before .before .before .before .before .before .before .before .before .loop .i) (omega arith)) _ (c .before .before .before .before .before .before .before .before .make-call .ensures) (c .before .before .before .before .before .before .before .before .make-call .kept .1 .1 .1 .0, refl, refl, refl, c .before .before .before .before .before .before .before .before .make-call .kept .1 .1 .1 .1 .1 .1 .1 .0) _ (c .before .before .put-answer .ensures),
 )
 
+accepted-requires : tie.Need-accepted-requires Inv-loop μ-loop
+accepted-requires c κs = search needs
+
 same-length : tie.Need-same-length Inv-loop μ-loop
-same-length c = c .before .loop .inv .1
+same-length c = c .before .before .loop .inv .1
 
 same-length-2 : tie.Need-same-length-2 Inv-loop μ-loop
-same-length-2 c = c .before .loop .inv .2
+same-length-2 c = c .before .before .loop .inv .2
 
 same-length-3 : tie.Need-same-length-3 Inv-loop μ-loop
-same-length-3 c = c .before .loop .inv .3
+same-length-3 c = c .before .before .loop .inv .3
 
 returns : tie.Need-returns Inv-loop μ-loop
-returns c = going-end (c .before .loop .inv .5) (calls-end (now (c .before .before .before .before .before .before .before .before .before .before .args .calls)) (now (c .before .before .before .before .before .before .before .before .before .before .args .texts)) _ (c .before .loop .i) (omega arith))
+returns c = rw (c .accepted .ensures) (going-end (c .before .before .loop .inv .5) (calls-end (now (c .before .before .before .before .before .before .before .before .before .before .before .args .calls)) (now (c .before .before .before .before .before .before .before .before .before .before .before .args .texts)) _ (c .before .before .loop .i) (omega arith)))
 
 pub make-calls-spec : {M : Type 1} → statement M
 make-calls-spec =
@@ -66,6 +70,7 @@ make-calls-spec =
     add-i
     loop-less
     loop-again
+    accepted-requires
     same-length
     same-length-2
     same-length-3

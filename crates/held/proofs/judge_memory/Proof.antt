@@ -9,12 +9,12 @@ use Rattle.held.proofs.MemoryLaws.{names-short, other-sizes, no-stateme
 use Rattle.held.proofs.judge_memory.Statement.{statement}
 use Rattle.held.proofs.judge_memory.Tie as tie
 
-right-lengths-requires : tie.Need-right-lengths-requires
-right-lengths-requires c κs = search needs
+right-tables-requires : tie.Need-right-tables-requires
+right-tables-requires c κs = search needs
 
 returns : tie.Need-returns
 unfolding rightLengths
-returns c = other-sizes _ (sym (c .before .right-lengths .ensures) ∙ not-true _ (c .if1 .taken))
+returns c = other-sizes _ (sym (c .before .right-tables .ensures) ∙ not-true _ (c .if1 .taken))
 
 replay-requires : tie.Need-replay-requires
 replay-requires c κs = search needs
@@ -29,7 +29,7 @@ returns-2 : tie.Need-returns-2
 returns-2 c = no-statements _ _ (c .before .before .replay .ensures) (c .enum-told .given .1)
 
 all-renames-requires : tie.Need-all-renames-requires
-all-renames-requires c κs = names-short _ _ _ _ _ (sym (c .before .before .before .before .before .right-lengths .ensures) ∙ not-false _ (c .before .before .before .before .if1 .left))
+all-renames-requires c κs = names-short _ _ _ _ _ (sym (c .before .before .before .before .before .right-tables .ensures) ∙ not-false _ (c .before .before .before .before .if1 .left))
 
 enum-known-s : tie.Need-enum-known-s
 enum-known-s c = search needs
@@ -49,7 +49,7 @@ rest-is-zero-requires c κs = search needs
 returns-5 : tie.Need-returns-5
 unfolding rightLengths
 returns-5 c =
-    memory-holds _ _ (c .before .before .before .before .before .before .before .before .before .before .replay .ensures) _ _ (c .before .before .before .before .before .before .before .before .r .given .1) _ (c .before .before .before .before .before .before .all-renames .ensures) _ (c .before .before .before .before .s .given .1) (omega arith) (sym (c .before .before .before .before .before .before .before .before .before .before .before .before .right-lengths .ensures) ∙ not-false _ (c .before .before .before .before .before .before .before .before .before .before .before .if1 .left)) (sym (c .before .rest-is-zero .ensures) ∙ c .if3 .taken)
+    memory-holds _ _ (c .before .before .before .before .before .before .before .before .before .before .replay .ensures) _ _ (c .before .before .before .before .before .before .before .before .r .given .1) _ (c .before .before .before .before .before .before .all-renames .ensures) _ (c .before .before .before .before .s .given .1) (omega arith) (sym (c .before .before .before .before .before .before .before .before .before .before .before .before .right-tables .ensures) ∙ not-false _ (c .before .before .before .before .before .before .before .before .before .before .before .if1 .left)) (sym (c .before .rest-is-zero .ensures) ∙ c .if3 .taken)
 
 returns-6 : tie.Need-returns-6
 returns-6 c = rest-left _ _ (c .before .before .before .before .before .before .before .before .before .before .replay .ensures) _ _ (c .before .before .before .before .before .before .before .before .r .given .1) (sym (c .before .rest-is-zero .ensures) ∙ c .if3 .left)
@@ -58,7 +58,7 @@ pub judge-memory-spec : {M : Type 1} → statement M
 judge-memory-spec =
     tie.close
     (tie.spec
-    right-lengths-requires
+    right-tables-requires
     returns
     replay-requires
     enum-known-r
