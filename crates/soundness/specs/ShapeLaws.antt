@@ -21,10 +21,6 @@ use Rattle.written.specs.TokenLaws.{fineLiteral, fineToken}
 unfoldable Fine : List Token → Type 0
 Fine ts = all fineToken ts ≡ true
 
-none-fine : Fine []
-unfolding Fine all
-none-fine = refl
-
 first-fine : (t : Token) (ts : List Token) → Fine (t ∷ ts) → fineToken t ≡ true
 unfolding Fine
 first-fine t ts h = all-first fineToken t ts h

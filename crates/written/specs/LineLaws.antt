@@ -145,14 +145,10 @@ in-false : (b : ℕ) → inLine b ≡ true → isLineEnd b ≡ false
 unfolding inLine
 in-false b h = not-true (isLineEnd b) h
 
--- the lines from a line on that has its end; behind the last one stands an empty line without an end
+-- the lines from a line on that has its end
 pub lines-first : (at : ℕ) (t l : List ℕ) → all inLine t ≡ true → linesFrom at (t ++ 10 ∷ l) ≡ lineAt at t true ∷ linesFrom (at + length t + 1) l
 unfolding linesFrom longer bytesOpen
 lines-first at [] l a = ap (λ (p : ℕ). lineAt at [] true ∷ linesFrom p l) (omega arith)
 lines-first at (b ∷ t) l a =
     rw (in-false b (all-first inLine b t a), lines-first (at + 1) t l (all-later inLine b t a))
     (ap (λ (p : ℕ). lineAt at (b ∷ t) true ∷ linesFrom p l) (omega arith))
-
-pub lines-last : (at : ℕ) → linesFrom at [] ≡ lineAt at [] false ∷ []
-unfolding linesFrom
-lines-last at = refl
