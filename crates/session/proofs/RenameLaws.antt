@@ -12,12 +12,11 @@ use Rattle.rules.specs.Bytes.{legal}
 use Rattle.rules.specs.Statements.{Statement}
 use Rattle.rules.specs.Judgement.{Verdict, accepted, refused, lowest, verdict}
 use Rattle.rules.specs.Design.{Design}
-use Rattle.rules.specs.Session.{Rename, roomUsed, renameCall, undoCall, numberOf}
+use Rattle.rules.specs.Session.{Rename, roomUsed, renameCall, numberOf}
 use Rattle.rules.specs.Layout.{Rooms, padded, renameRow, putRename, rooms, memory, layout}
 use Rattle.tables.specs.Store.{store}
 use Rattle.tables.specs.Padded.{store-padded, padded-unput}
 use Rattle.tables.specs.Flat.{flat, Eights, flat-snoc, length-flat, store-row}
-use Rattle.scanner.specs.Lists.{drop-last}
 use Rattle.scanner.specs.Laws.{or-false-left, or-false-right}
 use Rattle.reader.specs.Read.{lent}
 use Rattle.netlist.specs.RoomLaws.{length-rename-row}
@@ -63,11 +62,6 @@ pub refused-by : (v : Verdict (List Rename)) (n : ℕ) → numberOf v ≡ n → 
 unfolding numberOf
 refused-by (accepted rs) n e h = absurd (h (sym e))
 refused-by (refused k) n e h = ap refused e
-
-pub undo-last : (rs : List Rename) (r : Rename) → undoCall (rs ++ r ∷ []) ≡ accepted rs
-unfolding undoCall
-undo-last [] r = refl
-undo-last (q ∷ rs) r = ap accepted (drop-last (q ∷ rs) r)
 
 -- THE LAYOUT
 lent-eq :

@@ -11,9 +11,9 @@ use borrow.Author.Tests.{eqb-true}
 use Rattle.rules.specs.Statements.{Wire}
 use Rattle.rules.specs.Judgement.{Verdict, accepted, refused, verdict, lowest}
 use Rattle.rules.specs.Design.{Object, object, Module, Design}
-use Rattle.scanner.specs.Lists.{drop-last}
 use Rattle.scanner.specs.Laws.{by-test, and-true-left, and-true-right}
 use Rattle.rules.specs.Session.{Rename, wiresAt, wireAt, change, renameWire, renamed, now, rename, renameCall, undoCall, call, standing}
+use Rattle.order.specs.RenamedFine.{map-change, now-more, undo-last}
 use Rattle.theorems.specs.StandingLaws.{judged}
 
 -- the design without the names of its wires
@@ -36,12 +36,6 @@ designNameless d = record { autoidx = d .autoidx; modules = map moduleNameless (
 
 -- one element changed
 module _ {A : Type 0} (g : A → A) where
-  change-map : {B : Type 0} (f : A → B) → ((x : A) → f (g x) ≡ f x) → (i : ℕ) (xs : List A) → map f (change g i xs) ≡ map f xs
-  unfolding change
-  change-map f h i [] = refl
-  change-map f h zero (x ∷ xs) = ap (λ y. y ∷ map f xs) (h x)
-  change-map f h (suc i) (x ∷ xs) = ap (λ l. f x ∷ l) (change-map f h i xs)
-
   changed-at : (i : ℕ) (xs : List A) → getElem? (change g i xs) i ≡ Option·map g (getElem? xs i)
   unfolding change
   changed-at i [] = refl
@@ -59,11 +53,11 @@ module _ {A : Type 0} (g : A → A) where
 -- NOTHING ELSE: names of wires apart, the design is as it was read
 module-kept : (r : Rename) (o : Object Module) → moduleNameless (object (o .attributes) (o .name) (renameWire r (o .body))) ≡ moduleNameless o
 unfolding moduleNameless renameWire nameless
-module-kept r o = rw (change-map (λ w. object (w .attributes) (r .newName) (w .body)) nameless (λ w. refl) (r .wireNumber) (o .body .wires))
+module-kept r o = rw (map-change (λ w. object (w .attributes) (r .newName) (w .body)) nameless (λ w. refl) (r .wireNumber) (o .body .wires))
 
 renamed-kept : (r : Rename) (d : Design) → designNameless (renamed r d) ≡ designNameless d
 unfolding designNameless renamed
-renamed-kept r d = rw (change-map _ moduleNameless (module-kept r) (r .moduleNumber) (d .modules))
+renamed-kept r d = rw (map-change _ moduleNameless (module-kept r) (r .moduleNumber) (d .modules))
 
 pub nothing-else : (rs : List Rename) (d : Design) → designNameless (now d rs) ≡ designNameless d
 unfolding now
@@ -71,11 +65,6 @@ nothing-else [] d = refl
 nothing-else (r ∷ rs) d = nothing-else rs (renamed r d) ∙ renamed-kept r d
 
 -- THE YOUNGEST gives its wire its name, and every other wire stays as it was
-pub last-now : (rs : List Rename) (r : Rename) (d : Design) → now d (rs ++ r ∷ []) ≡ renamed r (now d rs)
-unfolding now
-last-now [] r d = refl
-last-now (q ∷ rs) r d = last-now rs r (renamed q d)
-
 abbrev given : Rename → Object Wire → Object Wire
 given r w = object (w .attributes) (r .newName) (w .body)
 
@@ -164,8 +153,8 @@ module _ (d : Design) (rs : List Rename) (r : Rename) where
         listed = refl;
         wire = p .0;
         before = p .1;
-        after = rw (last-now rs r d) (renamed-wire r (now d rs) ∙ ap (Option·map (given r)) (p .1));
-        others = λ m w h. rw (last-now rs r d) (other-wire r (now d rs) m w h);
+        after = rw (now-more d rs r) (renamed-wire r (now d rs) ∙ ap (Option·map (given r)) (p .1));
+        others = λ m w h. rw (now-more d rs r) (other-wire r (now d rs) m w h);
         else-same = nothing-else (rs ++ r ∷ []) d ∙ sym (nothing-else rs d);
       }
 
@@ -183,6 +172,4 @@ still-listed d qs r =
 
 -- AN ACCEPTED UNDO ends the youngest that stands
 pub accepted-undo : (rs : List Rename) (r : Rename) → undoCall (rs ++ r ∷ []) ≡ accepted rs
-unfolding undoCall
-accepted-undo [] r = refl
-accepted-undo (q ∷ rs) r = ap accepted (drop-last (q ∷ rs) r)
+accepted-undo rs r = undo-last rs r
