@@ -22,14 +22,11 @@ same-not : (m n : Name) → same n m ≡ false → same m n ≡ false
 same-not m n h =
     by-test (same m n) (λ t. absurd (false≢true (sym h ∙ ap (same n) (same-eq m n t) ∙ same-refl n))) (λ t. t)
 
--- the names and the wires among some statements
+-- the names among some statements
 abbrev ownNames : List Statement → List Name
 ownNames xs = map (λ s. ownName (contents s .names)) (only (among (aWire ∷ aMemory ∷ aCell ∷ [])) xs)
 
-abbrev wiresOf : List Statement → Wires
-wiresOf xs = flatMap (λ s. zip (contents s .names) (contents s .wires)) xs
-
-not-found : (n : Name) (xs : List Statement) → any (same n) (ownNames xs) ≡ false → find n (wiresOf xs) ≡ none
+not-found : (n : Name) (xs : List Statement) → any (same n) (ownNames xs) ≡ false → find n (flatMap (λ s. zip (contents s .names) (contents s .wires)) xs) ≡ none
 unfolding statementsOpen any only among flatMap zip find
 not-found n [] h = refl
 not-found n (autoidx-stmt i ∷ xs) h = not-found n xs h

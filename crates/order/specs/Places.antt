@@ -30,7 +30,8 @@ pub record Ready (z : Scope) (p : Past) : Type 0 where
   pub at : At z p
   pub free : context p .attributed ≡ false
 
-abbrev fits : Scope → Bool → Bool → Statement → Bool
+-- where it may stand
+abbrev pub fits : Scope → Bool → Bool → Statement → Bool
 fits z first attributed s = among (kinds z first attributed) s
 
 stands-in : (z : Scope) (p : Past) (s : Statement) → scope p ≡ z → ((first attributed : Bool) → fits z first attributed s ≡ true) → stands p s ≡ true

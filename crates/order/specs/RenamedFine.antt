@@ -184,20 +184,20 @@ unfoldable bitIn : List Wire → Bit → Bool
 bitIn ws (digit d) = true
 bitIn ws (bit w i) = Option·elim (getElem? ws w) false (λ v. ltb i (v .width))
 
-get-map :
-    {A B : Type 0} (P : B → Bool) (g : A → B) (xs : List A) (n : ℕ) →
-    Option·elim (getElem? xs n) false (λ x. P (g x)) ≡ Option·elim (getElem? (map g xs) n) false P
+pub elim-map :
+    {A B C : Type 0} (z : C) (f : B → C) (g : A → B) (xs : List A) (n : ℕ) →
+    Option·elim (getElem? xs n) z (λ x. f (g x)) ≡ Option·elim (getElem? (map g xs) n) z f
 unfolding Option·elim
-get-map P g [] n = refl
-get-map P g (x ∷ xs) zero = refl
-get-map P g (x ∷ xs) (suc n) = get-map P g xs n
+elim-map z f g [] n = refl
+elim-map z f g (x ∷ xs) zero = refl
+elim-map z f g (x ∷ xs) (suc n) = elim-map z f g xs n
 
 bit-in : (m : Module) (b : Bit) → fineBit (wiresIn m) b ≡ bitIn (map (λ w. w .body) (m .wires)) b
 unfolding fineBit wiresIn bitIn
 bit-in m (digit d) = refl
 bit-in m (bit w i) =
     rw reverse-reverse
-    (sym (get-map (λ (v : Name × Wire). ltb i (v .1 .width)) (λ (o : Object Wire). (o .name, o .body)) (m .wires) w) ∙ get-map (λ (v : Wire). ltb i (v .width)) (λ (o : Object Wire). o .body) (m .wires) w)
+    (sym (elim-map false (λ (v : Name × Wire). ltb i (v .1 .width)) (λ (o : Object Wire). (o .name, o .body)) (m .wires) w) ∙ elim-map false (λ (v : Wire). ltb i (v .width)) (λ (o : Object Wire). o .body) (m .wires) w)
 
 signal-renamed : (r : Rename) (m : Module) (x : Signal) → fineSignal (wiresIn (renameWire r m)) x ≡ fineSignal (wiresIn m) x
 unfolding fineSignal

@@ -31,6 +31,10 @@ fineToken (word w) = isKeyword w
 fineToken (literal c) = fineLiteral c
 fineToken (mark m) = isMark m
 
+-- (shut, so that the tokens are found)
+unfoldable pub Fine : List Token → Type 0
+Fine ts = all fineToken ts ≡ true
+
 -- the end of a line or a space
 data Gap : List ℕ → Type 0 where
   end : Gap []
