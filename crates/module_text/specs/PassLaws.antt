@@ -18,7 +18,9 @@ use Rattle.past.specs.Forms.{by-form}
 use Rattle.designs.specs.DesignLaws.{only-attribute, wires-pairs}
 use Rattle.designs.specs.Now.{numbered, nameNow, wireNow, moduleNow, designNow}
 use Rattle.designs.specs.NowLaws.{numbered-same, map-numbered, now-is}
-use Rattle.module_text.specs.Blocks.{lineOf, plainLine, attributeLines, attributesText, wireText, memoryText, cellText, moduleWires, bodyText, moduleText, designText}
+use Rattle.order.specs.Nesting.{settings}
+use Rattle.order.specs.Fine.{wiresIn}
+use Rattle.module_text.specs.Blocks.{lineOf, plainLine, attributesText, wireText, memoryText, cellText, bodyText, moduleText, designText}
 use Rattle.module_text.specs.BlockLaws.{text-modules}
 use Rattle.module_text.specs.LineLaws.{plain-line}
 use Rattle.module_text.specs.Passes.{declaredNow, named, wiresNow, linesOf, kindLines, firstLine, Print, objectLines, printWire, printMemory, cellBlock, printCell, bodyLines, printModule, fileText}
@@ -41,7 +43,7 @@ module _ (l : ℕ) (ws : Wires) where
   lines-kind : {A : Type 0} (f : A → Statement) (g : A → List ℕ) → ((x : A) → g x ≡ lineOf l ws (f x)) → (k : Kind) (xs : List A) (ss : List Statement) → map f xs ≡ only (is k) ss → kindLines k l ws ss ≡ flatMap g xs
   lines-kind f g h k xs ss e = sym (lines-map f g h xs ∙ ap (flatMap (lineOf l ws)) e ∙ lines-only k ss)
 
-  attributes-lines : (at : List Setting) → linesOf l ws (attributeLines at) ≡ attributesText l at
+  attributes-lines : (at : List Setting) → linesOf l ws (settings at) ≡ attributesText l at
   unfolding linesOf attributesText statementsOpen
   attributes-lines at = sym (lines-map (λ (a : Setting). attr-stmt (a .0) (a .1)) (λ a. plainLine l (attr-stmt (a .0) (a .1))) (λ a. sym (plain-line l ws (attr-stmt (a .0) (a .1)) refl)) at)
 
@@ -69,7 +71,7 @@ module _ {A : Type 0} where
   texts-first t f xs = texts-numbered t f 0 xs ∙ ap (flatMap t) (numbered-same (λ i. f (0 + i)) f (λ i x. ap (λ (j : ℕ). f j x) (omega arith)) xs)
 
 -- an attribute statement is the line of its setting
-is-attribute : (s : Statement) → is anAttribute s ≡ true → s ∷ [] ≡ attributeLines (settingIn s)
+is-attribute : (s : Statement) → is anAttribute s ≡ true → s ∷ [] ≡ settings (settingIn s)
 unfolding designOpen statementsOpen
 is-attribute =
     by-form _ (λ i e. cc) (λ n c e. refl) (λ n e. cc) (λ n c e. cc) (λ w n e. cc) (λ m n e. cc) (λ t n e. cc) (λ o n c e. cc) (λ n x e. cc) (λ x y e. cc) (λ n e. cc) (λ e. cc)
@@ -78,11 +80,11 @@ is-attribute =
 abbrev Steps : {A : Type 0} → Kind → Print → (List Item → List A) → (ℕ → A → List ℕ) → ℕ → List Setting → Statement → Type 0
 Steps k print given t n at s =
     (ss : List Statement) →
-    cond (is k s) (print n (attributeLines at) s ss ++ texts t (n + 1) (given (items [] ss))) (texts t n (given (items [] ss)))
+    cond (is k s) (print n (settings at) s ss ++ texts t (n + 1) (given (items [] ss))) (texts t n (given (items [] ss)))
     ≡ texts t n (given (record { attributes = at; statement = s } ∷ items [] ss))
 
 module _ {A : Type 0} (k : Kind) (print : Print) (given : List Item → List A) (t : ℕ → A → List ℕ) (none : given [] ≡ []) (step : (n : ℕ) (at : List Setting) (s : Statement) → Steps k print given t n at s) where
-  objects-text : (n : ℕ) (at : List Setting) (ss : List Statement) → objectLines k print n (attributeLines at) ss ≡ texts t n (given (items at ss))
+  objects-text : (n : ℕ) (at : List Setting) (ss : List Statement) → objectLines k print n (settings at) ss ≡ texts t n (given (items at ss))
   unfolding objectLines items texts
   objects-text n at [] = rw none
   objects-text n at (s ∷ ss) =
@@ -92,7 +94,7 @@ module _ {A : Type 0} (k : Kind) (print : Print) (given : List Item → List A) 
 
 -- ---- memories
 
-pub memories-text : (ws : Wires) (n : ℕ) (at : List Setting) (ss : List Statement) → objectLines aMemory (printMemory ws) n (attributeLines at) ss ≡ flatMap memoryText (flatMap (objectsIn (λ c. c .memories)) (items at ss))
+pub memories-text : (ws : Wires) (n : ℕ) (at : List Setting) (ss : List Statement) → objectLines aMemory (printMemory ws) n (settings at) ss ≡ flatMap memoryText (flatMap (objectsIn (λ c. c .memories)) (items at ss))
 unfolding texts printMemory memoryText statementsOpen designOpen
 memories-text ws n at ss =
     objects-text aMemory (printMemory ws) (flatMap (objectsIn (λ c. c .memories))) (λ i. memoryText) refl
@@ -104,7 +106,7 @@ memories-text ws n at ss =
 
 -- ---- wires, each with its number and its name now
 
-wire-text : (rs : List Rename) (m : ℕ) (ws : Wires) (n : ℕ) (at : List Setting) (w : Wire) (x : Name) (more : List Statement) → printWire rs m ws n (attributeLines at) (wire-stmt w x) more ≡ wireText (wireNow rs m n (object at x w))
+wire-text : (rs : List Rename) (m : ℕ) (ws : Wires) (n : ℕ) (at : List Setting) (w : Wire) (x : Name) (more : List Statement) → printWire rs m ws n (settings at) (wire-stmt w x) more ≡ wireText (wireNow rs m n (object at x w))
 unfolding printWire named wireText wireNow statementsOpen
 wire-text rs m ws n at w x more =
     ap₂ _++_ (attributes-lines 1 ws at) (plain-line 1 ws (wire-stmt w (nameNow rs m n x)) refl)
@@ -137,7 +139,7 @@ ports-text ws at ss =
     lines-kind 2 ws (λ (k : Name × Signal). cell-conn-stmt (k .0) (k .1)) (λ k. lineOf 2 ws (cell-conn-stmt (k .0) (k .1))) (λ k. refl)
     aCellConnection (each portIn (items at ss)) ss (ports-are at ss)
 
-cell-text : (ws : Wires) (n : ℕ) (at : List Setting) (t x : Name) (ss : List Statement) → printCell ws n (attributeLines at) (cell-stmt t x) ss ≡ cellText ws (object at x (cellIn t (until (λ j. is aCell (j .statement)) (items [] ss))))
+cell-text : (ws : Wires) (n : ℕ) (at : List Setting) (t x : Name) (ss : List Statement) → printCell ws n (settings at) (cell-stmt t x) ss ≡ cellText ws (object at x (cellIn t (until (λ j. is aCell (j .statement)) (items [] ss))))
 unfolding printCell cellBlock cellText statementsOpen
 cell-text ws n at t x ss =
     ap₂ _++_
@@ -149,7 +151,7 @@ cell-text ws n at t x ss =
     (plain-line 1 ws end-stmt refl)
     ∙ ap (λ (is′ : List Item). cellText ws (object at x (cellIn t is′))) (sym (items-until (is aCell) (λ s h. only-attribute s h .no-cell) [] ss))
 
-pub cells-text : (ws : Wires) (n : ℕ) (at : List Setting) (ss : List Statement) → objectLines aCell (printCell ws) n (attributeLines at) ss ≡ flatMap (cellText ws) (flatMap cellOf (blocks (is aCell) (items at ss)))
+pub cells-text : (ws : Wires) (n : ℕ) (at : List Setting) (ss : List Statement) → objectLines aCell (printCell ws) n (settings at) ss ≡ flatMap (cellText ws) (flatMap cellOf (blocks (is aCell) (items at ss)))
 unfolding texts statementsOpen designOpen
 cells-text ws n at ss =
     objects-text aCell (printCell ws) (λ is′. flatMap cellOf (blocks (is aCell) is′)) (λ i. cellText ws) refl
@@ -204,22 +206,22 @@ body-text rs m ws ss =
     (connections-text ws [] ss)
 
 -- its wires by their names now
-pub wires-seen : (rs : List Rename) (m : ℕ) (ss : List Statement) → wiresNow rs m ss ≡ moduleWires (bodyNow rs m (moduleIn (items [] ss)))
-unfolding wiresNow moduleWires declaredNow wireNow
+pub wires-seen : (rs : List Rename) (m : ℕ) (ss : List Statement) → wiresNow rs m ss ≡ wiresIn (bodyNow rs m (moduleIn (items [] ss)))
+unfolding wiresNow wiresIn declaredNow wireNow
 wires-seen rs m ss =
     let os : List (Object Wire) = flatMap (objectsIn (λ c. c .wires)) (items [] ss) in
     ap reverse
     (ap (numbered (declaredNow rs m)) (sym (wires-pairs [] ss))
     ∙ sym (map-numbered (λ (o : Object Wire). (o .name, o .body)) (wireNow rs m) (declaredNow rs m) (λ i o. refl) os))
 
-module-text : (rs : List Rename) (m : ℕ) (at : List Setting) (x : Name) (ss : List Statement) → printModule rs m (attributeLines at) (module-stmt x) ss ≡ moduleText (moduleNow rs m (object at x (moduleIn (until (λ j. is aModule (j .statement)) (items [] ss)))))
+module-text : (rs : List Rename) (m : ℕ) (at : List Setting) (x : Name) (ss : List Statement) → printModule rs m (settings at) (module-stmt x) ss ≡ moduleText (moduleNow rs m (object at x (moduleIn (until (λ j. is aModule (j .statement)) (items [] ss)))))
 unfolding printModule moduleText moduleNow plainLine
 module-text rs m at x ss =
     let b : List Statement = until (is aModule) ss in
     ap₂ _++_
     (ap₂ _++_
     (ap₂ _++_ (attributes-lines 0 [] at) refl)
-    (ap (λ (ws : Wires). bodyLines rs m ws b) (wires-seen rs m b) ∙ body-text rs m (moduleWires (bodyNow rs m (moduleIn (items [] b)))) b))
+    (ap (λ (ws : Wires). bodyLines rs m ws b) (wires-seen rs m b) ∙ body-text rs m (wiresIn (bodyNow rs m (moduleIn (items [] b)))) b))
     refl
     ∙ ap (λ (is′ : List Item). moduleText (moduleNow rs m (object at x (moduleIn is′)))) (sym (items-until (is aModule) (λ s h. only-attribute s h .no-module) [] ss))
 
