@@ -11,10 +11,11 @@ use Rattle.rules.specs.Bytes.{any, all}
 use Rattle.rules.specs.Statements.{Statement, autoidx-stmt, statementsOpen}
 use Rattle.rules.specs.Judgement.{Past, sum, among, space}
 use Rattle.rules.specs.Design.{Object, object, Module, Design, flatten}
+use Rattle.scanner.specs.Lists.{Each}
 use Rattle.admitted.specs.Admitted.{admitted, closes}
 use Rattle.order.specs.Nesting.{Entry, File, linesOfModule, linesOfFile, moduleIn, entries, fileOf}
 use Rattle.order.specs.DesignLaws.{flatMap-map, body-entries, flatten-file}
-use Rattle.order.specs.Fine.{Each, FineModule, FineDesign}
+use Rattle.order.specs.Fine.{FineModule, FineDesign}
 use Rattle.order.specs.Tally.{Through, nameTally, objectNames, attributeNames, parameterNames, cellParameterNames, cellPortNames, portTally}
 use Rattle.order.specs.Sums.{sum-reverse, all-fewer, sizes-fewer}
 use Rattle.order.specs.Apart.{sees, ApartAll, apart-admitted}

@@ -18,14 +18,14 @@ use Rattle.rules.specs.Design.{Object, object, Module, Design, flatten}
 use Rattle.rules.specs.Session.{Rename, change, renameWire, renamed, now, roomUsed, names, taken, renameCall, undoCall}
 use Rattle.admitted.specs.Admitted.{fineBit, fineSignal}
 use Rattle.scanner.specs.Laws.{by-test, same-eq, or-false-right}
-use Rattle.scanner.specs.Lists.{drop-last}
+use Rattle.scanner.specs.Lists.{drop-last, Each}
 use Rattle.past.specs.Sizes.{sizesBy, sumsOf}
 use Rattle.past.proofs.SizeLaws.{within-past, limits-within, exceeds-sums}
 use Rattle.admitted.specs.Holds.{Allowed, no-renames, one-rename}
 use Rattle.admitted.specs.StandLaws.{next-test}
 use Rattle.order.specs.Nesting.{settings}
 use Rattle.order.specs.DesignLaws.{flatMap-map}
-use Rattle.order.specs.Fine.{times, Differ, Each, wiresIn, signalsIn, portsIn, FineModule, fineAlone, FineDesign}
+use Rattle.order.specs.Fine.{times, Differ, wiresIn, signalsIn, portsIn, FineModule, fineAlone, FineDesign}
 use Rattle.order.specs.Tally.{times-none}
 use Rattle.order.specs.Sums.{sum-append, sum-map, fails, all-none, none-all}
 use Rattle.order.specs.Walks.{all-same}

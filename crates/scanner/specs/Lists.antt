@@ -1,13 +1,15 @@
 -- Laws of lists: joined lists, an element by its number, tests of all elements, the bits of a wire, nothing before the bytes of a string.
 -- Assumes nothing.
 use mathlib.Core.Path.{_≡_, refl, sym, ap, ap₂, _∙_}
-use mathlib.Core.Bool.{Bool, true, _&&_}
+use mathlib.Core.Bool.{Bool, true, _&&_, false≢true}
 use mathlib.Core.List.{List, [], _∷_, _++_, flatMap, zip, zipWith, dropLast, reverseAux, append-assoc}
 use mathlib.Core.Option.{none, some}
 use Prim.Native.Nat.{ℕ, zero, suc, _+_, _≤_}
 use native.Mathlib.Omega.{arith}
+use lib.Dec.{eqb}
 use lib.ListN.{length, getElem?}
-use Rattle.rules.specs.Bytes.{all}
+use borrow.Author.Tests.{eqb-true}
+use Rattle.rules.specs.Bytes.{all, any}
 use Rattle.rules.specs.Tokens.{Quoted, closed, broken, quotedOnto}
 use Rattle.rules.specs.Signals.{wireBits}
 use Rattle.scanner.specs.Laws.{by-test, and-true-left, and-true-right}
@@ -40,6 +42,11 @@ module _ {A : Type 0} where
   element-none (x ∷ xs) zero h = absurd (omega arith)
   element-none (x ∷ xs) (suc i) h = element-none xs i (omega arith)
 
+  -- the one between two lists
+  pub element-at : (xs : List A) (y : A) (ys : List A) (n : ℕ) → n ≡ length xs → getElem? (xs ++ y ∷ ys) n ≡ some y
+  element-at [] y ys n e = let h : n ≡ 0 = omega arith in rw h
+  element-at (x ∷ xs) y ys n e = let h : n ≡ suc (length xs) = omega arith in rw h (element-at xs y ys (length xs) refl)
+
   -- behind what is reversed stands what stood there before
   pub element-behind : (xs ys : List A) (i n : ℕ) → n ≡ length xs + i → getElem? (reverseAux xs ys) n ≡ getElem? ys i
   element-behind [] ys i n e = let q : n ≡ i = omega arith in rw q
@@ -70,6 +77,21 @@ module _ {A : Type 0} where
     all-element [] i v h e = cc
     all-element (x ∷ xs) zero v h e = let q : x ≡ v = cc in rw q at (and-true-left (f x) _ h)
     all-element (x ∷ xs) (suc i) v h e = all-element xs i v (and-true-right (f x) _ h) e
+
+-- what holds of each element, written as `p then q then tt`
+abbrev pub Each : {A : Type 0} → (A → Type 0) → List A → Type 0
+Each P [] = Unit {0}
+Each P (x ∷ xs) = P x × Each P xs
+
+infixr 20 _then_
+abbrev pub _then_ : {A B : Type 0} → A → B → A × B
+p then q = (p, q)
+
+-- holds of a number that is found among them
+pub by-any : (P : ℕ → Type 0) (xs : List ℕ) → Each P xs → (n : ℕ) → any (eqb n) xs ≡ true → P n
+unfolding any
+by-any P [] ps n h = absurd (false≢true h)
+by-any P (x ∷ xs) ps n h = by-test (eqb n x) (λ e. rw (eqb-true n x e) (ps .0)) (λ e. by-any P xs (ps .1) n (rw e at h))
 
 -- the bits of a wire are as many as they should be
 pub length-wire : (n i w : ℕ) → length (wireBits n i w) ≡ w

@@ -15,7 +15,8 @@ use Rattle.rules.specs.Tokens.{Digit, S0, S1, Sx, Sz, Sm, Sa, Literal, value, i
 use Rattle.rules.specs.Shapes as shapes
 use Rattle.rules.specs.Text.{decimalText, integerText, digitByte, escaped, literalText, tokenText, tight, behind, spaced}
 use Rattle.scanner.specs.Laws.{by-test, and-true-left, and-true-right, within-below, within-low, within-high}
-use Rattle.written.specs.Lists.{all-first, all-later, all-cons, all-map, list-passes, by-any, Stops, run-upto, rest-upto}
+use Rattle.scanner.specs.Lists.{by-any}
+use Rattle.written.specs.Lists.{all-first, all-later, all-cons, all-map, list-passes, Stops, run-upto, rest-upto}
 use Rattle.written.specs.NumberLaws.{decimal-text, Digits, some-digits, decimal-digits}
 use Rattle.written.specs.StringLaws.{quoted-string}
 
