@@ -1,13 +1,13 @@
 -- An accepted rename leaves a fine design fine; so do all that stand.
 -- Assumes nothing.
-use Prim.Native.Nat.{ℕ, zero, suc, _+_, _≤_}
+use Prim.Native.Nat.{ℕ, zero, suc, _+_, _≤_, _<_}
 use mathlib.Core.Path.{_≡_, refl, sym, ap, _∙_}
 use mathlib.Core.List.{List, [], _∷_, _++_, map, flatMap, reverse-reverse}
-use mathlib.Core.Option.{some, Option·elim}
+use mathlib.Core.Option.{Option, none, some, Option·elim}
 use mathlib.Core.Bool.{Bool, true, false, not, cond, _&&_, _||_, false≢true}
 use native.Mathlib.Nat.{le-trans}
 use native.Mathlib.Omega.{arith}
-use borrow.Author.Tests.{not-false, ltb-false}
+use borrow.Author.Tests.{not-false, leb-false, ltb-false}
 use lib.Dec.{leb, ltb}
 use lib.ListN.{length, getElem?}
 use Rattle.rules.specs.Bytes.{same, any, all, legal}
@@ -15,14 +15,14 @@ use Rattle.rules.specs.Tokens.{Name}
 use Rattle.rules.specs.Statements.{Signal, Bit, digit, bit, Wire, Statement, Kind, aModule, aParameter, aWire, aMemory, aCell, aCellParameter, aCellConnection, aConnection, anAttribute, wire-stmt, statementsOpen}
 use Rattle.rules.specs.Judgement.{sum, among, count, signalSize, valueSize, stringSize, nameSize, exceedsSize, Verdict, accepted, portNumbers}
 use Rattle.rules.specs.Design.{Object, object, Module, Design, flatten}
-use Rattle.rules.specs.Session.{Rename, change, renameWire, renamed, now, roomUsed, names, taken, renameCall, undoCall}
+use Rattle.rules.specs.Session.{Rename, wireAt, change, renameWire, renamed, now, roomUsed, names, taken, renameCall, undoCall}
 use Rattle.admitted.specs.Admitted.{fineBit, fineSignal}
-use Rattle.scanner.specs.Laws.{by-test, same-eq, or-false-right}
+use Rattle.scanner.specs.Laws.{by-test, same-eq, or-false-left, or-false-right}
 use Rattle.scanner.specs.Lists.{drop-last, Each}
 use Rattle.past.specs.Sizes.{sizesBy, sumsOf}
 use Rattle.past.proofs.SizeLaws.{within-past, limits-within, exceeds-sums}
 use Rattle.admitted.specs.Holds.{Allowed, no-renames, one-rename}
-use Rattle.admitted.specs.StandLaws.{next-test}
+use Rattle.admitted.specs.StandLaws.{verdict-is, next-test}
 use Rattle.order.specs.Nesting.{settings}
 use Rattle.order.specs.DesignLaws.{flatMap-map}
 use Rattle.order.specs.Fine.{times, Differ, wiresIn, signalsIn, portsIn, FineModule, fineAlone, FineDesign}
@@ -261,24 +261,35 @@ unfolding roomUsed sum
 room-more d rs r = omega (arith, sum-append (λ (q : Rename). length (q .newName)) rs (r ∷ []))
 
 -- WHAT AN ACCEPTED RENAME KEEPS
-pub record Kept (d : Design) (rs : List Rename) (r : Rename) : Type 0 where
+pub record Kept (d : Design) (rs qs : List Rename) (r : Rename) : Type 0 where
   pub legal : legal (r .newName) ≡ true
+  pub there : (o : Object Wire) × (wireAt d (r .moduleNumber) (r .wireNumber) ≡ some o)
   pub free : taken (now d rs) (r .moduleNumber) (r .newName) ≡ false
+  pub few : length rs < 64
   pub room : roomUsed d rs + length (r .newName) ≤ 16384
+  pub listed : rs ++ r ∷ [] ≡ qs
 
-pub accepted-keeps : (d : Design) (rs qs : List Rename) (r : Rename) → renameCall d rs r ≡ Verdict.accepted qs → Kept d rs r
+is-there : {A : Type 0} (x : Option A) → Option·elim x true (λ a. false) ≡ false → (a : A) × (x ≡ some a)
+unfolding Option·elim
+is-there none e = absurd (false≢true (sym e))
+is-there (some a) e = (a, refl)
+
+pub accepted-keeps : (d : Design) (rs qs : List Rename) (r : Rename) → renameCall d rs r ≡ Verdict.accepted qs → Kept d rs qs r
 unfolding renameCall
 accepted-keeps d rs qs r e =
     let a : List Rename = rs ++ r ∷ [] in
     let e₄ = next-test a qs 4 (not (legal (r .newName))) _ e in
     let e₆ = next-test a qs 6 _ _ (e₄ .1) in
-    let e₈ = next-test a qs 8 _ _ (e₆ .1) in
+    let e₈ = next-test a qs 8 (Option·elim (wireAt d (r .moduleNumber) (r .wireNumber)) true (λ w. false)) _ (e₆ .1) in
     let e₉ = next-test a qs 9 (taken (now d rs) (r .moduleNumber) (r .newName)) _ (e₈ .1) in
     let e₁₁ = next-test a qs 11 (leb 64 (length rs) || ltb 16384 (roomUsed d rs + length (r .newName))) [] (e₉ .1) in
     record {
       legal = not-false (legal (r .newName)) (e₄ .0);
+      there = is-there (wireAt d (r .moduleNumber) (r .wireNumber)) (e₈ .0);
       free = e₉ .0;
+      few = leb-false 64 (length rs) (or-false-left (leb 64 (length rs)) _ (e₁₁ .0));
       room = ltb-false 16384 (roomUsed d rs + length (r .newName)) (or-false-right (leb 64 (length rs)) _ (e₁₁ .0));
+      listed = verdict-is a qs (e₁₁ .1);
     }
 
 module _ (d : Design) (rs : List Rename) (r : Rename) where

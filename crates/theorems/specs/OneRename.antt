@@ -4,16 +4,16 @@ use Prim.Native.Nat.{ℕ, zero, suc}
 use mathlib.Core.Path.{_≡_, refl, sym, ap, _∙_}
 use mathlib.Core.List.{List, [], _∷_, _++_, map, append-nil}
 use mathlib.Core.Option.{Option, none, some, Option·map, Option·elim}
-use mathlib.Core.Bool.{Bool, true, false, _&&_, false≢true}
+use mathlib.Core.Bool.{false, _&&_, false≢true}
 use lib.Dec.{eqb, eqb·suc-suc}
 use lib.ListN.{getElem?}
 use borrow.Author.Tests.{eqb-true}
 use Rattle.rules.specs.Statements.{Wire}
-use Rattle.rules.specs.Judgement.{Verdict, accepted, refused, verdict, lowest}
+use Rattle.rules.specs.Judgement.{accepted}
 use Rattle.rules.specs.Design.{Object, object, Module, Design}
 use Rattle.scanner.specs.Laws.{by-test, and-true-left, and-true-right}
 use Rattle.rules.specs.Session.{Rename, wiresAt, wireAt, change, renameWire, renamed, now, rename, renameCall, undoCall, call, standing}
-use Rattle.order.specs.RenamedFine.{map-change, now-more, undo-last}
+use Rattle.order.specs.RenamedFine.{map-change, now-more, undo-last, accepted-keeps}
 use Rattle.theorems.specs.StandingLaws.{judged}
 
 -- the design without the names of its wires
@@ -97,22 +97,7 @@ module _ (r : Rename) (d : Design) where
       rw (← eqb-true (r .moduleNumber) m h, own-wires) (kept-at (given r) (r .wireNumber) w k (wiresAt d (r .moduleNumber))))
       (λ h. rw (other-wires m h))
 
--- A WIRE THAT IS THERE is there in the design read: 8 is not given for it
-isAccepted : {A : Type 0} → Verdict A → Bool
-isAccepted (accepted a) = true
-isAccepted (refused n) = false
-
-module _ {A : Type 0} (a : A) (b : Bool) (f : Object Wire → Bool) (ts : List (ℕ × Bool)) where
-  judged-wire :
-      (x : Option (Object Wire)) (q : A) →
-      verdict a (lowest ((4, b) ∷ (6, Option·elim x false f) ∷ (8, Option·elim x true (λ w. false)) ∷ ts)) ≡ accepted q → (o : Object Wire) × (x ≡ some o)
-  unfolding verdict lowest Option·elim isAccepted
-  judged-wire (some o) q e = (o, refl)
-  judged-wire none q e =
-      by-test b
-      (λ h. absurd (false≢true (ap isAccepted (rw h at e))))
-      (λ h. absurd (false≢true (ap isAccepted (rw h at e))))
-
+-- a wire that is there stays there
 still : (rs : List Rename) (d : Design) (m w : ℕ) (o : Object Wire) → wireAt d m w ≡ some o → (p : Object Wire) × (wireAt (now d rs) m w ≡ some p)
 unfolding now
 still [] d m w o e = (o, e)
@@ -125,16 +110,6 @@ still (r ∷ rs) d m w o e =
     let k : wireAt (renamed r d) m w ≡ some (given r o) = rw (← i, ← j) (renamed-wire r d ∙ ap (Option·map (given r)) at) in
     still rs (renamed r d) m w (given r o) k)
     (λ h. still rs (renamed r d) m w o (other-wire r d m w h ∙ e))
-
--- the value of an accepted verdict
-valueOr : {A : Type 0} → A → Verdict A → A
-valueOr d (accepted a) = a
-valueOr d (refused n) = d
-
-verdict-is : {A : Type 0} (a q : A) (o : Option ℕ) → verdict a o ≡ accepted q → a ≡ q
-unfolding verdict isAccepted valueOr
-verdict-is a q none e = ap (valueOr a) e
-verdict-is a q (some n) e = absurd (false≢true (ap isAccepted e))
 
 -- AN ACCEPTED RENAME
 pub record Renames (d : Design) (rs : List Rename) (r : Rename) (qs : List Rename) : Type 0 where
@@ -159,10 +134,9 @@ module _ (d : Design) (rs : List Rename) (r : Rename) where
       }
 
   pub accepted-rename : (qs : List Rename) → renameCall d rs r ≡ accepted qs → Renames d rs r qs
-  unfolding renameCall
   accepted-rename qs e =
-      let o = judged-wire _ _ _ _ _ qs e in
-      rw (← verdict-is _ qs _ e) (renames-by (o .0) (o .1))
+      let k = accepted-keeps d rs qs r e in
+      rw (← k .listed) (renames-by (k .there .0) (k .there .1))
 
 -- it stands until undone: a rename behind it, accepted or refused, leaves it listed where it is
 pub still-listed : (d : Design) (qs : List Rename) (r : Rename) → (ts : List Rename) × (standing qs (call d qs (rename r)) ≡ qs ++ ts)
