@@ -1,7 +1,7 @@
 -- The design of an admitted file is fine.
 -- Assumes nothing.
-use mathlib.Core.Path.{_≡_, refl, sym, ap, _∙_}
-use mathlib.Core.List.{List, [], _∷_, _++_, map, flatMap, reverse, reverseAux, reverseAux-append, reverse-reverse, append-assoc, Option·toList}
+use mathlib.Core.Path.{_≡_, refl, sym, _∙_}
+use mathlib.Core.List.{List, [], _∷_, _++_, map, flatMap, reverse, reverseAux, reverseAux-append, reverse-reverse, append-assoc, Option·toList, map-map}
 use mathlib.Core.Bool.{Bool, true, not}
 use native.Mathlib.Omega.{arith}
 use Rattle.rules.specs.Bytes.{all}
@@ -193,8 +193,7 @@ modules-fine (o ∷ os) e = (module-fine o (e .0), modules-fine os (e .1))
 
 map-names : (os : List (Object (List Entry))) → map (λ o. o .name) (map moduleIn os) ≡ map (λ o. o .name) os
 unfolding moduleIn
-map-names [] = refl
-map-names (o ∷ os) = ap (λ (l : List Name). o .name ∷ l) (map-names os)
+map-names os = map-map (λ o. o .name) moduleIn os
 
 never-ends : (l : List Statement) → all (λ s. not (moduleNames .ends s)) l ≡ true
 unfolding nameTally

@@ -2,7 +2,7 @@
 -- Assumes nothing.
 use Prim.Native.Nat.{ℕ}
 use mathlib.Core.Path.{_≡_, refl, sym, ap, _∙_}
-use mathlib.Core.List.{List, [], _∷_, map, flatMap, reverse, reverseAux, reverseAux-append, Option·toList}
+use mathlib.Core.List.{List, [], _∷_, map, flatMap, reverse, reverseAux, reverseAux-append, Option·toList, map-map}
 use mathlib.Core.Option.{Option, none, some}
 use mathlib.Core.Bool.{Bool, true}
 use native.Mathlib.Omega.{arith}
@@ -70,8 +70,7 @@ file-fine [] e = tt
 file-fine (o ∷ os) e = (rw (body-entries (o .body)) (e .0), file-fine os (e .1))
 
 map-names : (os : List (Object Module)) → map (λ o. o .name) (map asFile os) ≡ map (λ o. o .name) os
-map-names [] = refl
-map-names (o ∷ os) = ap (λ (l : List _). o .name ∷ l) (map-names os)
+map-names os = map-map (λ (o : Object (List Entry)). o .name) asFile os
 
 behind-file :
     (f : Past → Statement → Bool) (x : File) → Through f (reverseAux (flatMap linesOfModule (x .modules)) (opening (x .autoidx))) →

@@ -3,12 +3,11 @@
 use Prim.Native.Nat.{ℕ, _+_, _*_, _≤_, _<_}
 use mathlib.Core.Path.{_≡_, refl, sym, ap}
 use mathlib.Core.List.{List, [], _∷_, _++_}
-use mathlib.Core.Bool.{Bool, true, false}
 use native.Mathlib.Omega.{arith}
 use lib.ListN.{length, replicate, length-append}
 use Rattle.rules.specs.Bytes.{legal}
 use Rattle.rules.specs.Statements.{Statement}
-use Rattle.rules.specs.Judgement.{Verdict, accepted, refused, lowest, verdict}
+use Rattle.rules.specs.Judgement.{Verdict, accepted, refused}
 use Rattle.rules.specs.Design.{Design}
 use Rattle.rules.specs.Session.{Rename, roomUsed, renameCall, numberOf}
 use Rattle.rules.specs.Layout.{Rooms, padded, renameRow, putRename, rooms, memory, layout}
@@ -19,6 +18,7 @@ use Rattle.reader.specs.Read.{lent}
 use Rattle.netlist.specs.RoomLaws.{length-rename-row}
 use Rattle.order.specs.RenamedFine.{accepted-keeps}
 use Rattle.standing.specs.JudgedLaws.{legal-short}
+use Rattle.held.specs.AllowedLaws.{number-accepted}
 use Rattle.held.specs.RenameLaws.{file-last}
 
 -- WHAT AN ACCEPTED RENAME KEEPS
@@ -28,23 +28,9 @@ pub record Passes (d : Design) (rs : List Rename) (r : Rename) : Type 0 where
   pub few : length rs < 64
   pub room : roomUsed d rs + length (r .newName) ≤ 16384
 
--- no test holds where the number is 0
-none-holds : (q : List Rename) (a b c d e : Bool) → let v = verdict q (lowest ((4, a) ∷ (6, b) ∷ (8, c) ∷ (9, d) ∷ (11, e) ∷ [])) in numberOf v ≡ 0 → v ≡ accepted q
-unfolding numberOf verdict lowest
-none-holds q true b c d e h = absurd (omega arith)
-none-holds q false true c d e h = absurd (omega arith)
-none-holds q false false true d e h = absurd (omega arith)
-none-holds q false false false true e h = absurd (omega arith)
-none-holds q false false false false true h = absurd (omega arith)
-none-holds q false false false false false h = refl
-
-is-accepted : (d : Design) (rs : List Rename) (r : Rename) → numberOf (renameCall d rs r) ≡ 0 → renameCall d rs r ≡ accepted (rs ++ r ∷ [])
-unfolding renameCall
-is-accepted d rs r h = none-holds (rs ++ r ∷ []) _ _ _ _ _ h
-
 pub passes : (d : Design) (rs : List Rename) (r : Rename) → numberOf (renameCall d rs r) ≡ 0 → Passes d rs r
 passes d rs r h =
-    let e = is-accepted d rs r h in
+    let e = number-accepted d rs r h in
     let k = accepted-keeps d rs (rs ++ r ∷ []) r e in
     record { is = e; short = legal-short (r .newName) (k .legal); few = k .few; room = k .room }
 
