@@ -15,7 +15,7 @@ use Rattle.rules.specs.Session.{Rename, now}
 use Rattle.rules.specs.Text.{text}
 use Rattle.scanner.specs.Laws.{by-test}
 use Rattle.past.specs.Forms.{by-form}
-use Rattle.designs.specs.DesignLaws.{only-attribute, wires-pairs}
+use Rattle.designs.specs.DesignLaws.{only-attribute, items-until, wires-pairs}
 use Rattle.designs.specs.Now.{numbered, nameNow, wireNow, moduleNow, designNow}
 use Rattle.designs.specs.NowLaws.{numbered-same, map-numbered, now-is}
 use Rattle.order.specs.Nesting.{settings}
@@ -24,7 +24,7 @@ use Rattle.module_text.specs.Blocks.{lineOf, plainLine, attributesText, 
 use Rattle.module_text.specs.BlockLaws.{text-modules}
 use Rattle.module_text.specs.LineLaws.{plain-line}
 use Rattle.module_text.specs.Passes.{declaredNow, named, wiresNow, linesOf, kindLines, firstLine, Print, objectLines, printWire, printMemory, cellBlock, printCell, bodyLines, printModule, fileText}
-use Rattle.module_text.specs.StatementLaws.{items-until, parameters-are, connections-are, cell-parameters-are, ports-are}
+use Rattle.module_text.specs.StatementLaws.{parameters-are, connections-are, cell-parameters-are, ports-are}
 
 -- ---- the lines of a kind
 

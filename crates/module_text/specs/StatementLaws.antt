@@ -1,14 +1,14 @@
 -- What a module and a cell of a design hold is the statements of a kind behind their lines.
 -- Assumes nothing.
-use mathlib.Core.Path.{_≡_, refl, ap}
-use mathlib.Core.Bool.{Bool, true, false, cond}
+use mathlib.Core.Path.{_≡_, refl}
+use mathlib.Core.Bool.{true, false, cond}
 use mathlib.Core.Option.{Option, none, some}
 use mathlib.Core.List.{List, [], _∷_, _++_, map, map-append, flatMap, head?, Option·toList}
 use lib.Dec.{eqb}
 use borrow.Author.Tests.{eqb-true}
 use Rattle.rules.specs.Statements.{Constant, Statement, param-stmt, cell-param-stmt, cell-conn-stmt, conn-stmt, Kind, code, contents, anAttribute, aParameter, aCellParameter, aCellConnection, aConnection, is, statementsOpen}
-use Rattle.rules.specs.Judgement.{until, only}
-use Rattle.rules.specs.Design.{Setting, Item, settingIn, items, parameterIn, portIn, connectionIn, cellParameterIn, each, designOpen}
+use Rattle.rules.specs.Judgement.{only}
+use Rattle.rules.specs.Design.{Setting, settingIn, items, parameterIn, portIn, connectionIn, cellParameterIn, each, designOpen}
 use Rattle.scanner.specs.Laws.{by-test}
 use Rattle.past.specs.Forms.{by-form}
 
@@ -55,12 +55,3 @@ unfolding designOpen statementsOpen
 ports-are =
     of-kind aCellConnection portIn (λ k. cell-conn-stmt (k .0) (k .1)) refl
     (by-form _ (λ i. refl) (λ n c. refl) (λ n. refl) (λ n c. refl) (λ w n. refl) (λ m n. refl) (λ t n. refl) (λ o n c. refl) (λ n x. refl) (λ x y. refl) (λ n. refl) refl)
-
--- THE ITEMS OF A BLOCK are those of the statements behind the line that opens it
-pub items-until : (f : Statement → Bool) → ((s : Statement) → is anAttribute s ≡ true → f s ≡ false) → (at : List Setting) (ss : List Statement) → until (λ j. f (j .statement)) (items at ss) ≡ items at (until f ss)
-unfolding items until
-items-until f h at [] = refl
-items-until f h at (s ∷ ss) =
-    by-test (is anAttribute s)
-    (λ e. rw (h s e, e) (items-until f h (at ++ settingIn s) ss))
-    (λ e. by-test (f s) (λ q. rw (e, q)) (λ q. rw (q, e, q) (ap (λ (l : List Item). record { attributes = at; statement = s } ∷ l) (items-until f h [] ss))))
