@@ -90,7 +90,7 @@ module _ {A : Type 0} (k : Kind) (print : Print) (given : List Item → List A) 
   objects-text n at (s ∷ ss) =
       by-test (is anAttribute s)
       (λ e. rw (e, is-attribute s e, ← map-append) (objects-text n (at ++ settingIn s) ss))
-      (λ e. rw (e, objects-text (n + 1) [] ss, objects-text n [] ss) (step n at s ss))
+      (λ e. rw e (ap₂ (λ (a b : List ℕ). cond (is k s) (print n (settings at) s ss ++ a) b) (objects-text (n + 1) [] ss) (objects-text n [] ss) ∙ step n at s ss))
 
 -- ---- memories
 
