@@ -103,7 +103,7 @@ unfolding among is
 meaning-among ks ws sh = ap (λ (k : Kind). any (λ l. eqb (code l) (code k)) ks) (meaning-kind ws sh)
 
 -- no test holds of an accepted shape, and the statement is what it means
-verdict-is : {A : Type 0} (a b : A) → verdict a (lowest []) ≡ Verdict.accepted b → a ≡ b
+pub verdict-is : {A : Type 0} (a b : A) → verdict a (lowest []) ≡ Verdict.accepted b → a ≡ b
 unfolding lowest verdict
 verdict-is a b e = cc
 

@@ -1,6 +1,6 @@
 -- Calls made one after another on memory that holds a design.
 -- Assumes nothing.
-use Prim.Native.Nat.{ℕ, zero, suc, _+_, _-_, _*_, _/_, _≤_, _<_}
+use Prim.Native.Nat.{ℕ, suc, _+_, _-_, _*_, _/_, _≤_, _<_}
 use mathlib.Core.Path.{_≡_, refl, sym, ap, ap₂, _∙_}
 use mathlib.Core.List.{List, [], _∷_, _++_, append-assoc, append-nil}
 use mathlib.Core.Bool.{true}
@@ -24,11 +24,6 @@ use Rattle.scanner.specs.Laws.{never}
 use Rattle.calls.proofs.OneLaws.{holds-one}
 
 -- THE ANSWERS
-pub set-past : (l : List ℕ) (i n : ℕ) → length l ≤ i → set l i n ≡ l
-set-past [] i n h = refl
-set-past (x ∷ l) zero n h = absurd (omega arith)
-set-past (x ∷ l) (suc i) n h = ap (λ (r : List ℕ). x ∷ r) (set-past l i n (omega arith))
-
 answered-none : (old : List ℕ) → answered old [] ≡ old
 unfolding answered
 answered-none [] = refl

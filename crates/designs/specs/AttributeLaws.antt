@@ -13,7 +13,7 @@ use Rattle.rules.specs.Judgement.{Past, until, wires, ofModule, ofObject}
 use Rattle.rules.specs.Design.{Setting, Object, object, Item, settingIn, items, objectsIn, design}
 use Rattle.rules.specs.Session.{wireAt}
 use Rattle.scanner.specs.Laws.{by-test}
-use Rattle.scanner.specs.Lists.{flatMap-append}
+use Rattle.scanner.specs.Lists.{element-at, flatMap-append}
 use Rattle.designs.specs.Modules.{statementsOf, wiresOf, moduleCount}
 use Rattle.designs.specs.ListLaws.{flatMap-back}
 use Rattle.designs.specs.DesignLaws.{only-attribute, wires-pairs, wires-at}
@@ -52,10 +52,6 @@ waiting-past (s ∷ ps) =
     (λ e. rw e)
 
 -- a wire's statement among those of its module
-at-seam : {A : Type 0} (xs : List A) (y : A) (ys : List A) (n : ℕ) → n ≡ length xs → getElem? (xs ++ y ∷ ys) n ≡ some y
-at-seam [] y ys n e = let h : n ≡ 0 = omega arith in rw h
-at-seam (x ∷ xs) y ys n e = let h : n ≡ suc (length xs) = omega arith in rw h (at-seam xs y ys (length xs) refl)
-
 length-wires-back : (ps : Past) → length (wiresOf (reverse ps)) ≡ length (wiresOf ps)
 unfolding flatMap
 length-wires-back [] = refl
@@ -78,7 +74,7 @@ module _ (w : Wire) (n : Name) (ps : Past) (rs : List Statement) where
   unfolding wireAt
   wire-in-module ss m e =
       ap (λ (l : List (Object Wire)). getElem? l (length (wiresOf ps))) (wires-at ss m ∙ ap (λ (l : List Statement). flatMap (objectsIn (λ c. c .wires)) (items [] l)) e ∙ wire-items)
-      ∙ at-seam (flatMap (objectsIn (λ c. c .wires)) (items [] (reverse ps))) (object (settingsBefore ps) n w) (flatMap (objectsIn (λ c. c .wires)) (items [] rs)) (length (wiresOf ps)) (sym wires-before)
+      ∙ element-at (flatMap (objectsIn (λ c. c .wires)) (items [] (reverse ps))) (object (settingsBefore ps) n w) (flatMap (objectsIn (λ c. c .wires)) (items [] rs)) (length (wiresOf ps)) (sym wires-before)
 
 -- the attributes before a statement stand in its module
 object-in-module : (ps : Past) → ofObject (ofModule ps) ≡ ofObject ps

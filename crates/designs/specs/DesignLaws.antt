@@ -42,14 +42,14 @@ only-attribute (conn-stmt x y) e = record { no-module = refl; no-cell = refl; no
 only-attribute (proc-stmt n) e = record { no-module = refl; no-cell = refl; no-wires = refl; no-memories = refl }
 only-attribute end-stmt e = record { no-module = refl; no-cell = refl; no-wires = refl; no-memories = refl }
 
--- THE ITEMS OF A MODULE are those of the statements behind its line
-items-until : (at : List Setting) (ss : List Statement) → until (λ j. is aModule (j .statement)) (items at ss) ≡ items at (until (is aModule) ss)
-unfolding until items
-items-until at [] = refl
-items-until at (s ∷ ss) =
+-- THE ITEMS OF A BLOCK are those of the statements behind the line that opens it
+pub items-until : (f : Statement → Bool) → ((s : Statement) → is anAttribute s ≡ true → f s ≡ false) → (at : List Setting) (ss : List Statement) → until (λ j. f (j .statement)) (items at ss) ≡ items at (until f ss)
+unfolding items until
+items-until f h at [] = refl
+items-until f h at (s ∷ ss) =
     by-test (is anAttribute s)
-    (λ e. rw (only-attribute s e .no-module, e) (items-until (at ++ settingIn s) ss))
-    (λ e. by-test (is aModule s) (λ m. rw (e, m)) (λ m. rw (m, e, m, items-until [] ss)))
+    (λ e. rw (h s e, e) (items-until f h (at ++ settingIn s) ss))
+    (λ e. by-test (f s) (λ q. rw (e, q)) (λ q. rw (q, e, q) (ap (λ (l : List Item). record { attributes = at; statement = s } ∷ l) (items-until f h [] ss))))
 
 blocks-items : (at : List Setting) (ss : List Statement) → map (λ b. b .1) (blocks (is aModule) (items at ss)) ≡ map (items []) (modulesIn ss)
 unfolding items blocks modulesIn
@@ -57,7 +57,7 @@ blocks-items at [] = refl
 blocks-items at (s ∷ ss) =
     by-test (is anAttribute s)
     (λ e. rw (only-attribute s e .no-module, e) (blocks-items (at ++ settingIn s) ss))
-    (λ e. by-test (is aModule s) (λ m. rw (e, m, items-until [] ss, blocks-items [] ss)) (λ m. rw (e, m) (blocks-items [] ss)))
+    (λ e. by-test (is aModule s) (λ m. rw (e, m, items-until (is aModule) (λ q h. only-attribute q h .no-module) [] ss, blocks-items [] ss)) (λ m. rw (e, m) (blocks-items [] ss)))
 
 -- as many modules as module lines
 length-modules : (ss : List Statement) → length (modulesIn ss) ≡ sum (count (aModule ∷ [])) ss

@@ -1,13 +1,11 @@
 -- Renames each of which was accepted after those before it: the first ones of them, and how many bytes of names they use.
 -- Assumes nothing.
-use Prim.Native.Nat.{_+_, _≤_}
+use Prim.Native.Nat.{_≤_}
 use mathlib.Core.Path.{_≡_, refl, sym, ap, _∙_, subst}
 use mathlib.Core.List.{List, [], _∷_, _++_, reverse, reverse-cons, reverse-append, reverse-reverse, append-assoc, append-nil}
-use mathlib.Core.Bool.{Bool, true, false, _||_}
+use mathlib.Core.Bool.{Bool, true, false}
 use native.Mathlib.Omega.{arith}
-use lib.Dec.{leb}
 use lib.ListN.{length, length-append}
-use borrow.Author.Tests.{leb-false}
 use Rattle.rules.specs.Judgement.{lowest, accepted, verdict}
 use Rattle.rules.specs.Design.{Design}
 use Rattle.rules.specs.Session.{Rename, roomUsed, renameCall, numberOf}
@@ -78,24 +76,11 @@ module _ (d : Design) (rs : List Rename) (r : Rename) where
   unfolding numberOf
   accepted-number e = ap numberOf e
 
-last-test : (rs qs : List Rename) (a b c d e f : Bool) → verdict rs (lowest ((4, a) ∷ (6, b) ∷ (8, c) ∷ (9, d) ∷ (11, e || f) ∷ [])) ≡ accepted qs → e ≡ false
-unfolding verdict lowest
-last-test rs qs true b c d e f h = cc
-last-test rs qs false true c d e f h = cc
-last-test rs qs false false true d e f h = cc
-last-test rs qs false false false true e f h = cc
-last-test rs qs false false false false true f h = cc
-last-test rs qs false false false false false f h = refl
-
-accepted-few : (d : Design) (rs qs : List Rename) (r : Rename) → renameCall d rs r ≡ accepted qs → leb 64 (length rs) ≡ false
-unfolding renameCall
-accepted-few d rs qs r e = last-test (rs ++ r ∷ []) qs _ _ _ _ (leb 64 (length rs)) _ e
-
 module _ {d : Design} where
   pub allowed-few : {qs : List Rename} → Allowed d qs → length qs ≤ 64
   allowed-few no-renames = omega arith
   allowed-few (one-rename rs r a e q) =
-      rw q (omega (arith, length-append rs (r ∷ []), leb-false 64 (length rs) (accepted-few d rs (rs ++ r ∷ []) r e)))
+      rw q (omega (arith, length-append rs (r ∷ []), accepted-keeps d rs (rs ++ r ∷ []) r e .few))
 
   pub allowed-room : {qs : List Rename} → roomUsed d [] ≤ 16384 → Allowed d qs → roomUsed d qs ≤ 16384
   allowed-room h no-renames = h

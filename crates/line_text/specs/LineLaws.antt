@@ -3,16 +3,16 @@
 use mathlib.Core.Path.{_≡_, sym, ap, _∙_}
 use mathlib.Core.Bool.{false, not, cond}
 use mathlib.Core.List.{List, [], _∷_, _++_, map, reverse, append-nil, Option·toList}
-use mathlib.Core.Option.{Option, none, some, Option·map}
-use Prim.Native.Nat.{ℕ, _+_, _-_, _*_, _/_, _%_, _≤_}
+use mathlib.Core.Option.{none, some, Option·map}
+use Prim.Native.Nat.{ℕ, _+_, _-_, _/_, _%_, _≤_}
 use native.Mathlib.Omega.{arith}
 use lib.Dec.{eqb}
 use lib.IntN.{ℤ, pos}
-use lib.ListN.{length, take, replicate, length-take, length-drop, length-map}
+use lib.ListN.{length, take, length-take, length-drop, length-map}
 use borrow.Author.Tests.{eq-eqb, ne-eqb}
 use Rattle.rules.specs.Bytes.{bytes}
 use Rattle.rules.specs.Tokens.{Name, Literal, value, integer, string, literal, mark}
-use Rattle.rules.specs.Statements.{Sig, Opt, Sort, Wire, Statement, autoidx-stmt, attr-stmt, module-stmt, param-stmt, wire-stmt, memory-stmt, cell-stmt, cell-param-stmt, cell-conn-stmt, conn-stmt, translate}
+use Rattle.rules.specs.Statements.{Sig, Opt, Sort, Wire, autoidx-stmt, attr-stmt, module-stmt, param-stmt, wire-stmt, memory-stmt, cell-stmt, cell-param-stmt, cell-conn-stmt, conn-stmt, translate}
 use Rattle.rules.specs.Shapes.{isMark}
 use Rattle.rules.specs.Signals.{Wires}
 use Rattle.rules.specs.Numbers.{inRange}
@@ -27,7 +27,7 @@ use Rattle.wire_names.specs.Now.{nameNow, ownNow}
 use Rattle.line_text.specs.Pieces.{spread, Piece, piece-none, piece-name, piece-word, piece-literal, piece-sig, piece-bounds, spread-name, spread-literal, spread-append, spaced-word, spaced-two, spaced-three}
 use Rattle.line_text.specs.Options.{piece-options, spread-options}
 use Rattle.line_text.specs.Runs.{bitsOf}
-use Rattle.line_text.specs.Lines.{portOptions, statementNow, bodyText, lineOf}
+use Rattle.line_text.specs.Lines.{portOptions, statementNow, bodyText}
 
 pub span-le : (t rows : List ℕ) (k c : ℕ) → length (spanAt t rows k c) ≤ length t
 unfolding spanAt
@@ -194,17 +194,3 @@ module _ (names strings bits wires rows : List ℕ) (x : Module) (ws : Wires) (k
   pub statement-plain : eqb y 5 ≡ false → bodyText ws (statementBy names strings bits wires rows k y) ≡ bodyText ws (statementNow names strings bits wires rows x k)
   unfolding statementNow statementAt kindAt
   statement-plain e = rw (← ey, e)
-
--- ---- for callers: the statement of a row with its name now, and its line
-module _ (names strings bits wires rows : List ℕ) (x : Module) (k : ℕ) where
-  pub now-wire : kindAt rows k ≡ 5 → statementNow names strings bits wires rows x k ≡ some (wire-stmt (wireOf wires (column rows k 3)) (ownNow names wires rows x (column rows k 3)))
-  unfolding statementNow
-  now-wire e = rw e
-
-  pub now-other : (kindAt rows k ≡ 5 → ⊥) → statementNow names strings bits wires rows x k ≡ statementAt names strings bits wires rows k
-  unfolding statementNow
-  now-other h = rw (ne-eqb (kindAt rows k) 5 h)
-
-pub line-some : (level : ℕ) (ws : Wires) (o : Option Statement) (s : Statement) → o ≡ some s → lineOf level ws o ≡ replicate (2 * level) 32 ++ spaced (shapeTokens (written ws s)) ++ 10 ∷ []
-unfolding lineOf bodyText
-line-some level ws o s e = rw e

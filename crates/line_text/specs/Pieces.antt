@@ -91,14 +91,9 @@ module _ {ts us : List Token} (p : Piece ts) (q : Piece us) where
       last-append t (v ∷ vs) = last-append v vs
 
 -- a token behind a space
-module _ (n : List ℕ) where
-  pub spread-name : spread (name n ∷ []) ≡ 32 ∷ n
-  unfolding spread behind tight tokenText
-  spread-name = append-nil (32 ∷ n)
-
-  pub spread-word : spread (word n ∷ []) ≡ 32 ∷ n
-  unfolding spread behind tight tokenText
-  spread-word = append-nil (32 ∷ n)
+pub spread-name : (n : List ℕ) → spread (name n ∷ []) ≡ 32 ∷ n
+unfolding spread behind tight tokenText
+spread-name n = append-nil (32 ∷ n)
 
 pub spread-literal : (c : Literal) → spread (literal c ∷ []) ≡ 32 ∷ literalText c
 unfolding spread behind tight tokenText

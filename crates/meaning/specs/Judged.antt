@@ -9,8 +9,7 @@ use lib.Dec.{leb}
 use lib.ListN.{length, length-reverse}
 use borrow.Author.Tests.{le-leb}
 use Rattle.rules.specs.Bytes.{all}
-use Rattle.rules.specs.Tokens.{Literal}
-use Rattle.rules.specs.Statements.{Sig, Constant, Signal, Wire, Memory, Statement, Opt, Contents, holds, autoidx-stmt, attr-stmt, module-stmt, param-stmt, wire-stmt, memory-stmt, cell-stmt, cell-param-stmt, cell-conn-stmt, conn-stmt, proc-stmt, end-stmt, aProcess, contents, is, statementsOpen}
+use Rattle.rules.specs.Statements.{Sig, Constant, Signal, Statement, holds, autoidx-stmt, attr-stmt, module-stmt, param-stmt, wire-stmt, memory-stmt, cell-stmt, cell-param-stmt, cell-conn-stmt, conn-stmt, proc-stmt, end-stmt, aProcess, contents, is, statementsOpen}
 use Rattle.rules.specs.Shapes.{shape}
 use Rattle.rules.specs.Numbers.{goodLiteral, goodNumbers, goodWire, goodMemory}
 use Rattle.rules.specs.Signals.{Wires, literalBits, kept, width, bits, declaredWire, goodSlice, parts}
@@ -67,28 +66,14 @@ module _ (ws : Wires) (sound : Sound ws) where
 
 -- ---- what stands in it
 
--- the contents of a statement as it is written
-unfoldable pub asWritten : Wires → Contents Constant Signal Wire Memory → Contents Literal Sig (List Opt) (List Opt)
-asWritten ws c =
-    record {
-      kind = c .kind;
-      names = c .names;
-      constants = map literalOf (c .constants);
-      signals = map (sig ws) (c .signals);
-      wires = map wireOptions (c .wires);
-      memories = map memoryOptions (c .memories);
-      integers = c .integers;
-      sorts = c .sorts;
-    }
-
-pub contents-written : (ws : Wires) (s : Statement) → contents (written ws s) ≡ asWritten ws (contents s)
-unfolding asWritten written translated holds
+contents-written : (ws : Wires) (s : Statement) → contents (written ws s) ≡ translated literalOf (sig ws) wireOptions memoryOptions (contents s)
+unfolding written
 contents-written ws s = contents-translated literalOf (sig ws) wireOptions memoryOptions s
 
 -- ---- 6: no process may stand
 
 no-process : (ss : Past) (s : Statement) → stands ss s ≡ true → is aProcess (written (wires ss) s) ≡ false
-unfolding is asWritten
+unfolding is translated holds
 no-process ss s h = rw (contents-written (wires ss) s) (never-process s ss h)
 
 -- ---- 7, 8, 10, 11: the parts of its signals
@@ -127,14 +112,14 @@ module _ (ws : Wires) (sound : Sound ws) where
 
   module _ (s : Statement) (f : FineParts ws s) where
     all-good : all (goodPart ws) (allParts (written ws s)) ≡ true
-    unfolding allParts asWritten
+    unfolding allParts translated holds
     all-good = rw (contents-written ws s) (parts-good (contents s .signals) (f .signals))
 
     each-good : (g : Sig → Bool) → ((x : Sig) → goodPart ws x ≡ true → g x ≡ true) → all g (allParts (written ws s)) ≡ true
     each-good g e = all-implied (goodPart ws) g e (allParts (written ws s)) all-good
 
     pub numbers-kept : breaksNumber ws (written ws s) ≡ false
-    unfolding breaksNumber asWritten
+    unfolding breaksNumber translated holds
     numbers-kept =
         rw (
           each-good goodNumbers part-numbers,
@@ -150,7 +135,7 @@ module _ (ws : Wires) (sound : Sound ws) where
     wires-there = rw (each-good (declaredWire ws) part-declared)
 
     pub widths-kept : breaksWidth ws (written ws s) ≡ false
-    unfolding breaksWidth asWritten
+    unfolding breaksWidth translated holds
     widths-kept = rw (each-good (goodSlice ws) part-slice, contents-written ws s, widths-equal (contents s .signals) (f .signals) (f .same-length))
 
     pub parts-narrow : partTooWide ws (written ws s) ≡ false
@@ -160,7 +145,7 @@ module _ (ws : Wires) (sound : Sound ws) where
 -- ---- 9: its name
 
 pub takes-written : (ss : Past) (ws : Wires) (s : Statement) → takesName ss (written ws s) ≡ takesName ss s
-unfolding takesName among is asWritten
+unfolding takesName among is translated holds
 takes-written ss ws s = rw (contents-written ws s)
 
 -- ---- the whole

@@ -7,9 +7,10 @@ use mathlib.Core.Option.{none}
 use mathlib.Core.Bool.{true, false, false≢true}
 use Rattle.rules.specs.Bytes.{same, any, all}
 use Rattle.rules.specs.Tokens.{Name}
-use Rattle.rules.specs.Statements.{Constant, Signal, Wire, Memory, Statement, autoidx-stmt, attr-stmt, module-stmt, param-stmt, wire-stmt, memory-stmt, cell-stmt, cell-param-stmt, cell-conn-stmt, conn-stmt, proc-stmt, end-stmt, aWire, aMemory, aCell, contents, ownName, statementsOpen}
+use Rattle.rules.specs.Statements.{Constant, Signal, Wire, Memory, Statement, wire-stmt, aWire, aMemory, aCell, contents, ownName, statementsOpen}
 use Rattle.rules.specs.Signals.{Wires, find}
 use Rattle.rules.specs.Judgement.{Past, until, only, ofModule, wires, among, space, namesIn, nameSpaces, takesName}
+use Rattle.past.specs.Forms.{by-form}
 use Rattle.admitted.specs.Admitted.{fineWire, admitted}
 use Rattle.scanner.specs.Laws.{by-test, and-true-left, and-true-right, same-refl, same-eq, or-false-left, or-false-right}
 use Rattle.admitted.specs.AdmitLaws.{FineParts, fine-parts, Admits, admits-all}
@@ -22,28 +23,19 @@ same-not : (m n : Name) → same n m ≡ false → same m n ≡ false
 same-not m n h =
     by-test (same m n) (λ t. absurd (false≢true (sym h ∙ ap (same n) (same-eq m n t) ∙ same-refl n))) (λ t. t)
 
--- the names and the wires among some statements
+-- the names among some statements
 abbrev ownNames : List Statement → List Name
 ownNames xs = map (λ s. ownName (contents s .names)) (only (among (aWire ∷ aMemory ∷ aCell ∷ [])) xs)
 
-abbrev wiresOf : List Statement → Wires
-wiresOf xs = flatMap (λ s. zip (contents s .names) (contents s .wires)) xs
-
-not-found : (n : Name) (xs : List Statement) → any (same n) (ownNames xs) ≡ false → find n (wiresOf xs) ≡ none
+not-found : (n : Name) (xs : List Statement) → any (same n) (ownNames xs) ≡ false → find n (flatMap (λ s. zip (contents s .names) (contents s .wires)) xs) ≡ none
 unfolding statementsOpen any only among flatMap zip find
 not-found n [] h = refl
-not-found n (autoidx-stmt i ∷ xs) h = not-found n xs h
-not-found n (attr-stmt m c ∷ xs) h = not-found n xs h
-not-found n (module-stmt m ∷ xs) h = not-found n xs h
-not-found n (param-stmt m c ∷ xs) h = not-found n xs h
-not-found n (wire-stmt w m ∷ xs) h = rw (same-not m n (or-false-left (same n m) _ h)) (not-found n xs (or-false-right (same n m) _ h))
-not-found n (memory-stmt y m ∷ xs) h = not-found n xs (or-false-right (same n m) _ h)
-not-found n (cell-stmt t m ∷ xs) h = not-found n xs (or-false-right (same n m) _ h)
-not-found n (cell-param-stmt o m c ∷ xs) h = not-found n xs h
-not-found n (cell-conn-stmt m g ∷ xs) h = not-found n xs h
-not-found n (conn-stmt g k ∷ xs) h = not-found n xs h
-not-found n (proc-stmt m ∷ xs) h = not-found n xs h
-not-found n (end-stmt ∷ xs) h = not-found n xs h
+not-found n (s ∷ xs) h =
+    by-form (λ s. any (same n) (ownNames (s ∷ xs)) ≡ false → find n (flatMap (λ s. zip (contents s .names) (contents s .wires)) (s ∷ xs)) ≡ none)
+    (λ i. not-found n xs) (λ m c. not-found n xs) (λ m. not-found n xs) (λ m c. not-found n xs)
+    (λ w m k. rw (same-not m n (or-false-left (same n m) _ k)) (not-found n xs (or-false-right (same n m) _ k)))
+    (λ y m k. not-found n xs (or-false-right (same n m) _ k)) (λ t m k. not-found n xs (or-false-right (same n m) _ k))
+    (λ o m c. not-found n xs) (λ m g. not-found n xs) (λ x y. not-found n xs) (λ m. not-found n xs) (not-found n xs) s h
 
 wire-new : (ss : Past) (w : Wire) (n : Name) → takesName {C = Constant} {S = Signal} {M = Memory} ss (wire-stmt w n) ≡ false → find n (wires ss) ≡ none
 unfolding takesName nameSpaces namesIn space any among statementsOpen wires
@@ -55,18 +47,11 @@ wire-narrow ws w n f = wire-width ws w (and-true-left (fineWire ws w) _ (f .wire
 
 sound-more : (ss : Past) (s : Statement) → Admits ss s → Sound (wires ss) → Sound (wires (s ∷ ss))
 unfolding wires ofModule until flatMap zip statementsOpen
-sound-more ss (autoidx-stmt i) a h = h
-sound-more ss (attr-stmt m c) a h = h
-sound-more ss (module-stmt m) a h = no-wire
-sound-more ss (param-stmt m c) a h = h
-sound-more ss (wire-stmt w m) a h = one-more (wire-new ss w m (a .new-name)) (wire-narrow (wires ss) w m (fine-parts (wires ss) (wire-stmt w m) (a .parts))) h
-sound-more ss (memory-stmt y m) a h = h
-sound-more ss (cell-stmt t m) a h = h
-sound-more ss (cell-param-stmt o m c) a h = h
-sound-more ss (cell-conn-stmt m g) a h = h
-sound-more ss (conn-stmt g k) a h = h
-sound-more ss (proc-stmt m) a h = h
-sound-more ss end-stmt a h = h
+sound-more ss =
+    by-form (λ s. Admits ss s → Sound (wires ss) → Sound (wires (s ∷ ss)))
+    (λ i a h. h) (λ m c a h. h) (λ m a h. no-wire) (λ m c a h. h)
+    (λ w m a. one-more (wire-new ss w m (a .new-name)) (wire-narrow (wires ss) w m (fine-parts (wires ss) (wire-stmt w m) (a .parts))))
+    (λ y m a h. h) (λ t m a h. h) (λ o m c a h. h) (λ m g a h. h) (λ x y a h. h) (λ m a h. h) (λ a h. h)
 
 no-past : Sound (wires [])
 unfolding wires ofModule until flatMap

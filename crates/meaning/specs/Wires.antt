@@ -1,7 +1,7 @@
 -- The wires of a module that is admitted: each is found by its name, and none is too wide.
 -- Assumes nothing.
 use Prim.Native.Nat.{ℕ, zero, suc, _+_, _-_, _<_, _≤_}
-use mathlib.Core.Path.{_≡_, refl, ap, _∙_}
+use mathlib.Core.Path.{_≡_, refl, sym, ap, _∙_}
 use mathlib.Core.List.{List, [], _∷_, _++_, reverse, reverse-cons}
 use mathlib.Core.Option.{none, some}
 use mathlib.Core.Bool.{false}
@@ -14,6 +14,7 @@ use Rattle.rules.specs.Tokens.{Name}
 use Rattle.rules.specs.Statements.{Wire}
 use Rattle.rules.specs.Signals.{Wires, find}
 use Rattle.scanner.specs.Laws.{by-test, same-refl, same-eq}
+use Rattle.scanner.specs.Lists.{element-at}
 
 -- ---- names that differ
 
@@ -24,17 +25,10 @@ pub data Sound : Wires → Type 0 where
 
 -- ---- the wire with a number
 
-module _ {A : Type 0} where
-  at-front : (xs ys : List A) (n : ℕ) → n < length xs → getElem? (xs ++ ys) n ≡ getElem? xs n
-  at-front [] ys n h = absurd (omega arith)
-  at-front (x ∷ xs) ys zero h = refl
-  at-front (x ∷ xs) ys (suc n) h = at-front xs ys n (omega arith)
-
-  at-seam : (xs : List A) (y : A) (n : ℕ) → length xs ≡ n → getElem? (xs ++ y ∷ []) n ≡ some y
-  at-seam [] y zero h = refl
-  at-seam [] y (suc n) h = absurd (omega arith)
-  at-seam (x ∷ xs) y zero h = absurd (omega arith)
-  at-seam (x ∷ xs) y (suc n) h = at-seam xs y n (omega arith)
+at-front : {A : Type 0} (xs ys : List A) (n : ℕ) → n < length xs → getElem? (xs ++ ys) n ≡ getElem? xs n
+at-front [] ys n h = absurd (omega arith)
+at-front (x ∷ xs) ys zero h = refl
+at-front (x ∷ xs) ys (suc n) h = at-front xs ys n (omega arith)
 
 -- a wire's number and name lead to the same wire
 pub record Located (ws : Wires) (n : ℕ) : Type 0 where
@@ -59,7 +53,7 @@ located-first w ws n e k =
     record {
       wire = w;
       before = ws;
-      numbered = rw (reverse-cons w ws) (at-seam (reverse ws) w n (length-reverse ws ∙ e));
+      numbered = rw (reverse-cons w ws) (element-at (reverse ws) w [] n (sym (length-reverse ws ∙ e)));
       dropped = ap (λ j. drop j (w ∷ ws)) (let z : suc (length ws) - (n + 1) ≡ 0 = omega arith in z);
       named = rw (same-refl (w .0), e);
       narrow = k;

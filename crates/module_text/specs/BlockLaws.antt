@@ -14,7 +14,9 @@ use Rattle.rules.specs.Judgement.{Past, until, outer, scope, ofModule, wires}
 use Rattle.rules.specs.Design.{Setting, Object, Cell, Module, Design, objects, cellLines, moduleLines, flatten}
 use Rattle.rules.specs.Text.{written, level, indent, lineText, textFrom, text}
 use Rattle.scanner.specs.Laws.{by-test}
-use Rattle.module_text.specs.Blocks.{lineOf, plainLine, attributeLines, attributesText, wireText, memoryText, cellText, moduleWires, bodyText, moduleText, designText}
+use Rattle.order.specs.Nesting.{settings}
+use Rattle.order.specs.Fine.{wiresIn}
+use Rattle.module_text.specs.Blocks.{lineOf, plainLine, attributesText, wireText, memoryText, cellText, bodyText, moduleText, designText}
 
 -- ---- what a line sees of the past is its scope and the wires of its module
 
@@ -122,15 +124,15 @@ module _ (ws : Wires) (more : List Statement) where
 
 -- ---- blocks
 
-text-attributes : (p : Scope) (ws : Wires) (at : List Setting) (more : List Statement) → textIn p ws (attributeLines at ++ more) ≡ attributesText (level p) at ++ textIn p ws more
+text-attributes : (p : Scope) (ws : Wires) (at : List Setting) (more : List Statement) → textIn p ws (settings at ++ more) ≡ attributesText (level p) at ++ textIn p ws more
 unfolding attributesText
 text-attributes p ws at more =
     text-map p ws (λ (a : Setting). attr-stmt (a .0) (a .1)) (λ a. plainLine (level p) (attr-stmt (a .0) (a .1))) (λ a more. attr-line ws more p a) at more
 
 -- an object whose lines lead from a scope and wires to others
-text-object : (p q : Scope) (ws vs : Wires) (at : List Setting) (ls : List Statement) (t : List ℕ) → ((more : List Statement) → textIn p ws (ls ++ more) ≡ t ++ textIn q vs more) → (more : List Statement) → textIn p ws (attributeLines at ++ ls ++ more) ≡ attributesText (level p) at ++ t ++ textIn q vs more
+text-object : (p q : Scope) (ws vs : Wires) (at : List Setting) (ls : List Statement) (t : List ℕ) → ((more : List Statement) → textIn p ws (ls ++ more) ≡ t ++ textIn q vs more) → (more : List Statement) → textIn p ws (settings at ++ ls ++ more) ≡ attributesText (level p) at ++ t ++ textIn q vs more
 text-object p q ws vs at ls t h more =
-    ap (textIn p ws) (append-assoc (attributeLines at) ls more)
+    ap (textIn p ws) (append-assoc (settings at) ls more)
     ∙ text-attributes p ws at (ls ++ more)
     ∙ ap (λ (l : List ℕ). attributesText (level p) at ++ l) (h more)
     ∙ sym (append-assoc (attributesText (level p) at) t (textIn q vs more))
@@ -142,7 +144,7 @@ text-wires [] ws more = refl
 text-wires (o ∷ os) ws more =
     let rest : List Statement = objects (λ w n. wire-stmt w n ∷ []) os in
     let vs : Wires = (o .name, o .body) ∷ ws in
-    ap (textIn inModule ws) (append-assoc (attributeLines (o .attributes) ++ wire-stmt (o .body) (o .name) ∷ []) rest more)
+    ap (textIn inModule ws) (append-assoc (settings (o .attributes) ++ wire-stmt (o .body) (o .name) ∷ []) rest more)
     ∙ text-object inModule inModule ws vs (o .attributes) (wire-stmt (o .body) (o .name) ∷ []) (plainLine 1 (wire-stmt (o .body) (o .name)))
     (λ more. wire-line ws more (o .body) (o .name)) (rest ++ more)
     ∙ ap (λ (l : List ℕ). wireText o ++ l) (text-wires os vs more)
@@ -151,7 +153,7 @@ text-wires (o ∷ os) ws more =
 text-memories : (ws : Wires) (os : List (Object Memory)) (more : List Statement) → textIn inModule ws (objects (λ y n. memory-stmt y n ∷ []) os ++ more) ≡ flatMap memoryText os ++ textIn inModule ws more
 unfolding objects memoryText level
 text-memories ws os more =
-    text-flat inModule ws (λ (o : Object Memory). attributeLines (o .attributes) ++ memory-stmt (o .body) (o .name) ∷ []) memoryText
+    text-flat inModule ws (λ (o : Object Memory). settings (o .attributes) ++ memory-stmt (o .body) (o .name) ∷ []) memoryText
     (λ o more. text-object inModule inModule ws ws (o .attributes) (memory-stmt (o .body) (o .name) ∷ []) (plainLine 1 (memory-stmt (o .body) (o .name)))
     (λ more. memory-line ws more (o .body) (o .name)) more)
     os more
@@ -170,7 +172,7 @@ text-cell-conns : (ws : Wires) (ks : List (Name × Signal)) (more : List Stateme
 text-cell-conns ws ks more =
     text-map inCell ws (λ (k : Name × Signal). cell-conn-stmt (k .0) (k .1)) (λ k. lineOf 2 ws (cell-conn-stmt (k .0) (k .1))) (λ k more. cell-conn-line ws more k) ks more
 
-text-cell : (ws : Wires) (o : Object Cell) (more : List Statement) → textIn inModule ws (attributeLines (o .attributes) ++ cellLines (o .body) (o .name) ++ more) ≡ cellText ws o ++ textIn inModule ws more
+text-cell : (ws : Wires) (o : Object Cell) (more : List Statement) → textIn inModule ws (settings (o .attributes) ++ cellLines (o .body) (o .name) ++ more) ≡ cellText ws o ++ textIn inModule ws more
 unfolding cellText cellLines level
 text-cell ws o more =
     let ps : List Statement = cellParamLines (o .body .parameters) in
@@ -189,7 +191,7 @@ text-cell ws o more =
 text-cells : (ws : Wires) (os : List (Object Cell)) (more : List Statement) → textIn inModule ws (objects cellLines os ++ more) ≡ flatMap (cellText ws) os ++ textIn inModule ws more
 unfolding objects
 text-cells ws os more =
-    text-flat inModule ws (λ (o : Object Cell). attributeLines (o .attributes) ++ cellLines (o .body) (o .name)) (cellText ws) (text-cell ws) os more
+    text-flat inModule ws (λ (o : Object Cell). settings (o .attributes) ++ cellLines (o .body) (o .name)) (cellText ws) (text-cell ws) os more
 
 abbrev paramLines : List (Name × Option Constant) → List Statement
 paramLines ps = map (λ p. param-stmt (p .0) (p .1)) ps
@@ -212,8 +214,8 @@ abbrev memoryLines : List (Object Memory) → List Statement
 memoryLines os = objects (λ y n. memory-stmt y n ∷ []) os
 
 -- the lines of a module behind its own
-text-body : (m : Module) (more : List Statement) → textIn inModule [] (paramLines (m .parameters) ++ (wireLines (m .wires) ++ (memoryLines (m .memories) ++ (objects cellLines (m .cells) ++ (connLines (m .connections) ++ more))))) ≡ bodyText (moduleWires m) m ++ textIn inModule (moduleWires m) more
-unfolding bodyText moduleWires
+text-body : (m : Module) (more : List Statement) → textIn inModule [] (paramLines (m .parameters) ++ (wireLines (m .wires) ++ (memoryLines (m .memories) ++ (objects cellLines (m .cells) ++ (connLines (m .connections) ++ more))))) ≡ bodyText (wiresIn m) m ++ textIn inModule (wiresIn m) more
+unfolding bodyText wiresIn
 text-body m more =
     let ws : Wires = reverse (map (λ o. (o .name, o .body)) (m .wires)) in
     let ks : List Statement = connLines (m .connections) ++ more in
@@ -230,7 +232,7 @@ text-body m more =
     ∙ simp append-assoc
 
 -- a module's text, whatever wires were seen before it; the wires that are seen behind it
-text-module : (ws : Wires) (o : Object Module) (more : List Statement) → textIn top ws (attributeLines (o .attributes) ++ moduleLines (o .body) (o .name) ++ more) ≡ moduleText o ++ textIn top (moduleWires (o .body)) more
+text-module : (ws : Wires) (o : Object Module) (more : List Statement) → textIn top ws (settings (o .attributes) ++ moduleLines (o .body) (o .name) ++ more) ≡ moduleText o ++ textIn top (wiresIn (o .body)) more
 unfolding moduleText moduleLines level
 text-module ws o more =
     let m : Module = o .body in
@@ -241,13 +243,13 @@ text-module ws o more =
     (module-line ws b top (o .name)
     ∙ ap (λ (l : List ℕ). plainLine 0 (module-stmt (o .name)) ++ l)
     (text-body m (end-stmt ∷ more)
-    ∙ ap (λ (l : List ℕ). bodyText (moduleWires m) m ++ l) (module-end-line (moduleWires m) more)))
+    ∙ ap (λ (l : List ℕ). bodyText (wiresIn m) m ++ l) (module-end-line (wiresIn m) more)))
     ∙ simp append-assoc
 
 text-objects : (ws : Wires) (os : List (Object Module)) → textIn top ws (objects moduleLines os) ≡ flatMap moduleText os
 unfolding objects flatMap textIn
 text-objects ws [] = refl
-text-objects ws (o ∷ os) = text-module ws o (objects moduleLines os) ∙ ap (λ (l : List ℕ). moduleText o ++ l) (text-objects (moduleWires (o .body)) os)
+text-objects ws (o ∷ os) = text-module ws o (objects moduleLines os) ∙ ap (λ (l : List ℕ). moduleText o ++ l) (text-objects (wiresIn (o .body)) os)
 
 text-autoidx : (is′ : List ℤ) (more : List Statement) → textIn top [] (map autoidx-stmt is′ ++ more) ≡ flatMap (λ i. plainLine 0 (autoidx-stmt i)) is′ ++ textIn top [] more
 text-autoidx is′ more = text-map top [] autoidx-stmt (λ i. plainLine 0 (autoidx-stmt i)) (λ i more. autoidx-line [] more i) is′ more

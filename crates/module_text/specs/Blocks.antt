@@ -1,11 +1,12 @@
 -- The written text by its blocks: a line at a known level with the module's wires known, a cell, a module.
 use Prim.Native.Nat.{ℕ, _*_}
-use mathlib.Core.List.{List, [], _∷_, _++_, map, flatMap, reverse, Option·toList}
+use mathlib.Core.List.{List, [], _∷_, _++_, flatMap, Option·toList}
 use lib.ListN.{replicate}
 use Rattle.rules.specs.Statements.{Wire, Memory, Statement, autoidx-stmt, attr-stmt, module-stmt, param-stmt, wire-stmt, memory-stmt, cell-stmt, cell-param-stmt, cell-conn-stmt, conn-stmt, end-stmt}
 use Rattle.rules.specs.Signals.{Wires}
 use Rattle.rules.specs.Design.{Setting, Object, Cell, Module, Design}
 use Rattle.rules.specs.Text.{written, shapeTokens, spaced}
+use Rattle.order.specs.Fine.{wiresIn}
 
 -- Two spaces a level, single spaces between tokens, line end 10
 unfoldable pub lineOf : (level : ℕ) → Wires → Statement → List ℕ
@@ -14,9 +15,6 @@ lineOf l ws s = replicate (2 * l) 32 ++ spaced (shapeTokens (written ws s)) ++ 1
 -- a line without signals looks at no wires
 unfoldable pub plainLine : (level : ℕ) → Statement → List ℕ
 plainLine l s = lineOf l [] s
-
-abbrev pub attributeLines : List Setting → List Statement
-attributeLines at = map (λ a. attr-stmt (a .0) (a .1)) at
 
 -- attributes stand right before their object at its level
 unfoldable pub attributesText : (level : ℕ) → List Setting → List ℕ
@@ -37,10 +35,6 @@ cellText ws o =
     ++ flatMap (λ k. lineOf 2 ws (cell-conn-stmt (k .0) (k .1))) (o .body .connections)
     ++ plainLine 1 end-stmt
 
--- all wires of a module, the last one first
-unfoldable pub moduleWires : Module → Wires
-moduleWires m = reverse (map (λ o. (o .name, o .body)) (m .wires))
-
 -- Per module: attributes, module line, parameters, wires, memories, cells, connections
 unfoldable pub bodyText : Wires → Module → List ℕ
 bodyText ws m =
@@ -54,7 +48,7 @@ unfoldable pub moduleText : Object Module → List ℕ
 moduleText o =
     attributesText 0 (o .attributes)
     ++ plainLine 0 (module-stmt (o .name))
-    ++ bodyText (moduleWires (o .body)) (o .body)
+    ++ bodyText (wiresIn (o .body)) (o .body)
     ++ plainLine 0 end-stmt
 
 -- An `autoidx` line, if the design has one, comes first

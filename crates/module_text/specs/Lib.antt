@@ -4,6 +4,5 @@ pub mod LineLaws
 pub mod Passes
 pub mod StatementLaws
 pub mod PassLaws
-pub mod StepLaws
 pub mod WireLaws
 pub mod StandLaws

@@ -4,23 +4,27 @@ use Prim.Native.Nat.{ℕ, suc, _+_}
 use native.Mathlib.Omega.{arith}
 use mathlib.Core.Path.{_≡_, refl, sym, ap, ap₂, _∙_}
 use mathlib.Core.Option.{Option}
+use mathlib.Core.Bool.{true, cond}
 use mathlib.Core.List.{List, [], _∷_, _++_, map, map-append, flatMap, head?, reverse, Option·toList, append-nil}
 use Rattle.rules.specs.Tokens.{Name}
-use Rattle.rules.specs.Statements.{Sort, Constant, Signal, Wire, Statement, autoidx-stmt, attr-stmt, module-stmt, param-stmt, wire-stmt, memory-stmt, cell-stmt, cell-param-stmt, cell-conn-stmt, conn-stmt, proc-stmt, end-stmt, Kind, anAutoidx, aModule, aParameter, aWire, aMemory, aCell, aCellParameter, aCellConnection, aConnection, is, contents, statementsOpen}
+use Rattle.rules.specs.Statements.{Sort, Constant, Signal, Wire, Statement, autoidx-stmt, attr-stmt, module-stmt, param-stmt, wire-stmt, memory-stmt, cell-stmt, cell-param-stmt, cell-conn-stmt, conn-stmt, end-stmt, Kind, anAutoidx, anAttribute, aModule, aParameter, aWire, aMemory, aCell, aCellParameter, aCellConnection, aConnection, is, contents, statementsOpen}
 use Rattle.rules.specs.Signals.{Wires}
 use Rattle.rules.specs.Judgement.{until, only}
-use Rattle.rules.specs.Design.{Setting, Object, object, Cell, Module, Item, items, blocks, objectsIn, parameterIn, portIn, connectionIn, cellParameterIn, each, cellOf, moduleOf, design, designOpen}
+use Rattle.rules.specs.Design.{Setting, settingIn, Object, object, Cell, Module, Item, items, blocks, objectsIn, parameterIn, portIn, connectionIn, cellParameterIn, each, cellOf, moduleOf, design, designOpen}
 use Rattle.rules.specs.Session.{Rename, now}
 use Rattle.rules.specs.Text.{text}
 use Rattle.scanner.specs.Laws.{by-test}
-use Rattle.designs.specs.DesignLaws.{only-attribute, wires-pairs}
+use Rattle.past.specs.Forms.{by-form}
+use Rattle.designs.specs.DesignLaws.{only-attribute, items-until, wires-pairs}
 use Rattle.designs.specs.Now.{numbered, nameNow, wireNow, moduleNow, designNow}
 use Rattle.designs.specs.NowLaws.{numbered-same, map-numbered, now-is}
-use Rattle.module_text.specs.Blocks.{lineOf, plainLine, attributeLines, attributesText, wireText, memoryText, cellText, moduleWires, bodyText, moduleText, designText}
+use Rattle.order.specs.Nesting.{settings}
+use Rattle.order.specs.Fine.{wiresIn}
+use Rattle.module_text.specs.Blocks.{lineOf, plainLine, attributesText, wireText, memoryText, cellText, bodyText, moduleText, designText}
 use Rattle.module_text.specs.BlockLaws.{text-modules}
 use Rattle.module_text.specs.LineLaws.{plain-line}
 use Rattle.module_text.specs.Passes.{declaredNow, named, wiresNow, linesOf, kindLines, firstLine, Print, objectLines, printWire, printMemory, cellBlock, printCell, bodyLines, printModule, fileText}
-use Rattle.module_text.specs.StatementLaws.{items-until, parameters-are, connections-are, cell-parameters-are, ports-are}
+use Rattle.module_text.specs.StatementLaws.{parameters-are, connections-are, cell-parameters-are, ports-are}
 
 -- ---- the lines of a kind
 
@@ -39,72 +43,83 @@ module _ (l : ℕ) (ws : Wires) where
   lines-kind : {A : Type 0} (f : A → Statement) (g : A → List ℕ) → ((x : A) → g x ≡ lineOf l ws (f x)) → (k : Kind) (xs : List A) (ss : List Statement) → map f xs ≡ only (is k) ss → kindLines k l ws ss ≡ flatMap g xs
   lines-kind f g h k xs ss e = sym (lines-map f g h xs ∙ ap (flatMap (lineOf l ws)) e ∙ lines-only k ss)
 
-  attributes-lines : (at : List Setting) → linesOf l ws (attributeLines at) ≡ attributesText l at
+  attributes-lines : (at : List Setting) → linesOf l ws (settings at) ≡ attributesText l at
   unfolding linesOf attributesText statementsOpen
   attributes-lines at = sym (lines-map (λ (a : Setting). attr-stmt (a .0) (a .1)) (λ a. plainLine l (attr-stmt (a .0) (a .1))) (λ a. sym (plain-line l ws (attr-stmt (a .0) (a .1)) refl)) at)
 
--- an attribute more waits
-waits-more : (k : Kind) (print : Print) (n : ℕ) (at : List Setting) (x : Name) (c : Constant) (ss : List Statement) → objectLines k print n (attributeLines at) (attr-stmt x c ∷ ss) ≡ objectLines k print n (attributeLines (at ++ (x, c) ∷ [])) ss
-unfolding objectLines statementsOpen
-waits-more k print n at x c ss = ap (λ (l : List Statement). objectLines k print n l ss) (sym (map-append (λ (a : Setting). attr-stmt (a .0) (a .1)) at ((x, c) ∷ [])))
+-- ---- objects
+
+-- the texts of objects, each with its number, from n on
+unfoldable texts : {A : Type 0} → (ℕ → A → List ℕ) → ℕ → List A → List ℕ
+texts t n [] = []
+texts t n (x ∷ xs) = t n x ++ texts t (n + 1) xs
+
+module _ {A : Type 0} where
+  texts-each : (t : A → List ℕ) (n : ℕ) (xs : List A) → texts (λ i. t) n xs ≡ flatMap t xs
+  unfolding texts flatMap
+  texts-each t n [] = refl
+  texts-each t n (x ∷ xs) = ap (λ (l : List ℕ). t x ++ l) (texts-each t (n + 1) xs)
+
+  texts-numbered : (t : A → List ℕ) (f : ℕ → A → A) (n : ℕ) (xs : List A) → texts (λ i x. t (f i x)) n xs ≡ flatMap t (numbered (λ i. f (n + i)) xs)
+  unfolding texts flatMap numbered
+  texts-numbered t f n [] = refl
+  texts-numbered t f n (x ∷ xs) =
+      ap₂ _++_ (ap (λ (j : ℕ). t (f j x)) (omega arith))
+      (texts-numbered t f (n + 1) xs ∙ ap (flatMap t) (numbered-same (λ i. f (n + 1 + i)) (λ i. f (n + suc i)) (λ i y. ap (λ (j : ℕ). f j y) (omega arith)) xs))
+
+  texts-first : (t : A → List ℕ) (f : ℕ → A → A) (xs : List A) → texts (λ i x. t (f i x)) 0 xs ≡ flatMap t (numbered f xs)
+  texts-first t f xs = texts-numbered t f 0 xs ∙ ap (flatMap t) (numbered-same (λ i. f (0 + i)) f (λ i x. ap (λ (j : ℕ). f j x) (omega arith)) xs)
+
+-- an attribute statement is the line of its setting
+is-attribute : (s : Statement) → is anAttribute s ≡ true → s ∷ [] ≡ settings (settingIn s)
+unfolding designOpen statementsOpen
+is-attribute =
+    by-form _ (λ i e. cc) (λ n c e. refl) (λ n e. cc) (λ n c e. cc) (λ w n e. cc) (λ m n e. cc) (λ t n e. cc) (λ o n c e. cc) (λ n x e. cc) (λ x y e. cc) (λ n e. cc) (λ e. cc)
+
+-- A PASS prints the objects that the items give, if it does so at each item
+abbrev Steps : {A : Type 0} → Kind → Print → (List Item → List A) → (ℕ → A → List ℕ) → ℕ → List Setting → Statement → Type 0
+Steps k print given t n at s =
+    (ss : List Statement) →
+    cond (is k s) (print n (settings at) s ss ++ texts t (n + 1) (given (items [] ss))) (texts t n (given (items [] ss)))
+    ≡ texts t n (given (record { attributes = at; statement = s } ∷ items [] ss))
+
+module _ {A : Type 0} (k : Kind) (print : Print) (given : List Item → List A) (t : ℕ → A → List ℕ) (none : given [] ≡ []) (step : (n : ℕ) (at : List Setting) (s : Statement) → Steps k print given t n at s) where
+  objects-text : (n : ℕ) (at : List Setting) (ss : List Statement) → objectLines k print n (settings at) ss ≡ texts t n (given (items at ss))
+  unfolding objectLines items texts
+  objects-text n at [] = rw none
+  objects-text n at (s ∷ ss) =
+      by-test (is anAttribute s)
+      (λ e. rw (e, is-attribute s e, ← map-append) (objects-text n (at ++ settingIn s) ss))
+      (λ e. rw e (ap₂ (λ (a b : List ℕ). cond (is k s) (print n (settings at) s ss ++ a) b) (objects-text (n + 1) [] ss) (objects-text n [] ss) ∙ step n at s ss))
 
 -- ---- memories
 
-pub memories-text : (ws : Wires) (n : ℕ) (at : List Setting) (ss : List Statement) → objectLines aMemory (printMemory ws) n (attributeLines at) ss ≡ flatMap memoryText (flatMap (objectsIn (λ c. c .memories)) (items at ss))
-unfolding objectLines printMemory memoryText statementsOpen designOpen
-memories-text ws n at [] = refl
-memories-text ws n at (autoidx-stmt i ∷ ss) = memories-text ws n [] ss
-memories-text ws n at (attr-stmt x c ∷ ss) = waits-more aMemory (printMemory ws) n at x c ss ∙ memories-text ws n (at ++ (x, c) ∷ []) ss
-memories-text ws n at (module-stmt x ∷ ss) = memories-text ws n [] ss
-memories-text ws n at (param-stmt x c ∷ ss) = memories-text ws n [] ss
-memories-text ws n at (wire-stmt w x ∷ ss) = memories-text ws n [] ss
-memories-text ws n at (memory-stmt m x ∷ ss) = ap₂ _++_ (ap₂ _++_ (attributes-lines 1 ws at) (plain-line 1 ws (memory-stmt m x) refl)) (memories-text ws (n + 1) [] ss)
-memories-text ws n at (cell-stmt t x ∷ ss) = memories-text ws n [] ss
-memories-text ws n at (cell-param-stmt o x c ∷ ss) = memories-text ws n [] ss
-memories-text ws n at (cell-conn-stmt x g ∷ ss) = memories-text ws n [] ss
-memories-text ws n at (conn-stmt g h ∷ ss) = memories-text ws n [] ss
-memories-text ws n at (proc-stmt x ∷ ss) = memories-text ws n [] ss
-memories-text ws n at (end-stmt ∷ ss) = memories-text ws n [] ss
-
--- ---- numbers: those from n on
-
-abbrev from : {A B : Type 0} → ℕ → (ℕ → A → B) → ℕ → A → B
-from n f i x = f (n + i) x
-
-module _ {A : Type 0} (f : ℕ → A → A) where
-  from-first : (xs : List A) → numbered (from 0 f) xs ≡ numbered f xs
-  from-first xs = numbered-same (from 0 f) f (λ i x. ap (λ (j : ℕ). f j x) (omega arith)) xs
-
-  from-next : (n : ℕ) (x : A) (xs : List A) → numbered (from n f) (x ∷ xs) ≡ f n x ∷ numbered (from (n + 1) f) xs
-  unfolding numbered
-  from-next n x xs =
-      ap₂ _∷_ (ap (λ (j : ℕ). f j x) (omega arith)) (numbered-same (λ i. from n f (suc i)) (from (n + 1) f) (λ i x. ap (λ (j : ℕ). f j x) (omega arith)) xs)
+pub memories-text : (ws : Wires) (n : ℕ) (at : List Setting) (ss : List Statement) → objectLines aMemory (printMemory ws) n (settings at) ss ≡ flatMap memoryText (flatMap (objectsIn (λ c. c .memories)) (items at ss))
+unfolding texts printMemory memoryText statementsOpen designOpen
+memories-text ws n at ss =
+    objects-text aMemory (printMemory ws) (flatMap (objectsIn (λ c. c .memories))) (λ i. memoryText) refl
+    (λ n at. by-form (Steps aMemory (printMemory ws) (flatMap (objectsIn (λ c. c .memories))) (λ i. memoryText) n at)
+    (λ i ss. refl) (λ x c ss. refl) (λ x ss. refl) (λ x c ss. refl) (λ w x ss. refl)
+    (λ m x ss. ap (λ (l : List ℕ). l ++ texts (λ i. memoryText) (n + 1) (flatMap (objectsIn (λ c. c .memories)) (items [] ss))) (ap₂ _++_ (attributes-lines 1 ws at) (plain-line 1 ws (memory-stmt m x) refl)))
+    (λ t x ss. refl) (λ o x c ss. refl) (λ x g ss. refl) (λ g h ss. refl) (λ x ss. refl) (λ ss. refl)) n at ss
+    ∙ texts-each memoryText n (flatMap (objectsIn (λ c. c .memories)) (items at ss))
 
 -- ---- wires, each with its number and its name now
 
-wire-text : (rs : List Rename) (m : ℕ) (ws : Wires) (n : ℕ) (at : List Setting) (w : Wire) (x : Name) (more : List Statement) → printWire rs m ws n (attributeLines at) (wire-stmt w x) more ≡ wireText (wireNow rs m n (object at x w))
+wire-text : (rs : List Rename) (m : ℕ) (ws : Wires) (n : ℕ) (at : List Setting) (w : Wire) (x : Name) (more : List Statement) → printWire rs m ws n (settings at) (wire-stmt w x) more ≡ wireText (wireNow rs m n (object at x w))
 unfolding printWire named wireText wireNow statementsOpen
 wire-text rs m ws n at w x more =
     ap₂ _++_ (attributes-lines 1 ws at) (plain-line 1 ws (wire-stmt w (nameNow rs m n x)) refl)
 
-wires-text-from : (rs : List Rename) (m : ℕ) (ws : Wires) (n : ℕ) (at : List Setting) (ss : List Statement) → objectLines aWire (printWire rs m ws) n (attributeLines at) ss ≡ flatMap wireText (numbered (from n (wireNow rs m)) (flatMap (objectsIn (λ c. c .wires)) (items at ss)))
-unfolding objectLines statementsOpen designOpen numbered
-wires-text-from rs k ws n at [] = refl
-wires-text-from rs k ws n at (autoidx-stmt i ∷ ss) = wires-text-from rs k ws n [] ss
-wires-text-from rs k ws n at (attr-stmt x c ∷ ss) = waits-more aWire (printWire rs k ws) n at x c ss ∙ wires-text-from rs k ws n (at ++ (x, c) ∷ []) ss
-wires-text-from rs k ws n at (module-stmt x ∷ ss) = wires-text-from rs k ws n [] ss
-wires-text-from rs k ws n at (param-stmt x c ∷ ss) = wires-text-from rs k ws n [] ss
-wires-text-from rs k ws n at (wire-stmt w x ∷ ss) = ap₂ _++_ (wire-text rs k ws n at w x ss) (wires-text-from rs k ws (n + 1) [] ss) ∙ ap (flatMap wireText) (sym (from-next (wireNow rs k) n (object at x w) (flatMap (objectsIn (λ c. c .wires)) (items [] ss))))
-wires-text-from rs k ws n at (memory-stmt m x ∷ ss) = wires-text-from rs k ws n [] ss
-wires-text-from rs k ws n at (cell-stmt t x ∷ ss) = wires-text-from rs k ws n [] ss
-wires-text-from rs k ws n at (cell-param-stmt o x c ∷ ss) = wires-text-from rs k ws n [] ss
-wires-text-from rs k ws n at (cell-conn-stmt x g ∷ ss) = wires-text-from rs k ws n [] ss
-wires-text-from rs k ws n at (conn-stmt g h ∷ ss) = wires-text-from rs k ws n [] ss
-wires-text-from rs k ws n at (proc-stmt x ∷ ss) = wires-text-from rs k ws n [] ss
-wires-text-from rs k ws n at (end-stmt ∷ ss) = wires-text-from rs k ws n [] ss
-
 pub wires-text : (rs : List Rename) (m : ℕ) (ws : Wires) (ss : List Statement) → objectLines aWire (printWire rs m ws) 0 [] ss ≡ flatMap wireText (numbered (wireNow rs m) (flatMap (objectsIn (λ c. c .wires)) (items [] ss)))
-wires-text rs m ws ss = wires-text-from rs m ws 0 [] ss ∙ ap (flatMap wireText) (from-first (wireNow rs m) (flatMap (objectsIn (λ c. c .wires)) (items [] ss)))
+unfolding texts statementsOpen designOpen
+wires-text rs m ws ss =
+    objects-text aWire (printWire rs m ws) (flatMap (objectsIn (λ c. c .wires))) (λ i o. wireText (wireNow rs m i o)) refl
+    (λ n at. by-form (Steps aWire (printWire rs m ws) (flatMap (objectsIn (λ c. c .wires))) (λ i o. wireText (wireNow rs m i o)) n at)
+    (λ i ss. refl) (λ x c ss. refl) (λ x ss. refl) (λ x c ss. refl)
+    (λ w x ss. ap (λ (l : List ℕ). l ++ texts (λ i o. wireText (wireNow rs m i o)) (n + 1) (flatMap (objectsIn (λ c. c .wires)) (items [] ss))) (wire-text rs m ws n at w x ss))
+    (λ y x ss. refl) (λ t x ss. refl) (λ o x c ss. refl) (λ x g ss. refl) (λ g h ss. refl) (λ x ss. refl) (λ ss. refl)) 0 [] ss
+    ∙ texts-first wireText (wireNow rs m) (flatMap (objectsIn (λ c. c .wires)) (items [] ss))
 
 -- ---- cells
 
@@ -124,7 +139,7 @@ ports-text ws at ss =
     lines-kind 2 ws (λ (k : Name × Signal). cell-conn-stmt (k .0) (k .1)) (λ k. lineOf 2 ws (cell-conn-stmt (k .0) (k .1))) (λ k. refl)
     aCellConnection (each portIn (items at ss)) ss (ports-are at ss)
 
-cell-text : (ws : Wires) (n : ℕ) (at : List Setting) (t x : Name) (ss : List Statement) → printCell ws n (attributeLines at) (cell-stmt t x) ss ≡ cellText ws (object at x (cellIn t (until (λ j. is aCell (j .statement)) (items [] ss))))
+cell-text : (ws : Wires) (n : ℕ) (at : List Setting) (t x : Name) (ss : List Statement) → printCell ws n (settings at) (cell-stmt t x) ss ≡ cellText ws (object at x (cellIn t (until (λ j. is aCell (j .statement)) (items [] ss))))
 unfolding printCell cellBlock cellText statementsOpen
 cell-text ws n at t x ss =
     ap₂ _++_
@@ -136,21 +151,15 @@ cell-text ws n at t x ss =
     (plain-line 1 ws end-stmt refl)
     ∙ ap (λ (is′ : List Item). cellText ws (object at x (cellIn t is′))) (sym (items-until (is aCell) (λ s h. only-attribute s h .no-cell) [] ss))
 
-pub cells-text : (ws : Wires) (n : ℕ) (at : List Setting) (ss : List Statement) → objectLines aCell (printCell ws) n (attributeLines at) ss ≡ flatMap (cellText ws) (flatMap cellOf (blocks (is aCell) (items at ss)))
-unfolding objectLines statementsOpen designOpen
-cells-text ws n at [] = refl
-cells-text ws n at (autoidx-stmt i ∷ ss) = cells-text ws n [] ss
-cells-text ws n at (attr-stmt x c ∷ ss) = waits-more aCell (printCell ws) n at x c ss ∙ cells-text ws n (at ++ (x, c) ∷ []) ss
-cells-text ws n at (module-stmt x ∷ ss) = cells-text ws n [] ss
-cells-text ws n at (param-stmt x c ∷ ss) = cells-text ws n [] ss
-cells-text ws n at (wire-stmt w x ∷ ss) = cells-text ws n [] ss
-cells-text ws n at (memory-stmt m x ∷ ss) = cells-text ws n [] ss
-cells-text ws n at (cell-stmt t x ∷ ss) = ap₂ _++_ (cell-text ws n at t x ss) (cells-text ws (n + 1) [] ss)
-cells-text ws n at (cell-param-stmt o x c ∷ ss) = cells-text ws n [] ss
-cells-text ws n at (cell-conn-stmt x g ∷ ss) = cells-text ws n [] ss
-cells-text ws n at (conn-stmt g h ∷ ss) = cells-text ws n [] ss
-cells-text ws n at (proc-stmt x ∷ ss) = cells-text ws n [] ss
-cells-text ws n at (end-stmt ∷ ss) = cells-text ws n [] ss
+pub cells-text : (ws : Wires) (n : ℕ) (at : List Setting) (ss : List Statement) → objectLines aCell (printCell ws) n (settings at) ss ≡ flatMap (cellText ws) (flatMap cellOf (blocks (is aCell) (items at ss)))
+unfolding texts statementsOpen designOpen
+cells-text ws n at ss =
+    objects-text aCell (printCell ws) (λ is′. flatMap cellOf (blocks (is aCell) is′)) (λ i. cellText ws) refl
+    (λ n at. by-form (Steps aCell (printCell ws) (λ is′. flatMap cellOf (blocks (is aCell) is′)) (λ i. cellText ws) n at)
+    (λ i ss. refl) (λ x c ss. refl) (λ x ss. refl) (λ x c ss. refl) (λ w x ss. refl) (λ m x ss. refl)
+    (λ t x ss. ap (λ (l : List ℕ). l ++ texts (λ i. cellText ws) (n + 1) (flatMap cellOf (blocks (is aCell) (items [] ss)))) (cell-text ws n at t x ss))
+    (λ o x c ss. refl) (λ x g ss. refl) (λ g h ss. refl) (λ x ss. refl) (λ ss. refl)) n at ss
+    ∙ texts-each (cellText ws) n (flatMap cellOf (blocks (is aCell) (items at ss)))
 
 -- ---- modules
 
@@ -197,59 +206,42 @@ body-text rs m ws ss =
     (connections-text ws [] ss)
 
 -- its wires by their names now
-pub wires-seen : (rs : List Rename) (m : ℕ) (ss : List Statement) → wiresNow rs m ss ≡ moduleWires (bodyNow rs m (moduleIn (items [] ss)))
-unfolding wiresNow moduleWires declaredNow wireNow
+pub wires-seen : (rs : List Rename) (m : ℕ) (ss : List Statement) → wiresNow rs m ss ≡ wiresIn (bodyNow rs m (moduleIn (items [] ss)))
+unfolding wiresNow wiresIn declaredNow wireNow
 wires-seen rs m ss =
     let os : List (Object Wire) = flatMap (objectsIn (λ c. c .wires)) (items [] ss) in
     ap reverse
     (ap (numbered (declaredNow rs m)) (sym (wires-pairs [] ss))
     ∙ sym (map-numbered (λ (o : Object Wire). (o .name, o .body)) (wireNow rs m) (declaredNow rs m) (λ i o. refl) os))
 
-module-text : (rs : List Rename) (m : ℕ) (at : List Setting) (x : Name) (ss : List Statement) → printModule rs m (attributeLines at) (module-stmt x) ss ≡ moduleText (moduleNow rs m (object at x (moduleIn (until (λ j. is aModule (j .statement)) (items [] ss)))))
+module-text : (rs : List Rename) (m : ℕ) (at : List Setting) (x : Name) (ss : List Statement) → printModule rs m (settings at) (module-stmt x) ss ≡ moduleText (moduleNow rs m (object at x (moduleIn (until (λ j. is aModule (j .statement)) (items [] ss)))))
 unfolding printModule moduleText moduleNow plainLine
 module-text rs m at x ss =
     let b : List Statement = until (is aModule) ss in
     ap₂ _++_
     (ap₂ _++_
     (ap₂ _++_ (attributes-lines 0 [] at) refl)
-    (ap (λ (ws : Wires). bodyLines rs m ws b) (wires-seen rs m b) ∙ body-text rs m (moduleWires (bodyNow rs m (moduleIn (items [] b)))) b))
+    (ap (λ (ws : Wires). bodyLines rs m ws b) (wires-seen rs m b) ∙ body-text rs m (wiresIn (bodyNow rs m (moduleIn (items [] b)))) b))
     refl
     ∙ ap (λ (is′ : List Item). moduleText (moduleNow rs m (object at x (moduleIn is′)))) (sym (items-until (is aModule) (λ s h. only-attribute s h .no-module) [] ss))
 
-modules-text-from : (rs : List Rename) (m : ℕ) (at : List Setting) (ss : List Statement) → objectLines aModule (printModule rs) m (attributeLines at) ss ≡ flatMap moduleText (numbered (from m (moduleNow rs)) (map moduleOf (blocks (is aModule) (items at ss))))
-unfolding objectLines numbered statementsOpen designOpen
-modules-text-from rs k at [] = refl
-modules-text-from rs k at (autoidx-stmt i ∷ ss) = modules-text-from rs k [] ss
-modules-text-from rs k at (attr-stmt x c ∷ ss) = waits-more aModule (printModule rs) k at x c ss ∙ modules-text-from rs k (at ++ (x, c) ∷ []) ss
-modules-text-from rs k at (module-stmt x ∷ ss) = ap₂ _++_ (module-text rs k at x ss) (modules-text-from rs (k + 1) [] ss) ∙ ap (flatMap moduleText) (sym (from-next (moduleNow rs) k (object at x (moduleIn (until (λ j. is aModule (j .statement)) (items [] ss)))) (map moduleOf (blocks (is aModule) (items [] ss)))))
-modules-text-from rs k at (param-stmt x c ∷ ss) = modules-text-from rs k [] ss
-modules-text-from rs k at (wire-stmt w x ∷ ss) = modules-text-from rs k [] ss
-modules-text-from rs k at (memory-stmt m x ∷ ss) = modules-text-from rs k [] ss
-modules-text-from rs k at (cell-stmt t x ∷ ss) = modules-text-from rs k [] ss
-modules-text-from rs k at (cell-param-stmt o x c ∷ ss) = modules-text-from rs k [] ss
-modules-text-from rs k at (cell-conn-stmt x g ∷ ss) = modules-text-from rs k [] ss
-modules-text-from rs k at (conn-stmt g h ∷ ss) = modules-text-from rs k [] ss
-modules-text-from rs k at (proc-stmt x ∷ ss) = modules-text-from rs k [] ss
-modules-text-from rs k at (end-stmt ∷ ss) = modules-text-from rs k [] ss
-
 pub modules-text : (rs : List Rename) (ss : List Statement) → objectLines aModule (printModule rs) 0 [] ss ≡ flatMap moduleText (numbered (moduleNow rs) (map moduleOf (blocks (is aModule) (items [] ss))))
-modules-text rs ss = modules-text-from rs 0 [] ss ∙ ap (flatMap moduleText) (from-first (moduleNow rs) (map moduleOf (blocks (is aModule) (items [] ss))))
+unfolding texts statementsOpen designOpen
+modules-text rs ss =
+    objects-text aModule (printModule rs) (λ is′. map moduleOf (blocks (is aModule) is′)) (λ i o. moduleText (moduleNow rs i o)) refl
+    (λ m at. by-form (Steps aModule (printModule rs) (λ is′. map moduleOf (blocks (is aModule) is′)) (λ i o. moduleText (moduleNow rs i o)) m at)
+    (λ i ss. refl) (λ x c ss. refl)
+    (λ x ss. ap (λ (l : List ℕ). l ++ texts (λ i o. moduleText (moduleNow rs i o)) (m + 1) (map moduleOf (blocks (is aModule) (items [] ss)))) (module-text rs m at x ss))
+    (λ x c ss. refl) (λ w x ss. refl) (λ y x ss. refl) (λ t x ss. refl) (λ o x c ss. refl) (λ x g ss. refl) (λ g h ss. refl) (λ x ss. refl) (λ ss. refl)) 0 [] ss
+    ∙ texts-first moduleText (moduleNow rs) (map moduleOf (blocks (is aModule) (items [] ss)))
 
 autoidx-text : (ss : List Statement) → firstLine anAutoidx ss ≡ flatMap (λ i. plainLine 0 (autoidx-stmt i)) (Option·toList (head? (flatMap (λ s. contents s .integers) ss)))
 unfolding firstLine plainLine statementsOpen flatMap
 autoidx-text [] = refl
-autoidx-text (autoidx-stmt i ∷ ss) = sym (append-nil (lineOf 0 [] (autoidx-stmt i)))
-autoidx-text (attr-stmt x c ∷ ss) = autoidx-text ss
-autoidx-text (module-stmt x ∷ ss) = autoidx-text ss
-autoidx-text (param-stmt x c ∷ ss) = autoidx-text ss
-autoidx-text (wire-stmt w x ∷ ss) = autoidx-text ss
-autoidx-text (memory-stmt m x ∷ ss) = autoidx-text ss
-autoidx-text (cell-stmt t x ∷ ss) = autoidx-text ss
-autoidx-text (cell-param-stmt o x c ∷ ss) = autoidx-text ss
-autoidx-text (cell-conn-stmt x g ∷ ss) = autoidx-text ss
-autoidx-text (conn-stmt g h ∷ ss) = autoidx-text ss
-autoidx-text (proc-stmt x ∷ ss) = autoidx-text ss
-autoidx-text (end-stmt ∷ ss) = autoidx-text ss
+autoidx-text (s ∷ ss) =
+    by-form (λ s. firstLine anAutoidx (s ∷ ss) ≡ flatMap (λ i. plainLine 0 (autoidx-stmt i)) (Option·toList (head? (flatMap (λ s. contents s .integers) (s ∷ ss)))))
+    (λ i. sym (append-nil (lineOf 0 [] (autoidx-stmt i)))) (λ x c. autoidx-text ss) (λ x. autoidx-text ss) (λ x c. autoidx-text ss) (λ w x. autoidx-text ss) (λ m x. autoidx-text ss)
+    (λ t x. autoidx-text ss) (λ o x c. autoidx-text ss) (λ x g. autoidx-text ss) (λ g h. autoidx-text ss) (λ x. autoidx-text ss) (autoidx-text ss) s
 
 -- ---- the whole
 

@@ -170,12 +170,6 @@ module _ {k : Kind} (q : Part k) where
   lines-end l ws {ss = ss} i h =
       sym (lines-only l ws k (until (is aCell) ss)) ∙ ap (flatMap (lineOf l ws)) (to-end i h) ∙ lines-only l ws k (until (is anEnd) ss)
 
-pub cell-parameters-end : {f : Bool} {ss : List Statement} → Follows inCell f ss → only (is aCellParameter) (until (is aCell) ss) ≡ only (is aCellParameter) (until (is anEnd) ss)
-cell-parameters-end h = to-end a-parameter refl h
-
-pub ports-end : {f : Bool} {ss : List Statement} → Follows inCell f ss → only (is aCellConnection) (until (is aCell) ss) ≡ only (is aCellConnection) (until (is anEnd) ss)
-ports-end h = to-end a-connection refl h
-
 into : (p : Scope) (s : Statement) → is aCell s ≡ true → scopeAfter p s ≡ inCell
 unfolding scopeAfter is code
 into p s c = rw (c, ← eqb-true 7 (code (contents s .kind)) c)

@@ -1,7 +1,7 @@
 -- The design of an admitted file is fine.
 -- Assumes nothing.
-use mathlib.Core.Path.{_≡_, refl, sym, ap, _∙_}
-use mathlib.Core.List.{List, [], _∷_, _++_, map, flatMap, reverse, reverseAux, reverseAux-append, reverse-reverse, append-assoc, Option·toList}
+use mathlib.Core.Path.{_≡_, refl, sym, _∙_}
+use mathlib.Core.List.{List, [], _∷_, _++_, map, flatMap, reverse, reverseAux, reverseAux-append, reverse-reverse, append-assoc, Option·toList, map-map}
 use mathlib.Core.Bool.{Bool, true, not}
 use native.Mathlib.Omega.{arith}
 use Rattle.rules.specs.Bytes.{all}
@@ -9,10 +9,11 @@ use Rattle.rules.specs.Tokens.{Name}
 use Rattle.rules.specs.Statements.{Statement, autoidx-stmt, module-stmt, param-stmt, wire-stmt, memory-stmt, cell-stmt, conn-stmt, end-stmt, statementsOpen}
 use Rattle.rules.specs.Judgement.{Past, wires}
 use Rattle.rules.specs.Design.{Setting, Object, design, flatten}
+use Rattle.scanner.specs.Lists.{Each}
 use Rattle.admitted.specs.Admitted.{admits, admitted, closes}
 use Rattle.order.specs.Nesting.{Entry, param-entry, wire-entry, memory-entry, cell-entry, connection-entry, File, settings, lineIn, linesOf, linesOfModule, linesOfFile, wiresOf, memoriesOf, cellsOf, bodyOf, moduleIn, designOf}
 use Rattle.order.specs.DesignLaws.{all-flatMap, design-lines}
-use Rattle.order.specs.Fine.{Differ, Each, settingNames, wiresIn, FineCell, FineModule, fineAlone, FineDesign}
+use Rattle.order.specs.Fine.{Differ, settingNames, wiresIn, FineCell, FineModule, fineAlone, FineDesign}
 use Rattle.order.specs.Tally.{Through, through-before, held-once, held-behind, part-once, notAttribute, nameTally, moduleNames, objectNames, attributeNames, parameterNames, cellParameterNames, cellPortNames, portTally, module-names-lawful, object-names-lawful, attribute-names-lawful, parameter-names-lawful, cell-parameter-names-lawful, cell-port-names-lawful, port-lawful}
 use Rattle.order.specs.Sums.{sum-reverse, all-fewer, sizes-fewer}
 use Rattle.order.specs.BodySums.{body-end, canonical-sum, object-sum, parameter-sum, port-sum, file-names-sum, cell-parameter-sum, cell-port-sum, attribute-sum}
@@ -192,8 +193,7 @@ modules-fine (o ∷ os) e = (module-fine o (e .0), modules-fine os (e .1))
 
 map-names : (os : List (Object (List Entry))) → map (λ o. o .name) (map moduleIn os) ≡ map (λ o. o .name) os
 unfolding moduleIn
-map-names [] = refl
-map-names (o ∷ os) = ap (λ (l : List Name). o .name ∷ l) (map-names os)
+map-names os = map-map (λ o. o .name) moduleIn os
 
 never-ends : (l : List Statement) → all (λ s. not (moduleNames .ends s)) l ≡ true
 unfolding nameTally

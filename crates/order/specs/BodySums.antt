@@ -12,13 +12,13 @@ use Rattle.rules.specs.Bytes.{same, any}
 use Rattle.rules.specs.Tokens.{Name}
 use Rattle.rules.specs.Statements.{Sort, Constant, Signal, Wire, Memory, Statement, autoidx-stmt, attr-stmt, module-stmt, param-stmt, wire-stmt, memory-stmt, cell-stmt, cell-param-stmt, cell-conn-stmt, conn-stmt, end-stmt, statementsOpen}
 use Rattle.rules.specs.Judgement.{sum, among, space, portNumbers}
-use Rattle.rules.specs.Design.{Setting, Object, object, Cell, Module, flatten}
+use Rattle.rules.specs.Design.{Setting, Object, Cell, Module, Design, flatten}
 use Rattle.rules.specs.Session.{names}
-use Rattle.order.specs.Nesting.{CellEntry, parameter-entry, port-entry, Entry, param-entry, wire-entry, memory-entry, cell-entry, connection-entry, File, settings, lineIn, linesOf, linesOfModule, linesOfFile, parameterOf, portOf, bodyOf, moduleIn, designOf, entries, fileOf, nestingOpen}
-use Rattle.order.specs.DesignLaws.{body-entries, flatten-file}
+use Rattle.order.specs.Nesting.{CellEntry, parameter-entry, port-entry, Entry, param-entry, wire-entry, memory-entry, cell-entry, connection-entry, File, settings, lineIn, linesOf, linesOfModule, linesOfFile, parameterOf, portOf, bodyOf, moduleIn, designOf, fileOf, nestingOpen}
+use Rattle.order.specs.DesignLaws.{flatten-file, design-file}
 use Rattle.order.specs.Fine.{times, settingNames, portsIn}
 use Rattle.order.specs.Tally.{nameTally, moduleNames, objectNames, attributeNames, parameterNames, cellParameterNames, cellPortNames, portTally}
-use Rattle.order.specs.Sums.{sum-append, sum-map, sum-same, times-append}
+use Rattle.order.specs.Sums.{sum-append, sum-map, sum-flatMap, sum-same, times-append}
 
 -- a cell; a module's entries
 module _ (f : Statement → ℕ) where
@@ -70,10 +70,15 @@ module _ (f : Statement → ℕ) where
   unfolding sum
   body-end es e = omega (arith, sum-append f (flatMap linesOf es) (end-stmt ∷ []), body-sum es)
 
-  pub module-sum :
-      (o : Object (List Entry)) →
-      sum f (linesOfModule o) ≡ sum f (settings (o .attributes)) + f (module-stmt (o .name)) + bodySum (bodyOf (o .body)) + f end-stmt
-  unfolding linesOfModule sum
+  -- a module of a design; a design
+  unfoldable pub moduleSum : Object Module → ℕ
+  moduleSum o = sum f (settings (o .attributes)) + f (module-stmt (o .name)) + bodySum (o .body) + f end-stmt
+
+  unfoldable pub designSum : Design → ℕ
+  designSum d = sum f (map autoidx-stmt (Option·toList (d .autoidx))) + sum moduleSum (d .modules)
+
+  module-sum : (o : Object (List Entry)) → sum f (linesOfModule o) ≡ moduleSum (moduleIn o)
+  unfolding linesOfModule moduleIn moduleSum sum
   module-sum o =
       omega (
         arith,
@@ -82,36 +87,19 @@ module _ (f : Statement → ℕ) where
         body-sum (o .body),
       )
 
+  file-sum : (x : File) → sum f (linesOfFile x) ≡ designSum (designOf x)
+  unfolding linesOfFile designOf designSum
+  file-sum x =
+      sum-append f (map autoidx-stmt (Option·toList (x .autoidx))) (flatMap linesOfModule (x .modules))
+      ∙ ap (λ (n : ℕ). sum f (map autoidx-stmt (Option·toList (x .autoidx))) + n)
+      (sum-flatMap f linesOfModule (x .modules) ∙ sum-same _ (λ o. moduleSum (moduleIn o)) module-sum (x .modules) ∙ sym (sum-map moduleSum moduleIn (x .modules)))
+
+  pub flatten-sum : (d : Design) → sum f (flatten d) ≡ designSum d
+  flatten-sum d = ap (sum f) (flatten-file d) ∙ file-sum (fileOf d) ∙ ap designSum (design-file d)
+
   -- in canonical order the same
-  canonical-module : (o : Object (List Entry)) → sum f (linesOfModule (object (o .attributes) (o .name) (entries (bodyOf (o .body))))) ≡ sum f (linesOfModule o)
-  canonical-module o =
-      module-sum (object (o .attributes) (o .name) (entries (bodyOf (o .body))))
-      ∙ ap (λ (m : Module). sum f (settings (o .attributes)) + f (module-stmt (o .name)) + bodySum m + f end-stmt) (body-entries (bodyOf (o .body)))
-      ∙ sym (module-sum o)
-
-  canonical-modules :
-      (os : List (Object (List Entry))) →
-      sum f (flatMap linesOfModule (map (λ o. object (o .attributes) (o .name) (entries (o .body))) (map moduleIn os))) ≡ sum f (flatMap linesOfModule os)
-  unfolding flatMap moduleIn
-  canonical-modules [] = refl
-  canonical-modules (o ∷ os) =
-      let b : List (Object (List Entry)) = map (λ o. object (o .attributes) (o .name) (entries (o .body))) (map moduleIn os) in
-      omega (
-        arith,
-        sum-append f (linesOfModule (object (o .attributes) (o .name) (entries (bodyOf (o .body))))) (flatMap linesOfModule b),
-        sum-append f (linesOfModule o) (flatMap linesOfModule os),
-        canonical-module o,
-        canonical-modules os,
-      )
-
   pub canonical-sum : (x : File) → sum f (flatten (designOf x)) ≡ sum f (linesOfFile x)
-  unfolding designOf fileOf linesOfFile
-  canonical-sum x =
-      let i : List Statement = map autoidx-stmt (Option·toList (x .autoidx)) in
-      ap (sum f) (flatten-file (designOf x))
-      ∙ sum-append f i (flatMap linesOfModule (map (λ o. object (o .attributes) (o .name) (entries (o .body))) (map moduleIn (x .modules))))
-      ∙ ap (λ (n : ℕ). sum f i + n) (canonical-modules (x .modules))
-      ∙ sym (sum-append f i (flatMap linesOfModule (x .modules)))
+  canonical-sum x = flatten-sum (designOf x) ∙ sym (file-sum x)
 
 -- SUMS THAT LEAVE OUT attributes, what is inside cells, and ends
 pub sum-zero : {A : Type 0} (f : A → ℕ) → ((x : A) → f x ≡ 0) → (xs : List A) → sum f xs ≡ 0
@@ -119,14 +107,14 @@ unfolding sum
 sum-zero f h [] = refl
 sum-zero f h (x ∷ xs) = omega (arith, h x, sum-zero f h xs)
 
-pub record Sparse (f : Statement → ℕ) : Type 0 where
-  pub attribute : (n : Name) (c : Constant) → f (attr-stmt n c) ≡ 0
-  pub parameter : (o : Sort) (n : Name) (c : Constant) → f (cell-param-stmt o n c) ≡ 0
-  pub port : (n : Name) (x : Signal) → f (cell-conn-stmt n x) ≡ 0
-  pub end : f end-stmt ≡ 0
+record Sparse (f : Statement → ℕ) : Type 0 where
+  attribute : (n : Name) (c : Constant) → f (attr-stmt n c) ≡ 0
+  parameter : (o : Sort) (n : Name) (c : Constant) → f (cell-param-stmt o n c) ≡ 0
+  port : (n : Name) (x : Signal) → f (cell-conn-stmt n x) ≡ 0
+  end : f end-stmt ≡ 0
 
 module _ (f : Statement → ℕ) (z : Sparse f) where
-  pub settings-zero : (at : List Setting) → sum f (settings at) ≡ 0
+  settings-zero : (at : List Setting) → sum f (settings at) ≡ 0
   settings-zero at = sum-map f (λ a. attr-stmt (a .0) (a .1)) at ∙ sum-zero _ (λ a. z .attribute (a .0) (a .1)) at
 
   cell-zero : (c : Object Cell) → cellSum f c ≡ f (cell-stmt (c .body .type) (c .name))
@@ -136,16 +124,17 @@ module _ (f : Statement → ℕ) (z : Sparse f) where
       let k = sum-zero (λ (k : Name × Signal). f (cell-conn-stmt (k .0) (k .1))) (λ k. z .port (k .0) (k .1)) (c .body .connections) in
       omega (arith, settings-zero (c .attributes), z .end)
 
-  pub sparse-sum :
-      (m : Module) →
-      bodySum f m
-      ≡ sum (λ p. f (param-stmt (p .0) (p .1))) (m .parameters)
-      + sum (λ w. f (wire-stmt (w .body) (w .name))) (m .wires)
-      + sum (λ y. f (memory-stmt (y .body) (y .name))) (m .memories)
-      + sum (λ c. f (cell-stmt (c .body .type) (c .name))) (m .cells)
-      + sum (λ k. f (conn-stmt (k .0) (k .1))) (m .connections)
+  -- by the sums of a module's five lists
+  sparse-sum :
+      (m : Module) {p w y c k : ℕ} →
+      sum (λ p. f (param-stmt (p .0) (p .1))) (m .parameters) ≡ p →
+      sum (λ w. f (wire-stmt (w .body) (w .name))) (m .wires) ≡ w →
+      sum (λ y. f (memory-stmt (y .body) (y .name))) (m .memories) ≡ y →
+      sum (λ c. f (cell-stmt (c .body .type) (c .name))) (m .cells) ≡ c →
+      sum (λ k. f (conn-stmt (k .0) (k .1))) (m .connections) ≡ k →
+      bodySum f m ≡ p + w + y + c + k
   unfolding bodySum
-  sparse-sum m =
+  sparse-sum m ep ew ey ec ek =
       omega (
         arith,
         sum-same (λ (w : Object Wire). sum f (settings (w .attributes)) + f (wire-stmt (w .body) (w .name))) (λ w. f (wire-stmt (w .body) (w .name)))
@@ -167,15 +156,13 @@ object-sparse n = record { attribute = λ m c. refl; parameter = λ o m c. refl;
 pub object-sum : (n : Name) (m : Module) → bodySum (objectNames .one n) m ≡ times (same n) (names m)
 unfolding nameTally space among any names statementsOpen
 object-sum n m =
-    let f : Statement → ℕ = objectNames .one n in
-    let p : sum (λ p. f (param-stmt (p .0) (p .1))) (m .parameters) ≡ 0 = sum-zero _ (λ p. refl) (m .parameters) in
-    let w : sum (λ w. f (wire-stmt (w .body) (w .name))) (m .wires) ≡ times (same n) (map (λ o. o .name) (m .wires)) = sym (times-map n (λ o. o .name) (m .wires)) in
-    let y : sum (λ y. f (memory-stmt (y .body) (y .name))) (m .memories) ≡ times (same n) (map (λ o. o .name) (m .memories)) = sym (times-map n (λ o. o .name) (m .memories)) in
-    let c : sum (λ c. f (cell-stmt (c .body .type) (c .name))) (m .cells) ≡ times (same n) (map (λ o. o .name) (m .cells)) = sym (times-map n (λ o. o .name) (m .cells)) in
-    let k : sum (λ k. f (conn-stmt (k .0) (k .1))) (m .connections) ≡ 0 = sum-zero _ (λ k. refl) (m .connections) in
     let ab = times-append (same n) (map (λ o. o .name) (m .wires) ++ map (λ o. o .name) (m .memories)) (map (λ o. o .name) (m .cells)) in
     let aa = times-append (same n) (map (λ o. o .name) (m .wires)) (map (λ o. o .name) (m .memories)) in
-    omega (arith, sparse-sum f (object-sparse n) m)
+    omega (
+      arith,
+      sparse-sum (objectNames .one n) (object-sparse n) m (sum-zero _ (λ p. refl) (m .parameters)) (sym (times-map n (λ o. o .name) (m .wires)))
+          (sym (times-map n (λ o. o .name) (m .memories))) (sym (times-map n (λ o. o .name) (m .cells))) (sum-zero _ (λ k. refl) (m .connections)),
+    )
 
 parameter-sparse : (n : Name) → Sparse (parameterNames .one n)
 unfolding nameTally space among any statementsOpen
@@ -184,46 +171,25 @@ parameter-sparse n = record { attribute = λ m c. refl; parameter = λ o m c. re
 pub parameter-sum : (n : Name) (m : Module) → bodySum (parameterNames .one n) m ≡ times (same n) (map (λ p. p .0) (m .parameters))
 unfolding nameTally space among any statementsOpen
 parameter-sum n m =
-    let f : Statement → ℕ = parameterNames .one n in
-    let p : sum (λ p. f (param-stmt (p .0) (p .1))) (m .parameters) ≡ times (same n) (map (λ p. p .0) (m .parameters)) = sym (times-map n (λ p. p .0) (m .parameters)) in
-    let w : sum (λ w. f (wire-stmt (w .body) (w .name))) (m .wires) ≡ 0 = sum-zero _ (λ w. refl) (m .wires) in
-    let y : sum (λ y. f (memory-stmt (y .body) (y .name))) (m .memories) ≡ 0 = sum-zero _ (λ y. refl) (m .memories) in
-    let c : sum (λ c. f (cell-stmt (c .body .type) (c .name))) (m .cells) ≡ 0 = sum-zero _ (λ c. refl) (m .cells) in
-    let k : sum (λ k. f (conn-stmt (k .0) (k .1))) (m .connections) ≡ 0 = sum-zero _ (λ k. refl) (m .connections) in
-    omega (arith, sparse-sum f (parameter-sparse n) m)
+    omega (
+      arith,
+      sparse-sum (parameterNames .one n) (parameter-sparse n) m (sym (times-map n (λ p. p .0) (m .parameters))) (sum-zero _ (λ w. refl) (m .wires))
+          (sum-zero _ (λ y. refl) (m .memories)) (sum-zero _ (λ c. refl) (m .cells)) (sum-zero _ (λ k. refl) (m .connections)),
+    )
 
 module-sparse : (n : Name) → Sparse (moduleNames .one n)
 unfolding nameTally space among any statementsOpen
 module-sparse n = record { attribute = λ m c. refl; parameter = λ o m c. refl; port = λ m x. refl; end = refl }
 
-module-zero : (n : Name) (m : Module) → bodySum (moduleNames .one n) m ≡ 0
-unfolding nameTally space among any statementsOpen
-module-zero n m =
-    let f : Statement → ℕ = moduleNames .one n in
-    let p : sum (λ p. f (param-stmt (p .0) (p .1))) (m .parameters) ≡ 0 = sum-zero _ (λ p. refl) (m .parameters) in
-    let w : sum (λ w. f (wire-stmt (w .body) (w .name))) (m .wires) ≡ 0 = sum-zero _ (λ w. refl) (m .wires) in
-    let y : sum (λ y. f (memory-stmt (y .body) (y .name))) (m .memories) ≡ 0 = sum-zero _ (λ y. refl) (m .memories) in
-    let c : sum (λ c. f (cell-stmt (c .body .type) (c .name))) (m .cells) ≡ 0 = sum-zero _ (λ c. refl) (m .cells) in
-    let k : sum (λ k. f (conn-stmt (k .0) (k .1))) (m .connections) ≡ 0 = sum-zero _ (λ k. refl) (m .connections) in
-    omega (arith, sparse-sum f (module-sparse n) m)
-
-module-one : (n m : Name) → moduleNames .one n (module-stmt m) ≡ cond (same n m) 1 0
-unfolding nameTally space among any statementsOpen
-module-one n m = refl
-
-modules-sum : (n : Name) (os : List (Object (List Entry))) → sum (moduleNames .one n) (flatMap linesOfModule os) ≡ times (same n) (map (λ o. o .name) os)
-unfolding flatMap times sum
-modules-sum n [] = refl
-modules-sum n (o ∷ os) =
+module-named : (n : Name) (o : Object Module) → moduleSum (moduleNames .one n) o ≡ cond (same n (o .name)) 1 0
+unfolding moduleSum nameTally space among any statementsOpen
+module-named n o =
+    let m = o .body in
     omega (
       arith,
-      sum-append (moduleNames .one n) (linesOfModule o) (flatMap linesOfModule os),
-      module-sum (moduleNames .one n) o,
       settings-zero (moduleNames .one n) (module-sparse n) (o .attributes),
-      module-one n (o .name),
-      module-zero n (bodyOf (o .body)),
-      module-sparse n .end,
-      modules-sum n os,
+      sparse-sum (moduleNames .one n) (module-sparse n) m (sum-zero _ (λ p. refl) (m .parameters)) (sum-zero _ (λ w. refl) (m .wires))
+          (sum-zero _ (λ y. refl) (m .memories)) (sum-zero _ (λ c. refl) (m .cells)) (sum-zero _ (λ k. refl) (m .connections)),
     )
 
 autoidx-zero : (n : Name) (o : Option ℤ) → sum (moduleNames .one n) (map autoidx-stmt (Option·toList o)) ≡ 0
@@ -232,13 +198,15 @@ autoidx-zero n none = refl
 autoidx-zero n (some i) = refl
 
 pub file-names-sum : (n : Name) (x : File) → sum (moduleNames .one n) (linesOfFile x) ≡ times (same n) (map (λ o. o .name) (x .modules))
-unfolding linesOfFile
+unfolding designSum designOf moduleIn
 file-names-sum n x =
     omega (
       arith,
-      sum-append (moduleNames .one n) (map autoidx-stmt (Option·toList (x .autoidx))) (flatMap linesOfModule (x .modules)),
+      file-sum (moduleNames .one n) x,
       autoidx-zero n (x .autoidx),
-      modules-sum n (x .modules),
+      sum-map (moduleSum (moduleNames .one n)) moduleIn (x .modules),
+      sum-same _ _ (λ o. module-named n (moduleIn o)) (x .modules),
+      times-map n (λ (o : Object (List Entry)). o .name) (x .modules),
     )
 
 port-sparse : (n : ℕ) → Sparse (portTally .one n)
@@ -254,13 +222,11 @@ port-wires n (w ∷ ws) = omega (arith, sum-append (λ m. cond (eqb n m) 1 0) (p
 pub port-sum : (n : ℕ) (m : Module) → bodySum (portTally .one n) m ≡ times (eqb n) (portsIn m)
 unfolding portTally sum portsIn statementsOpen
 port-sum n m =
-    let f : Statement → ℕ = portTally .one n in
-    let p : sum (λ p. f (param-stmt (p .0) (p .1))) (m .parameters) ≡ 0 = sum-zero _ (λ p. refl) (m .parameters) in
-    let w : sum (λ w. f (wire-stmt (w .body) (w .name))) (m .wires) ≡ times (eqb n) (flatMap (λ w. portNumbers (w .body)) (m .wires)) = port-wires n (m .wires) in
-    let y : sum (λ y. f (memory-stmt (y .body) (y .name))) (m .memories) ≡ 0 = sum-zero _ (λ y. refl) (m .memories) in
-    let c : sum (λ c. f (cell-stmt (c .body .type) (c .name))) (m .cells) ≡ 0 = sum-zero _ (λ c. refl) (m .cells) in
-    let k : sum (λ k. f (conn-stmt (k .0) (k .1))) (m .connections) ≡ 0 = sum-zero _ (λ k. refl) (m .connections) in
-    omega (arith, sparse-sum f (port-sparse n) m)
+    omega (
+      arith,
+      sparse-sum (portTally .one n) (port-sparse n) m (sum-zero _ (λ p. refl) (m .parameters)) (port-wires n (m .wires))
+          (sum-zero _ (λ y. refl) (m .memories)) (sum-zero _ (λ c. refl) (m .cells)) (sum-zero _ (λ k. refl) (m .connections)),
+    )
 
 -- inside a cell, and on an object
 pub cell-parameter-sum :

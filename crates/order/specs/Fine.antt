@@ -12,6 +12,7 @@ use Rattle.rules.specs.Signals.{Wires}
 use Rattle.rules.specs.Judgement.{sum, portNumbers, exceedsSize}
 use Rattle.rules.specs.Design.{Setting, Object, Cell, Module, Design, flatten}
 use Rattle.rules.specs.Session.{names}
+use Rattle.scanner.specs.Lists.{Each}
 use Rattle.admitted.specs.Admitted.{fineConstant, fineWire, fineMemory, fineSignal, sameLength}
 
 -- how many pass a test
@@ -21,11 +22,6 @@ times f xs = sum (λ x. cond (f x) 1 0) xs
 -- names that differ: each stands there at most once
 abbrev pub Differ : List Name → Type 0
 Differ ns = (n : Name) → times (same n) ns ≤ 1
-
--- what holds of each element
-abbrev pub Each : {A : Type 0} → (A → Type 0) → List A → Type 0
-Each P [] = Unit {0}
-Each P (x ∷ xs) = P x × Each P xs
 
 abbrev pub settingNames : List Setting → List Name
 settingNames at = map (λ a. a .0) at

@@ -2,7 +2,7 @@
 -- Assumes nothing.
 use Prim.Native.Nat.{ℕ}
 use mathlib.Core.Path.{_≡_, refl, sym, ap, _∙_}
-use mathlib.Core.List.{List, [], _∷_, map, flatMap, reverse, reverseAux, reverseAux-append, Option·toList}
+use mathlib.Core.List.{List, [], _∷_, map, flatMap, reverse, reverseAux, reverseAux-append, Option·toList, map-map}
 use mathlib.Core.Option.{Option, none, some}
 use mathlib.Core.Bool.{Bool, true}
 use native.Mathlib.Omega.{arith}
@@ -11,10 +11,11 @@ use Rattle.rules.specs.Bytes.{any, all}
 use Rattle.rules.specs.Statements.{Statement, autoidx-stmt, statementsOpen}
 use Rattle.rules.specs.Judgement.{Past, sum, among, space}
 use Rattle.rules.specs.Design.{Object, object, Module, Design, flatten}
+use Rattle.scanner.specs.Lists.{Each}
 use Rattle.admitted.specs.Admitted.{admitted, closes}
 use Rattle.order.specs.Nesting.{Entry, File, linesOfModule, linesOfFile, moduleIn, entries, fileOf}
 use Rattle.order.specs.DesignLaws.{flatMap-map, body-entries, flatten-file}
-use Rattle.order.specs.Fine.{Each, FineModule, FineDesign}
+use Rattle.order.specs.Fine.{FineModule, FineDesign}
 use Rattle.order.specs.Tally.{Through, nameTally, objectNames, attributeNames, parameterNames, cellParameterNames, cellPortNames, portTally}
 use Rattle.order.specs.Sums.{sum-reverse, all-fewer, sizes-fewer}
 use Rattle.order.specs.Apart.{sees, ApartAll, apart-admitted}
@@ -69,8 +70,7 @@ file-fine [] e = tt
 file-fine (o ∷ os) e = (rw (body-entries (o .body)) (e .0), file-fine os (e .1))
 
 map-names : (os : List (Object Module)) → map (λ o. o .name) (map asFile os) ≡ map (λ o. o .name) os
-map-names [] = refl
-map-names (o ∷ os) = ap (λ (l : List _). o .name ∷ l) (map-names os)
+map-names os = map-map (λ (o : Object (List Entry)). o .name) asFile os
 
 behind-file :
     (f : Past → Statement → Bool) (x : File) → Through f (reverseAux (flatMap linesOfModule (x .modules)) (opening (x .autoidx))) →

@@ -19,6 +19,7 @@ use Rattle.scanner.specs.Lists.{flatMap-append}
 use Rattle.admitted.specs.CountLaws.{context-scope}
 use Rattle.order.specs.Nesting.{CellEntry, parameter-entry, port-entry, Entry, param-entry, wire-entry, memory-entry, cell-entry, connection-entry, File, settings, lineIn, linesOf, linesOfFile, nestingOpen}
 use Rattle.order.specs.Tally.{Through}
+use Rattle.order.specs.Places.{fits}
 
 -- What is read: whole modules; and if a module or a cell is open, its attributes, its name and its entries so far. Last the attributes that
 -- wait for an object
@@ -52,31 +53,27 @@ record Reads (p : Past) : Type 0 where
 more-lines : (p : Past) (s : Statement) (l : List Statement) → reverse p ≡ l → reverse (s ∷ p) ≡ l ++ s ∷ []
 more-lines p s l e = reverse-cons s p ∙ ap (λ (k : List Statement). k ++ s ∷ []) e
 
--- where it may stand
-abbrev allowed : Scope → Bool → Bool → Statement → Bool
-allowed z first attributed s = among (kinds z first attributed) s
-
 abbrev of : List Kind → Statement → Bool
 of ks s = among ks s
 
-top-kinds : (s : Statement) (f a : Bool) → allowed top f a s ≡ true → of (anAutoidx ∷ anAttribute ∷ aModule ∷ []) s ≡ true
+top-kinds : (s : Statement) (f a : Bool) → fits top f a s ≡ true → of (anAutoidx ∷ anAttribute ∷ aModule ∷ []) s ≡ true
 unfolding kinds among any
 top-kinds s true a e = e
 top-kinds s false a e = or-true-right (is anAutoidx s) _ e
 
 module-kinds :
-    (s : Statement) (f a : Bool) → allowed inModule f a s ≡ true → of (aParameter ∷ aConnection ∷ anEnd ∷ anAttribute ∷ aWire ∷ aMemory ∷ aCell ∷ []) s ≡ true
+    (s : Statement) (f a : Bool) → fits inModule f a s ≡ true → of (aParameter ∷ aConnection ∷ anEnd ∷ anAttribute ∷ aWire ∷ aMemory ∷ aCell ∷ []) s ≡ true
 unfolding kinds among any
 module-kinds s f true e = or-true-right (is aParameter s) _ (or-true-right (is aConnection s) _ (or-true-right (is anEnd s) _ e))
 module-kinds s f false e = e
 
 -- where an attribute waits, no parameter, connection or end stands
-free-kinds : (s : Statement) (f a : Bool) → of (anAttribute ∷ aWire ∷ aMemory ∷ aCell ∷ []) s ≡ false → allowed inModule f a s ≡ true → a ≡ false
+free-kinds : (s : Statement) (f a : Bool) → of (anAttribute ∷ aWire ∷ aMemory ∷ aCell ∷ []) s ≡ false → fits inModule f a s ≡ true → a ≡ false
 unfolding kinds
 free-kinds s f true h e = absurd (false≢true (sym h ∙ e))
 free-kinds s f false h e = refl
 
-stands-at : (z : Scope) (p : Past) (s : Statement) → scope p ≡ z → stands p s ≡ true → allowed z (context p .first) (context p .attributed) s ≡ true
+stands-at : (z : Scope) (p : Past) (s : Statement) → scope p ≡ z → stands p s ≡ true → fits z (context p .first) (context p .attributed) s ≡ true
 unfolding stands
 stands-at z p s q e = let h : context p .scope ≡ z = context-scope p ∙ q in rw h at e
 

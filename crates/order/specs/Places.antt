@@ -14,10 +14,10 @@ use Rattle.rules.specs.Shapes.{Scope, top, inModule, inCell}
 use Rattle.rules.specs.Judgement.{Past, outer, scope, context, among}
 use Rattle.rules.specs.Reading.{isTop}
 use Rattle.rules.specs.Design.{Setting, Object}
+use Rattle.scanner.specs.Lists.{Each}
 use Rattle.admitted.specs.Admitted.{kinds, stands, closes}
 use Rattle.admitted.specs.CountLaws.{context-scope}
 use Rattle.order.specs.Nesting.{CellEntry, parameter-entry, port-entry, Entry, param-entry, wire-entry, memory-entry, cell-entry, connection-entry, File, settings, lineIn, linesOf, linesOfModule, linesOfFile}
-use Rattle.order.specs.Fine.{Each}
 use Rattle.order.specs.Tally.{Through}
 use Rattle.order.specs.Walks.{behind-each}
 
@@ -30,7 +30,8 @@ pub record Ready (z : Scope) (p : Past) : Type 0 where
   pub at : At z p
   pub free : context p .attributed ≡ false
 
-abbrev fits : Scope → Bool → Bool → Statement → Bool
+-- where it may stand
+abbrev pub fits : Scope → Bool → Bool → Statement → Bool
 fits z first attributed s = among (kinds z first attributed) s
 
 stands-in : (z : Scope) (p : Past) (s : Statement) → scope p ≡ z → ((first attributed : Bool) → fits z first attributed s ≡ true) → stands p s ≡ true

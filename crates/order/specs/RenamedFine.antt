@@ -1,34 +1,35 @@
 -- An accepted rename leaves a fine design fine; so do all that stand.
 -- Assumes nothing.
-use Prim.Native.Nat.{ℕ, zero, suc, _+_, _≤_}
+use Prim.Native.Nat.{ℕ, zero, suc, _+_, _≤_, _<_}
 use mathlib.Core.Path.{_≡_, refl, sym, ap, _∙_}
-use mathlib.Core.List.{List, [], _∷_, _++_, map, flatMap, reverse-reverse, Option·toList}
-use mathlib.Core.Option.{some, Option·elim}
+use mathlib.Core.List.{List, [], _∷_, _++_, map, flatMap, reverse-reverse}
+use mathlib.Core.Option.{Option, none, some, Option·elim}
 use mathlib.Core.Bool.{Bool, true, false, not, cond, _&&_, _||_, false≢true}
 use native.Mathlib.Nat.{le-trans}
 use native.Mathlib.Omega.{arith}
-use borrow.Author.Tests.{not-false, ltb-false}
+use borrow.Author.Tests.{not-false, leb-false, ltb-false}
 use lib.Dec.{leb, ltb}
 use lib.ListN.{length, getElem?}
 use Rattle.rules.specs.Bytes.{same, any, all, legal}
 use Rattle.rules.specs.Tokens.{Name}
-use Rattle.rules.specs.Statements.{Signal, Bit, digit, bit, Wire, Statement, Kind, aModule, aParameter, aWire, aMemory, aCell, aCellParameter, aCellConnection, aConnection, anAttribute, autoidx-stmt, module-stmt, wire-stmt, end-stmt, statementsOpen}
+use Rattle.rules.specs.Statements.{Signal, Bit, digit, bit, Wire, Statement, Kind, aModule, aParameter, aWire, aMemory, aCell, aCellParameter, aCellConnection, aConnection, anAttribute, wire-stmt, statementsOpen}
 use Rattle.rules.specs.Judgement.{sum, among, count, signalSize, valueSize, stringSize, nameSize, exceedsSize, Verdict, accepted, portNumbers}
 use Rattle.rules.specs.Design.{Object, object, Module, Design, flatten}
-use Rattle.rules.specs.Session.{Rename, change, renameWire, renamed, now, roomUsed, names, taken, renameCall}
+use Rattle.rules.specs.Session.{Rename, wireAt, change, renameWire, renamed, now, roomUsed, names, taken, renameCall, undoCall}
 use Rattle.admitted.specs.Admitted.{fineBit, fineSignal}
-use Rattle.scanner.specs.Laws.{by-test, same-eq, or-false-right}
+use Rattle.scanner.specs.Laws.{by-test, same-eq, or-false-left, or-false-right}
+use Rattle.scanner.specs.Lists.{drop-last, Each}
 use Rattle.past.specs.Sizes.{sizesBy, sumsOf}
 use Rattle.past.proofs.SizeLaws.{within-past, limits-within, exceeds-sums}
 use Rattle.admitted.specs.Holds.{Allowed, no-renames, one-rename}
-use Rattle.admitted.specs.StandLaws.{next-test}
-use Rattle.order.specs.Nesting.{settings, linesOfModule, linesOfFile, entries, fileOf}
-use Rattle.order.specs.DesignLaws.{flatMap-map, body-entries, flatten-file}
-use Rattle.order.specs.Fine.{times, Differ, Each, wiresIn, signalsIn, portsIn, FineModule, fineAlone, FineDesign}
+use Rattle.admitted.specs.StandLaws.{verdict-is, next-test}
+use Rattle.order.specs.Nesting.{settings}
+use Rattle.order.specs.DesignLaws.{flatMap-map}
+use Rattle.order.specs.Fine.{times, Differ, wiresIn, signalsIn, portsIn, FineModule, fineAlone, FineDesign}
 use Rattle.order.specs.Tally.{times-none}
-use Rattle.order.specs.Sums.{sum-append, sum-map, sum-flatMap, sum-same, fails, all-none, none-all}
+use Rattle.order.specs.Sums.{sum-append, sum-map, fails, all-none, none-all}
 use Rattle.order.specs.Walks.{all-same}
-use Rattle.order.specs.BodySums.{bodySum, module-sum}
+use Rattle.order.specs.BodySums.{bodySum, moduleSum, designSum, flatten-sum}
 
 -- ONE ELEMENT CHANGED
 module _ {A : Type 0} (h : A → A) where
@@ -39,7 +40,7 @@ module _ {A : Type 0} (h : A → A) where
   sum-change g c k zero (x ∷ xs) = omega (arith, k x)
   sum-change g c k (suc i) (x ∷ xs) = omega (arith, sum-change g c k i xs)
 
-  map-change : {B : Type 0} (g : A → B) → ((x : A) → g (h x) ≡ g x) → (i : ℕ) (xs : List A) → map g (change h i xs) ≡ map g xs
+  pub map-change : {B : Type 0} (g : A → B) → ((x : A) → g (h x) ≡ g x) → (i : ℕ) (xs : List A) → map g (change h i xs) ≡ map g xs
   unfolding change
   map-change g k i [] = refl
   map-change g k zero (x ∷ xs) = ap (λ (y : _). y ∷ map g xs) (k x)
@@ -53,25 +54,6 @@ module _ {A : Type 0} (h : A → A) where
 
 -- SUMS OVER A DESIGN, module by module
 module _ (f : Statement → ℕ) where
-  unfoldable moduleSum : Object Module → ℕ
-  moduleSum o = sum f (settings (o .attributes)) + f (module-stmt (o .name)) + bodySum f (o .body) + f end-stmt
-
-  file-sum : (o : Object Module) → sum f (linesOfModule (object (o .attributes) (o .name) (entries (o .body)))) ≡ moduleSum o
-  unfolding moduleSum
-  file-sum o =
-      module-sum f (object (o .attributes) (o .name) (entries (o .body)))
-      ∙ ap (λ (m : Module). sum f (settings (o .attributes)) + f (module-stmt (o .name)) + bodySum f m + f end-stmt) (body-entries (o .body))
-
-  flatten-sum : (d : Design) → sum f (flatten d) ≡ sum f (map autoidx-stmt (Option·toList (d .autoidx))) + sum moduleSum (d .modules)
-  unfolding linesOfFile fileOf
-  flatten-sum d =
-      ap (sum f) (flatten-file d)
-      ∙ sum-append f (map autoidx-stmt (Option·toList (d .autoidx))) _
-      ∙ ap (λ (n : ℕ). sum f (map autoidx-stmt (Option·toList (d .autoidx))) + n)
-      (ap (sum f) (flatMap-map linesOfModule (λ o. object (o .attributes) (o .name) (entries (o .body))) (d .modules))
-      ∙ sum-flatMap f (λ o. linesOfModule (object (o .attributes) (o .name) (entries (o .body)))) (d .modules)
-      ∙ sum-same _ moduleSum file-sum (d .modules))
-
   module _ (r : Rename) (c : ℕ) (k : (w : Wire) (n : Name) → f (wire-stmt w (r .newName)) ≤ f (wire-stmt w n) + c) where
     body-renamed : (m : Module) → bodySum f (renameWire r m) ≤ bodySum f m + c
     unfolding bodySum renameWire
@@ -83,12 +65,12 @@ module _ (f : Statement → ℕ) where
 
     -- a sum over a renamed design
     pub renamed-sum : (d : Design) → sum f (flatten (renamed r d)) ≤ sum f (flatten d) + c
-    unfolding renamed moduleSum
+    unfolding renamed moduleSum designSum
     renamed-sum d =
         let w =
-        sum-change (λ (m : Object Module). object (m .attributes) (m .name) (renameWire r (m .body))) moduleSum c
+        sum-change (λ (m : Object Module). object (m .attributes) (m .name) (renameWire r (m .body))) (moduleSum f) c
         (λ m. omega (arith, body-renamed (m .body))) (r .moduleNumber) (d .modules) in
-        omega (arith, flatten-sum d, flatten-sum (renamed r d))
+        omega (arith, flatten-sum f d, flatten-sum f (renamed r d))
 
 -- STATEMENTS AND SIZES: only a name is another
 count-same : (ks : List Kind) (w : Wire) (n m : Name) → count ks (wire-stmt w n) ≡ count ks (wire-stmt w m)
@@ -202,20 +184,20 @@ unfoldable bitIn : List Wire → Bit → Bool
 bitIn ws (digit d) = true
 bitIn ws (bit w i) = Option·elim (getElem? ws w) false (λ v. ltb i (v .width))
 
-get-map :
-    {A B : Type 0} (P : B → Bool) (g : A → B) (xs : List A) (n : ℕ) →
-    Option·elim (getElem? xs n) false (λ x. P (g x)) ≡ Option·elim (getElem? (map g xs) n) false P
+pub elim-map :
+    {A B C : Type 0} (z : C) (f : B → C) (g : A → B) (xs : List A) (n : ℕ) →
+    Option·elim (getElem? xs n) z (λ x. f (g x)) ≡ Option·elim (getElem? (map g xs) n) z f
 unfolding Option·elim
-get-map P g [] n = refl
-get-map P g (x ∷ xs) zero = refl
-get-map P g (x ∷ xs) (suc n) = get-map P g xs n
+elim-map z f g [] n = refl
+elim-map z f g (x ∷ xs) zero = refl
+elim-map z f g (x ∷ xs) (suc n) = elim-map z f g xs n
 
 bit-in : (m : Module) (b : Bit) → fineBit (wiresIn m) b ≡ bitIn (map (λ w. w .body) (m .wires)) b
 unfolding fineBit wiresIn bitIn
 bit-in m (digit d) = refl
 bit-in m (bit w i) =
     rw reverse-reverse
-    (sym (get-map (λ (v : Name × Wire). ltb i (v .1 .width)) (λ (o : Object Wire). (o .name, o .body)) (m .wires) w) ∙ get-map (λ (v : Wire). ltb i (v .width)) (λ (o : Object Wire). o .body) (m .wires) w)
+    (sym (elim-map false (λ (v : Name × Wire). ltb i (v .1 .width)) (λ (o : Object Wire). (o .name, o .body)) (m .wires) w) ∙ elim-map false (λ (v : Wire). ltb i (v .width)) (λ (o : Object Wire). o .body) (m .wires) w)
 
 signal-renamed : (r : Rename) (m : Module) (x : Signal) → fineSignal (wiresIn (renameWire r m)) x ≡ fineSignal (wiresIn m) x
 unfolding fineSignal
@@ -269,29 +251,45 @@ unfolding now
 now-more d [] r = refl
 now-more d (q ∷ rs) r = now-more (renamed q d) rs r
 
+pub undo-last : (rs : List Rename) (r : Rename) → undoCall (rs ++ r ∷ []) ≡ accepted rs
+unfolding undoCall
+undo-last [] r = refl
+undo-last (q ∷ rs) r = ap accepted (drop-last (q ∷ rs) r)
+
 pub room-more : (d : Design) (rs : List Rename) (r : Rename) → roomUsed d (rs ++ r ∷ []) ≡ roomUsed d rs + length (r .newName)
 unfolding roomUsed sum
 room-more d rs r = omega (arith, sum-append (λ (q : Rename). length (q .newName)) rs (r ∷ []))
 
 -- WHAT AN ACCEPTED RENAME KEEPS
-pub record Kept (d : Design) (rs : List Rename) (r : Rename) : Type 0 where
+pub record Kept (d : Design) (rs qs : List Rename) (r : Rename) : Type 0 where
   pub legal : legal (r .newName) ≡ true
+  pub there : (o : Object Wire) × (wireAt d (r .moduleNumber) (r .wireNumber) ≡ some o)
   pub free : taken (now d rs) (r .moduleNumber) (r .newName) ≡ false
+  pub few : length rs < 64
   pub room : roomUsed d rs + length (r .newName) ≤ 16384
+  pub listed : rs ++ r ∷ [] ≡ qs
 
-pub accepted-keeps : (d : Design) (rs qs : List Rename) (r : Rename) → renameCall d rs r ≡ Verdict.accepted qs → Kept d rs r
+is-there : {A : Type 0} (x : Option A) → Option·elim x true (λ a. false) ≡ false → (a : A) × (x ≡ some a)
+unfolding Option·elim
+is-there none e = absurd (false≢true (sym e))
+is-there (some a) e = (a, refl)
+
+pub accepted-keeps : (d : Design) (rs qs : List Rename) (r : Rename) → renameCall d rs r ≡ Verdict.accepted qs → Kept d rs qs r
 unfolding renameCall
 accepted-keeps d rs qs r e =
     let a : List Rename = rs ++ r ∷ [] in
     let e₄ = next-test a qs 4 (not (legal (r .newName))) _ e in
     let e₆ = next-test a qs 6 _ _ (e₄ .1) in
-    let e₈ = next-test a qs 8 _ _ (e₆ .1) in
+    let e₈ = next-test a qs 8 (Option·elim (wireAt d (r .moduleNumber) (r .wireNumber)) true (λ w. false)) _ (e₆ .1) in
     let e₉ = next-test a qs 9 (taken (now d rs) (r .moduleNumber) (r .newName)) _ (e₈ .1) in
     let e₁₁ = next-test a qs 11 (leb 64 (length rs) || ltb 16384 (roomUsed d rs + length (r .newName))) [] (e₉ .1) in
     record {
       legal = not-false (legal (r .newName)) (e₄ .0);
+      there = is-there (wireAt d (r .moduleNumber) (r .wireNumber)) (e₈ .0);
       free = e₉ .0;
+      few = leb-false 64 (length rs) (or-false-left (leb 64 (length rs)) _ (e₁₁ .0));
       room = ltb-false 16384 (roomUsed d rs + length (r .newName)) (or-false-right (leb 64 (length rs)) _ (e₁₁ .0));
+      listed = verdict-is a qs (e₁₁ .1);
     }
 
 module _ (d : Design) (rs : List Rename) (r : Rename) where

@@ -15,10 +15,10 @@ use Rattle.rules.specs.Judgement.{Past, sum, among, space}
 use Rattle.rules.specs.Design.{Setting, Object}
 use Rattle.rules.specs.Session.{names}
 use Rattle.scanner.specs.Laws.{and-true-left, and-true-right, or-false-left, or-false-right}
-use Rattle.scanner.specs.Lists.{all-append}
+use Rattle.scanner.specs.Lists.{all-append, Each}
 use Rattle.order.specs.Nesting.{CellEntry, parameter-entry, port-entry, Entry, param-entry, wire-entry, memory-entry, cell-entry, connection-entry, File, settings, lineIn, linesOf, linesOfModule, linesOfFile, wiresOf, memoriesOf, cellsOf, bodyOf, moduleIn, nestingOpen}
 use Rattle.order.specs.DesignLaws.{all-flatMap}
-use Rattle.order.specs.Fine.{Differ, Each, settingNames, FineCell, FineModule}
+use Rattle.order.specs.Fine.{Differ, settingNames, FineCell, FineModule}
 use Rattle.order.specs.Tally.{Through, Tally, Lawful, Neutral, through-neutral, through-behind, part-new, notAttribute, nameTally, moduleNames, objectNames, attributeNames, parameterNames, cellParameterNames, cellPortNames, portTally, module-names-lawful, object-names-lawful, attribute-names-lawful, parameter-names-lawful, cell-parameter-names-lawful, cell-port-names-lawful, port-lawful}
 use Rattle.order.specs.BodySums.{body-end, object-sum, parameter-sum, port-sum, file-names-sum, cell-parameter-sum, cell-port-sum, attribute-sum}
 

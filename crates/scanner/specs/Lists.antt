@@ -43,6 +43,11 @@ module _ {A : Type 0} where
   element-none (x ∷ xs) zero h = absurd (omega arith)
   element-none (x ∷ xs) (suc i) h = element-none xs i (omega arith)
 
+  -- the one between two lists
+  pub element-at : (xs : List A) (y : A) (ys : List A) (n : ℕ) → n ≡ length xs → getElem? (xs ++ y ∷ ys) n ≡ some y
+  element-at [] y ys n e = let h : n ≡ 0 = omega arith in rw h
+  element-at (x ∷ xs) y ys n e = let h : n ≡ suc (length xs) = omega arith in rw h (element-at xs y ys (length xs) refl)
+
   -- behind what is reversed stands what stood there before
   pub element-behind : (xs ys : List A) (i n : ℕ) → n ≡ length xs + i → getElem? (reverseAux xs ys) n ≡ getElem? ys i
   element-behind [] ys i n e = let q : n ≡ i = omega arith in rw q

@@ -2,7 +2,7 @@
 -- Assumes nothing.
 use Prim.Native.Nat.{ℕ, zero, suc, _+_, _≤_, _<_}
 use mathlib.Core.Path.{_≡_, refl, sym, ap, ap₂, _∙_}
-use mathlib.Core.List.{List, [], _∷_, _++_, map, map-append, reverse, reverse-cons, reverse-reverse}
+use mathlib.Core.List.{List, [], _∷_, _++_, map, map-append, reverse, reverse-cons, reverse-reverse, map-map}
 use mathlib.Core.Option.{Option, none, some, Option·map, Option·elim}
 use mathlib.Core.Bool.{cond}
 use native.Mathlib.Nat.{add-zero}
@@ -101,10 +101,6 @@ unfolding searchIn searchNow
 search-up names wires rows m n zero k = refl
 search-up names wires rows m n (suc l) k = rw (search-up names wires rows m n l (k + 1))
 
-pairs-names : (xs : List (Object Wire)) → map (λ (x : Name × Wire). x .0) (map (λ o. (o .name, o .body)) xs) ≡ map (λ o. o .name) xs
-pairs-names [] = refl
-pairs-names (x ∷ xs) = ap (λ (l : List Name). x .name ∷ l) (pairs-names xs)
-
 range-within : (t : List ℕ) (total m : ℕ) → wireRange t total m .first + wireRange t total m .count ≤ total
 unfolding wireRange
 range-within t total m = omega (arith, where-next t m total, where-le (λ c. ltb c (suc m)) t total)
@@ -151,7 +147,7 @@ module _ {names strings bits wires rows : List ℕ} {renames room : ℕ} {p : Pl
       let own : ℕ → Name = λ j. nameOf names wires (r .first + j) in
       let f : ℕ → Name → Name = nameNow (h .renames) m in
       let e : map (λ o. o .name) (wiresAt (design (h .statements)) m) ≡ up own (r .count) 0 =
-      sym (pairs-names (wiresAt (design (h .statements)) m))
+      sym (map-map (λ (x : Name × Wire). x .0) (λ (o : Object Wire). (o .name, o .body)) (wiresAt (design (h .statements)) m))
       ∙ ap (λ (ss : List Statement). map (λ (x : Name × Wire). x .0) (map (λ o. (o .name, o .body)) (wiresAt (design ss) m))) (sym file)
       ∙ ap (map (λ x. x .0)) (sym (design-range m (reverse (h .statements)) headed wired offsets))
       ∙ ap (λ (t : ℕ). map (λ x. x .0) (reverse (wiresFrom names wires (wireRange wires t m .first) (wireRange wires t m .count)))) all-wires

@@ -22,7 +22,8 @@ use Rattle.held.specs.HeldLaws.{holds-laid}
 use Rattle.held.specs.RenameLaws.{file-last, eights-file}
 use Rattle.session.specs.Called.{Called, holding, wrong-lengths, damaged, after, CalledAs}
 use Rattle.session.specs.Steps.{Holding, NotOpen, wrong-sizes, none-held}
-use Rattle.session.proofs.RenameLaws.{Passes, passes, refused-by, undo-last, layout-rename, layout-undo}
+use Rattle.order.specs.RenamedFine.{undo-last}
+use Rattle.session.proofs.RenameLaws.{Passes, passes, refused-by, layout-rename, layout-undo}
 use Rattle.session.proofs.HoldLaws.{rooms-rows, long, standing, used, rows-before, few-rows}
 
 -- 1 and 3

@@ -3,25 +3,22 @@
 use Prim.Native.Nat.{ℕ, _+_, _*_, _≤_, _<_}
 use mathlib.Core.Path.{_≡_, refl, sym, ap}
 use mathlib.Core.List.{List, [], _∷_, _++_}
-use mathlib.Core.Bool.{Bool, true, false, not, _||_}
 use native.Mathlib.Omega.{arith}
-use lib.Dec.{leb, ltb}
 use lib.ListN.{length, replicate, length-append}
-use borrow.Author.Tests.{leb-false, ltb-false, not-false}
 use Rattle.rules.specs.Bytes.{legal}
 use Rattle.rules.specs.Statements.{Statement}
-use Rattle.rules.specs.Judgement.{Verdict, accepted, refused, lowest, verdict}
+use Rattle.rules.specs.Judgement.{Verdict, accepted, refused}
 use Rattle.rules.specs.Design.{Design}
-use Rattle.rules.specs.Session.{Rename, roomUsed, renameCall, undoCall, numberOf}
+use Rattle.rules.specs.Session.{Rename, roomUsed, renameCall, numberOf}
 use Rattle.rules.specs.Layout.{Rooms, padded, renameRow, putRename, rooms, memory, layout}
 use Rattle.tables.specs.Store.{store}
 use Rattle.tables.specs.Padded.{store-padded, padded-unput}
 use Rattle.tables.specs.Flat.{flat, Eights, flat-snoc, length-flat, store-row}
-use Rattle.scanner.specs.Lists.{drop-last}
-use Rattle.scanner.specs.Laws.{or-false-left, or-false-right}
 use Rattle.reader.specs.Read.{lent}
 use Rattle.netlist.specs.RoomLaws.{length-rename-row}
+use Rattle.order.specs.RenamedFine.{accepted-keeps}
 use Rattle.standing.specs.JudgedLaws.{legal-short}
+use Rattle.held.specs.AllowedLaws.{number-accepted}
 use Rattle.held.specs.RenameLaws.{file-last}
 
 -- WHAT AN ACCEPTED RENAME KEEPS
@@ -31,43 +28,16 @@ pub record Passes (d : Design) (rs : List Rename) (r : Rename) : Type 0 where
   pub few : length rs < 64
   pub room : roomUsed d rs + length (r .newName) ≤ 16384
 
--- no test holds where the number is 0
-record NoTest {A : Type 0} (q : A) (v : Verdict A) (a e : Bool) : Type 0 where
-  is : v ≡ accepted q
-  first : a ≡ false
-  last : e ≡ false
-
-none-holds : (q : List Rename) (a b c d e : Bool) → let v = verdict q (lowest ((4, a) ∷ (6, b) ∷ (8, c) ∷ (9, d) ∷ (11, e) ∷ [])) in numberOf v ≡ 0 → NoTest q v a e
-unfolding numberOf verdict lowest
-none-holds q true b c d e h = absurd (omega arith)
-none-holds q false true c d e h = absurd (omega arith)
-none-holds q false false true d e h = absurd (omega arith)
-none-holds q false false false true e h = absurd (omega arith)
-none-holds q false false false false true h = absurd (omega arith)
-none-holds q false false false false false h = record { is = refl; first = refl; last = refl }
-
 pub passes : (d : Design) (rs : List Rename) (r : Rename) → numberOf (renameCall d rs r) ≡ 0 → Passes d rs r
-unfolding renameCall
 passes d rs r h =
-    let full : Bool = leb 64 (length rs) in
-    let over : Bool = ltb 16384 (roomUsed d rs + length (r .newName)) in
-    let n = none-holds (rs ++ r ∷ []) (not (legal (r .newName))) _ _ _ (full || over) h in
-    record {
-      is = n .is;
-      short = legal-short (r .newName) (not-false (legal (r .newName)) (n .first));
-      few = leb-false 64 (length rs) (or-false-left full over (n .last));
-      room = ltb-false 16384 (roomUsed d rs + length (r .newName)) (or-false-right full over (n .last));
-    }
+    let e = number-accepted d rs r h in
+    let k = accepted-keeps d rs (rs ++ r ∷ []) r e in
+    record { is = e; short = legal-short (r .newName) (k .legal); few = k .few; room = k .room }
 
 pub refused-by : (v : Verdict (List Rename)) (n : ℕ) → numberOf v ≡ n → (n ≡ 0 → ⊥) → v ≡ refused n
 unfolding numberOf
 refused-by (accepted rs) n e h = absurd (h (sym e))
 refused-by (refused k) n e h = ap refused e
-
-pub undo-last : (rs : List Rename) (r : Rename) → undoCall (rs ++ r ∷ []) ≡ accepted rs
-unfolding undoCall
-undo-last [] r = refl
-undo-last (q ∷ rs) r = ap accepted (drop-last (q ∷ rs) r)
 
 -- THE LAYOUT
 lent-eq :

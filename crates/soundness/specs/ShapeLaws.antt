@@ -15,15 +15,7 @@ use Rattle.rules.specs.Statements.{Sig, bundle, Opt, Shape, autoidx-stmt, attr-
 use Rattle.rules.specs.Shapes.{Parse, Form, Scope, top, inModule, inCell, Context, isWord, isMark, nowhere, give, one, after, of₁, of₂, of₃, either, choice, offers, closedBy, repeat, several, orEnd, isId, isConstant, isInteger, isAtom, id, const, int, atom, low, bounds, sliced, withSlices, sigs, members, signal, sigspec, numbered, flag, wireOptionForms, memoryOptionForms, options, sort, autoidxForm, attributeForm, topForms, objectForms, bodyForms, cellForms, forms, wholeBy, whole, shape}
 use Rattle.scanner.specs.Laws.{by-cond}
 use Rattle.written.specs.Lists.{all-cons, all-first, all-later}
-use Rattle.written.specs.TokenLaws.{fineLiteral, fineToken}
-
--- (shut, so that the tokens are found)
-unfoldable Fine : List Token → Type 0
-Fine ts = all fineToken ts ≡ true
-
-none-fine : Fine []
-unfolding Fine all
-none-fine = refl
+use Rattle.written.specs.TokenLaws.{fineLiteral, fineToken, Fine}
 
 first-fine : (t : Token) (ts : List Token) → Fine (t ∷ ts) → fineToken t ≡ true
 unfolding Fine

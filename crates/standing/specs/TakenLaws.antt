@@ -34,28 +34,18 @@ use Rattle.designs.specs.Ranges.{wireRange}
 use Rattle.designs.specs.RowLaws.{taken-range}
 use Rattle.designs.specs.WireLaws.{pairs-range, design-range}
 use Rattle.wire_names.specs.Now as rows
+use Rattle.order.specs.RenamedFine.{elim-map}
 use Rattle.standing.specs.Judged.{objectTaken, nameTaken, moduleBy}
 use Rattle.standing.specs.NowLaws.{name-now-laid}
 
 -- A WIRE BY ITS NUMBER
-abbrev pairs : List (Object Wire) → Wires
-pairs xs = map (λ o. (o .name, o .body)) xs
-
-elim-pair :
-    {C : Type 0} (z : C) (g : Wire → C) (xs : List (Object Wire)) (i : ℕ) →
-    Option·elim (getElem? xs i) z (λ o. g (o .body)) ≡ Option·elim (getElem? (pairs xs) i) z (λ x. g (x .1))
-unfolding Option·elim
-elim-pair z g [] i = refl
-elim-pair z g (x ∷ xs) zero = refl
-elim-pair z g (x ∷ xs) (suc i) = elim-pair z g xs i
-
 module _ {names t : List ℕ} (m w : ℕ) (ss : Past) (headed : Headed ss) (o : Offsets ss) (l : Wired (roomsOf ss) names t) {C : Type 0} (z : C) (g : Wire → C) where
   wire-by :
       let r = wireRange t (wiresIn ss) m in
       Option·elim (wireAt (design (reverse ss)) m w) z (λ o. g (o .body)) ≡ Option·elim (getElem? (reverse (wiresFrom names t (r .first) (r .count))) w) z (λ x. g (x .1))
   unfolding wireAt
   wire-by =
-      elim-pair z g (wiresAt (design (reverse ss)) m) w
+      elim-map z (λ x. g (x .1)) (λ (o : Object Wire). (o .name, o .body)) (wiresAt (design (reverse ss)) m) w
       ∙ ap (λ (xs : Wires). Option·elim (getElem? xs w) z (λ x. g (x .1))) (sym (design-range m ss headed l o))
 
   pub wire-there : let r = wireRange t (wiresIn ss) m in w < r .count → Option·elim (wireAt (design (reverse ss)) m w) z (λ o. g (o .body)) ≡ g (wireOf t (r .first + w))

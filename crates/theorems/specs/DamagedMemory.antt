@@ -1,7 +1,7 @@
 -- REFUSAL 3 IS EXACT: memory holds admitted statements and renames accepted after them exactly when some text of any length, read under the rules,
 -- and some calls after it leave it.
 -- Assumes nothing.
-use mathlib.Core.Path.{_≡_, refl, ap, _∙_}
+use mathlib.Core.Path.{ap, _∙_}
 use mathlib.Core.List.{List, [], map}
 use Rattle.rules.specs.Statements.{Statement}
 use Rattle.rules.specs.Design.{design}

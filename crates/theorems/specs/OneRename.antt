@@ -4,16 +4,16 @@ use Prim.Native.Nat.{ℕ, zero, suc}
 use mathlib.Core.Path.{_≡_, refl, sym, ap, _∙_}
 use mathlib.Core.List.{List, [], _∷_, _++_, map, append-nil}
 use mathlib.Core.Option.{Option, none, some, Option·map, Option·elim}
-use mathlib.Core.Bool.{Bool, true, false, _&&_, false≢true}
+use mathlib.Core.Bool.{false, _&&_, false≢true}
 use lib.Dec.{eqb, eqb·suc-suc}
 use lib.ListN.{getElem?}
 use borrow.Author.Tests.{eqb-true}
 use Rattle.rules.specs.Statements.{Wire}
-use Rattle.rules.specs.Judgement.{Verdict, accepted, refused, verdict, lowest}
+use Rattle.rules.specs.Judgement.{accepted}
 use Rattle.rules.specs.Design.{Object, object, Module, Design}
-use Rattle.scanner.specs.Lists.{drop-last}
 use Rattle.scanner.specs.Laws.{by-test, and-true-left, and-true-right}
 use Rattle.rules.specs.Session.{Rename, wiresAt, wireAt, change, renameWire, renamed, now, rename, renameCall, undoCall, call, standing}
+use Rattle.order.specs.RenamedFine.{map-change, now-more, undo-last, accepted-keeps}
 use Rattle.theorems.specs.StandingLaws.{judged}
 
 -- the design without the names of its wires
@@ -36,12 +36,6 @@ designNameless d = record { autoidx = d .autoidx; modules = map moduleNameless (
 
 -- one element changed
 module _ {A : Type 0} (g : A → A) where
-  change-map : {B : Type 0} (f : A → B) → ((x : A) → f (g x) ≡ f x) → (i : ℕ) (xs : List A) → map f (change g i xs) ≡ map f xs
-  unfolding change
-  change-map f h i [] = refl
-  change-map f h zero (x ∷ xs) = ap (λ y. y ∷ map f xs) (h x)
-  change-map f h (suc i) (x ∷ xs) = ap (λ l. f x ∷ l) (change-map f h i xs)
-
   changed-at : (i : ℕ) (xs : List A) → getElem? (change g i xs) i ≡ Option·map g (getElem? xs i)
   unfolding change
   changed-at i [] = refl
@@ -59,11 +53,11 @@ module _ {A : Type 0} (g : A → A) where
 -- NOTHING ELSE: names of wires apart, the design is as it was read
 module-kept : (r : Rename) (o : Object Module) → moduleNameless (object (o .attributes) (o .name) (renameWire r (o .body))) ≡ moduleNameless o
 unfolding moduleNameless renameWire nameless
-module-kept r o = rw (change-map (λ w. object (w .attributes) (r .newName) (w .body)) nameless (λ w. refl) (r .wireNumber) (o .body .wires))
+module-kept r o = rw (map-change (λ w. object (w .attributes) (r .newName) (w .body)) nameless (λ w. refl) (r .wireNumber) (o .body .wires))
 
 renamed-kept : (r : Rename) (d : Design) → designNameless (renamed r d) ≡ designNameless d
 unfolding designNameless renamed
-renamed-kept r d = rw (change-map _ moduleNameless (module-kept r) (r .moduleNumber) (d .modules))
+renamed-kept r d = rw (map-change _ moduleNameless (module-kept r) (r .moduleNumber) (d .modules))
 
 pub nothing-else : (rs : List Rename) (d : Design) → designNameless (now d rs) ≡ designNameless d
 unfolding now
@@ -71,11 +65,6 @@ nothing-else [] d = refl
 nothing-else (r ∷ rs) d = nothing-else rs (renamed r d) ∙ renamed-kept r d
 
 -- THE YOUNGEST gives its wire its name, and every other wire stays as it was
-pub last-now : (rs : List Rename) (r : Rename) (d : Design) → now d (rs ++ r ∷ []) ≡ renamed r (now d rs)
-unfolding now
-last-now [] r d = refl
-last-now (q ∷ rs) r d = last-now rs r (renamed q d)
-
 abbrev given : Rename → Object Wire → Object Wire
 given r w = object (w .attributes) (r .newName) (w .body)
 
@@ -108,22 +97,7 @@ module _ (r : Rename) (d : Design) where
       rw (← eqb-true (r .moduleNumber) m h, own-wires) (kept-at (given r) (r .wireNumber) w k (wiresAt d (r .moduleNumber))))
       (λ h. rw (other-wires m h))
 
--- A WIRE THAT IS THERE is there in the design read: 8 is not given for it
-isAccepted : {A : Type 0} → Verdict A → Bool
-isAccepted (accepted a) = true
-isAccepted (refused n) = false
-
-module _ {A : Type 0} (a : A) (b : Bool) (f : Object Wire → Bool) (ts : List (ℕ × Bool)) where
-  judged-wire :
-      (x : Option (Object Wire)) (q : A) →
-      verdict a (lowest ((4, b) ∷ (6, Option·elim x false f) ∷ (8, Option·elim x true (λ w. false)) ∷ ts)) ≡ accepted q → (o : Object Wire) × (x ≡ some o)
-  unfolding verdict lowest Option·elim isAccepted
-  judged-wire (some o) q e = (o, refl)
-  judged-wire none q e =
-      by-test b
-      (λ h. absurd (false≢true (ap isAccepted (rw h at e))))
-      (λ h. absurd (false≢true (ap isAccepted (rw h at e))))
-
+-- a wire that is there stays there
 still : (rs : List Rename) (d : Design) (m w : ℕ) (o : Object Wire) → wireAt d m w ≡ some o → (p : Object Wire) × (wireAt (now d rs) m w ≡ some p)
 unfolding now
 still [] d m w o e = (o, e)
@@ -136,16 +110,6 @@ still (r ∷ rs) d m w o e =
     let k : wireAt (renamed r d) m w ≡ some (given r o) = rw (← i, ← j) (renamed-wire r d ∙ ap (Option·map (given r)) at) in
     still rs (renamed r d) m w (given r o) k)
     (λ h. still rs (renamed r d) m w o (other-wire r d m w h ∙ e))
-
--- the value of an accepted verdict
-valueOr : {A : Type 0} → A → Verdict A → A
-valueOr d (accepted a) = a
-valueOr d (refused n) = d
-
-verdict-is : {A : Type 0} (a q : A) (o : Option ℕ) → verdict a o ≡ accepted q → a ≡ q
-unfolding verdict isAccepted valueOr
-verdict-is a q none e = ap (valueOr a) e
-verdict-is a q (some n) e = absurd (false≢true (ap isAccepted e))
 
 -- AN ACCEPTED RENAME
 pub record Renames (d : Design) (rs : List Rename) (r : Rename) (qs : List Rename) : Type 0 where
@@ -164,16 +128,15 @@ module _ (d : Design) (rs : List Rename) (r : Rename) where
         listed = refl;
         wire = p .0;
         before = p .1;
-        after = rw (last-now rs r d) (renamed-wire r (now d rs) ∙ ap (Option·map (given r)) (p .1));
-        others = λ m w h. rw (last-now rs r d) (other-wire r (now d rs) m w h);
+        after = rw (now-more d rs r) (renamed-wire r (now d rs) ∙ ap (Option·map (given r)) (p .1));
+        others = λ m w h. rw (now-more d rs r) (other-wire r (now d rs) m w h);
         else-same = nothing-else (rs ++ r ∷ []) d ∙ sym (nothing-else rs d);
       }
 
   pub accepted-rename : (qs : List Rename) → renameCall d rs r ≡ accepted qs → Renames d rs r qs
-  unfolding renameCall
   accepted-rename qs e =
-      let o = judged-wire _ _ _ _ _ qs e in
-      rw (← verdict-is _ qs _ e) (renames-by (o .0) (o .1))
+      let k = accepted-keeps d rs qs r e in
+      rw (← k .listed) (renames-by (k .there .0) (k .there .1))
 
 -- it stands until undone: a rename behind it, accepted or refused, leaves it listed where it is
 pub still-listed : (d : Design) (qs : List Rename) (r : Rename) → (ts : List Rename) × (standing qs (call d qs (rename r)) ≡ qs ++ ts)
@@ -183,6 +146,4 @@ still-listed d qs r =
 
 -- AN ACCEPTED UNDO ends the youngest that stands
 pub accepted-undo : (rs : List Rename) (r : Rename) → undoCall (rs ++ r ∷ []) ≡ accepted rs
-unfolding undoCall
-accepted-undo [] r = refl
-accepted-undo (q ∷ rs) r = ap accepted (drop-last (q ∷ rs) r)
+accepted-undo rs r = undo-last rs r

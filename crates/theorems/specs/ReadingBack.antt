@@ -1,8 +1,8 @@
 -- READING BACK: for every admitted list of statements, reading its printed lines gives that list. Hence for every design that memory holds, with the
 -- names it has now, its text, if that is at most 32,768 bytes, is accepted and gives the same design.
 -- Assumes nothing.
-use Prim.Native.Nat.{ℕ, _≤_}
-use mathlib.Core.Path.{_≡_, refl, ap, _∙_}
+use Prim.Native.Nat.{_≤_}
+use mathlib.Core.Path.{_≡_}
 use mathlib.Core.Bool.{true}
 use mathlib.Core.List.{List, [], reverse}
 use lib.ListN.{length}

@@ -8,9 +8,8 @@ use native.Mathlib.Omega.{arith}
 use lib.ListN.{length, drop}
 use lib.Seq.{drop-nil}
 use Rattle.rules.specs.Tokens.{Name}
-use Rattle.rules.specs.Signals.{Wires}
 use Rattle.scanner.specs.Laws.{by-test}
-use Rattle.wires.specs.Rows.{spanAt, nameOf, wireOf, wiresFrom}
+use Rattle.wires.specs.Rows.{spanAt, nameOf, wireOf}
 use Rattle.netlist.specs.Rows.{nameFrom}
 use Rattle.wire_names.specs.declared.Module.{Module}
 use Rattle.wire_names.specs.Now.{renames, lastRename, nameNow, wiresNow, wiresIn}
@@ -74,9 +73,3 @@ length-in names wires rows x = length-now names wires rows (x .from) (x .renames
 pub none-in : (names wires rows : List ℕ) (x : Module) (d : ℕ) → x .wires ≡ 0 → drop d (wiresIn names wires rows x) ≡ []
 unfolding wiresIn wiresNow
 none-in names wires rows x d e = rw e (drop-nil d)
-
--- with no rename the wires have their own names
-pub now-own : (names wires rows : List ℕ) (from m first many : ℕ) → wiresNow names wires rows from 0 m first many ≡ wiresFrom names wires first many
-unfolding wiresNow nameNow wiresFrom
-now-own names wires rows from m first zero = refl
-now-own names wires rows from m first (suc k) = ap (λ (ws : Wires). (nameOf names wires (first + k), wireOf wires (first + k)) ∷ ws) (now-own names wires rows from m first k)

@@ -1,26 +1,24 @@
 -- A text by its end, and the text of memory that is open.
 -- Assumes nothing.
 use Prim.Native.Nat.{ℕ, _+_, _≤_, _<_}
-use mathlib.Core.Path.{_≡_, sym, ap, ap₂, _∙_, subst}
+use mathlib.Core.Path.{_≡_, sym, ap, ap₂, _∙_}
 use mathlib.Core.List.{List, reverse}
 use native.Mathlib.Omega.{arith}
-use lib.ListN.{length, length-reverse}
+use lib.ListN.{length}
 use borrow.Author.Tests.{lt-ltb, le-ltb}
 use Rattle.rules.specs.Judgement.{verdict, lowest}
-use Rattle.rules.specs.Statements.{Statement}
 use Rattle.rules.specs.Design.{design}
-use Rattle.rules.specs.Session.{Rename, now}
+use Rattle.rules.specs.Session.{now}
 use Rattle.rules.specs.Text.{text, write, measure}
-use Rattle.rules.specs.Layout.{Memory, memory, layout}
+use Rattle.rules.specs.Layout.{Memory}
 use Rattle.past.specs.Place.{wiresIn, placeOf}
 use Rattle.past.specs.declared.place.Place.{Place}
 use Rattle.text.specs.Written.{moved, Written, written-end}
 use Rattle.netlist.specs.Lengths.{sizes-exact}
 use Rattle.reader.specs.Read.{rightLengths}
-use Rattle.session.specs.Called.{Called, wrong-lengths, damaged, holding, answer}
-use Rattle.session.specs.Steps.{Holding, NotOpen, wrong-sizes, none-held, OpenedIs}
-use Rattle.session.specs.declared.Opened.{Opened}
-use Rattle.session.specs.declared.Opened.the-variants.{Refused}
+use Rattle.session.specs.Called.{Called, holding, answer}
+use Rattle.session.specs.Steps.{Holding}
+use Rattle.session.proofs.HoldLaws.{rows-before, standing}
 use Rattle.netlist.specs.Tables.{tabled}
 use Rattle.design_text.specs.Rows.{textRows}
 use Rattle.design_text.specs.declared.Counts.{Counts}
@@ -66,37 +64,21 @@ module _ (t : List ℕ) (r : ℕ) (e : r ≡ moved 0 (length t)) where
         let z : s ≡ length t = omega (arith, written-end w x) in
         rw (le-ltb 32768 (length t) (omega arith), le-ltb (length old) (length t) (omega arith)) (ap₂ (λ (a : ℕ) (l : List ℕ). (0, a, l)) z (w .stored x))
 
--- ---- memory that is open, and memory that is not
-module _ (m : Memory) (r : Opened) (is : OpenedIs m r) where
-  pub not-opened : {A : Type 0} (refuse : ℕ → A) (says : List Statement → List Rename → A) (n : ℕ) → r ≡ Refused n → Called m refuse says (refuse n)
-  not-opened refuse says n q = refused-by (subst (λ (x : Opened). OpenedIs m x) q is)
-    where
-      refused-by : NotOpen m n → Called m refuse says (refuse n)
-      refused-by (wrong-sizes e q) = wrong-lengths e (ap refuse q)
-      refused-by (none-held e d q) = damaged e d (ap refuse q)
-
+-- ---- memory that is open
 module _ {m : Memory} {p : Place} (h : Holding m p) where
   pub bits-few : length (m .bits) ≤ 16384
   unfolding rightLengths
   bits-few = omega (arith, sizes-exact (length (m .names)) (length (m .strings)) (length (m .bits)) (length (m .wires)) (length (m .rows)) (h .lengths) .2)
 
-  rows-are : p .rows ≡ length (h .statements)
-  unfolding placeOf
-  rows-are = sym (ap (λ (x : Place). x .rows) (h .place)) ∙ length-reverse (h .statements)
-
   wires-are : p .wires ≡ wiresIn (reverse (h .statements))
   unfolding placeOf
   wires-are = sym (ap (λ (x : Place). x .wires) (h .place))
 
-  renames-are : m .renames ≡ length (h .renames)
-  unfolding layout memory
-  renames-are = sym (ap (λ (x : Memory). x .renames) (h .holds .is))
-
   module _ (C : Counts) (e : C ≡ record { statements = p .rows; wires = p .wires; renames = m .renames }) where
     text-is : textRows (tabled (m .names) (m .strings) (m .bits) (m .wires) (m .rows)) C ≡ text (now (design (h .statements)) (h .renames))
     text-is =
-        text-held m (h .statements) (h .renames) C (h .holds) (ap (λ (x : Counts). x .statements) e ∙ rows-are) (ap (λ (x : Counts). x .wires) e ∙ wires-are)
-        (ap (λ (x : Counts). x .renames) e ∙ renames-are)
+        text-held m (h .statements) (h .renames) C (h .holds) (ap (λ (x : Counts). x .statements) e ∙ sym (rows-before h)) (ap (λ (x : Counts). x .wires) e ∙ wires-are)
+        (ap (λ (x : Counts). x .renames) e ∙ sym (standing h))
 
     pub measured :
         (a : ℕ × ℕ) → a ≡ answer 0 (measureText (textRows (tabled (m .names) (m .strings) (m .bits) (m .wires) (m .rows)) C)) →

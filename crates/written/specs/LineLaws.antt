@@ -1,7 +1,7 @@
 -- A written line holds no line end, and lines are read back.
 -- Assumes nothing.
 use mathlib.Core.Path.{_≡_, refl, ap}
-use mathlib.Core.Bool.{Bool, true, false, not, cond}
+use mathlib.Core.Bool.{Bool, true, false, cond}
 use mathlib.Core.List.{List, [], _∷_, _++_, map, flatMap}
 use Prim.Native.Nat.{ℕ, zero, suc, _+_, _/_, _%_, _≤_}
 use native.Mathlib.Omega.{arith}
@@ -14,18 +14,15 @@ use Rattle.rules.specs.Tokens.{Digit, S0, S1, Sx, Sz, Sm, Sa, Literal, value, i
 use Rattle.rules.specs.Lines.{Line, longer, linesFrom}
 use Rattle.rules.specs.Text.{decimalText, integerText, digitByte, escaped, literalText, tokenText, tight, behind, spaced}
 use Rattle.scanner.specs.Laws.{by-cond, within-low}
-use Rattle.scanner.specs.Lists.{all-append}
+use Rattle.scanner.proofs.LineLaws.{inLine}
+use Rattle.scanner.specs.Lists.{all-append, by-any}
 use Rattle.admitted.specs.AdmitLaws.{all-implied}
-use Rattle.written.specs.Lists.{all-cons, all-first, all-later, all-map, by-any}
+use Rattle.written.specs.Lists.{all-cons, all-first, all-later, all-map}
 use Rattle.written.specs.NumberLaws.{Digits, some-digits, decimal-digits}
 use Rattle.written.specs.TokenLaws.{fineToken, legal-start, legal-bytes, keyword-lower}
 
--- Bytes 10 and 13 end lines: any other byte may stand in one
-unfoldable pub inLine : ℕ → Bool
-inLine b = not (isLineEnd b)
-
 above-ends : (b : ℕ) → 14 ≤ b → inLine b ≡ true
-unfolding inLine isLineEnd
+unfolding isLineEnd
 above-ends b h = rw (ne-eqb b 10 (λ e. omega arith), ne-eqb b 13 (λ e. omega arith))
 
 name-byte-in : (b : ℕ) → isNameByte b ≡ true → inLine b ≡ true
@@ -33,11 +30,11 @@ unfolding isNameByte
 name-byte-in b h = above-ends b (omega (arith, within-low 33 255 b h))
 
 name-start-in : (b : ℕ) → isNameStart b ≡ true → inLine b ≡ true
-unfolding inLine bytesOpen
+unfolding bytesOpen
 name-start-in b h = by-any (λ b. inLine b ≡ true) (92 ∷ 36 ∷ []) (refl, (refl, tt)) b h
 
 mark-in : (b : ℕ) → isMark b ≡ true → inLine b ≡ true
-unfolding inLine bytesOpen
+unfolding bytesOpen
 mark-in b h = by-any (λ b. inLine b ≡ true) (123 ∷ 125 ∷ 91 ∷ 93 ∷ 58 ∷ 44 ∷ []) (refl, (refl, (refl, (refl, (refl, (refl, tt)))))) b h
 
 lower-in : (b : ℕ) → isLower b ≡ true → inLine b ≡ true
@@ -49,7 +46,7 @@ unfolding isDigit
 digit-in b h = above-ends b (omega (arith, within-low 48 57 b h))
 
 value-digit-in : (d : Digit) → inLine (digitByte d) ≡ true
-unfolding digitByte inLine bytesOpen
+unfolding digitByte bytesOpen
 value-digit-in S0 = refl
 value-digit-in S1 = refl
 value-digit-in Sx = refl
@@ -72,7 +69,7 @@ unfolding all
 byte-free b h = rw (above-ends b (omega arith))
 
 escaped-free : (b : ℕ) → all inLine (escaped b) ≡ true
-unfolding escaped inLine bytesOpen
+unfolding escaped bytesOpen
 escaped-free b =
     let P : List ℕ → Type 0 = λ m. all inLine m ≡ true in
     by-cond P (eqb b 34) (λ t. refl)
@@ -142,17 +139,12 @@ abbrev pub lineAt : ℕ → List ℕ → Bool → Line
 lineAt p t e = record { start = p; text = t; ended = e }
 
 in-false : (b : ℕ) → inLine b ≡ true → isLineEnd b ≡ false
-unfolding inLine
 in-false b h = not-true (isLineEnd b) h
 
--- the lines from a line on that has its end; behind the last one stands an empty line without an end
+-- the lines from a line on that has its end
 pub lines-first : (at : ℕ) (t l : List ℕ) → all inLine t ≡ true → linesFrom at (t ++ 10 ∷ l) ≡ lineAt at t true ∷ linesFrom (at + length t + 1) l
 unfolding linesFrom longer bytesOpen
 lines-first at [] l a = ap (λ (p : ℕ). lineAt at [] true ∷ linesFrom p l) (omega arith)
 lines-first at (b ∷ t) l a =
     rw (in-false b (all-first inLine b t a), lines-first (at + 1) t l (all-later inLine b t a))
     (ap (λ (p : ℕ). lineAt at (b ∷ t) true ∷ linesFrom p l) (omega arith))
-
-pub lines-last : (at : ℕ) → linesFrom at [] ≡ lineAt at [] false ∷ []
-unfolding linesFrom
-lines-last at = refl

@@ -4,9 +4,7 @@ use mathlib.Core.Path.{_≡_, refl}
 use mathlib.Core.Bool.{Bool, true, false, false≢true}
 use mathlib.Core.List.{List, [], _∷_, _++_, map}
 use Prim.Native.Nat.{ℕ, zero, suc}
-use lib.Dec.{eqb}
 use lib.ListN.{drop}
-use borrow.Author.Tests.{eqb-true}
 use Rattle.rules.specs.Bytes.{same, any, all, run, rest}
 use Rattle.scanner.specs.Laws.{by-test, and-true-left, and-true-right, same-eq}
 
@@ -41,19 +39,6 @@ list-passes f (x ∷ xs) b a h =
     by-test (same b x)
     (λ e. rw (same-eq b x e) (all-first f x xs a))
     (λ e. list-passes f xs b (all-later f x xs a) (rw e at h))
-
-abbrev pub Each : (ℕ → Type 0) → List ℕ → Type 0
-Each P [] = Unit {0}
-Each P (x ∷ xs) = P x × Each P xs
-
--- what holds of each of some bytes holds of one of them
-pub by-any : (P : ℕ → Type 0) (xs : List ℕ) → Each P xs → (b : ℕ) → any (eqb b) xs ≡ true → P b
-unfolding any
-by-any P [] p b h = absurd (false≢true h)
-by-any P (x ∷ xs) p b h =
-    by-test (eqb b x)
-    (λ e. rw (eqb-true b x e) (p .0))
-    (λ e. by-any P xs (p .1) b (rw e at h))
 
 -- the list is empty, or its first byte fails
 abbrev pub Stops : (ℕ → Bool) → List ℕ → Type 0

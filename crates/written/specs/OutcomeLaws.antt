@@ -19,7 +19,8 @@ use Rattle.scanner.specs.Laws.{by-cond, and-true-left, and-true-right}
 use Rattle.scanner.specs.Lists.{all-append}
 use Rattle.written.specs.Lists.{all-cons, all-first, all-later}
 use Rattle.written.specs.TokenLaws.{tokens-spaced}
-use Rattle.written.specs.LineLaws.{inLine, line-free, lineAt, lines-first}
+use Rattle.scanner.proofs.LineLaws.{inLine}
+use Rattle.written.specs.LineLaws.{line-free, lineAt, lines-first}
 use Rattle.written.specs.WrittenLaws.{legalNames, parts-names, fine-written}
 
 -- a written line has a token

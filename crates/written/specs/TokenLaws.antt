@@ -15,7 +15,8 @@ use Rattle.rules.specs.Tokens.{Digit, S0, S1, Sx, Sz, Sm, Sa, Literal, value, i
 use Rattle.rules.specs.Shapes as shapes
 use Rattle.rules.specs.Text.{decimalText, integerText, digitByte, escaped, literalText, tokenText, tight, behind, spaced}
 use Rattle.scanner.specs.Laws.{by-test, and-true-left, and-true-right, within-below, within-low, within-high}
-use Rattle.written.specs.Lists.{all-first, all-later, all-cons, all-map, list-passes, by-any, Stops, run-upto, rest-upto}
+use Rattle.scanner.specs.Lists.{by-any}
+use Rattle.written.specs.Lists.{all-first, all-later, all-cons, all-map, list-passes, Stops, run-upto, rest-upto}
 use Rattle.written.specs.NumberLaws.{decimal-text, Digits, some-digits, decimal-digits}
 use Rattle.written.specs.StringLaws.{quoted-string}
 
@@ -30,6 +31,10 @@ fineToken (name n) = legal n
 fineToken (word w) = isKeyword w
 fineToken (literal c) = fineLiteral c
 fineToken (mark m) = isMark m
+
+-- (shut, so that the tokens are found)
+unfoldable pub Fine : List Token → Type 0
+Fine ts = all fineToken ts ≡ true
 
 -- the end of a line or a space
 data Gap : List ℕ → Type 0 where

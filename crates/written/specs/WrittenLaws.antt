@@ -20,15 +20,11 @@ use Rattle.admitted.specs.Admitted.{fineConstant, sameLength, fineParts}
 use Rattle.scanner.specs.Laws.{by-cond, and-true-left, and-true-right}
 use Rattle.scanner.specs.Lists.{all-append, all-split}
 use Rattle.written.specs.Lists.{all-cons, all-first, all-later, all-drop, all-map}
-use Rattle.written.specs.TokenLaws.{fineLiteral, fineToken}
+use Rattle.written.specs.TokenLaws.{fineLiteral, fineToken, Fine}
 
 -- the wires' names are legal
 unfoldable pub legalNames : Wires → Bool
 legalNames ws = all (λ w. legal (w .0)) ws
-
--- (shut, so that the tokens are found)
-unfoldable Fine : List Token → Type 0
-Fine ts = all fineToken ts ≡ true
 
 mark-fine : (m : ℕ) → isMark m ≡ true → (ts : List Token) → Fine ts → Fine (mark m ∷ ts)
 unfolding Fine fineToken

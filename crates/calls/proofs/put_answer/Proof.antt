@@ -1,7 +1,7 @@
 use mathlib.Core.Path.{sym}
 use native.Mathlib.Omega.{arith}
 use denote.Ref.{now}
-use Rattle.calls.proofs.CallLaws.{set-past}
+use lib.Seq.{set-out}
 use borrow.Author.Needs.{needs}
 use Rattle.calls.proofs.put_answer.Statement.{statement}
 use Rattle.calls.proofs.put_answer.Tie as tie
@@ -19,7 +19,7 @@ returns : tie.Need-returns
 returns c = search needs
 
 returns-2 : tie.Need-returns-2
-returns-2 c = sym (set-past (now (c .before .args .answers)) (c .before .args .i) (c .before .args .number) (omega arith))
+returns-2 c = sym (set-out (now (c .before .args .answers)) (c .before .args .i) (c .before .args .number) (omega arith))
 
 pub put-answer-spec : {M : Type 1} → statement M
 put-answer-spec =
