@@ -1,17 +1,28 @@
 #!/usr/bin/env bash
-# A crate stands below those it depends on in crates.txt, and the table of crates in docs/PROVING.md is true but for its seconds, which it
-# keeps. `bash tests/crates.sh --write` writes it anew.
+# In crates.txt a crate stands below those that it depends on, and those that its files name are among them; and the table of crates in
+# docs/PROVING.md is true but for its seconds, which it keeps. `bash tests/crates.sh --write` writes it anew.
 set -euo pipefail
 cd "$(dirname "$0")/.."
 page=docs/PROVING.md
 fresh=target/proving.md
 
-awk -F: '{
-  n = split($2, deps, " ")
-  for (i = 1; i <= n; i++)
-    if (!(deps[i] in above) && deps[i] !~ /^(io|libc|os)$/) { print "crates.txt: " deps[i] " does not stand above " $1; bad = 1 }
-  above[$1] = 1
-} END { exit bad }' crates.txt >&2
+# The crates that the files of a crate name, but for the kit's.
+named() {
+  {
+    find "crates/$1" \( -name '*.rt' -o -name '*.antt' \) -exec grep -hoE 'Rattle·[a-z_]+' {} + | sed 's/Rattle·//'
+    find "crates/$1/src" -name '*.rt' -exec sed -nE 's/^(pub )?use ([a-z_]+)::.*/\2/p' {} +
+  } | sort -u | comm -12 - <(cut -d: -f1 crates.txt | sort)
+}
+above="io libc os"
+while IFS=: read -r crate list; do
+  for dependency in $list; do
+    case " $above " in *" $dependency "*) ;; *) echo "crates.txt: $dependency does not stand above $crate" >&2 && exit 1 ;; esac
+  done
+  for name in $(named "$crate"); do
+    case " $list $crate " in *" $name "*) ;; *) echo "crates.txt: $crate names $name and does not list it" >&2 && exit 1 ;; esac
+  done
+  above="$above $crate"
+done < crates.txt
 
 # The lines that are not blank of the files below a folder with this ending.
 lines() {
