@@ -15,12 +15,12 @@ use Rattle.rules.specs.Signals.{kept, literalBits, literalWidth}
 use Rattle.rules.specs.Judgement.{sum, signalSize, valueSize, stringSize, nameSize}
 use Rattle.scanner.specs.Numbers.{capped}
 use Rattle.strings.specs.Decoded.{decoded}
-use Rattle.strings.proofs.Laws.{decoded-length}
+use Rattle.strings.proofs.StringLaws.{decoded-length}
 use Rattle.tokens.specs.Rows.{literalIn}
 use Rattle.tokens.specs.declared.Constant.the-variants as constant
 use Rattle.tokens.specs.declared.Literal.{Literal}
 use Rattle.tokens.specs.declared.Literal.the-variants as literal
-use Rattle.literals.proofs.Laws.{value-few, value-width}
+use Rattle.literals.proofs.CodeLaws.{value-few, value-width}
 use Rattle.forms.specs.Forms.{nameIn, valueIn}
 use Rattle.forms.specs.declared.Span.{Span}
 use Rattle.syntax.specs.Statements.{numberOf, lateOf, statementIn, kindIn, namesIn, Sound, GoodOptional}

@@ -1,3 +1,3 @@
-mod Laws
+mod PutLaws
 mod Stored
 pub mod PastLaws

@@ -38,7 +38,7 @@ use Rattle.layout.specs.Stored.{tabled, Storable, PutIs, ValuedHas, Plai
 use Rattle.netlist.specs.declared.used.Used.{Used}
 use Rattle.netlist.specs.Used.{usedOf}
 use Rattle.netlist.specs.RowLaws.{row-zero}
-use Rattle.layout.proofs.Laws.{name-put}
+use Rattle.layout.proofs.PutLaws.{name-put}
 
 -- what is put for the statement that the answer stands for
 puts-is : (f s : List ℕ) (r : Statement) (u : Used) (t t′ : Tables) (y : rules.Statement) → statementIn f s r ≡ some y → Puts (usedOf u) y t t′ → PutIs f s r u t t′

@@ -15,7 +15,7 @@ use Rattle.scanner.proofs.RunLaws.{slice-part}
 use Rattle.tables.specs.Store.{store, length-store, store-before, store-inside}
 use Rattle.tokens.specs.Rows.{tokenIn, tokenOf, rowOf, rowWords, rowsFrom, line, Small}
 use Rattle.tokens.specs.declared.Token.{Token}
-use Rattle.tokens.proofs.Laws.{words-back, length-rowWords, put-token-line}
+use Rattle.tokens.proofs.TokenLaws.{words-back, length-rowWords, put-token-line}
 use Rattle.lexer.specs.Lexemes.{Held, stepOf, StepIs}
 use Rattle.lexer.specs.Lines.{lexedOf, LexedIs}
 use Rattle.lexer.specs.declared.Lexeme.{Lexeme}

@@ -24,7 +24,7 @@ use Rattle.scanner.proofs.WordLaws.{keyword-number, keyword-back}
 use Rattle.strings.specs.Decoded.{CloseIs}
 use Rattle.strings.specs.declared.Close.{Close}
 use Rattle.strings.specs.declared.Close.the-variants.{At, Broken}
-use Rattle.strings.proofs.Laws.{close-broken, close-closed}
+use Rattle.strings.proofs.StringLaws.{close-broken, close-closed}
 use Rattle.tokens.specs.Rows.{front, tokenIn, literalIn, integerIn}
 use Rattle.tokens.specs.declared.Constant.the-variants as constant
 use Rattle.tokens.specs.declared.Token.{Token}

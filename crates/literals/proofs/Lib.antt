@@ -1,2 +1,2 @@
 mod Lists
-pub mod Laws
+pub mod CodeLaws

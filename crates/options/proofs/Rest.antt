@@ -19,7 +19,7 @@ use Rattle.tokens.specs.Rows.{integerIn, Present, front, rowOf, tokenAt, line}
 use Rattle.tokens.specs.declared.Integer.{Integer}
 use Rattle.tokens.specs.declared.Token.{Token as Row}
 use Rattle.tokens.specs.declared.Token.the-variants as row
-use Rattle.tokens.proofs.Laws.{line-end, line-more, line-read, line-long, below, present, front-token}
+use Rattle.tokens.proofs.TokenLaws.{line-end, line-more, line-read, line-long, below, present, front-token}
 use Rattle.options.specs.Forms.{forms, statement, accepted, isFlag, numberCodes}
 use Rattle.options.specs.Holds.{fits, Holds, noOptions, Took}
 use Rattle.options.specs.Lines.{rest, Next}

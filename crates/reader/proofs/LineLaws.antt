@@ -22,7 +22,7 @@ use Rattle.tokens.specs.Rows.{rowOf, tokenAt, rowsFrom, line}
 use Rattle.tokens.specs.declared.Constant.the-variants as constant
 use Rattle.tokens.specs.declared.Token as row
 use Rattle.tokens.specs.declared.Token.the-variants.{Name, Word, Constant as Constantly, Mark, End}
-use Rattle.tokens.proofs.Laws.{present, front-token}
+use Rattle.tokens.proofs.TokenLaws.{present, front-token}
 use Rattle.lexer.specs.Lexemes.{Held}
 use Rattle.lexer.specs.Lines.{lexedOf, Among, LexedIs}
 use Rattle.lexer.specs.declared.Lexed.{Lexed}

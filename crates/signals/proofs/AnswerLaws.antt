@@ -15,7 +15,7 @@ use Rattle.tokens.specs.Rows.{front, literalIn, tokenAt, line, Present}
 use Rattle.tokens.specs.declared.Constant.{Constant}
 use Rattle.tokens.specs.declared.Token.{Token}
 use Rattle.tokens.specs.declared.Token.the-variants.{Name, Constant as Constantly}
-use Rattle.tokens.proofs.Laws.{line-read, below}
+use Rattle.tokens.proofs.TokenLaws.{line-read, below}
 use Rattle.signals.specs.Held.{Put}
 use Rattle.signals.specs.Reads.{slicedOn, SlicesRead, SlicesIs, AnswerRead, AnswerIs, AtomIs, SignalIs}
 use Rattle.signals.specs.declared.Bits.{Bits}

@@ -14,7 +14,7 @@ use Rattle.rules.specs.Numbers.{goodNumbers}
 use Rattle.rules.specs.Shapes.{sigs, members, signal}
 use Rattle.scanner.specs.Laws.{and-true-left, and-true-right}
 use Rattle.tokens.specs.Rows.{line}
-use Rattle.tokens.proofs.Laws.{line-long}
+use Rattle.tokens.proofs.TokenLaws.{line-long}
 use Rattle.signals.specs.Faults.{faults, fault, merge, tooWide, mild}
 use Rattle.signals.specs.Held.{codes, Held, Kept}
 use Rattle.signals.specs.Reads.{markAt, membersOn, SignalIs, BundleIs}

@@ -22,7 +22,7 @@ use Rattle.wires.specs.Found.{widthFound, foundOf}
 use Rattle.wires.specs.FoundLaws.{found-declared, found-width, found-bits}
 use Rattle.wires.specs.declared.Found.{Found}
 use Rattle.literals.specs.Codes as literal
-use Rattle.literals.proofs.Laws.{codes-long}
+use Rattle.literals.proofs.CodeLaws.{codes-long}
 use Rattle.signals.specs.Faults.{fault, tooWide, mild}
 use Rattle.signals.specs.Held.{codes, Held, Kept, Put}
 use Rattle.signals.specs.declared.Bits.{Bits}

@@ -19,7 +19,7 @@ use Rattle.scanner.specs.Laws.{by-test}
 use Rattle.tokens.specs.Rows.{front, tokenIn, tokenAt, rowOf, line, Present}
 use Rattle.tokens.specs.declared.Token.{Token}
 use Rattle.tokens.specs.declared.Token.the-variants.{Name, Word, Constant as Constantly, Mark, End}
-use Rattle.tokens.proofs.Laws.{front-token, present, line-end, line-more, line-read, below}
+use Rattle.tokens.proofs.TokenLaws.{front-token, present, line-end, line-more, line-read, below}
 use Rattle.signals.specs.Reads.{isTheMark, markAt, boundsBehind, slicedOn, membersOn}
 
 -- ---- the token of a row

@@ -16,7 +16,7 @@ use Rattle.rules.specs.Shapes.{sliced}
 use Rattle.numbers.specs.Signed.{signedOf}
 use Rattle.numbers.specs.SignedLaws.{signed-word}
 use Rattle.tokens.specs.Rows.{line, integerIn}
-use Rattle.tokens.proofs.Laws.{line-long}
+use Rattle.tokens.proofs.TokenLaws.{line-long}
 use Rattle.tokens.specs.declared.Integer.{Integer}
 use Rattle.tokens.specs.declared.Slot.{Slot}
 use Rattle.signals.specs.Faults.{fault, merge, mild}

@@ -16,7 +16,7 @@ use Rattle.rules.specs.Signals.{Wires, kept, valueBits, literalBits, literalWid
 use Rattle.rules.specs.Judgement.{portNumbers, newPort, equalWidths}
 use Rattle.scanner.specs.Laws.{and-true-left, and-true-right, within-high}
 use Rattle.scanner.specs.Lists.{all-left, all-right}
-use Rattle.literals.proofs.Laws.{literal-long}
+use Rattle.literals.proofs.CodeLaws.{literal-long}
 use Rattle.admitted.specs.Admitted.{fineConstant, newPorts, fineWire, fineMemory, fineSignal, sameLength}
 use Rattle.admitted.specs.AcceptedLaws.{number-fits, good-offset}
 use Rattle.written.specs.Lists.{all-cons, all-first, all-later}

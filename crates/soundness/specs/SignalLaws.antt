@@ -17,7 +17,7 @@ use Rattle.rules.specs.Statements.{Sig, Sigs, constant, wire, slice, bundle, no
 use Rattle.rules.specs.Numbers.{goodNumbers}
 use Rattle.rules.specs.Signals.{Wires, find, literalBits, wireBits, inside, lower, span, width, widths, bits, bitsOf, goodSlice, parts, partsOf}
 use Rattle.scanner.specs.Laws.{by-cond, and-true-left, and-true-right}
-use Rattle.literals.proofs.Laws.{literal-long}
+use Rattle.literals.proofs.CodeLaws.{literal-long}
 use Rattle.admitted.specs.Admitted.{fineBit}
 use Rattle.written.specs.Lists.{all-cons, all-first, all-later, all-drop, all-map}
 use Rattle.scanner.specs.Lists.{all-append, length-wire, element-behind, all-left, all-right}

@@ -1,3 +1,3 @@
 pub mod Turns
-pub mod Laws
+pub mod StringLaws
 mod Reached

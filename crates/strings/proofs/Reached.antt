@@ -14,7 +14,7 @@ use Rattle.scanner.specs.Lists.{onto-none}
 use Rattle.strings.specs.declared.Close.the-variants.{At, Broken}
 use Rattle.strings.specs.Decoded.{bytesOf, isClosed, decodedBy, decoded, closes, closing, CloseIs}
 use Rattle.strings.proofs.Turns.{held, Fine, turn-fine}
-use Rattle.strings.proofs.Laws.{closed-decoded}
+use Rattle.strings.proofs.StringLaws.{closed-decoded}
 
 onto-onto : (bs cs : List ℕ) (q : Quoted) → quotedOnto bs (quotedOnto cs q) ≡ quotedOnto (bs ++ cs) q
 unfolding quotedOnto

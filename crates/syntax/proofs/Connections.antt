@@ -22,7 +22,7 @@ use Rattle.signals.proofs.FaultLaws.{faults-append, merge-none, merge-zero, mil
 use Rattle.syntax.specs.Statements.{numberOf, lateOf, early, late, statementIn, kindIn, namesIn, Says, faulted}
 use Rattle.syntax.specs.declared.Statement.{Statement}
 use Rattle.syntax.specs.declared.Statement.the-variants as statement
-use Rattle.syntax.proofs.Laws.{refused}
+use Rattle.syntax.proofs.ShapeLaws.{refused}
 use Rattle.syntax.proofs.Bits.{signal-back}
 
 -- ---- the numbers of parts, of which 7 and 8 come before a taken name

@@ -1,4 +1,4 @@
-mod Laws
+mod ShapeLaws
 pub mod Verdicts
 mod Objects
 mod Bits

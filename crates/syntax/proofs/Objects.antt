@@ -25,7 +25,7 @@ use Rattle.options.specs.Limits.{portNumber, WireGood, MemoryGood}
 use Rattle.options.proofs.Ports.{code-range}
 use Rattle.syntax.specs.Statements.{wireFrom, memoryFrom, Judged}
 use Rattle.syntax.specs.declared.Statement.the-variants as statement
-use Rattle.syntax.proofs.Laws.{plainOpen, bad-number, stated, number-back}
+use Rattle.syntax.proofs.ShapeLaws.{plainOpen, bad-number, stated, number-back}
 
 -- ---- the numbers of good options are within 32 bits
 

@@ -1,7 +1,7 @@
 -- The tables have their lengths.
 -- Assumes nothing.
 use native.Mathlib.Omega.{arith}
-use Rattle.answer.proofs.Laws.{right-lengths}
+use Rattle.answer.proofs.AnswerLaws.{right-lengths}
 use borrow.Author.Needs.{needs}
 use Rattle.answer.proofs.answer.Statement.{statement}
 use Rattle.answer.proofs.answer.Tie as tie

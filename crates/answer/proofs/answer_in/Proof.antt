@@ -5,7 +5,7 @@ use native.Mathlib.Omega.{arith}
 use denote.Ref.{now}
 use Rattle.reader.specs.Read.{lent}
 use Rattle.answer.specs.Printed.{putting}
-use Rattle.answer.proofs.Laws.{refusal-put, refusal-fits, answer-refused, answer-held}
+use Rattle.answer.proofs.AnswerLaws.{refusal-put, refusal-fits, answer-refused, answer-held}
 use borrow.Author.Needs.{needs}
 use Rattle.answer.proofs.answer_in.Statement.{statement}
 use Rattle.answer.proofs.answer_in.Tie as tie

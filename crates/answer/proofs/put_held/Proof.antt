@@ -3,7 +3,7 @@
 use native.Mathlib.Omega.{arith}
 use denote.Ref.{now}
 use Rattle.reader.specs.Read.{lent}
-use Rattle.answer.proofs.Laws.{refusal-put, refusal-fits, held-refused, held-written, written-fits}
+use Rattle.answer.proofs.AnswerLaws.{refusal-put, refusal-fits, held-refused, held-written, written-fits}
 use borrow.Author.Needs.{needs}
 use Rattle.answer.proofs.put_held.Statement.{statement}
 use Rattle.answer.proofs.put_held.Tie as tie

@@ -3,7 +3,7 @@ use native.Mathlib.Omega.{arith}
 use Rattle.rules.specs.Shapes as shapes
 use Rattle.tokens.specs.Parts.{integerGives}
 use Rattle.forms.specs.Forms.{formOf, ended}
-use Rattle.forms.proofs.Laws.{integer-below}
+use Rattle.forms.proofs.LineLaws.{integer-below}
 use borrow.Author.Needs.{needs}
 use Rattle.forms.proofs.autoidx_line.Statement.{statement}
 use Rattle.forms.proofs.autoidx_line.Tie as tie

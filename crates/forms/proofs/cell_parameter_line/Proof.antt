@@ -4,7 +4,7 @@ use mathlib.Core.Path.{refl}
 use borrow.Author.Tests.{eq-eqb, ne-eqb}
 use Rattle.rules.specs.Shapes as shapes
 use Rattle.numbers.specs.Kinds.{sortOf}
-use Rattle.forms.proofs.Laws.{word-below, sort-word, wordsOpen}
+use Rattle.forms.proofs.LineLaws.{word-below, sort-word, wordsOpen}
 use borrow.Author.Needs.{needs}
 use Rattle.forms.proofs.cell_parameter_line.Statement.{statement}
 use Rattle.forms.proofs.cell_parameter_line.Tie as tie

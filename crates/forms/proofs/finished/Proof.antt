@@ -1,6 +1,6 @@
 -- Rows are left, or none is.
 use Rattle.forms.specs.Forms.{formOf}
-use Rattle.forms.proofs.Laws.{rows-left, no-rows}
+use Rattle.forms.proofs.LineLaws.{rows-left, no-rows}
 use Rattle.forms.proofs.finished.Statement.{statement}
 use Rattle.forms.proofs.finished.Tie as tie
 

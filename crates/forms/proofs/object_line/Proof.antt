@@ -3,7 +3,7 @@ use native.Mathlib.Omega.{arith}
 use borrow.Author.Tests.{ne-eqb}
 use Rattle.rules.specs.Shapes as shapes
 use Rattle.forms.specs.Forms.{formOf, kindOf}
-use Rattle.forms.proofs.Laws.{wordsOpen}
+use Rattle.forms.proofs.LineLaws.{wordsOpen}
 use borrow.Author.Needs.{needs}
 use Rattle.forms.proofs.object_line.Statement.{statement}
 use Rattle.forms.proofs.object_line.Tie as tie

@@ -3,8 +3,8 @@ use native.Mathlib.Omega.{arith}
 use Rattle.rules.specs.Shapes as shapes
 use Rattle.tokens.specs.Parts.{idGives, literalGives}
 use Rattle.forms.specs.Forms.{formOf, nameIn, valueIn, ended}
-use Rattle.tokens.proofs.Laws.{line-end}
-use Rattle.forms.proofs.Laws.{id-below, present-thing}
+use Rattle.tokens.proofs.TokenLaws.{line-end}
+use Rattle.forms.proofs.LineLaws.{id-below, present-thing}
 use borrow.Author.Needs.{needs}
 use Rattle.forms.proofs.parameter_line.Statement.{statement}
 use Rattle.forms.proofs.parameter_line.Tie as tie

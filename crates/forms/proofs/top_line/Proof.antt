@@ -3,7 +3,7 @@ use native.Mathlib.Omega.{arith}
 use borrow.Author.Tests.{ne-eqb}
 use Rattle.rules.specs.Shapes as shapes
 use Rattle.forms.specs.Forms.{formOf}
-use Rattle.forms.proofs.Laws.{shape-word, top-word, no-form, wordsOpen}
+use Rattle.forms.proofs.LineLaws.{shape-word, top-word, no-form, wordsOpen}
 use borrow.Author.Needs.{needs}
 use Rattle.forms.proofs.top_line.Statement.{statement}
 use Rattle.forms.proofs.top_line.Tie as tie

@@ -4,7 +4,7 @@ use native.Mathlib.Omega.{arith}
 use Rattle.rules.specs.Shapes as shapes
 use Rattle.tokens.specs.Parts.{idGives, literalGives}
 use Rattle.forms.specs.Forms.{formOf, nameIn, ended}
-use Rattle.forms.proofs.Laws.{id-below}
+use Rattle.forms.proofs.LineLaws.{id-below}
 use borrow.Author.Needs.{needs}
 use Rattle.forms.proofs.valued_line.Statement.{statement}
 use Rattle.forms.proofs.valued_line.Tie as tie

@@ -2,9 +2,9 @@
 use mathlib.Core.Path.{sym, _∙_}
 use Rattle.rules.specs.Shapes as shapes
 use Rattle.tokens.specs.Rows.{front}
-use Rattle.tokens.proofs.Laws.{line-read}
+use Rattle.tokens.proofs.TokenLaws.{line-read}
 use Rattle.forms.specs.Words.{starts}
-use Rattle.forms.proofs.Laws.{word-number, no-number}
+use Rattle.forms.proofs.LineLaws.{word-number, no-number}
 use borrow.Author.Needs.{needs}
 use Rattle.forms.proofs.word_at.Statement.{statement}
 use Rattle.forms.proofs.word_at.Tie as tie

@@ -1,6 +1,6 @@
 -- The string that closes.
 use native.Mathlib.Omega.{arith}
-use Rattle.strings.proofs.Laws.{close-between, close-closes}
+use Rattle.strings.proofs.StringLaws.{close-between, close-closes}
 use Rattle.lexer.proofs.Steps.{steps-by, string-token, string-wrong}
 use borrow.Author.Needs.{needs}
 use Rattle.lexer.proofs.string_step.Statement.{statement}

@@ -1,5 +1,5 @@
 -- In front of the digits stand zeros.
-use Rattle.literals.proofs.Laws.{filled-zero, filled-digit}
+use Rattle.literals.proofs.CodeLaws.{filled-zero, filled-digit}
 use mathlib.Core.Path.{_∙_}
 use borrow.Author.Needs.{needs}
 use Rattle.literals.proofs.filled_code.Statement.{statement}

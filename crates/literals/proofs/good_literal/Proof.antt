@@ -2,7 +2,7 @@
 use mathlib.Core.Path.{_∙_}
 use Rattle.rules.specs.Numbers.{goodLiteral}
 use Rattle.tokens.specs.Rows.{literalIn}
-use Rattle.literals.proofs.Laws.{read-fits}
+use Rattle.literals.proofs.CodeLaws.{read-fits}
 use borrow.Author.Needs.{needs}
 use Rattle.literals.proofs.good_literal.Statement.{statement}
 use Rattle.literals.proofs.good_literal.Tie as tie

@@ -1,5 +1,5 @@
 -- The width is read with a cap that is above 2,048.
-use Rattle.literals.proofs.Laws.{read-wide, read-good}
+use Rattle.literals.proofs.CodeLaws.{read-wide, read-good}
 use borrow.Author.Needs.{needs}
 use Rattle.literals.proofs.good_value.Statement.{statement}
 use Rattle.literals.proofs.good_value.Tie as tie

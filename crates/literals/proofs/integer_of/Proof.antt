@@ -1,6 +1,6 @@
 -- The size is read with a cap, above which no integer has a word.
 use mathlib.Core.Path.{sym, _∙_}
-use Rattle.literals.proofs.Laws.{read-fits, read-word}
+use Rattle.literals.proofs.CodeLaws.{read-fits, read-word}
 use borrow.Author.Needs.{needs}
 use Rattle.literals.proofs.integer_of.Statement.{statement}
 use Rattle.literals.proofs.integer_of.Tie as tie

@@ -5,7 +5,7 @@ use native.Mathlib.Omega.{arith}
 use lib.ListN.{length, take, length-set}
 use Rattle.tables.specs.Store.{store, store-none, filled, filled-end}
 use Rattle.literals.specs.Codes.{wordCodes}
-use Rattle.literals.proofs.Laws.{word-long, word-at}
+use Rattle.literals.proofs.CodeLaws.{word-long, word-at}
 use Rattle.literals.proofs.put_bits.Statement.{statement}
 use Rattle.literals.proofs.put_bits.Tie as tie
 

@@ -7,7 +7,7 @@ use denote.Ref.{now}
 use lib.ListN.{length, take}
 use Rattle.tables.specs.Store.{store, store-none}
 use Rattle.literals.specs.Codes.{wordCodes}
-use Rattle.literals.proofs.Laws.{bytes-more, bytes-all}
+use Rattle.literals.proofs.CodeLaws.{bytes-more, bytes-all}
 use Rattle.literals.proofs.put_bytes_bits.Statement.{statement}
 use Rattle.literals.proofs.put_bytes_bits.Tie as tie
 

@@ -6,7 +6,7 @@ use denote.Ref.{now}
 use lib.ListN.{length, take, length-set}
 use Rattle.tables.specs.Store.{store, store-none, filled, filled-end}
 use Rattle.literals.specs.Codes.{filledCodes}
-use Rattle.literals.proofs.Laws.{filled-long, value-codes}
+use Rattle.literals.proofs.CodeLaws.{filled-long, value-codes}
 use Rattle.literals.proofs.put_digits.Statement.{statement}
 use Rattle.literals.proofs.put_digits.Tie as tie
 

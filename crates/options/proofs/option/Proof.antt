@@ -5,7 +5,7 @@ use native.Mathlib.Omega.{arith}
 use borrow.Author.Tests.{not-true, not-false}
 use Rattle.tokens.specs.Rows.{front}
 use Rattle.tokens.specs.Parts.{integerGives}
-use Rattle.tokens.proofs.Laws.{below}
+use Rattle.tokens.proofs.TokenLaws.{below}
 use Rattle.options.proofs.Rest.{refuses, refuses-end, ends, goes-on, flag-next, number-next, rest-short, rest-other, rest-literal, rest-mark}
 use borrow.Author.Needs.{needs}
 use Rattle.options.proofs.option.Statement.{statement}

@@ -4,7 +4,7 @@ use mathlib.Core.Path.{sym}
 use native.Mathlib.Omega.{arith}
 use borrow.Author.Needs.{needs}
 use Rattle.wires.specs.Rows.{wordAt}
-use Rattle.standing.proofs.Laws.{no-port, port-code}
+use Rattle.standing.proofs.PortLaws.{no-port, port-code}
 use Rattle.standing.proofs.is_port.Statement.{statement}
 use Rattle.standing.proofs.is_port.Tie as tie
 

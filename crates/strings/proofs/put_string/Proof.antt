@@ -6,7 +6,7 @@ use lib.ListN.{length, length-append}
 use borrow.Author.Needs.{needs}
 use Rattle.tables.specs.Store.{store, store-none, store-then}
 use Rattle.strings.specs.Machine.{insideOf, turnOf}
-use Rattle.strings.proofs.Laws.{closed-decoded, never-broken}
+use Rattle.strings.proofs.StringLaws.{closed-decoded, never-broken}
 use Rattle.strings.proofs.Reached.{Reached, reached-none, reached-goes, reached-ends, reached-breaks, reached-end, reached-room}
 use Rattle.strings.proofs.put_string.Statement.{statement}
 use Rattle.strings.proofs.put_string.Tie as tie

@@ -5,7 +5,7 @@ use native.Mathlib.Omega.{arith}
 use lib.ListN.{length, length-append}
 use borrow.Author.Needs.{needs}
 use Rattle.strings.specs.Machine.{insideOf, turnOf}
-use Rattle.strings.proofs.Laws.{closed-decoded, broken-decoded}
+use Rattle.strings.proofs.StringLaws.{closed-decoded, broken-decoded}
 use Rattle.strings.proofs.Reached.{Reached, reached-none, reached-goes, reached-ends, ends-few, reached-breaks, reached-end}
 use Rattle.strings.proofs.string_size.Statement.{statement}
 use Rattle.strings.proofs.string_size.Tie as tie

@@ -3,7 +3,7 @@ use mathlib.Core.Path.{_∙_}
 use native.Mathlib.Omega.{arith}
 use Rattle.tokens.specs.Parts.{idGives}
 use Rattle.forms.specs.Forms.{nameIn}
-use Rattle.forms.proofs.Laws.{id-below, rows-left, no-rows}
+use Rattle.forms.proofs.LineLaws.{id-below, rows-left, no-rows}
 use Rattle.syntax.proofs.Connections.{cell-connected}
 use Rattle.syntax.proofs.Lines.{no-name, no-signal, named-read, readable-on}
 use borrow.Author.Needs.{needs}

@@ -1,6 +1,6 @@
 -- By the kind of line.
 use Rattle.forms.specs.Forms.{cellKindOf}
-use Rattle.syntax.proofs.Laws.{form-whole}
+use Rattle.syntax.proofs.ShapeLaws.{form-whole}
 use borrow.Author.Needs.{needs}
 use Rattle.syntax.proofs.cell_statement.Statement.{statement}
 use Rattle.syntax.proofs.cell_statement.Tie as tie

@@ -1,7 +1,7 @@
 -- Both signals, then the end.
 use mathlib.Core.Path.{_∙_}
 use native.Mathlib.Omega.{arith}
-use Rattle.forms.proofs.Laws.{rows-left, no-rows}
+use Rattle.forms.proofs.LineLaws.{rows-left, no-rows}
 use Rattle.syntax.proofs.Bits.{held-kept}
 use Rattle.syntax.proofs.Lines.{no-left, no-right, both-read, readable-on}
 use borrow.Author.Needs.{needs}

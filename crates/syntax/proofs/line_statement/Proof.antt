@@ -1,7 +1,7 @@
 -- By the scope.
 use borrow.Author.Tests.{ne-eqb}
 use Rattle.past.specs.Place.{scopeOf, contextOf}
-use Rattle.syntax.proofs.Laws.{form-whole}
+use Rattle.syntax.proofs.ShapeLaws.{form-whole}
 use borrow.Author.Needs.{needs}
 use Rattle.syntax.proofs.line_statement.Statement.{statement}
 use Rattle.syntax.proofs.line_statement.Tie as tie

@@ -1,6 +1,6 @@
 -- With a constant, by the constant.
 use mathlib.Core.Path.{refl, sym, _∙_}
-use Rattle.syntax.proofs.Laws.{plainOpen, bad-number, stated}
+use Rattle.syntax.proofs.ShapeLaws.{plainOpen, bad-number, stated}
 use borrow.Author.Needs.{needs}
 use Rattle.syntax.proofs.parameter_statement.Statement.{statement}
 use Rattle.syntax.proofs.parameter_statement.Tie as tie

@@ -5,7 +5,7 @@ use native.Mathlib.Omega.{arith}
 use denote.Ref.{now}
 use lib.ListN.{length, replicate, length-set, length-replicate}
 use Rattle.tables.specs.Store.{store, store-none, store-all}
-use Rattle.tables.proofs.Laws.{zeroed}
+use Rattle.tables.proofs.TurnLaws.{zeroed}
 use Rattle.tables.proofs.clear_words.Statement.{statement}
 use Rattle.tables.proofs.clear_words.Tie as tie
 

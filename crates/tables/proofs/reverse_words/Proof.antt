@@ -7,7 +7,7 @@ use mathlib.Core.List.{List, reverse}
 use lib.ListN.{length, length-set}
 use lib.Seq.{slice, slice-empty}
 use Rattle.tables.specs.Store.{store, store-none}
-use Rattle.tables.proofs.Laws.{reversed}
+use Rattle.tables.proofs.TurnLaws.{reversed}
 use Rattle.tables.proofs.reverse_words.Statement.{statement}
 use Rattle.tables.proofs.reverse_words.Tie as tie
 

@@ -6,7 +6,7 @@ use denote.Ref.{now}
 use lib.ListN.{length, replicate, length-set}
 use native.Mathlib.Nat.{sub-self}
 use Rattle.tables.specs.Store.{store, store-none}
-use Rattle.tables.proofs.Laws.{zeroed}
+use Rattle.tables.proofs.TurnLaws.{zeroed}
 use Rattle.tables.proofs.zero_bytes.Statement.{statement}
 use Rattle.tables.proofs.zero_bytes.Tie as tie
 

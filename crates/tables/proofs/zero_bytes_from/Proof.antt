@@ -5,7 +5,7 @@ use denote.Ref.{now}
 use lib.Dec.{eqb}
 use lib.ListN.{length, drop}
 use Rattle.rules.specs.Bytes.{all}
-use Rattle.tables.proofs.Laws.{zero-not, zero-so-far, zero-to-end}
+use Rattle.tables.proofs.TurnLaws.{zero-not, zero-so-far, zero-to-end}
 use native.Mathlib.Omega.{arith}
 use Rattle.tables.proofs.zero_bytes_from.Statement.{statement}
 use Rattle.tables.proofs.zero_bytes_from.Tie as tie

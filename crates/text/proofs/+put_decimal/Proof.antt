@@ -3,7 +3,7 @@ use mathlib.Core.Path.{sym}
 use Prim.Native.Nat.{ℕ, _<_}
 use native.Mathlib.Omega.{arith}
 use Rattle.text.specs.Written.{written-most, written-then, written-as}
-use Rattle.text.proofs.Laws.{decimal-one, decimal-more}
+use Rattle.text.proofs.TextLaws.{decimal-one, decimal-more}
 use borrow.Fn.Kinds.{In}
 use borrow.Fn.PlainCycle.{Measures, is, falls, and}
 use Rattle.text.proofs.put_decimal.Reads as put-decimal

@@ -6,7 +6,7 @@ use denote.Ref.{now}
 use lib.ListN.{set}
 use lib.Seq.{set-out}
 use Rattle.text.specs.Written.{moved}
-use Rattle.text.proofs.Laws.{one-byte}
+use Rattle.text.proofs.TextLaws.{one-byte}
 use Rattle.text.proofs.put_byte.Statement.{statement}
 use Rattle.text.proofs.put_byte.Tie as tie
 

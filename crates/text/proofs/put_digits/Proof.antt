@@ -9,7 +9,7 @@ use lib.Seq.{drop-length}
 use Rattle.rules.specs.Text.{digitByte}
 use Rattle.numbers.specs.Kinds.{digitOf}
 use Rattle.text.specs.Written.{Written, written-none, written-most, written-then, written-as}
-use Rattle.text.proofs.Laws.{digits-more}
+use Rattle.text.proofs.TextLaws.{digits-more}
 use Rattle.text.proofs.put_digits.Statement.{statement}
 use Rattle.text.proofs.put_digits.Tie as tie
 

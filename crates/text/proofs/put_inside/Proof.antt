@@ -8,7 +8,7 @@ use lib.ListN.{length, take}
 use lib.Seq.{take-length}
 use Rattle.rules.specs.Text.{escaped}
 use Rattle.text.specs.Written.{Written, written-none, written-most, written-then, written-as}
-use Rattle.text.proofs.Laws.{escaped-more}
+use Rattle.text.proofs.TextLaws.{escaped-more}
 use Rattle.text.proofs.put_inside.Statement.{statement}
 use Rattle.text.proofs.put_inside.Tie as tie
 

@@ -5,7 +5,7 @@ use native.Mathlib.Omega.{arith}
 use denote.Ref.{now}
 use lib.ListN.{replicate}
 use Rattle.text.specs.Written.{Written, written-none, written-most, written-then, written-as}
-use Rattle.text.proofs.Laws.{spaces-more}
+use Rattle.text.proofs.TextLaws.{spaces-more}
 use Rattle.text.proofs.put_spaces.Statement.{statement}
 use Rattle.text.proofs.put_spaces.Tie as tie
 

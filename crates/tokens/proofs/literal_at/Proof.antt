@@ -3,7 +3,7 @@ use mathlib.Core.Path.{sym, _∙_}
 use Rattle.rules.specs.Shapes as shapes
 use Rattle.tokens.specs.Rows.{front}
 use Rattle.tokens.specs.Parts.{literalGives}
-use Rattle.tokens.proofs.Laws.{line-read}
+use Rattle.tokens.proofs.TokenLaws.{line-read}
 use borrow.Author.Needs.{needs}
 use Rattle.tokens.proofs.literal_at.Statement.{statement}
 use Rattle.tokens.proofs.literal_at.Tie as tie

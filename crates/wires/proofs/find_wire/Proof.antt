@@ -8,7 +8,7 @@ use borrow.Author.Needs.{needs}
 use Rattle.rules.specs.Signals.{find}
 use Rattle.wires.specs.Rows.{nameOf, wireOf, wiresFrom}
 use Rattle.wires.specs.Found.{widthFound, foundOf}
-use Rattle.wires.proofs.Laws.{find-last, find-before}
+use Rattle.wires.proofs.SearchLaws.{find-last, find-before}
 use Rattle.wires.proofs.find_wire.Statement.{statement}
 use Rattle.wires.proofs.find_wire.Tie as tie
 

@@ -5,7 +5,7 @@ use mathlib.Core.Path.{sym, ap, _∙_}
 use native.Mathlib.Omega.{arith}
 use lib.Dec.{eqb}
 use borrow.Author.Needs.{needs}
-use Rattle.wires.proofs.Laws.{no-port, port-number}
+use Rattle.wires.proofs.SearchLaws.{no-port, port-number}
 use Rattle.wires.proofs.has_port.Statement.{statement}
 use Rattle.wires.proofs.has_port.Tie as tie
 

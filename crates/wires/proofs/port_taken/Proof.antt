@@ -8,7 +8,7 @@ use lib.Dec.{eqb}
 use Rattle.rules.specs.Bytes.{any}
 use Rattle.rules.specs.Judgement.{portNumbers}
 use Rattle.wires.specs.Rows.{wiresFrom}
-use Rattle.wires.proofs.Laws.{taken-last, taken-before}
+use Rattle.wires.proofs.SearchLaws.{taken-last, taken-before}
 use Rattle.wires.proofs.port_taken.Statement.{statement}
 use Rattle.wires.proofs.port_taken.Tie as tie
 

@@ -4,7 +4,7 @@ use denote.Ref.{now}
 use Rattle.reader.specs.Read.{lent}
 use Rattle.session.proofs.OpenLaws.{opened, not-opened}
 use Rattle.session.proofs.CallLaws.{not-open}
-use Rattle.writer.proofs.Laws.{bits-few, measured}
+use Rattle.writer.proofs.TextLaws.{bits-few, measured}
 use borrow.Author.Needs.{needs}
 use Rattle.writer.proofs.measure.Statement.{statement}
 use Rattle.writer.proofs.measure.Tie as tie

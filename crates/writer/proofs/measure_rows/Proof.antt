@@ -1,7 +1,7 @@
 -- By where the text ends.
 -- Assumes nothing.
 use native.Mathlib.Omega.{arith}
-use Rattle.writer.proofs.Laws.{measure-long, measure-short}
+use Rattle.writer.proofs.TextLaws.{measure-long, measure-short}
 use Rattle.writer.proofs.measure_rows.Statement.{statement}
 use Rattle.writer.proofs.measure_rows.Tie as tie
 

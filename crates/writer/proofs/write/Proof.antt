@@ -4,7 +4,7 @@ use denote.Ref.{now}
 use Rattle.reader.specs.Read.{lent}
 use Rattle.session.proofs.OpenLaws.{opened, not-opened}
 use Rattle.session.proofs.CallLaws.{not-open}
-use Rattle.writer.proofs.Laws.{bits-few, written}
+use Rattle.writer.proofs.TextLaws.{bits-few, written}
 use borrow.Author.Needs.{needs}
 use Rattle.writer.proofs.write.Statement.{statement}
 use Rattle.writer.proofs.write.Tie as tie

@@ -2,7 +2,7 @@
 -- Assumes nothing.
 use native.Mathlib.Omega.{arith}
 use denote.Ref.{now}
-use Rattle.writer.proofs.Laws.{write-long, write-past, write-short}
+use Rattle.writer.proofs.TextLaws.{write-long, write-past, write-short}
 use borrow.Author.Needs.{needs}
 use Rattle.writer.proofs.write_rows.Statement.{statement}
 use Rattle.writer.proofs.write_rows.Tie as tie

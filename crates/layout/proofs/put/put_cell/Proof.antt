@@ -2,7 +2,7 @@ use Prim.Native.Nat.{ℕ, _+_}
 use mathlib.Core.Path.{refl, ap}
 use Rattle.rules.specs.Statements.{code, holds, contents}
 use Rattle.rules.specs.Layout.{padded, row, columns, statementRow}
-use Rattle.layout.proofs.Laws.{names-put}
+use Rattle.layout.proofs.PutLaws.{names-put}
 use borrow.Author.Needs.{needs}
 use Rattle.layout.proofs.put.put_cell.Statement.{statement}
 use Rattle.layout.proofs.put.put_cell.Tie as tie

@@ -4,7 +4,7 @@ use denote.Ref.{now}
 use Rattle.rules.specs.Statements.{code, holds, contents}
 use Rattle.rules.specs.Layout.{padded, row, columns, statementRow}
 use Rattle.syntax.specs.SignalLaws.{signal-long}
-use Rattle.layout.proofs.Laws.{name-put, signal-put}
+use Rattle.layout.proofs.PutLaws.{name-put, signal-put}
 use borrow.Author.Needs.{needs}
 use Rattle.layout.proofs.put.put_cell_connection.Statement.{statement}
 use Rattle.layout.proofs.put.put_cell_connection.Tie as tie

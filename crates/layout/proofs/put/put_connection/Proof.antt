@@ -4,7 +4,7 @@ use denote.Ref.{now}
 use Rattle.rules.specs.Statements.{code, holds, contents}
 use Rattle.rules.specs.Layout.{padded, row, columns, statementRow}
 use Rattle.syntax.specs.SignalLaws.{signal-long}
-use Rattle.layout.proofs.Laws.{signals-put}
+use Rattle.layout.proofs.PutLaws.{signals-put}
 use borrow.Author.Needs.{needs}
 use Rattle.layout.proofs.put.put_connection.Statement.{statement}
 use Rattle.layout.proofs.put.put_connection.Tie as tie

@@ -1,7 +1,7 @@
 use mathlib.Core.Path.{refl}
 use Rattle.rules.specs.Statements.{code, holds, contents}
 use Rattle.rules.specs.Layout.{padded, row, columns, statementRow}
-use Rattle.layout.proofs.Laws.{name-put, wire-put}
+use Rattle.layout.proofs.PutLaws.{name-put, wire-put}
 use Rattle.netlist.specs.Used.{usedOf}
 use borrow.Author.Needs.{needs}
 use Rattle.layout.proofs.put.put_wire.Statement.{statement}

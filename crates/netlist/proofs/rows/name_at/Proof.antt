@@ -3,7 +3,7 @@
 use native.Mathlib.Omega.{arith}
 use borrow.Author.Needs.{needs}
 use Rattle.netlist.specs.Rows.{nameFrom, nameAt}
-use Rattle.netlist.proofs.Laws.{name-column-small}
+use Rattle.netlist.proofs.SearchLaws.{name-column-small}
 use Rattle.netlist.proofs.rows.name_at.Statement.{statement}
 use Rattle.netlist.proofs.rows.name_at.Tie as tie
 

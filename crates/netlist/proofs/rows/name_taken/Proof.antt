@@ -6,7 +6,7 @@ use native.Mathlib.Omega.{arith}
 use Rattle.rules.specs.Bytes.{same, any}
 use Rattle.netlist.specs.Kinds.{isKind}
 use Rattle.netlist.specs.Rows.{namesBetween}
-use Rattle.netlist.proofs.Laws.{taken-turn}
+use Rattle.netlist.proofs.SearchLaws.{taken-turn}
 use Rattle.netlist.proofs.rows.name_taken.Statement.{statement}
 use Rattle.netlist.proofs.rows.name_taken.Tie as tie
 

@@ -8,7 +8,7 @@ use borrow.Author.Tests.{lt-ltb, le-ltb}
 use native.Mathlib.Omega.{arith}
 use Rattle.rules.specs.Session.{authorsIndex, indexIn}
 use Rattle.numbers.specs.Signed.{verdictOf}
-use Rattle.numbers.proofs.Laws.{sum-fits-at, sum-at}
+use Rattle.numbers.proofs.SumLaws.{sum-fits-at, sum-at}
 use Rattle.numbers.proofs.signed.author_index.Statement.{statement}
 use Rattle.numbers.proofs.signed.author_index.Tie as tie
 

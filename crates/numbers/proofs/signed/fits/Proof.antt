@@ -1,7 +1,7 @@
 -- `signed::fits` meets its contract.
 use Rattle.rules.specs.Numbers.{int32}
 use Rattle.numbers.specs.Signed.{integerOf}
-use Rattle.numbers.proofs.Laws.{negative-fits}
+use Rattle.numbers.proofs.SumLaws.{negative-fits}
 use Rattle.numbers.proofs.signed.fits.Statement.{statement}
 use Rattle.numbers.proofs.signed.fits.Tie as tie
 

@@ -3,7 +3,7 @@ use Prim.Native.Nat.{_-_}
 use borrow.Author.Needs.{needs}
 use borrow.Author.Tests.{eq-eqb, ne-eqb}
 use native.Mathlib.Omega.{arith}
-use Rattle.numbers.proofs.Laws.{sum-fits-at, sum-at, sum-int32}
+use Rattle.numbers.proofs.SumLaws.{sum-fits-at, sum-at, sum-int32}
 use Rattle.numbers.proofs.signed.offset_fits.Statement.{statement}
 use Rattle.numbers.proofs.signed.offset_fits.Tie as tie
 

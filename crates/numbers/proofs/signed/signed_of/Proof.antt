@@ -6,7 +6,7 @@ use native.Mathlib.Omega.{arith}
 use lib.IntN.{pos, negsuc}
 use mir.Facts.{toZ-ofZ}
 use Rattle.numbers.specs.Signed.{signedOf}
-use Rattle.numbers.proofs.Laws.{sum-fits, read-pos, upper}
+use Rattle.numbers.proofs.SumLaws.{sum-fits, read-pos, upper}
 use Rattle.numbers.proofs.signed.signed_of.Statement.{statement}
 use Rattle.numbers.proofs.signed.signed_of.Tie as tie
 

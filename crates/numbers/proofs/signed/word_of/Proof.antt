@@ -2,7 +2,7 @@
 use borrow.Author.Needs.{needs}
 use Rattle.rules.specs.Signals.{twosComplement}
 use Rattle.numbers.specs.Signed.{integerOf}
-use Rattle.numbers.proofs.Laws.{word-zero, word-negative}
+use Rattle.numbers.proofs.SumLaws.{word-zero, word-negative}
 use Rattle.numbers.proofs.signed.word_of.Statement.{statement}
 use Rattle.numbers.proofs.signed.word_of.Tie as tie
 

@@ -22,7 +22,7 @@ use Rattle.scanner.proofs.NumberLaws.{capped-small}
 use Rattle.numbers.specs.Signed.{integerOf}
 use Rattle.numbers.specs.SignedLaws.{capped-int32, capped-same, binary-length, binary-at}
 use Rattle.strings.specs.Decoded.{decoded}
-use Rattle.strings.proofs.Laws.{decoded-length}
+use Rattle.strings.proofs.StringLaws.{decoded-length}
 use Rattle.tokens.specs.Rows.{integerIn, literalIn}
 use Rattle.tokens.specs.declared.Integer.{Integer}
 use Rattle.tokens.specs.declared.Constant.{Constant}

@@ -25,7 +25,7 @@ use Rattle.tokens.specs.declared.Id.{Id}
 use Rattle.tokens.specs.declared.Id.the-variants as id
 use Rattle.tokens.specs.declared.Slot.{Slot}
 use Rattle.tokens.specs.declared.Slot.the-variants as slot
-use Rattle.tokens.proofs.Laws.{front-token, present, line-end, line-more}
+use Rattle.tokens.proofs.TokenLaws.{front-token, present, line-end, line-more}
 use Rattle.tokens.proofs.Words.{word-is}
 use Rattle.forms.specs.Words.{starts, WordIs, announced, numbered}
 use Rattle.forms.specs.Forms.{ended}
