@@ -1,7 +1,7 @@
 -- Each wire of a module has its statement: found by module number and wire number, with the attributes before it and its row.
 -- Assumes nothing.
 use Prim.Native.Nat.{ℕ, suc, _+_, _≤_, _<_}
-use mathlib.Core.Path.{_≡_, refl, sym, ap, subst, _∙_}
+use mathlib.Core.Path.{_≡_, refl, sym, ap, _∙_}
 use mathlib.Core.List.{List, [], _∷_, _++_, flatMap, zip, zipWith, reverse, reverse-append, reverse-cons, append-assoc}
 use mathlib.Core.Option.{some}
 use mathlib.Core.Bool.{true, false}
@@ -14,21 +14,14 @@ use Rattle.rules.specs.Statements.{Statement, Wire, wire-stmt, aModule, content
 use Rattle.rules.specs.Judgement.{Past, until, ofModule, wires}
 use Rattle.rules.specs.Design.{object, design}
 use Rattle.rules.specs.Session.{wireAt}
-use Rattle.rules.specs.Layout.{used, padded, row, columns, statementRow}
 use Rattle.scanner.specs.Laws.{by-test}
 use Rattle.past.specs.Place.{wiresIn, placeOf}
 use Rattle.past.proofs.PlaceLaws.{length-all-wires}
-use Rattle.wires.specs.Rows.{column}
-use Rattle.wires.specs.RowLaws.{RowIs}
-use Rattle.netlist.specs.Rows.{kindAt}
-use Rattle.netlist.specs.Laid.{roomsOf, Laid, Wired}
-use Rattle.netlist.specs.LaidLaws.{length-rows, eights-rows, laid-row}
-use Rattle.netlist.specs.UsedLaws.{used-wires}
+use Rattle.netlist.specs.Laid.{roomsOf, Wired}
 use Rattle.designs.specs.Modules.{statementsOf, wiresOf, moduleCount, upTo, Headed}
 use Rattle.designs.specs.PastLaws.{other-counts, module-first, module-more, none-counts, module-past, no-module, up-to-split, up-to-count}
 use Rattle.designs.specs.AttributeLaws.{settingsBefore, wire-in-file}
 use Rattle.designs.specs.WireLaws.{Adds, a-wire, no-wire, adds, wires-back, range-number}
-use Rattle.designs.specs.RowLaws.{laid-before}
 use Rattle.designs.specs.Ranges.{wireRange}
 
 -- where wire w of module m is declared: the statements before its own and those behind it, the last one first
@@ -137,20 +130,6 @@ module _ {names t : List ℕ} (m w : ℕ) (ss xs before : Past) (e : ss ≡ xs +
   wire-row c k h l =
       rw (e, ← k, ← wires-counted before) (range-number m before (omega arith) c xs (rw e at h) (rw e at l))
 
-module _ {names rows : List ℕ} where
-  laid-behind : (xs before : Past) → Laid (roomsOf (xs ++ before)) names rows → Laid (roomsOf before) names rows
-  laid-behind [] before l = l
-  laid-behind (x ∷ xs) before l = laid-behind xs before (laid-before x (xs ++ before) l)
-
-  statement-row :
-      (b : Wire) (n : Name) (before : Past) (k : ℕ) → k ≡ length before → Laid (roomsOf (wire-stmt b n ∷ before)) names rows →
-      (kindAt rows k ≡ 5) × (column rows k 3 ≡ wiresIn before)
-  unfolding roomsOf kindAt statementRow columns row padded used statementsOpen
-  statement-row b n before k e l =
-      let q : k ≡ length (roomsOf before .rows) = e ∙ sym (length-rows before) in
-      let r : RowIs rows k (statementRow (used (roomsOf before)) (wire-stmt b n)) = rw q (laid-row (roomsOf before) (wire-stmt b n) (eights-rows before) l) in
-      (r 0 (omega arith), r 3 (omega arith) ∙ used-wires before)
-
 module _ (ss : Past) (m w : ℕ) (d : Declared ss m w) where
   pub declared-number : {names t : List ℕ} → Headed ss → Wired (roomsOf ss) names t → wiresIn (d .before) ≡ wireRange t (wiresIn ss) m .first + w
   declared-number h l =
@@ -160,9 +139,3 @@ module _ (ss : Past) (m w : ℕ) (d : Declared ss m w) where
       (d .number-is)
       h
       l
-
-  pub declared-row : {names rows : List ℕ} → Laid (roomsOf ss) names rows → (kindAt rows (length (d .before)) ≡ 5) × (column rows (length (d .before)) 3 ≡ wiresIn (d .before))
-  declared-row {names} {rows} l =
-      let e = d .all in
-      let q : Laid (roomsOf (d .behind ++ wire-stmt (d .body) (d .name) ∷ d .before)) names rows = subst (λ (x : Past). Laid (roomsOf x) names rows) e l in
-      statement-row (d .body) (d .name) (d .before) (length (d .before)) refl (laid-behind (d .behind) (wire-stmt (d .body) (d .name) ∷ d .before) q)

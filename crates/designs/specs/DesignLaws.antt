@@ -5,12 +5,11 @@ use mathlib.Core.Path.{_≡_, refl, sym, ap, _∙_}
 use mathlib.Core.List.{List, [], _∷_, _++_, map, map-map, map-id, flatMap, zip, zipWith}
 use mathlib.Core.Option.{Option, none, some, Option·elim}
 use mathlib.Core.Bool.{Bool, true, false, cond, _||_, or-assoc}
-use native.Mathlib.Omega.{arith}
-use lib.ListN.{length, getD, getElem?, length-map, List·getD-map}
+use lib.ListN.{getD, getElem?, List·getD-map}
 use Rattle.rules.specs.Bytes.{same, any}
 use Rattle.rules.specs.Tokens.{Name}
 use Rattle.rules.specs.Statements.{Statement, Wire, Kind, anAttribute, aModule, aMemory, aCell, autoidx-stmt, attr-stmt, module-stmt, param-stmt, wire-stmt, memory-stmt, cell-stmt, cell-param-stmt, cell-conn-stmt, conn-stmt, proc-stmt, end-stmt, contents, is, ownName, statementsOpen}
-use Rattle.rules.specs.Judgement.{until, only, sum, among, count}
+use Rattle.rules.specs.Judgement.{until, only, among}
 use Rattle.rules.specs.Design.{Setting, Object, object, Module, Item, Inside, settingIn, items, blocks, objectsIn, pair, each, cellOf, moduleOf, Design, design}
 use Rattle.rules.specs.Session.{wiresAt, names, taken}
 use Rattle.past.specs.Forms.{by-form}
@@ -58,21 +57,6 @@ blocks-items at (s ∷ ss) =
     by-test (is anAttribute s)
     (λ e. rw (only-attribute s e .no-module, e) (blocks-items (at ++ settingIn s) ss))
     (λ e. by-test (is aModule s) (λ m. rw (e, m, items-until (is aModule) (λ q h. only-attribute q h .no-module) [] ss, blocks-items [] ss)) (λ m. rw (e, m) (blocks-items [] ss)))
-
--- as many modules as module lines
-length-modules : (ss : List Statement) → length (modulesIn ss) ≡ sum (count (aModule ∷ [])) ss
-unfolding modulesIn sum count among any
-length-modules [] = refl
-length-modules (s ∷ ss) = by-test (is aModule s) (λ e. rw (e, length-modules ss) (omega arith)) (λ e. rw (e, length-modules ss) (omega arith))
-
-pub design-modules : (ss : List Statement) → length (design ss .modules) ≡ sum (count (aModule ∷ [])) ss
-unfolding design
-design-modules ss =
-    length-map (blocks (is aModule) (items [] ss)) moduleOf
-    ∙ sym (length-map (blocks (is aModule) (items [] ss)) (λ b. b .1))
-    ∙ ap length (blocks-items [] ss)
-    ∙ length-map (modulesIn ss) (items [])
-    ∙ length-modules ss
 
 -- what is taken from a module's items, of the module of that number; none if there is no such module
 module _ {A : Type 0} (g : Module → List A) (h : List Item → List A) (none : h [] ≡ []) (from : (b : Item × List Item) → g (moduleOf b .body) ≡ h (b .1)) where
@@ -199,10 +183,6 @@ module _ (ss : List Statement) (m : ℕ) where
   unfolding cellsAt flatMap moduleOf blocks
   cells-are = module-at (λ o. o .cells) (λ l. flatMap cellOf (blocks (is aCell) l)) refl (λ b. refl) ss m
 
-  -- a cell's type and its own name
-  pub cells-at : map (λ o. (o .body .type, o .name)) (cellsAt (design ss) m) ≡ flatMap cellNames (statementsOf m ss)
-  cells-at = ap (map (λ o. (o .body .type, o .name))) cells-are ∙ cell-pairs [] (statementsOf m ss)
-
   pub cell-names-at : map (λ o. o .name) (cellsAt (design ss) m) ≡ ownNames (aCell ∷ []) (statementsOf m ss)
   cell-names-at = ap (map (λ o. o .name)) cells-are ∙ cell-names [] (statementsOf m ss)
 
@@ -226,10 +206,3 @@ pub taken-parts :
     ≡ any (same n) (map (λ o. o .name) (wiresAt d m)) || (any (same n) (map (λ o. o .name) (memoriesAt d m)) || any (same n) (map (λ o. o .name) (cellsAt d m)))
 unfolding taken wiresAt memoriesAt cellsAt
 taken-parts d m n = parts-by n (getElem? (d .modules) m)
-
-pub taken-at :
-    (ss : List Statement) (m : ℕ) (n : Name) →
-    taken (design ss) m n ≡ any (same n) (map (λ x. x .0) (wiresOf (statementsOf m ss))) || any (same n) (ownNames (aMemory ∷ aCell ∷ []) (statementsOf m ss))
-taken-at ss m n =
-    taken-parts (design ss) m n
-    ∙ rw (wire-names-at ss m, memories-at ss m, cell-names-at ss m, any-kinds (same n) aMemory aCell (statementsOf m ss))

@@ -10,7 +10,6 @@ pub mod RangeLaws
 pub mod RowLaws
 pub mod WireLaws
 pub mod HeadLaws
-pub mod LayoutLaws
 pub mod DeclaredLaws
 pub mod CodeLaws
 pub mod DecodeLaws

@@ -6,7 +6,7 @@ use mathlib.Core.List.{List, [], _∷_, _++_, map}
 use mathlib.Core.Option.{Option, none, some, Option·map, Option·elim}
 use mathlib.Core.Bool.{true, false, cond, _||_}
 use lib.Dec.{eqb, eqb·zero-suc, eqb·suc-zero, eqb·suc-suc}
-use lib.ListN.{length, getElem?}
+use lib.ListN.{getElem?}
 use Rattle.rules.specs.Bytes.{same, any}
 use Rattle.rules.specs.Tokens.{Name}
 use Rattle.rules.specs.Statements.{Statement, Wire, aMemory, aCell}
@@ -40,11 +40,6 @@ module _ {A : Type 0} where
   numbered-at f [] i = refl
   numbered-at f (x ∷ xs) zero = refl
   numbered-at f (x ∷ xs) (suc i) = numbered-at (λ i. f (suc i)) xs i
-
-  pub length-numbered : (f : ℕ → A → A) (xs : List A) → length (numbered f xs) ≡ length xs
-  unfolding numbered
-  length-numbered f [] = refl
-  length-numbered f (x ∷ xs) = ap suc (length-numbered (λ i. f (suc i)) xs)
 
   pub map-numbered : {B : Type 0} (g : A → B) (f : ℕ → A → A) (h : ℕ → B → B) → ((i : ℕ) (x : A) → g (f i x) ≡ h i (g x)) → (xs : List A) → map g (numbered f xs) ≡ numbered h (map g xs)
   unfolding numbered
@@ -127,10 +122,6 @@ now-cells (some o) rs m = refl
 
 -- of each module only its wires' names change
 module _ (d : Design) (rs : List Rename) where
-  pub modules-now : length (now d rs .modules) ≡ length (d .modules)
-  unfolding designNow
-  modules-now = ap (λ (e : Design). length (e .modules)) (now-is d rs) ∙ length-numbered (moduleNow rs) (d .modules)
-
   module _ (m : ℕ) where
     pub module-now : getElem? (now d rs .modules) m ≡ Option·map (moduleNow rs m) (getElem? (d .modules) m)
     unfolding designNow
@@ -165,9 +156,6 @@ module _ (d : Design) (rs : List Rename) where
 
 -- the same by the statements behind the module's line
 module _ (ss : List Statement) (rs : List Rename) (m : ℕ) where
-  pub names-read-now : map (λ o. o .name) (wiresAt (now (design ss) rs) m) ≡ numbered (nameNow rs m) (map (λ x. x .0) (wiresOf (statementsOf m ss)))
-  names-read-now = names-now (design ss) rs m ∙ ap (numbered (nameNow rs m)) (wire-names-at ss m)
-
   pub taken-read-now :
       (n : Name) →
       taken (now (design ss) rs) m n

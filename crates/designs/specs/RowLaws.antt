@@ -2,12 +2,11 @@
 -- Assumes nothing.
 use Prim.Native.Nat.{ℕ, suc, _+_, _≤_, _<_}
 use mathlib.Core.Path.{_≡_, refl, sym, ap, _∙_}
-use mathlib.Core.List.{List, [], _∷_, _++_, reverse, reverse-cons, reverse-append, reverse-reverse, append-assoc}
+use mathlib.Core.List.{List, [], _∷_, _++_, reverse, reverse-cons, reverse-reverse}
 use mathlib.Core.Bool.{Bool, true, _||_, or-assoc, or-comm}
 use native.Mathlib.Omega.{arith}
 use lib.Dec.{leb, ltb}
-use lib.ListN.{length, take, drop, length-reverse, length-drop, length-take, take-append-drop}
-use lib.Seq.{take-at, drop-at}
+use lib.ListN.{length, take}
 use borrow.Author.Tests.{eq-eqb, ne-eqb, leb-true, leb-false, ltb-true, ltb-false}
 use Rattle.rules.specs.Bytes.{same, any, all}
 use Rattle.rules.specs.Tokens.{Name}
@@ -26,7 +25,7 @@ use Rattle.netlist.specs.Laid.{roomsOf, Laid}
 use Rattle.netlist.specs.LaidLaws.{length-rows, eights-rows, laid-put, laid-row}
 use Rattle.netlist.specs.NameLaws.{ownNames, names-laid}
 use Rattle.designs.specs.Modules.{statementsOf, moduleCount, upTo}
-use Rattle.designs.specs.PastLaws.{module-counts, other-counts, count-step, module-first, module-more, none-counts, module-past, no-module, up-to-all, up-to-back, up-to-holds, up-to-le, up-to-split}
+use Rattle.designs.specs.PastLaws.{module-counts, other-counts, count-step, module-first, module-more, none-counts, module-past, no-module, up-to-all, up-to-back, up-to-holds, up-to-le}
 use Rattle.designs.specs.Ranges.{rowsWhere, linesIn, lineOf, rowRange}
 use Rattle.designs.specs.RangeLaws.{line-le, line-all, line-back}
 
@@ -117,37 +116,6 @@ module _ {names rows : List ℕ} where
         (λ e.
         let b : moduleCount ss ≤ m = ltb-false m (moduleCount ss) e in
         ap (namesBetween names rows test (r .first)) (range-none b .1) ∙ ap (λ (qs : List Statement). ownNames ks (reverse qs)) (sym (no-module ss m b)))
-
-    -- the statements of those numbers in the file
-    pub statements-range : let r = rowRange rows (length ss) m in take (r .count) (drop (r .first) (reverse ss)) ≡ statementsOf m (reverse ss)
-    unfolding ofModule
-    statements-range =
-        let r = rowRange rows (length ss) m in
-        by-test (ltb m (moduleCount ss))
-        (λ e.
-        let b : m < moduleCount ss = ltb-true m (moduleCount ss) e in
-        let q : Past = upTo m ss in
-        let c : ℕ = r .count in
-        let p = range-there b in
-        let xs : Past = up-to-split m ss .0 in
-        let early : List Statement = reverse (drop c q) in
-        let own : List Statement = reverse (take c q) in
-        let s : reverse ss ≡ early ++ (own ++ reverse xs) =
-        ap reverse (up-to-split m ss .1)
-        ∙ reverse-append xs q
-        ∙ ap (λ (z : List Statement). z ++ reverse xs) (ap reverse (sym (take-append-drop c q)) ∙ reverse-append (take c q) (drop c q))
-        ∙ append-assoc early own (reverse xs) in
-        let le : length early ≡ r .first = length-reverse (drop c q) ∙ length-drop c q ∙ (omega arith) in
-        let lo : length own ≡ c = length-reverse (take c q) ∙ length-take c q ∙ (omega arith) in
-        ap (λ (z : List Statement). take c (drop (r .first) z)) s
-        ∙ ap (take c) (drop-at early (own ++ reverse xs) (r .first) le)
-        ∙ take-at own (reverse xs) c lo
-        ∙ ap (λ (n : ℕ). reverse (take n q)) (p .1)
-        ∙ ap reverse (sym (until-take (is aModule) q))
-        ∙ sym (module-past ss m b))
-        (λ e.
-        let b : moduleCount ss ≤ m = ltb-false m (moduleCount ss) e in
-        ap (λ (n : ℕ). take n (drop (r .first) (reverse ss))) (range-none b .1) ∙ sym (no-module ss m b))
 
 -- whether some name passes a test doesn't depend on the order
 module _ (f : Name → Bool) (ks : List Kind) where

@@ -1,16 +1,15 @@
 -- What lies in the tables: in padded tables, after one statement more, behind a rename, and after a store behind it.
 -- Assumes nothing.
-use Prim.Native.Nat.{ℕ, _+_, _-_, _*_, _≤_}
+use Prim.Native.Nat.{ℕ, _+_, _-_, _*_}
 use mathlib.Core.Path.{_≡_, refl, sym, ap, _∙_}
 use mathlib.Core.List.{List, [], _∷_, _++_, reverse, reverse-cons, append-assoc}
 use native.Mathlib.Omega.{arith}
 use lib.ListN.{length, getD, take, drop, replicate, length-append, List·getD-append}
-use lib.Seq.{take-append-add, getD-append-add, drop-append-seam, take-append-seam}
+use lib.Seq.{getD-append-add, drop-append-seam, take-append-seam}
 use Rattle.rules.specs.Statements.{Statement}
 use Rattle.rules.specs.Judgement.{Past}
 use Rattle.rules.specs.Session.{Rename}
-use Rattle.rules.specs.Layout.{Rooms, empty, padded, used, nameBytes, statementRow, put, putAll, renameRow, putRename, putRenames, rooms, memory, layout}
-use Rattle.tables.specs.Store.{store, store-eq}
+use Rattle.rules.specs.Layout.{Rooms, empty, padded, used, nameBytes, statementRow, put, putAll, renameRow, putRename, putRenames}
 use Rattle.tables.specs.Flat.{flat, Eights, eights-none, eights-more, eights-append, flat-snoc, length-flat}
 use Rattle.wires.specs.Rows.{wordAt, column}
 use Rattle.wires.specs.RowLaws.{RowIs}
@@ -44,9 +43,6 @@ eights-rows (s ∷ ss) =
 pub laid-padded : (m n : ℕ) (R : Rooms) → Laid R (padded m (R .names)) (padded n (flat (R .rows)))
 unfolding padded
 laid-padded m n R = record { more-names = replicate (m - length (R .names)) 0; more-rows = replicate (n - length (flat (R .rows))) 0; names-are = refl; rows-are = refl }
-
-pub laid-past : {names rows : List ℕ} (ss : Past) → Laid (putAll empty (reverse ss)) names rows → Laid (roomsOf ss) names rows
-laid-past ss l = rw rooms-past at l
 
 -- a list and a row that stand in a table behind others
 pub list-behind : (l xs ys more : List ℕ) → l ≡ xs ++ (ys ++ more) → take (length ys) (drop (length xs) l) ≡ ys
@@ -96,39 +92,3 @@ pub laid-renames : {names rows : List ℕ} (R : Rooms) (rs : List Rename) → La
 unfolding putRenames
 laid-renames R [] l = l
 laid-renames R (r ∷ rs) l = laid-rename R r (laid-renames (putRename R r) rs l)
-
--- a store behind what the rooms hold
-front-store :
-    (l xs ys : List ℕ) (at : ℕ) (vs : List ℕ) → l ≡ xs ++ ys → length xs ≤ at → at + length vs ≤ length l →
-    store l at vs ≡ xs ++ (take (at - length xs) ys ++ (vs ++ drop (at + length vs) l))
-front-store l xs ys at vs e h room =
-    let q : List ℕ = vs ++ drop (at + length vs) l in
-    let k : length xs + (at - length xs) ≡ at = omega arith in
-    store-eq l at vs room
-    ∙ append-assoc (take at l) vs (drop (at + length vs) l)
-    ∙ ap (λ (x : List ℕ). x ++ q) (ap (take at) e ∙ ap (λ (n : ℕ). take n (xs ++ ys)) (sym k) ∙ take-append-add xs ys (at - length xs))
-    ∙ append-assoc xs (take (at - length xs) ys) q
-
-module _ {names rows : List ℕ} (R : Rooms) (at : ℕ) (vs : List ℕ) (l : Laid R names rows) where
-  pub laid-store-names : length (R .names) ≤ at → at + length vs ≤ length names → Laid R (store names at vs) rows
-  laid-store-names h room =
-      record {
-        more-names = take (at - length (R .names)) (l .more-names) ++ (vs ++ drop (at + length vs) names);
-        more-rows = l .more-rows;
-        names-are = front-store names (R .names) (l .more-names) at vs (l .names-are) h room;
-        rows-are = l .rows-are;
-      }
-
-  pub laid-store-rows : length (flat (R .rows)) ≤ at → at + length vs ≤ length rows → Laid R names (store rows at vs)
-  laid-store-rows h room =
-      record {
-        more-names = l .more-names;
-        more-rows = take (at - length (flat (R .rows))) (l .more-rows) ++ (vs ++ drop (at + length vs) rows);
-        names-are = l .names-are;
-        rows-are = front-store rows (flat (R .rows)) (l .more-rows) at vs (l .rows-are) h room;
-      }
-
--- the statements so far lie in the design memory, with renames or without
-pub laid-layout : (ss : Past) (rs : List Rename) → let m = layout (reverse ss) rs in Laid (roomsOf ss) (m .names) (m .rows)
-unfolding layout rooms memory
-laid-layout ss rs = laid-past ss (laid-renames (putAll empty (reverse ss)) rs (laid-padded 16384 (8 * 4769) (putRenames (putAll empty (reverse ss)) rs)))

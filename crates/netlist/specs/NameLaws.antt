@@ -1,17 +1,16 @@
 -- The names between two rows are those of the statements there.
 -- Assumes nothing.
-use Prim.Native.Nat.{ℕ, zero, suc, _+_, _-_, _≤_}
+use Prim.Native.Nat.{ℕ, zero, suc, _+_}
 use mathlib.Core.Path.{_≡_, refl, sym, ap, _∙_}
-use mathlib.Core.List.{List, [], _∷_, map, reverse, reverse-append, reverse-reverse}
+use mathlib.Core.List.{List, [], _∷_, map}
 use mathlib.Core.Bool.{Bool, true, cond}
 use native.Mathlib.Omega.{arith}
-use lib.ListN.{length, take, drop, length-drop, length-reverse, take-append-drop}
-use lib.Seq.{take-at}
+use lib.ListN.{length, take}
 use Rattle.rules.specs.Bytes.{all}
 use Rattle.rules.specs.Tokens.{Name}
 use Rattle.rules.specs.Statements.{Kind, Statement, code, contents, is, ownName}
 use Rattle.rules.specs.Judgement.{Past, only, among}
-use Rattle.rules.specs.Layout.{used, statementRow, layout}
+use Rattle.rules.specs.Layout.{used, statementRow}
 use Rattle.wires.specs.RowLaws.{RowIs}
 use Rattle.scanner.specs.Laws.{by-test}
 use Rattle.netlist.specs.Rows.{kindAt, nameAt, namesBetween}
@@ -19,7 +18,7 @@ use Rattle.netlist.specs.Kinds.{ofKinds, Tests, hasName}
 use Rattle.netlist.specs.KindLaws.{kinds-named}
 use Rattle.netlist.specs.RowLaws.{row-kind, row-own}
 use Rattle.netlist.specs.Laid.{roomsOf, Laid}
-use Rattle.netlist.specs.LaidLaws.{length-rows, eights-rows, laid-layout, laid-put, laid-names, laid-row}
+use Rattle.netlist.specs.LaidLaws.{length-rows, eights-rows, laid-put, laid-names, laid-row}
 
 laid-before : {names rows : List ℕ} (s : Statement) (ss : Past) → Laid (roomsOf (s ∷ ss)) names rows → Laid (roomsOf ss) names rows
 unfolding roomsOf
@@ -58,20 +57,3 @@ module _ (ks : List Kind) (all-named : all (λ k. hasName (code k)) ks ≡ true)
   names-laid (s ∷ ss) l from (suc k) e =
       let h : from + k ≡ length ss = omega arith in
       last-more s ss l (from + k) h (take k ss) _ (names-laid ss (laid-before s ss l) from k h)
-
--- the same for statements in the order of the file, from a row on
-reverse-drop : {A : Type 0} (xs : List A) (from count : ℕ) → from + count ≡ length xs → take count (reverse xs) ≡ reverse (drop from xs)
-reverse-drop xs from count e =
-    let n : length (reverse (drop from xs)) ≡ count = length-reverse (drop from xs) ∙ length-drop from xs ∙ (omega arith) in
-    ap (λ (x : List _). take count (reverse x)) (sym (take-append-drop from xs))
-    ∙ ap (take count) (reverse-append (take from xs) (drop from xs))
-    ∙ take-at (reverse (drop from xs)) (reverse (take from xs)) count n
-
-pub names-in-order :
-    (ks : List Kind) → all (λ k. hasName (code k)) ks ≡ true → (test : ℕ → Bool) → Tests test ks → (ss : List Statement) (from : ℕ) → from ≤ length ss →
-    let m = layout ss [] in namesBetween (m .names) (m .rows) test from (length ss - from) ≡ ownNames ks (reverse (drop from ss))
-names-in-order ks h test t ss from b =
-    let e : from + (length ss - from) ≡ length ss = omega arith in
-    let l = laid-layout (reverse ss) [] in
-    names-laid ks h test t (reverse ss) (rw reverse-reverse at l) from (length ss - from) (rw length-reverse e)
-    ∙ ap (ownNames ks) (reverse-drop ss from (length ss - from) e)

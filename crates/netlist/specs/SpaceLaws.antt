@@ -3,7 +3,7 @@
 use Prim.Native.Nat.{ℕ, _+_, _-_}
 use mathlib.Core.Path.{_≡_, refl, sym, ap, ap₂, _∙_}
 use mathlib.Core.List.{List, [], _∷_}
-use mathlib.Core.Bool.{Bool, true, false, _&&_, _||_, and-true, or-false}
+use mathlib.Core.Bool.{Bool, true, _&&_, _||_, and-true}
 use native.Mathlib.Omega.{arith}
 use lib.ListN.{length, take, length-take}
 use lib.Seq.{take-length}
@@ -37,14 +37,6 @@ module _ {names rows : List ℕ} {test : ℕ → Bool} {from count : ℕ} (z : S
   pub space-names : namesIn z ss ≡ namesBetween names rows test from count
   unfolding namesIn
   space-names = ap (ownNames (z .kinds)) (r .part-is) ∙ sym (names-laid (z .kinds) (r .named) test (r .tests) ss l from count (r .ends))
-
-  pub takes-between : {C S W M : Type 0} (sh : Stmt C S W M) → spacesOf (contents sh .kind) ≡ z ∷ [] → takesName ss sh ≡ any (same (ownName (contents sh .names))) (namesBetween names rows test from count)
-  unfolding any
-  takes-between sh e = takes-in-spaces ss sh ∙ rw (e, or-false, space-names)
-
-pub takes-nowhere : {C S W M : Type 0} (ss : Past) (sh : Stmt C S W M) → spacesOf (contents sh .kind) ≡ [] → takesName ss sh ≡ false
-unfolding any
-takes-nowhere ss sh e = takes-in-spaces ss sh ∙ rw e
 
 -- a space of one kind, and one of three
 module _ (f : Past → Past) (ss : Past) (from count : ℕ) (part-is : f ss ≡ take count ss) (ends : from + count ≡ length ss) where

@@ -2,7 +2,7 @@
 -- Assumes nothing.
 use Prim.Native.Nat.{ℕ, zero, suc, _+_, _-_, _*_}
 use mathlib.Core.Path.{_≡_, refl, sym, ap, ap₂, _∙_}
-use mathlib.Core.List.{List, [], _∷_, _++_, flatMap, zip, zipWith, reverse, append-assoc, append-nil}
+use mathlib.Core.List.{List, [], _∷_, _++_, flatMap, zip, zipWith, append-assoc, append-nil}
 use mathlib.Core.Bool.{true}
 use native.Mathlib.Omega.{arith}
 use lib.ListN.{length, take, drop, replicate, length-append, length-map}
@@ -13,7 +13,7 @@ use Rattle.rules.specs.Numbers.{int32}
 use Rattle.rules.specs.Signals.{Wires}
 use Rattle.rules.specs.Judgement.{Past, wires}
 use Rattle.rules.specs.Session.{Rename}
-use Rattle.rules.specs.Layout.{Rooms, empty, padded, used, nameBytes, wireRow, wireRows, put, putAll, putRename, putRenames, rooms, memory, layout}
+use Rattle.rules.specs.Layout.{Rooms, padded, used, nameBytes, wireRow, wireRows, put, putRename, putRenames, memory}
 use Rattle.tables.specs.Flat.{flat, Eights, eights-none, eights-append, eights-map, flat-append, flat-snoc}
 use Rattle.scanner.specs.Laws.{and-true-left}
 use Rattle.wires.specs.Rows.{nameOf, wireOf, wiresFrom}
@@ -22,7 +22,7 @@ use Rattle.past.specs.Place.{placeOf}
 use Rattle.past.specs.Offsets.{Offsets, more-offsets}
 use Rattle.past.proofs.PlaceLaws.{bounds, length-all-wires, wires-last}
 use Rattle.netlist.specs.Laid.{roomsOf, Wired}
-use Rattle.netlist.specs.LaidLaws.{list-behind, row-behind, rooms-past}
+use Rattle.netlist.specs.LaidLaws.{list-behind, row-behind}
 
 -- all wires so far, the last one first
 abbrev allWires : Past → Wires
@@ -142,10 +142,3 @@ module _ (names t : List ℕ) where
 pub wires-past : (ss : Past) (k : ℕ) → Offsets ss → let m = memory (roomsOf ss) k in let p = placeOf ss in wiresFrom (m .names) (m .wires) (p .«wires_from») (p .wires - p .«wires_from») ≡ wires ss
 unfolding memory
 wires-past ss k o = wires-laid _ _ ss o (wired-padded 16384 (8 * 512) (roomsOf ss))
-
-wired-past : {names t : List ℕ} (ss : Past) → Wired (putAll empty (reverse ss)) names t → Wired (roomsOf ss) names t
-wired-past ss l = rw rooms-past at l
-
-pub wired-layout : (ss : Past) (rs : List Rename) → let m = layout (reverse ss) rs in Wired (roomsOf ss) (m .names) (m .wires)
-unfolding layout rooms memory
-wired-layout ss rs = wired-past ss (wired-renames (putAll empty (reverse ss)) rs (wired-padded 16384 (8 * 512) (putRenames (putAll empty (reverse ss)) rs)))

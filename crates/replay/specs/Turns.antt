@@ -7,7 +7,6 @@ use lib.Dec.{eqb, leb}
 use lib.ListN.{length}
 use Rattle.rules.specs.Statements.{Statement, code, contents}
 use Rattle.rules.specs.Judgement.{Past, wires, takesName, exceedsSize}
-use Rattle.rules.specs.Layout as layout
 use Rattle.rules.specs.Layout.{used, statementRow, nameBytes}
 use Rattle.admitted.specs.Admitted.{kinds, admits, admitted}
 use Rattle.wires.specs.RowLaws.{RowIs}

@@ -1,8 +1,8 @@
 -- A turn of each search over the rows of wires, and what a direction's code says of a port.
 -- Assumes nothing.
-use Prim.Native.Nat.{ℕ, zero, suc, _+_, _-_, _/_, _≤_, _<_}
+use Prim.Native.Nat.{ℕ, zero, suc, _+_, _/_, _≤_, _<_}
 use mathlib.Core.Path.{_≡_, sym}
-use mathlib.Core.List.{List, [], map, Option·toList}
+use mathlib.Core.List.{List, map, Option·toList}
 use mathlib.Core.Bool.{Bool, true, false, or-false}
 use mathlib.Core.Option.{some}
 use native.Mathlib.Omega.{arith}

@@ -5,8 +5,6 @@ use Rattle.show.specs.Rows.{declares}
 use borrow.Author.Needs.{needs}
 use Rattle.show.proofs.declares.Statement.{statement}
 use Rattle.show.proofs.declares.Tie as tie
-use Rattle.netlist.proofs.rows.row_kind.Reads as row-kind-reads
-use Rattle.wires.proofs.column.Reads as column-reads
 
 row-kind-requires : tie.Need-row-kind-requires
 row-kind-requires c κs = search needs

@@ -9,8 +9,6 @@ use Rattle.show.specs.Rows.{hdlnameRow}
 use Rattle.show.proofs.StepLaws.{hdlname-end, hdlname-stop, hdlname-here, hdlname-next}
 use Rattle.show.proofs.hdlname_row.Statement.{statement}
 use Rattle.show.proofs.hdlname_row.Tie as tie
-use Rattle.netlist.proofs.rows.row_kind.Reads as row-kind-reads
-use Rattle.show.proofs.is_hdlname.Reads as is-hdlname-reads
 
 abbrev Inv-loop : tie.InvT-loop
 Inv-loop names rows line found₀ k₀ found k = (k ≤ line) × (hdlnameRow names rows line 0 ≡ hdlnameRow names rows k found)

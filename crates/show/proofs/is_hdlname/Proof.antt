@@ -4,8 +4,6 @@ use Rattle.show.specs.Rows.{isHdlname}
 use borrow.Author.Needs.{needs}
 use Rattle.show.proofs.is_hdlname.Statement.{statement}
 use Rattle.show.proofs.is_hdlname.Tie as tie
-use Rattle.netlist.proofs.rows.row_name.Reads as row-name-reads
-use Rattle.scanner.proofs.names.same_bytes.Reads as same-bytes-reads
 
 row-name-requires : tie.Need-row-name-requires
 row-name-requires c κs = search needs

@@ -4,8 +4,6 @@ use Rattle.show.specs.Parts.{spanPart}
 use borrow.Author.Needs.{needs}
 use Rattle.show.proofs.span.Statement.{statement}
 use Rattle.show.proofs.span.Tie as tie
-use Rattle.wires.proofs.column.Reads as column-reads
-use Rattle.show.proofs.cut.Reads as cut-reads
 
 column-requires : tie.Need-column-requires
 column-requires c κs = search needs

@@ -8,8 +8,6 @@ use Rattle.show.proofs.StepLaws.{text-none, text-other, text-string}
 use borrow.Author.Needs.{needs}
 use Rattle.show.proofs.text_part.Statement.{statement}
 use Rattle.show.proofs.text_part.Tie as tie
-use Rattle.wires.proofs.column.Reads as column-reads
-use Rattle.show.proofs.span.Reads as span-reads
 
 returns : tie.Need-returns
 returns c = text-none (now (c .before .before .before .args .strings)) (now (c .before .before .before .args .rows)) (c .before .before .before .args .behind) (c .if1 .taken)

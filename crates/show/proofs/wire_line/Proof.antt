@@ -9,7 +9,6 @@ use Rattle.show.specs.Rows.{wireLine}
 use Rattle.show.proofs.StepLaws.{line-end, line-here, line-next}
 use Rattle.show.proofs.wire_line.Statement.{statement}
 use Rattle.show.proofs.wire_line.Tie as tie
-use Rattle.show.proofs.declares.Reads as declares-reads
 
 abbrev Inv-loop : tie.InvT-loop
 Inv-loop rows total wire k₀ k = (k ≤ total) × (wireLine rows total wire ≡ wireLine rows k wire)
