@@ -1,15 +1,15 @@
 -- The statements of each module of a file.
 use Prim.Native.Nat.{ℕ, suc, _<_}
 use mathlib.Core.Path.{_≡_}
-use mathlib.Core.List.{List, [], _∷_, flatMap, zip}
+use mathlib.Core.List.{List, [], _∷_}
 use mathlib.Core.Option.{Option·elim}
 use mathlib.Core.Bool.{true, cond}
 use lib.Dec.{leb}
 use lib.ListN.{getD, getElem?}
-use Rattle.rules.specs.Statements.{Memory, Statement, aModule, aWire, contents, is}
-use Rattle.rules.specs.Signals.{Wires}
+use Rattle.rules.specs.Statements.{Memory, Statement, aModule, aWire, is}
 use Rattle.rules.specs.Judgement.{Past, until, sum, count}
 use Rattle.rules.specs.Design.{Object, Cell, Design}
+pub use Rattle.netlist.specs.WireLaws.{wiresOf}
 
 -- for each module line, in the order of the file, the statements behind it up to the next module line
 unfoldable pub modulesIn : List Statement → List (List Statement)
@@ -19,10 +19,6 @@ modulesIn (s ∷ ss) = let r = modulesIn ss in cond (is aModule s) (until (is aM
 -- those behind the m-th module line, from 0; none if there is no such module
 unfoldable pub statementsOf : ℕ → List Statement → List Statement
 statementsOf m ss = getD (modulesIn ss) m []
-
--- the wires that statements declare, in their order
-abbrev pub wiresOf : List Statement → Wires
-wiresOf ss = flatMap (λ s. zip (contents s .names) (contents s .wires)) ss
 
 -- how many modules the statements so far have; and the statements so far as they stood at the end of module m: without the next module's line and what
 -- is behind it

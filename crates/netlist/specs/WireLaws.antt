@@ -24,16 +24,16 @@ use Rattle.past.proofs.PlaceLaws.{bounds, length-all-wires, wires-last}
 use Rattle.netlist.specs.Laid.{roomsOf, Wired}
 use Rattle.netlist.specs.LaidLaws.{list-behind, row-behind}
 
--- all wires so far, the last one first
-abbrev allWires : Past → Wires
-allWires ss = flatMap (λ s. zip (contents s .names) (contents s .wires)) ss
+-- the wires that statements declare, in their order
+abbrev pub wiresOf : List Statement → Wires
+wiresOf ss = flatMap (λ s. zip (contents s .names) (contents s .wires)) ss
 
 -- a row for each wire, of eight columns
-pub length-wire-rows : (ss : Past) → length (roomsOf ss .wires) ≡ length (allWires ss)
+pub length-wire-rows : (ss : Past) → length (roomsOf ss .wires) ≡ length (wiresOf ss)
 unfolding roomsOf put wireRows flatMap
 length-wire-rows [] = refl
 length-wire-rows (s ∷ ss) =
-    let e : length (roomsOf ss .wires) ≡ length (allWires ss) = length-wire-rows ss in
+    let e : length (roomsOf ss .wires) ≡ length (wiresOf ss) = length-wire-rows ss in
     simp (length-append, length-map) (omega arith)
 
 pub eights-wires : (ss : Past) → Eights (roomsOf ss .wires)
@@ -99,11 +99,11 @@ wired-renames R (r ∷ rs) l = wired-rename R r (wired-renames (putRename R r) r
 
 module _ (names t : List ℕ) where
   -- all wires
-  wires-all : (ss : Past) → Offsets ss → Wired (roomsOf ss) names t → wiresFrom names t 0 (length (allWires ss)) ≡ allWires ss
+  wires-all : (ss : Past) → Offsets ss → Wired (roomsOf ss) names t → wiresFrom names t 0 (length (wiresOf ss)) ≡ wiresOf ss
   unfolding roomsOf wiresFrom flatMap zip zipWith all statementsOpen
   wires-all [] o l = refl
   wires-all (wire-stmt w n ∷ ss) (more-offsets h o) l =
-      let k : ℕ = length (allWires ss) in
+      let k : ℕ = length (wiresOf ss) in
       let z : 0 + k ≡ k = omega arith in
       ap₂ _∷_ (last-wire (roomsOf ss) w n l (0 + k) (eights-wires ss) (z ∙ sym (length-wire-rows ss)) (and-true-left _ true h))
       (wires-all ss o (wired-put (roomsOf ss) (wire-stmt w n) l))
@@ -132,7 +132,7 @@ module _ (names t : List ℕ) where
   wires-laid ss o l =
       let p = placeOf ss in
       let b = bounds ss in
-      let e : p .«wires_from» + (p .wires - p .«wires_from») ≡ length (allWires ss) = omega (arith, length-all-wires ss, b .wires-from) in
+      let e : p .«wires_from» + (p .wires - p .«wires_from») ≡ length (wiresOf ss) = omega (arith, length-all-wires ss, b .wires-from) in
       wires-from (p .«wires_from») (p .wires - p .«wires_from»)
       ∙ ap (λ (c : ℕ). take (p .wires - p .«wires_from») (wiresFrom names t 0 c)) e
       ∙ ap (take (p .wires - p .«wires_from»)) (wires-all ss o l)
