@@ -213,6 +213,14 @@ fn pointers_that_are_no_parts() {
     }
 }
 
+fn pointer<T>(start: *mut T, null: bool) -> *mut T {
+    if null {
+        std::ptr::null_mut()
+    } else {
+        start
+    }
+}
+
 #[test]
 fn memory_from_pointers() {
     let right = [NAMES, STRINGS, BITS, WIRES, ROWS];
@@ -221,34 +229,15 @@ fn memory_from_pointers() {
     let mut rows = vec![0u32; ROWS];
     let mut card = Card::default();
     let mut lent = |lengths: [usize; 5], null: usize| {
-        let byte = |at: usize, start: *mut u8| {
-            if at == null {
-                std::ptr::null_mut()
-            } else {
-                start
-            }
-        };
-        let word = |at: usize, start: *mut u32| {
-            if at == null {
-                std::ptr::null_mut()
-            } else {
-                start
-            }
-        };
-        let held: *mut Card = if null == 5 {
-            std::ptr::null_mut()
-        } else {
-            &mut card
-        };
         // SAFETY: the parts are apart and as long as stated, but for lengths and null pointers that are refused before any use.
         let memory = unsafe {
             Lent::from_raw(
-                (byte(0, names.as_mut_ptr()), lengths[0]),
-                (byte(1, strings.as_mut_ptr()), lengths[1]),
-                (word(2, bits.as_mut_ptr()), lengths[2]),
-                (word(3, wires.as_mut_ptr()), lengths[3]),
-                (word(4, rows.as_mut_ptr()), lengths[4]),
-                held,
+                (pointer(names.as_mut_ptr(), null == 0), lengths[0]),
+                (pointer(strings.as_mut_ptr(), null == 1), lengths[1]),
+                (pointer(bits.as_mut_ptr(), null == 2), lengths[2]),
+                (pointer(wires.as_mut_ptr(), null == 3), lengths[3]),
+                (pointer(rows.as_mut_ptr(), null == 4), lengths[4]),
+                pointer(&mut card, null == 5),
             )
         };
         memory.map(|mut memory| memory.read(FILE).number)

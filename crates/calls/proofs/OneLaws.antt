@@ -6,17 +6,15 @@ use mathlib.Core.List.{List, [], _∷_, reverse, reverse-reverse}
 use mathlib.Core.Bool.{true, false}
 use native.Mathlib.Omega.{arith}
 use lib.Dec.{ltb}
-use lib.ListN.{length, take, drop}
+use lib.ListN.{length}
 use borrow.Author.Tests.{ltb-true, ltb-false}
 use Rattle.rules.specs.Statements.{Statement}
 use Rattle.rules.specs.Judgement.{Past}
 use Rattle.rules.specs.Session.{Rename}
-use Rattle.rules.specs.Layout.{Memory, Rooms, padded, row, renameRow, putRename, putRenames}
+use Rattle.rules.specs.Layout.{Memory, rooms}
 use Rattle.scanner.specs.Laws.{by-test, never}
-use Rattle.tables.specs.Flat.{Eights}
 use Rattle.wires.specs.Rows.{wordAt}
 use Rattle.netlist.specs.Laid.{roomsOf, Laid}
-use Rattle.netlist.specs.LaidLaws.{eights-rows, laid-renames}
 use Rattle.admitted.specs.Admitted.{admitted}
 use Rattle.admitted.specs.AdmitLaws.{admitted-before}
 use Rattle.admitted.specs.Holds.{Holds}
@@ -25,9 +23,8 @@ use Rattle.netlist.specs.Fronts.{Fronts}
 use Rattle.netlist.specs.FrontLaws.{fronts-before}
 use Rattle.replay.specs.Begins.{withRows, isStatement}
 use Rattle.designs.specs.DecodeLaws.{decodes-last}
-use Rattle.netlist.specs.RoomLaws.{rooms-file, eights-renames}
 use Rattle.replay.proofs.LoopLaws.{next-kind}
-use Rattle.standing.specs.NowLaws.{last-rename-row, last-rename-name}
+use Rattle.held.specs.RenameLaws.{file-one}
 use Rattle.held.specs.HeldLaws.{partsOf, holds-many, holds-laid, holds-stored}
 
 -- THE STATEMENTS, the last one first
@@ -62,42 +59,13 @@ module _ (t : Tables) (rows : List ℕ) where
       (λ q. by-test (ltb (length qs) (length ss)) (λ p. absurd (longer qs ss b a g f d (ltb-true (length qs) (length ss) p)))
       (λ p. same-many ss qs (omega (arith, ltb-false (length ss) (length qs) q, ltb-false (length qs) (length ss) p)) a b f g))
 
--- THE RENAMES behind rooms
-rename-eq : (r q : Rename) → r .moduleNumber ≡ q .moduleNumber → r .wireNumber ≡ q .wireNumber → r .newName ≡ q .newName → r ≡ q
-rename-eq r q em ew en = λ i. record { moduleNumber = em i; wireNumber = ew i; newName = en i }
-
-module _ {names rows : List ℕ} where
-  rename-one : (R : Rooms) (r q : Rename) → Eights (R .rows) → Laid (putRename R r) names rows → Laid (putRename R q) names rows → r ≡ q
-  unfolding renameRow row padded
-  rename-one R r q h l k =
-      let x = last-rename-row R r h l in
-      let y = last-rename-row R q h k in
-      let n : length (r .newName) ≡ length (q .newName) = sym (x 2 (omega arith)) ∙ y 2 (omega arith) in
-      rename-eq r q (sym (x 3 (omega arith)) ∙ y 3 (omega arith)) (sym (x 4 (omega arith)) ∙ y 4 (omega arith))
-      (sym (last-rename-name R r h l) ∙ ap (λ (k : ℕ). take k (drop (length (R .names)) names)) n ∙ last-rename-name R q h k)
-
-  renames-one : (R : Rooms) (rs qs : List Rename) → length rs ≡ length qs → Eights (R .rows) → Laid (putRenames R rs) names rows → Laid (putRenames R qs) names rows → rs ≡ qs
-  unfolding putRenames
-  renames-one R [] [] e h l k = refl
-  renames-one R [] (q ∷ qs) e h l k = absurd (omega arith)
-  renames-one R (r ∷ rs) [] e h l k = absurd (omega arith)
-  renames-one R (r ∷ rs) (q ∷ qs) e h l k =
-      let n : r ≡ q = rename-one R r q h (laid-renames (putRename R r) rs l) (laid-renames (putRename R q) qs k) in
-      let k′ : Laid (putRenames (putRename R r) qs) names rows = subst (λ (x : Rename). Laid (putRenames (putRename R x) qs) names rows) (sym n) k in
-      ap₂ (λ (x : Rename) (l : List Rename). x ∷ l) n (renames-one (putRename R r) rs qs (omega arith) (eights-renames R (r ∷ []) h) l k′)
-
 -- WHAT MEMORY HOLDS
-renames-laid : {m : Memory} {ss : List Statement} {rs : List Rename} → Holds m ss rs → Laid (putRenames (roomsOf (reverse ss)) rs) (m .names) (m .rows)
-renames-laid {m} {ss} {rs} h = subst (λ (R : Rooms). Laid R (m .names) (m .rows)) (rooms-file ss rs) (holds-laid h)
-
 pub holds-one : {m : Memory} {ss qs : List Statement} {rs ps : List Rename} → Holds m ss rs → Holds m qs ps → (ss ≡ qs) × (rs ≡ ps)
 holds-one {m} {ss} {qs} {rs} {ps} h g =
     let a = holds-stored h in
     let b = holds-stored g in
     let e : reverse ss ≡ reverse qs =
     one-list (partsOf m) (m .rows) (reverse ss) (reverse qs) (h .admitted) (g .admitted) (a .begins .fronts) (b .begins .fronts) (a .begins .ends) (b .begins .ends) in
-    let l : Laid (putRenames (roomsOf (reverse ss)) ps) (m .names) (m .rows) =
-    subst (λ (x : Past). Laid (putRenames (roomsOf x) ps) (m .names) (m .rows)) (sym e) (renames-laid g) in (
-      sym (reverse-reverse ss) ∙ ap reverse e ∙ reverse-reverse qs,
-      renames-one (roomsOf (reverse ss)) rs ps (holds-many h ∙ sym (holds-many g)) (eights-rows (reverse ss)) (renames-laid h) l,
-    )
+    let s : ss ≡ qs = sym (reverse-reverse ss) ∙ ap reverse e ∙ reverse-reverse qs in
+    let l : Laid (rooms ss ps) (m .names) (m .rows) = subst (λ (x : List Statement). Laid (rooms x ps) (m .names) (m .rows)) (sym s) (holds-laid g) in
+    (s, file-one ss rs ps (holds-many h ∙ sym (holds-many g)) (holds-laid h) l)

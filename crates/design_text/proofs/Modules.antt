@@ -15,7 +15,7 @@ use Rattle.rules.specs.Numbers.{int32}
 use Rattle.rules.specs.Statements.{Statement, Wire, autoidx-stmt, attr-stmt, module-stmt, param-stmt, wire-stmt, memory-stmt, cell-stmt, cell-param-stmt, cell-conn-stmt, conn-stmt, proc-stmt, end-stmt, anAutoidx, anAttribute, aModule, aWire, code, contents, is, statementsOpen}
 use Rattle.rules.specs.Shapes.{Scope}
 use Rattle.rules.specs.Signals.{Wires}
-use Rattle.rules.specs.Judgement.{Past, until, sum, count, ofModule, wires}
+use Rattle.rules.specs.Judgement.{Past, until, count, ofModule, wires}
 use Rattle.rules.specs.Session.{Rename}
 use Rattle.rules.specs.Text.{textOpen}
 use Rattle.rules.specs.Layout.{used, nameBytes, putRenames}
@@ -23,6 +23,7 @@ use Rattle.scanner.specs.Laws.{by-test, and-true-left, and-true-right, eqb-sym}
 use Rattle.wires.specs.Rows.{column, nameOf, wireOf}
 use Rattle.wires.specs.RowLaws.{row-wire, row-name}
 use Rattle.past.specs.Place.{wiresIn}
+use Rattle.order.specs.Sums.{sum-behind}
 use Rattle.netlist.specs.Rows.{kindAt}
 use Rattle.netlist.specs.Laid.{roomsOf}
 use Rattle.netlist.specs.LaidLaws.{length-rows, eights-rows}
@@ -39,7 +40,7 @@ use Rattle.designs.specs.Ranges.{wireRange}
 use Rattle.designs.specs.PastLaws.{module-counts, other-counts, count-step, module-first, module-more, module-past, none-counts, up-to-all, up-to-back}
 use Rattle.designs.specs.DecodeLaws.{decodes-last}
 use Rattle.designs.specs.HeadLaws.{standing-headed}
-use Rattle.designs.specs.WireLaws.{wires-back, wire-range-there, wires-range, Adds, a-wire, no-wire, adds, wires-more}
+use Rattle.designs.specs.WireLaws.{none-wires, wires-back, wire-range-there, wires-range, Adds, a-wire, no-wire, adds, wires-more}
 use Rattle.wire_names.specs.Now as line
 use Rattle.wire_names.specs.declared.Module.{Module}
 use Rattle.line_text.specs.Lines.{statementNow}
@@ -57,13 +58,8 @@ use Rattle.design_text.proofs.Named.{named-code, named-other, nowed, le
 -- ---- how many wires
 
 wires-onto : (xs : List Statement) (base : Past) → wiresIn (reverseAux xs base) ≡ wiresIn xs + wiresIn base
-unfolding wiresIn sum
-wires-onto [] base = omega arith
-wires-onto (x ∷ xs) base = omega (arith, wires-onto xs (x ∷ base))
-
-no-wires : wiresIn [] ≡ 0
-unfolding wiresIn sum
-no-wires = refl
+unfolding wiresIn
+wires-onto xs base = sum-behind _ xs base
 
 -- ---- the rows of a statement
 
@@ -252,7 +248,7 @@ module _
         let r = wire-range-there n F (standing-headed (admitted-standing F e)) (fronts-wired F-fronts) there in
         let x : wiresIn (upTo n F) ≡ wiresIn own + wiresIn (s ∷ ps) = ap wiresIn up-to-is ∙ wires-onto own (s ∷ ps) in
         let y : wiresIn (ofModule (upTo n F)) ≡ wiresIn own + wiresIn [] = ap wiresIn of-is ∙ wires-onto own [] in
-        rw wires-in (omega (arith, r .0, r .1, x, y, no-wires))
+        rw wires-in (omega (arith, r .0, r .1, x, y, none-wires))
 
     seen-is : line.wiresIn (t .names) (t .wires) (t .rows) (moduleAt (t .wires) C n) ≡ wiresNow rs n own
     unfolding moduleAt line.wiresIn

@@ -22,7 +22,7 @@ use Rattle.netlist.specs.Rows.{kindAt, namesBetween}
 use Rattle.netlist.specs.Kinds.{Tests, hasName}
 use Rattle.netlist.specs.RowLaws.{row-kind}
 use Rattle.netlist.specs.Laid.{roomsOf, Laid}
-use Rattle.netlist.specs.LaidLaws.{length-rows, eights-rows, laid-put, laid-row}
+use Rattle.netlist.specs.LaidLaws.{length-rows, eights-rows, laid-row, laid-before}
 use Rattle.netlist.specs.NameLaws.{ownNames, names-laid}
 use Rattle.designs.specs.Modules.{statementsOf, moduleCount, upTo}
 use Rattle.designs.specs.PastLaws.{module-counts, other-counts, count-step, module-first, module-more, none-counts, module-past, no-module, up-to-all, up-to-back, up-to-holds, up-to-le}
@@ -30,10 +30,6 @@ use Rattle.designs.specs.Ranges.{rowsWhere, linesIn, lineOf, rowRange}
 use Rattle.designs.specs.RangeLaws.{line-le, line-all, line-back}
 
 module _ {names rows : List ℕ} where
-  pub laid-before : (s : Statement) (ss : Past) → Laid (roomsOf (s ∷ ss)) names rows → Laid (roomsOf ss) names rows
-  unfolding roomsOf
-  laid-before s ss l = laid-put (roomsOf ss) s l
-
   laid-up-to : (m : ℕ) (ss : Past) → Laid (roomsOf ss) names rows → Laid (roomsOf (upTo m ss)) names rows
   laid-up-to m ss l = up-to-holds (λ qs. Laid (roomsOf qs) names rows) laid-before m ss l
 

@@ -2,11 +2,10 @@
 -- Assumes nothing.
 use Prim.Native.Nat.{ℕ, suc, _+_, _-_, _≤_, _<_}
 use mathlib.Core.Path.{_≡_, refl, sym, ap, ap₂, _∙_}
-use mathlib.Core.List.{List, [], _∷_, _++_, map, flatMap, zip, zipWith, reverse, reverse-append, reverse-reverse, append-assoc}
+use mathlib.Core.List.{List, [], _∷_, _++_, map, flatMap, zip, zipWith, reverse, reverse-append, reverse-reverse}
 use mathlib.Core.Bool.{Bool, true, false, cond, _&&_, true≢false}
 use native.Mathlib.Omega.{arith}
 use lib.Dec.{eqb, leb, ltb}
-use lib.ListN.{length}
 use borrow.Author.Tests.{eq-eqb, ne-eqb, lt-ltb, le-ltb, leb-true, leb-false, ltb-true, ltb-false}
 use Rattle.rules.specs.Bytes.{any}
 use Rattle.rules.specs.Tokens.{Name}
@@ -15,17 +14,14 @@ use Rattle.rules.specs.Signals.{Wires}
 use Rattle.rules.specs.Judgement.{Past, sum, among, count, ofModule, wires}
 use Rattle.rules.specs.Design.{design}
 use Rattle.rules.specs.Session.{wiresAt}
-use Rattle.rules.specs.Layout.{Rooms, used, padded, row, wireRow, wireRows, put}
-use Rattle.tables.specs.Flat.{flat, Eights, flat-snoc}
+use Rattle.rules.specs.Layout.{used, padded, row, wireRow}
 use Rattle.past.specs.Forms.{by-form}
 use Rattle.wires.specs.Rows.{column, wiresFrom}
-use Rattle.wires.specs.RowLaws.{length-wire-row, RowIs}
 use Rattle.scanner.specs.Laws.{by-test}
 use Rattle.past.specs.Place.{wiresIn, placeOf}
 use Rattle.past.specs.Offsets.{Offsets, more-offsets}
 use Rattle.netlist.specs.Laid.{roomsOf, Wired}
-use Rattle.netlist.specs.LaidLaws.{row-behind}
-use Rattle.netlist.specs.WireLaws.{eights-wires, wired-put, wires-laid}
+use Rattle.netlist.specs.WireLaws.{eights-wires, wired-put, wired-row, wires-laid}
 use Rattle.netlist.specs.UsedLaws.{used-wires, used-modules}
 use Rattle.designs.specs.Modules.{statementsOf, wiresOf, moduleCount, upTo, Headed, none-headed, one-headed}
 use Rattle.designs.specs.ListLaws.{flatMap-back}
@@ -40,18 +36,11 @@ module _ {names t : List ℕ} where
   unfolding roomsOf
   wired-before s ss l = wired-put (roomsOf ss) s l
 
-  last-row : (R : Rooms) (w : Wire) (n : Name) → Eights (R .wires) → Wired (put R (wire-stmt w n)) names t → RowIs t (length (R .wires)) (wireRow (used R) (n, w))
-  unfolding put wireRows zip zipWith statementsOpen
-  last-row R w n h l =
-      let r : List ℕ = wireRow (used R) (n, w) in
-      row-behind t (R .wires) r (l .more-wires) h (length-wire-row (used R) (n, w))
-      (l .wires-are ∙ ap (λ (x : List ℕ). x ++ l .more-wires) (flat-snoc (R .wires) r) ∙ append-assoc (flat (R .wires)) r (l .more-wires))
-
   last-module : (w : Wire) (n : Name) (ss : Past) → Wired (roomsOf (wire-stmt w n ∷ ss)) names t → column t (wiresIn ss) 0 ≡ moduleCount ss - 1
   unfolding roomsOf wireRow row padded used
   last-module w n ss l =
       ap (λ (k : ℕ). column t k 0) (sym (used-wires ss))
-      ∙ last-row (roomsOf ss) w n (eights-wires ss) l 0 (omega arith)
+      ∙ wired-row (roomsOf ss) w n l (eights-wires ss) 0 (omega arith)
       ∙ ap (λ (k : ℕ). k - 1) (used-modules ss)
 
 -- WHAT A STATEMENT ADDS to the wires
@@ -105,7 +94,7 @@ where-none : (f : ℕ → Bool) (t : List ℕ) → rowsWhere f t (wiresIn []) �
 unfolding rowsWhere wiresIn sum
 where-none f t = refl
 
-none-wires : wiresIn [] ≡ 0
+pub none-wires : wiresIn [] ≡ 0
 unfolding wiresIn sum
 none-wires = refl
 

@@ -2,10 +2,10 @@
 -- Assumes nothing.
 use Prim.Native.Nat.{ℕ, _≤_}
 use mathlib.Core.Path.{_≡_, sym, ap, _∙_, subst}
-use mathlib.Core.List.{List, [], _∷_, _++_, reverse, reverse-reverse, append-nil}
+use mathlib.Core.List.{List, [], reverse, reverse-reverse}
 use mathlib.Core.Bool.{true, false}
 use native.Mathlib.Omega.{arith}
-use lib.ListN.{length, length-append}
+use lib.ListN.{length}
 use Rattle.rules.specs.Statements.{Statement}
 use Rattle.rules.specs.Judgement.{Past}
 use Rattle.rules.specs.Session.{Rename}
@@ -24,15 +24,11 @@ use Rattle.held.specs.declared.Renamed.{Renamed}
 use Rattle.held.specs.Renamed.{RenamesAre}
 use Rattle.netlist.specs.Lengths.{rightSizes, rightLengths, sizes-exact}
 use Rattle.held.specs.Held.{restZero, HeldIs}
-use Rattle.held.specs.RenameLaws.{file-only}
+use Rattle.held.specs.RenameLaws.{file-one}
 use Rattle.held.specs.HeldLaws.{partsOf, holds-many, holds-room, holds-laid, holds-sizes, holds-rest, holds-stored, stored-lies, lies-holds}
 
 pub names-short : (names strings bits wires rows : ℕ) → rightSizes names strings bits wires rows ≡ true → names ≤ 16384
 names-short names strings bits wires rows e = omega (arith, sizes-exact names strings bits wires rows e .0)
-
-none-more : {A : Type 0} (xs ys more : List A) → xs ≡ ys ++ more → length xs ≡ length ys → xs ≡ ys
-none-more xs ys [] e l = e ∙ append-nil ys
-none-more xs ys (y ∷ more) e l = absurd (omega (arith, ap length e, length-append ys (y ∷ more)))
 
 module _ (m : Memory) where
   pub other-sizes : rightLengths m ≡ false → HeldIs m Held.Damaged
@@ -78,8 +74,7 @@ module _ (m : Memory) where
               let f = rw d at k in
               let z = f ss (lies h) in
               let c : length rs ≡ length (z .0) = holds-many h ∙ sym (z .1 .standing) in
-              let y = file-only ss rs (z .0) (omega arith) (holds-laid h) (z .1 .laid) in
-              let q : rs ≡ z .0 = none-more rs (z .0) (y .0) (y .1) c in
+              let q : rs ≡ z .0 = file-one ss rs (z .0) c (holds-laid h) (z .1 .laid) in
               sym (z .1 .room) ∙ ap (λ (l : List Rename). length (rooms ss l .names)) (sym q) ∙ holds-room h
 
           pub other-room : (n ≡ m .room → ⊥) → HeldIs m Held.Damaged

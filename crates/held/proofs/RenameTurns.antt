@@ -19,6 +19,7 @@ use Rattle.wires.specs.RowLaws.{slice-span}
 use Rattle.past.specs.Place.{placeOf}
 use Rattle.past.specs.declared.place.Place.{Place}
 use Rattle.admitted.specs.Holds.{Allowed, no-renames}
+use Rattle.netlist.specs.Spans.{Has}
 use Rattle.netlist.specs.Laid.{Laid, Wired}
 use Rattle.scanner.specs.Laws.{never}
 use Rattle.standing.specs.Judged.{Lies, JudgedIs}
@@ -30,7 +31,7 @@ use Rattle.held.specs.RenameLaws.{RowOf, rename-eq, rename-words, words-
 -- the wires are the same behind a rename
 wired-more : {names wires rows : List ℕ} (S : Rooms) (r : Rename) → Laid (putRename S r) names rows → Wired S names wires → Wired (putRename S r) names wires
 unfolding putRename
-wired-more S r l w = record { more-names = l .more-names; more-wires = w .more-wires; names-are = l .names-are; wires-are = w .wires-are }
+wired-more S r l w = record { names-start = l .names-start; wires-start = w .wires-start }
 
 room-behind : (S : Rooms) (r : Rename) (R : Rooms) → R ≡ putRename S r → length (R .names) ≡ length (S .names) + length (r .newName)
 unfolding putRename
@@ -58,7 +59,7 @@ module _ (names wires rows : List ℕ) (p : Place) (i used : ℕ) where
       next-inside : used + length (q .newName) ≤ length names
       next-inside = rw (← l .room) (next .inside)
 
-      next-name : take (length (q .newName)) (drop used names) ≡ q .newName
+      next-name : Has names used (q .newName)
       next-name = rw (← l .room) (next .name)
 
   pub no-row : length rows < 8 * (p .rows + i) + 8 → RenameIs names wires rows p i used Renamed.Nothing
@@ -79,7 +80,7 @@ module _ (names wires rows : List ℕ) (p : Place) (i used : ℕ) where
       span-is = en ∙ slice-span used (x .b) names
 
       pub rename-refused : (number ≡ 0 → ⊥) → RenameIs names wires rows p i used Renamed.Nothing
-      unfolding RenameIs
+      unfolding RenameIs Has
       rename-refused h ss rs l q k e =
           let f = next-row l q k x ex in
           let d : _≡_ {A = Rename} (record { moduleNumber = x .c; wireNumber = x .d; newName = n }) q =
@@ -90,7 +91,7 @@ module _ (names wires rows : List ℕ) (p : Place) (i used : ℕ) where
       pub rename-next :
           8 * (p .rows + i) + 8 ≤ length rows → isRename x used ≡ true → used + x .b ≤ length names → number ≡ 0 →
           RenameIs names wires rows p i used (Renamed.Used (used + x .b))
-      unfolding RenameIs
+      unfolding RenameIs Has
       rename-next long is inside z ss rs l =
           let r : Rename = record { moduleNumber = x .c; wireNumber = x .d; newName = n } in
           let S : Rooms = rooms ss rs in
@@ -99,7 +100,7 @@ module _ (names wires rows : List ℕ) (p : Place) (i used : ℕ) where
           let c : length (S .rows) ≡ p .rows + i = rows-are l in
           let w : words (rowAt rows (8 * length (S .rows))) ≡ renameRow (length (S .names)) r =
           rw (c, l .room, ← ex) (rename-words x used n is m) in
-          let t : take (length n) (drop (length (S .names)) names) ≡ n = rw (l .room, m) (sym span-is) in
+          let t : Has names (length (S .names)) n = rw (l .room, m) (sym span-is) in
           let k : Laid (putRename S r) names rows = next-laid S (eights-file ss rs) r (l .laid) (rw c long) w t in
           let f : rooms ss (rs ++ r ∷ []) ≡ putRename S r = file-last ss rs r in (
             r,

@@ -2,7 +2,7 @@
 -- Assumes nothing.
 use Prim.Native.Nat.{ℕ, _+_, _*_, _≤_}
 use mathlib.Core.Path.{_≡_, refl, sym, ap, ap₂, _∙_, subst}
-use mathlib.Core.List.{List, [], _∷_, _++_, reverse}
+use mathlib.Core.List.{List, [], _∷_, reverse}
 use mathlib.Core.Bool.{true, false}
 use native.Mathlib.Omega.{arith}
 use lib.Dec.{eqb}
@@ -28,6 +28,7 @@ use Rattle.past.specs.declared.sizes.Sizes.{Sizes}
 use Rattle.admitted.specs.Admitted.{admitted, closes}
 use Rattle.admitted.specs.AdmitLaws.{admitted-few, admitted-within}
 use Rattle.admitted.specs.Holds.{Allowed, Holds}
+use Rattle.netlist.specs.Spans.{Starts}
 use Rattle.netlist.specs.Laid.{roomsOf, Laid, Wired}
 use Rattle.netlist.specs.LaidLaws.{laid-renames, eights-rows}
 use Rattle.netlist.specs.WireLaws.{eights-wires}
@@ -233,10 +234,9 @@ module _ (m : layouts.Memory) (ss : List Statement) (p : Place) (u : Sizes)
         room = names-used ss [] p u 0 ep eu;
       }
 
-  table-is : (t xs more : List ℕ) (n k : ℕ) → length xs ≡ k → length t ≡ n → t ≡ xs ++ more → zeroFrom t k ≡ true → padded n xs ≡ t
+  table-is : (t xs : List ℕ) (n k : ℕ) → length xs ≡ k → length t ≡ n → Starts t xs → zeroFrom t k ≡ true → padded n xs ≡ t
   unfolding zeroFrom
-  table-is t xs more n k e l f z =
-      sym (is-padded n k xs t e l (ap₂ take (sym e) f ∙ take-append-seam xs more) z)
+  table-is t xs n k e l s z = sym (is-padded n k xs t e l (ap₂ take (sym e) (s .1) ∙ take-append-seam xs (s .0)) z)
 
   pub lies-holds :
       (rs : List Rename) → Lies (m .names) (m .wires) (m .rows) p (m .renames) (m .room) ss rs → Allowed (design ss) rs →
@@ -253,15 +253,15 @@ module _ (m : layouts.Memory) (ss : List Statement) (p : Place) (u : Sizes)
       let r₂ = and-true-right (zeroFrom (m .strings) (u .«string_bytes»)) _ r₁ in
       let r₃ = and-true-right (zeroFrom (m .bits) (u .«value_bits» + u .«signal_bits»)) _ r₂ in
       let en : padded 16384 (R .names) ≡ m .names =
-      table-is (m .names) (R .names) (l .laid .more-names) 16384 (m .room) (l .room) (e .0) (l .laid .names-are) (and-true-left _ _ r) in
+      table-is (m .names) (R .names) 16384 (m .room) (l .room) (e .0) (l .laid .names-start) (and-true-left _ _ r) in
       let es : padded 8192 (R .strings) ≡ m .strings =
-      table-is (m .strings) (R .strings) (f .strings-start .0) 8192 (u .«string_bytes») (z .strings) (e .1) (rw (k .strings) (f .strings-start .1)) (and-true-left _ _ r₁) in
+      table-is (m .strings) (R .strings) 8192 (u .«string_bytes») (z .strings) (e .1) (rw (k .strings) (f .strings-start)) (and-true-left _ _ r₁) in
       let eb : padded 16384 (R .bits) ≡ m .bits =
-      table-is (m .bits) (R .bits) (f .bits-start .0) 16384 (u .«value_bits» + u .«signal_bits») (z .bits) (e .2) (rw (k .bits) (f .bits-start .1)) (and-true-left _ _ r₂) in
+      table-is (m .bits) (R .bits) 16384 (u .«value_bits» + u .«signal_bits») (z .bits) (e .2) (rw (k .bits) (f .bits-start)) (and-true-left _ _ r₂) in
       let ew : padded (8 * 512) (flat (R .wires)) ≡ m .wires =
-      table-is (m .wires) (flat (R .wires)) (l .wired .more-wires) (8 * 512) (8 * p .wires) (z .wires) (e .3) (l .wired .wires-are) (and-true-left _ _ r₃) in
+      table-is (m .wires) (flat (R .wires)) (8 * 512) (8 * p .wires) (z .wires) (e .3) (l .wired .wires-start) (and-true-left _ _ r₃) in
       let er : padded (8 * 4769) (flat (R .rows)) ≡ m .rows =
-      table-is (m .rows) (flat (R .rows)) (l .laid .more-rows) (8 * 4769) (8 * (p .rows + m .renames)) (z .rows) (e .4) (l .laid .rows-are) (and-true-right (zeroFrom (m .wires) (8 * p .wires)) _ r₃) in
+      table-is (m .rows) (flat (R .rows)) (8 * 4769) (8 * (p .rows + m .renames)) (z .rows) (e .4) (l .laid .rows-start) (and-true-right (zeroFrom (m .wires) (8 * p .wires)) _ r₃) in
       record {
         admitted = h .admits;
         closes = h .closed;

@@ -2,12 +2,11 @@
 -- Assumes nothing.
 use Prim.Native.Nat.{ℕ, _+_, _*_, _≤_}
 use mathlib.Core.Path.{_≡_, refl, sym, ap, ap₂, _∙_, subst}
-use mathlib.Core.List.{List, [], _∷_, _++_, reverse, append-assoc}
+use mathlib.Core.List.{List, [], _∷_, _++_, reverse, append-assoc, append-nil}
 use mathlib.Core.Bool.{true}
 use native.Mathlib.Omega.{arith}
 use lib.Dec.{eqb}
-use lib.ListN.{length, take, drop, length-append, take-append-drop}
-use lib.Seq.{drop-append-seam}
+use lib.ListN.{length, take, drop, length-append}
 use borrow.Author.Tests.{eqb-true, eq-eqb}
 use Rattle.rules.specs.Tokens.{Name}
 use Rattle.rules.specs.Statements.{Statement}
@@ -18,18 +17,11 @@ use Rattle.tables.specs.Flat.{flat, Eights, flat-snoc, length-flat}
 use Rattle.tables.specs.declared.Row.{Row}
 use Rattle.scanner.specs.Laws.{and-true-left, and-true-right}
 use Rattle.netlist.specs.Laid.{roomsOf, Laid}
-use Rattle.netlist.specs.LaidLaws.{list-behind, laid-renames, eights-rows, length-rows}
+use Rattle.netlist.specs.Spans.{Starts, Has, starts-has, starts-long, starts-more}
+use Rattle.netlist.specs.LaidLaws.{laid-renames, eights-rows, length-rows}
 use Rattle.netlist.specs.RoomLaws.{put-renames-last, length-rename-row, rename-rows, eights-renames, rooms-file}
+use Rattle.standing.specs.NowLaws.{last-rename-row, last-rename-name}
 use Rattle.held.specs.Renamed.{isRename}
-
--- A TABLE THAT BEGINS with a list, and with more behind it
-front-more : (t xs ys more : List ℕ) → t ≡ xs ++ more → take (length ys) (drop (length xs) t) ≡ ys → t ≡ (xs ++ ys) ++ drop (length ys) more
-front-more t xs ys more e h =
-    let d : drop (length xs) t ≡ more = ap (drop (length xs)) e ∙ drop-append-seam xs more in
-    let k : take (length ys) more ≡ ys = ap (take (length ys)) (sym d) ∙ h in
-    e
-    ∙ ap (λ (x : List ℕ). xs ++ x) (sym (take-append-drop (length ys) more) ∙ ap (λ (x : List ℕ). x ++ drop (length ys) more) k)
-    ∙ sym (append-assoc xs ys (drop (length ys) more))
 
 -- A RENAME'S ROW
 pub rename-eq :
@@ -77,64 +69,58 @@ pub record Next (names rows : List ℕ) (S : Rooms) (q : Rename) : Type 0 where
   pub room : 8 * length (S .rows) + 8 ≤ length rows
   pub row : words (rowAt rows (8 * length (S .rows))) ≡ renameRow (length (S .names)) q
   pub inside : length (S .names) + length (q .newName) ≤ length names
-  pub name : take (length (q .newName)) (drop (length (S .names)) names) ≡ q .newName
+  pub name : Has names (length (S .names)) (q .newName)
 
 module _ {names rows : List ℕ} (S : Rooms) (h : Eights (S .rows)) (q : Rename) where
   pub laid-next : Laid (putRename S q) names rows → Next names rows S q
-  unfolding putRename
+  unfolding putRename Has
   laid-next l =
       let z : List ℕ = renameRow (length (S .names)) q in
       let n : length z ≡ 8 = length-rename-row (length (S .names)) q in
       let f : length (flat (S .rows)) ≡ 8 * length (S .rows) = length-flat (S .rows) h in
-      let er : rows ≡ flat (S .rows) ++ (z ++ l .more-rows) =
-      l .rows-are ∙ ap (λ (y : List ℕ). y ++ l .more-rows) (flat-snoc (S .rows) z) ∙ append-assoc (flat (S .rows)) z (l .more-rows) in
-      let en : names ≡ S .names ++ (q .newName ++ l .more-names) = l .names-are ∙ append-assoc (S .names) (q .newName) (l .more-names) in
-      let long : 8 * length (S .rows) + 8 ≤ length rows =
-      omega (arith, ap length er, length-append (flat (S .rows)) (z ++ l .more-rows), length-append z (l .more-rows)) in
+      let r : Starts rows (flat (S .rows) ++ z) = rw flat-snoc at (l .rows-start) in
+      let long : 8 * length (S .rows) + 8 ≤ length rows = omega (arith, starts-long rows (flat (S .rows)) z r) in
       record {
         room = long;
         row =
             words-rowAt rows (8 * length (S .rows)) long
             ∙ ap (λ (k : ℕ). take k (drop (8 * length (S .rows)) rows)) (sym n)
-            ∙ ap (λ (k : ℕ). take (length z) (drop k rows)) (sym f)
-            ∙ list-behind rows (flat (S .rows)) z (l .more-rows) er;
-        inside = omega (arith, ap length en, length-append (S .names) (q .newName ++ l .more-names), length-append (q .newName) (l .more-names));
-        name = list-behind names (S .names) (q .newName) (l .more-names) en;
+            ∙ starts-has rows (flat (S .rows)) z (8 * length (S .rows)) (sym f) r;
+        inside = starts-long names (S .names) (q .newName) (l .names-start);
+        name = starts-has names (S .names) (q .newName) (length (S .names)) refl (l .names-start);
       }
 
   pub next-laid :
       Laid S names rows → 8 * length (S .rows) + 8 ≤ length rows →
       words (rowAt rows (8 * length (S .rows))) ≡ renameRow (length (S .names)) q →
-      take (length (q .newName)) (drop (length (S .names)) names) ≡ q .newName →
+      Has names (length (S .names)) (q .newName) →
       Laid (putRename S q) names rows
-  unfolding putRename
+  unfolding putRename Has
   next-laid l long e en =
       let z : List ℕ = renameRow (length (S .names)) q in
-      let n : length z ≡ 8 = length-rename-row (length (S .names)) q in
-      let f : length (flat (S .rows)) ≡ 8 * length (S .rows) = length-flat (S .rows) h in
-      let g : take (length z) (drop (length (flat (S .rows))) rows) ≡ z = rw (n, f) (sym (words-rowAt rows (8 * length (S .rows)) long) ∙ e) in
+      let at : Has rows (8 * length (S .rows)) z = rw (length-rename-row (length (S .names)) q) (sym (words-rowAt rows (8 * length (S .rows)) long) ∙ e) in
       record {
-        more-names = drop (length (q .newName)) (l .more-names);
-        more-rows = drop (length z) (l .more-rows);
-        names-are = front-more names (S .names) (q .newName) (l .more-names) (l .names-are) en;
-        rows-are =
-            front-more rows (flat (S .rows)) z (l .more-rows) (l .rows-are) g
-            ∙ ap (λ (y : List ℕ). y ++ drop (length z) (l .more-rows)) (sym (flat-snoc (S .rows) z));
+        names-start = starts-more names (S .names) (q .newName) (length (S .names)) refl (l .names-start) en;
+        rows-start =
+            rw flat-snoc
+            (starts-more rows (flat (S .rows)) z (8 * length (S .rows)) (sym (length-flat (S .rows) h)) (l .rows-start) at);
       }
 
 -- THERE IS ONE ONLY
+none-more : {A : Type 0} (xs ys more : List A) → xs ≡ ys ++ more → length xs ≡ length ys → xs ≡ ys
+none-more xs ys [] e l = e ∙ append-nil ys
+none-more xs ys (y ∷ more) e l = absurd (omega (arith, ap length e, length-append ys (y ∷ more)))
+
 one-only : {names rows : List ℕ} (S : Rooms) (h : Eights (S .rows)) (q r : Rename) → Laid (putRename S q) names rows → Laid (putRename S r) names rows → q ≡ r
-one-only {names} {rows} S h q r l k =
-    let x : Row = rowAt rows (8 * length (S .rows)) in
-    let a = laid-next S h q l in
-    let b = laid-next S h r k in
-    let f = words-rename x (length (S .names)) q (a .row) in
-    let g = words-rename x (length (S .names)) r (b .row) in
-    let e : length (q .newName) ≡ length (r .newName) = sym (f .long) ∙ g .long in
+unfolding Has renameRow row padded
+one-only {names} S h q r l k =
+    let x = last-rename-row S q h l in
+    let y = last-rename-row S r h k in
+    let e : length (q .newName) ≡ length (r .newName) = sym (x 2 (omega arith)) ∙ y 2 (omega arith) in
     rename-eq (q .moduleNumber) (r .moduleNumber) (q .wireNumber) (r .wireNumber) (q .newName) (r .newName)
-    (sym (f .module-number) ∙ g .module-number)
-    (sym (f .wire-number) ∙ g .wire-number)
-    (sym (a .name) ∙ ap (λ (n : ℕ). take n (drop (length (S .names)) names)) e ∙ b .name)
+    (sym (x 3 (omega arith)) ∙ y 3 (omega arith))
+    (sym (x 4 (omega arith)) ∙ y 4 (omega arith))
+    (sym (last-rename-name S q h l) ∙ ap (λ (n : ℕ). take n (drop (length (S .names)) names)) e ∙ last-rename-name S r h k)
 
 begins-only :
     {names rows : List ℕ} (S : Rooms) → Eights (S .rows) → (qs rs : List Rename) → length rs ≤ length qs →
@@ -171,6 +157,11 @@ module _ {names rows : List ℕ} (ss : List Statement) where
       begins-only (roomsOf (reverse ss)) (eights-rows (reverse ss)) qs rs b
       (subst (λ (R : Rooms). Laid R names rows) (rooms-file ss qs) l)
       (subst (λ (R : Rooms). Laid R names rows) (rooms-file ss rs) k)
+
+  pub file-one : (qs rs : List Rename) → length qs ≡ length rs → Laid (rooms ss qs) names rows → Laid (rooms ss rs) names rows → qs ≡ rs
+  file-one qs rs e l k =
+      let y = file-only qs rs (omega arith) l k in
+      none-more qs rs (y .0) (y .1) e
 
   pub file-front : (rs more : List Rename) → Laid (rooms ss (rs ++ more)) names rows → Laid (rooms ss rs) names rows
   unfolding rooms

@@ -29,12 +29,12 @@ use Rattle.syntax.specs.Statements.{lateOf, wireFrom, memoryFrom, signalIn, sta
 use Rattle.syntax.specs.declared.Statement.{Statement}
 use Rattle.syntax.specs.declared.Statement.the-variants.{Autoidx, Attribute, Module, Parameter, Wire as WireOf, Memory as MemoryOf, Cell, CellParameter, CellConnection, Connection, End, NoShape, Process, BadNumber, MissingWire}
 use Rattle.syntax.proofs.Statement.{the-type}
-use Rattle.netlist.specs.Tables.{Tables}
+use Rattle.netlist.specs.Tables.{Tables, tabled}
 use Rattle.layout.specs.Put.{namesPut, bitsPut, rowsPut, Puts, RoomFor, Fits, constantIn, optionalIn, optionalColumns, optionalBytes, optionalDigits, valuedRow, OptionalFits, WireHas, WirePut}
 use Rattle.layout.specs.PartLaws.{no-string, one-string, no-bits, one-value}
 use Rattle.syntax.specs.SignalLaws.{signal-long}
 use Rattle.layout.specs.RoomLaws.{names-same, strings-same, bits-same, wires-same, name-fits, names-fit, string-fits, value-fits, signal-fits, signals-fit, wire-fits, row-fits}
-use Rattle.layout.specs.Stored.{tabled, Storable, PutIs, ValuedHas, Plain, PlainStorable, PlainPut}
+use Rattle.layout.specs.Stored.{Storable, PutIs, ValuedHas, Plain, PlainStorable, PlainPut}
 use Rattle.netlist.specs.declared.used.Used.{Used}
 use Rattle.netlist.specs.Used.{usedOf}
 use Rattle.netlist.specs.RowLaws.{row-zero}

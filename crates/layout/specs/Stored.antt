@@ -14,15 +14,12 @@ use Rattle.forms.specs.declared.Span.{Span}
 use Rattle.syntax.specs.Statements.{lateOf, statementIn, GoodOptional, Sound}
 use Rattle.syntax.specs.declared.Statement.{Statement}
 use Rattle.syntax.specs.declared.Statement.the-variants.{Autoidx, Attribute, Module, Parameter, Wire as WireOf, Memory as MemoryOf, Cell, CellParameter, CellConnection, Connection, End, NoShape, Process, BadNumber, MissingWire}
-use Rattle.netlist.specs.Tables.{Tables}
+use Rattle.netlist.specs.Tables.{Tables, tabled}
 use Rattle.layout.specs.Put.{Puts, RoomFor, optionalIn, valuedRow}
 use Rattle.netlist.specs.declared.used.Used.{Used}
 use Rattle.netlist.specs.Used.{usedOf}
 use Rattle.layout.specs.declared.put.Valued.{Valued}
 use Rattle.layout.specs.declared.put.Valued.the-variants.{Named, Nothing}
-
-abbrev pub tabled : (names strings bits wires rows : List ℕ) → Tables
-tabled n s b w r = record { names = n; strings = s; bits = b; wires = w; rows = r }
 
 -- the stated lengths
 pub record Sized (t : Tables) : Type 0 where

@@ -7,7 +7,8 @@ use put::as_valued;
 use put::put_plain;
 use put::put_valued;
 use syntax::Statement;
-ghost use Rattle.layout.specs.Stored.{tabled, Storable, PutIs};
+ghost use Rattle.netlist.specs.Tables.{tabled};
+ghost use Rattle.layout.specs.Stored.{Storable, PutIs};
 
 // Stores a statement behind what is used. A refusing answer stores nothing.
 pub fn put_statement(

@@ -16,7 +16,7 @@ use Rattle.rules.specs.Statements.{Sig, Opt, Sort, Wire, autoidx-stmt, attr-stm
 use Rattle.rules.specs.Shapes.{isMark}
 use Rattle.rules.specs.Signals.{Wires}
 use Rattle.rules.specs.Numbers.{inRange}
-use Rattle.rules.specs.Text.{cut, sig, literalOf, setting, unless, wireOptions, memoryOptions, written, wordToken, numberToken, lowTokens, sigTokens, optionTokens, sortTokens, shapeTokens, decimalText, integerText, literalText, tokenText, tight, behind, spaced}
+use Rattle.rules.specs.Text.{cut, sig, literalOf, setting, unless, portOptions, wireOptions, memoryOptions, written, wordToken, numberToken, lowTokens, sigTokens, optionTokens, sortTokens, shapeTokens, decimalText, integerText, literalText, tokenText, tight, behind, spaced}
 use Rattle.numbers.specs.Kinds.{digitOf}
 use Rattle.numbers.specs.Signed.{signedOf}
 use Rattle.wires.specs.Rows.{column, portOf, wireOf, spanAt}
@@ -27,7 +27,7 @@ use Rattle.wire_names.specs.Now.{nameNow, ownNow}
 use Rattle.line_text.specs.Pieces.{spread, Piece, piece-none, piece-name, piece-word, piece-literal, piece-sig, piece-bounds, spread-name, spread-literal, spread-append, spaced-word, spaced-two, spaced-three}
 use Rattle.line_text.specs.Options.{piece-options, spread-options}
 use Rattle.line_text.specs.Runs.{bitsOf}
-use Rattle.line_text.specs.Lines.{portOptions, statementNow, bodyText}
+use Rattle.line_text.specs.Lines.{statementNow, bodyText}
 
 pub span-le : (t rows : List ℕ) (k c : ℕ) → length (spanAt t rows k c) ≤ length t
 unfolding spanAt
@@ -96,7 +96,7 @@ pub wire-options :
     ++ (spread (optionTokens (portOptions (portOf (flags / 4) port)))
     ++ spread (optionTokens (unless (not (eqb (flags / 2 % 2) 1)) (bytes "signed", none))))))
     ≡ spread (optionTokens (wireOptions (wireOf t k)))
-unfolding wireOptions wireOf portOptions
+unfolding wireOptions wireOf
 wire-options t k width offset flags port ew eo ef ep = rw (← ew, ← eo, ← ef, ← ep) (sym (options-two _ _ (options-two _ _ (options-two _ _ (spread-options _ _)))))
 
 pub memory-options :

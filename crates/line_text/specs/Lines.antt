@@ -1,25 +1,20 @@
 -- The line of a row's statement, with the wires' names as they are now.
 use Prim.Native.Nat.{ℕ, _*_}
 use mathlib.Core.Path.{_≡_}
-use mathlib.Core.List.{List, [], _∷_, _++_, map, Option·toList}
+use mathlib.Core.List.{List, [], _∷_, _++_}
 use mathlib.Core.Option.{Option, none, some}
 use mathlib.Core.Bool.{false, cond}
 use lib.Dec.{eqb}
-use lib.IntN.{pos}
 use lib.ListN.{replicate}
-use Rattle.rules.specs.Statements.{Opt, Direction, Statement, wire-stmt}
+use Rattle.rules.specs.Statements.{Statement, wire-stmt}
 use Rattle.rules.specs.Signals.{Wires}
-use Rattle.rules.specs.Text.{setting, directionWord, written, shapeTokens, spaced}
+use Rattle.rules.specs.Text.{written, shapeTokens, spaced}
 use Rattle.wires.specs.Rows.{column, wireOf}
 use Rattle.netlist.specs.Rows.{kindAt}
 use Rattle.netlist.specs.Statements.{statementBy, statementAt}
 use Rattle.wire_names.specs.declared.Module.{Module}
 use Rattle.wire_names.specs.Now.{ownNow}
 use Rattle.text.specs.Written.{Written}
-
--- a wire's option for its port
-unfoldable pub portOptions : Option (Direction × ℕ) → List Opt
-portOptions p = map (λ q. setting (directionWord (q .0)) (pos (q .1))) (Option·toList p)
 
 -- the statement in row k; a wire's has its name now
 unfoldable pub statementNow : (names strings bits wires rows : List ℕ) → Module → ℕ → Option Statement

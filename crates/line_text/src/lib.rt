@@ -23,7 +23,7 @@ ghost use lib.ListN.{length, drop};
 ghost use lib.Seq.{slice};
 ghost use Rattle.rules.specs.Tokens.{literal, mark};
 ghost use Rattle.rules.specs.Statements.{autoidx-stmt, attr-stmt, module-stmt, param-stmt, wire-stmt, memory-stmt, cell-stmt, cell-param-stmt, cell-conn-stmt, conn-stmt};
-ghost use Rattle.rules.specs.Text.{cut, runSig, sig, literalOf, setting, unless, wireOptions, memoryOptions, numberToken, lowTokens, sigTokens, optionTokens, sortTokens, shapeTokens, decimalText, integerText, spaced};
+ghost use Rattle.rules.specs.Text.{cut, runSig, sig, literalOf, setting, unless, portOptions, wireOptions, memoryOptions, numberToken, lowTokens, sigTokens, optionTokens, sortTokens, shapeTokens, decimalText, integerText, spaced};
 ghost use Rattle.rules.specs.Numbers.{inRange};
 ghost use Rattle.numbers.specs.Signed.{signedOf};
 ghost use Rattle.wires.specs.Rows.{column, spanAt, portOf, wireOf};
@@ -33,7 +33,7 @@ ghost use Rattle.wire_names.specs.Now.{wiresIn, ownNow};
 ghost use Rattle.text.specs.Written.{Written};
 ghost use Rattle.line_text.specs.Pieces.{spread};
 ghost use Rattle.line_text.specs.Runs.{bitsOf, joint, firstRun, runsText, Apart, Lowest};
-ghost use Rattle.line_text.specs.Lines.{portOptions, statementNow, bodyText, lineOf, PlainIs};
+ghost use Rattle.line_text.specs.Lines.{statementNow, bodyText, lineOf, PlainIs};
 
 // The words from start up to end, cut to those that are there.
 fn words<'a>(t: &'a [u32], start: usize, end: usize) -> &'a [u32]

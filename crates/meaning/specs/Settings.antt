@@ -15,7 +15,7 @@ use Rattle.rules.specs.Statements.{Opt, Direction, input, output, inout, Wire, 
 use Rattle.rules.specs.Numbers.{int32, inRange, has, numberOr, ports, portOf, wireOf, memoryOf, once, goodOptions, goodWire, goodMemory, numbersOpen}
 use Rattle.rules.specs.Signals.{Wires}
 use Rattle.rules.specs.Judgement.{portNumbers, newPort}
-use Rattle.rules.specs.Text.{setting, unless, directionWord, wireOptions, memoryOptions}
+use Rattle.rules.specs.Text.{setting, unless, directionWord, portOptions, wireOptions, memoryOptions}
 use Rattle.admitted.specs.Admitted.{newPorts, fineWire, fineMemory}
 use Rattle.scanner.specs.Laws.{by-test, and-true-left, and-true-right}
 use Rattle.scanner.specs.Lists.{all-append}
@@ -81,10 +81,7 @@ upto-says os wd of false p = p
 upto-says os wd of true p =
     record { width = p .width; offset = p .offset; upto = refl; no-input = p .no-input; no-output = p .no-output; no-inout = p .no-inout; no-signed = p .no-signed; once-each = rw (p .upto, p .once-each) }
 
-abbrev portPart : Option (Direction × ℕ) → List Opt
-portPart po = map (λ p. setting (directionWord (p .0)) (pos (p .1))) (Option·toList po)
-
-port-says : (os : List Opt) (wd : ℕ) (of : ℤ) (up : Bool) (po : Option (Direction × ℕ)) → Plain os wd of up → Says (portPart po ++ os) wd of up po false
+port-says : (os : List Opt) (wd : ℕ) (of : ℤ) (up : Bool) (po : Option (Direction × ℕ)) → Plain os wd of up → Says (portOptions po ++ os) wd of up po false
 unfolding bytesOpen numbersOpen setting directionWord
 port-says os wd of up none p =
     record { width = p .width; offset = p .offset; upto = p .upto; port = rw (p .no-input, p .no-output, p .no-inout); signed = p .no-signed; once-each = p .once-each }
@@ -126,7 +123,7 @@ unfolding unless all
 unless-int32 true o h = refl
 unless-int32 false o h = rw h
 
-port-int32 : (po : Option (Direction × ℕ)) → all (within 1 1023) (map (λ p. p .1) (Option·toList po)) ≡ true → allInt32 (portPart po) ≡ true
+port-int32 : (po : Option (Direction × ℕ)) → all (within 1 1023) (map (λ p. p .1) (Option·toList po)) ≡ true → allInt32 (portOptions po) ≡ true
 unfolding all Option·toList setting int32 within
 port-int32 none h = refl
 port-int32 (some p) h =

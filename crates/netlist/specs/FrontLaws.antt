@@ -1,11 +1,10 @@
 -- Tables that begin with rooms: before a statement and before renames, with one statement more, and what the last statement left there.
 -- Assumes nothing.
-use Prim.Native.Nat.{ℕ, _-_, _*_}
-use mathlib.Core.Path.{_≡_, refl, sym, ap, _∙_}
-use mathlib.Core.List.{List, [], _∷_, _++_, zip, zipWith, flatMap, append-assoc, append-nil}
+use Prim.Native.Nat.{ℕ, _*_}
+use mathlib.Core.Path.{_≡_, refl, sym}
+use mathlib.Core.List.{List, [], _∷_, _++_, zip, zipWith, flatMap, append-nil}
 use native.Mathlib.Omega.{arith}
-use lib.ListN.{length, take, drop, replicate, take-append-drop}
-use lib.Seq.{drop-append-seam}
+use lib.ListN.{length}
 use Rattle.rules.specs.Tokens.{Name}
 use Rattle.rules.specs.Statements.{Statement, Wire, wire-stmt, contents, code, statementsOpen}
 use Rattle.rules.specs.Judgement.{Past}
@@ -13,29 +12,15 @@ use Rattle.rules.specs.Session.{Rename}
 use Rattle.rules.specs.Layout.{Rooms, Used, used, padded, row, columns, nameBytes, stringBytes, bitCodes, wireRow, wireRows, statementRow, put, renameRow, putRename, putRenames, rooms, memory, layout}
 use Rattle.tables.specs.Flat.{flat, flat-append, flat-snoc, length-flat}
 use Rattle.wires.specs.Rows.{column}
-use Rattle.wires.specs.RowLaws.{length-wire-row, RowIs, row-taken}
+use Rattle.wires.specs.RowLaws.{length-wire-row, RowIs}
 use Rattle.netlist.specs.Rows.{kindAt}
 use Rattle.netlist.specs.RowLaws.{length-statement-row, row-kind}
 use Rattle.netlist.specs.Laid.{roomsOf, Laid, Wired}
 use Rattle.netlist.specs.LaidLaws.{length-rows, eights-rows}
 use Rattle.netlist.specs.WireLaws.{eights-wires}
-use Rattle.netlist.specs.Spans.{Starts, Has, starts-first, starts-has}
+use Rattle.netlist.specs.Spans.{starts-first, starts-has, starts-more, starts-padded, has-columns}
 use Rattle.netlist.specs.Tables.{Tables, tablesIn}
 use Rattle.netlist.specs.Fronts.{Fronts, Parts, Stands}
-
--- ---- one table
-
-starts-more : (t xs ys : List ℕ) (at : ℕ) → at ≡ length xs → Starts t xs → Has t at ys → Starts t (xs ++ ys)
-unfolding Has
-starts-more t xs ys at e s h =
-    let m = s .0 in
-    let d : drop (length xs) t ≡ m = ap (drop (length xs)) (s .1) ∙ drop-append-seam xs m in
-    let k : take (length ys) m ≡ ys = ap (take (length ys)) (sym d) ∙ ap (λ (n : ℕ). take (length ys) (drop n t)) (sym e) ∙ h in (
-      drop (length ys) m,
-      s .1
-          ∙ ap (λ (x : List ℕ). xs ++ x) (sym (take-append-drop (length ys) m) ∙ ap (λ (x : List ℕ). x ++ drop (length ys) m) k)
-          ∙ sym (append-assoc xs ys (drop (length ys) m)),
-    )
 
 -- rows of eight columns
 module _ (ss : Past) where
@@ -45,20 +30,13 @@ module _ (ss : Past) where
   rows-long : 8 * length (roomsOf ss .rows) ≡ length (flat (roomsOf ss .rows))
   rows-long = sym (length-flat (roomsOf ss .rows) (eights-rows ss))
 
--- the columns of a row
-has-columns : (t : List ℕ) (k : ℕ) (r : List ℕ) → length r ≡ 8 → Has t (8 * k) r → RowIs t k r
-unfolding Has
-has-columns t k r e h = row-taken t k r (ap (λ (n : ℕ). take n (drop (8 * k) t)) (sym e) ∙ h)
-
--- ---- the five tables
-
 module _ {t : Tables} where
   module _ {R : Rooms} (f : Fronts R t) where
     pub fronts-laid : Laid R (t .names) (t .rows)
-    fronts-laid = record { more-names = f .names-start .0; more-rows = f .rows-start .0; names-are = f .names-start .1; rows-are = f .rows-start .1 }
+    fronts-laid = record { names-start = f .names-start; rows-start = f .rows-start }
 
     pub fronts-wired : Wired R (t .names) (t .wires)
-    fronts-wired = record { more-names = f .names-start .0; more-wires = f .wires-start .0; names-are = f .names-start .1; wires-are = f .wires-start .1 }
+    fronts-wired = record { names-start = f .names-start; wires-start = f .wires-start }
 
   fronts-rename : (R : Rooms) (r : Rename) → Fronts (putRename R r) t → Fronts R t
   unfolding putRename
@@ -137,10 +115,6 @@ module _ {t : Tables} where
   fronts-wire w n ss f = fronts-row (wire-stmt w n) ss f 3 (omega arith)
 
 -- the design memory begins with what is stored in it
-starts-padded : (n : ℕ) (xs : List ℕ) → Starts (padded n xs) xs
-unfolding padded
-starts-padded n xs = (replicate (n - length xs) 0, refl)
-
 pub fronts-layout : (ss : List Statement) (rs : List Rename) → Fronts (rooms ss rs) (tablesIn (layout ss rs))
 unfolding layout memory
 fronts-layout ss rs =

@@ -1,19 +1,18 @@
 -- What lies in the tables: in padded tables, after one statement more, behind a rename, and after a store behind it.
 -- Assumes nothing.
-use Prim.Native.Nat.{ℕ, _+_, _-_, _*_}
-use mathlib.Core.Path.{_≡_, refl, sym, ap, _∙_}
-use mathlib.Core.List.{List, [], _∷_, _++_, reverse, reverse-cons, append-assoc}
+use Prim.Native.Nat.{ℕ}
+use mathlib.Core.Path.{_≡_, refl, ap, _∙_}
+use mathlib.Core.List.{List, [], _∷_, _++_, reverse, reverse-cons}
 use native.Mathlib.Omega.{arith}
-use lib.ListN.{length, getD, take, drop, replicate, length-append, List·getD-append}
-use lib.Seq.{getD-append-add, drop-append-seam, take-append-seam}
+use lib.ListN.{length, length-append}
 use Rattle.rules.specs.Statements.{Statement}
 use Rattle.rules.specs.Judgement.{Past}
 use Rattle.rules.specs.Session.{Rename}
 use Rattle.rules.specs.Layout.{Rooms, empty, padded, used, nameBytes, statementRow, put, putAll, renameRow, putRename, putRenames}
-use Rattle.tables.specs.Flat.{flat, Eights, eights-none, eights-more, eights-append, flat-snoc, length-flat}
-use Rattle.wires.specs.Rows.{wordAt, column}
+use Rattle.tables.specs.Flat.{flat, Eights, eights-none, eights-more, eights-append, flat-snoc}
 use Rattle.wires.specs.RowLaws.{RowIs}
 use Rattle.netlist.specs.RowLaws.{length-statement-row}
+use Rattle.netlist.specs.Spans.{Starts, Has, starts-first, starts-has, starts-padded, starts-row}
 use Rattle.netlist.specs.Laid.{roomsOf, Laid}
 
 -- one statement more, in the order of the file and from the last one on
@@ -41,52 +40,33 @@ eights-rows (s ∷ ss) =
 
 -- rooms lie in their padded tables
 pub laid-padded : (m n : ℕ) (R : Rooms) → Laid R (padded m (R .names)) (padded n (flat (R .rows)))
-unfolding padded
-laid-padded m n R = record { more-names = replicate (m - length (R .names)) 0; more-rows = replicate (n - length (flat (R .rows))) 0; names-are = refl; rows-are = refl }
-
--- a list and a row that stand in a table behind others
-pub list-behind : (l xs ys more : List ℕ) → l ≡ xs ++ (ys ++ more) → take (length ys) (drop (length xs) l) ≡ ys
-list-behind l xs ys more e =
-    ap (λ (x : List ℕ). take (length ys) (drop (length xs) x)) e ∙ ap (take (length ys)) (drop-append-seam xs (ys ++ more)) ∙ take-append-seam ys more
-
-pub row-behind : (t : List ℕ) (rs : List (List ℕ)) (r more : List ℕ) → Eights rs → length r ≡ 8 → t ≡ flat rs ++ (r ++ more) → RowIs t (length rs) r
-unfolding column wordAt
-row-behind t rs r more h n e c b =
-    ap (λ (x : List ℕ). getD x (8 * length rs + c) 0) e
-    ∙ ap (λ (n : ℕ). getD (flat rs ++ (r ++ more)) (n + c) 0) (sym (length-flat rs h))
-    ∙ getD-append-add (flat rs) (r ++ more) c 0
-    ∙ List·getD-append r more 0 c (omega arith)
+laid-padded m n R = record { names-start = starts-padded m (R .names); rows-start = starts-padded n (flat (R .rows)) }
 
 -- what is appended to the rooms stands behind them
 module _ {names rows : List ℕ} (R : Rooms) where
-  laid-front : (S : Rooms) (ns rs : List ℕ) → S .names ≡ R .names ++ ns → flat (S .rows) ≡ flat (R .rows) ++ rs → Laid S names rows → Laid R names rows
-  laid-front S ns rs en er l =
-      record {
-        more-names = ns ++ l .more-names;
-        more-rows = rs ++ l .more-rows;
-        names-are = l .names-are ∙ ap (λ (x : List ℕ). x ++ l .more-names) en ∙ append-assoc (R .names) ns (l .more-names);
-        rows-are = l .rows-are ∙ ap (λ (x : List ℕ). x ++ l .more-rows) er ∙ append-assoc (flat (R .rows)) rs (l .more-rows);
-      }
+  laid-front : (ns r : List ℕ) → Starts names (R .names ++ ns) → Starts rows (flat (R .rows ++ r ∷ [])) → Laid R names rows
+  laid-front ns r a b = record { names-start = starts-first names (R .names) ns a; rows-start = starts-first rows (flat (R .rows)) r (rw flat-snoc at b) }
 
   pub laid-put : (s : Statement) → Laid (put R s) names rows → Laid R names rows
   unfolding put
-  laid-put s l = laid-front (put R s) (nameBytes s) (statementRow (used R) s) refl (flat-snoc (R .rows) (statementRow (used R) s)) l
+  laid-put s l = laid-front (nameBytes s) (statementRow (used R) s) (l .names-start) (l .rows-start)
 
   pub laid-rename : (r : Rename) → Laid (putRename R r) names rows → Laid R names rows
   unfolding putRename
-  laid-rename r l = laid-front (putRename R r) (r .newName) (renameRow (length (R .names)) r) refl (flat-snoc (R .rows) (renameRow (length (R .names)) r)) l
+  laid-rename r l = laid-front (r .newName) (renameRow (length (R .names)) r) (l .names-start) (l .rows-start)
 
   -- the last statement's names and row
-  pub laid-names : (s : Statement) → Laid (put R s) names rows → take (length (nameBytes s)) (drop (length (R .names)) names) ≡ nameBytes s
+  pub laid-names : (s : Statement) → Laid (put R s) names rows → Has names (length (R .names)) (nameBytes s)
   unfolding put
-  laid-names s l = list-behind names (R .names) (nameBytes s) (l .more-names) (l .names-are ∙ append-assoc (R .names) (nameBytes s) (l .more-names))
+  laid-names s l = starts-has names (R .names) (nameBytes s) (length (R .names)) refl (l .names-start)
 
   pub laid-row : (s : Statement) → Eights (R .rows) → Laid (put R s) names rows → RowIs rows (length (R .rows)) (statementRow (used R) s)
   unfolding put
-  laid-row s h l =
-      let r : List ℕ = statementRow (used R) s in
-      row-behind rows (R .rows) r (l .more-rows) h (length-statement-row (used R) s)
-      (l .rows-are ∙ ap (λ (x : List ℕ). x ++ l .more-rows) (flat-snoc (R .rows) r) ∙ append-assoc (flat (R .rows)) r (l .more-rows))
+  laid-row s h l = starts-row rows (R .rows) (statementRow (used R) s) h (length-statement-row (used R) s) (l .rows-start)
+
+pub laid-before : {names rows : List ℕ} (s : Statement) (ss : Past) → Laid (roomsOf (s ∷ ss)) names rows → Laid (roomsOf ss) names rows
+unfolding roomsOf
+laid-before s ss l = laid-put (roomsOf ss) s l
 
 pub laid-renames : {names rows : List ℕ} (R : Rooms) (rs : List Rename) → Laid (putRenames R rs) names rows → Laid R names rows
 unfolding putRenames

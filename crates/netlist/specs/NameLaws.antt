@@ -18,11 +18,7 @@ use Rattle.netlist.specs.Kinds.{ofKinds, Tests, hasName}
 use Rattle.netlist.specs.KindLaws.{kinds-named}
 use Rattle.netlist.specs.RowLaws.{row-kind, row-own}
 use Rattle.netlist.specs.Laid.{roomsOf, Laid}
-use Rattle.netlist.specs.LaidLaws.{length-rows, eights-rows, laid-put, laid-names, laid-row}
-
-laid-before : {names rows : List ℕ} (s : Statement) (ss : Past) → Laid (roomsOf (s ∷ ss)) names rows → Laid (roomsOf ss) names rows
-unfolding roomsOf
-laid-before s ss l = laid-put (roomsOf ss) s l
+use Rattle.netlist.specs.LaidLaws.{length-rows, eights-rows, laid-names, laid-row, laid-before}
 
 -- the own names of the statements of some kinds, as the rules say it
 abbrev pub ownNames : List Kind → Past → List Name

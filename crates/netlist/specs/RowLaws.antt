@@ -1,13 +1,12 @@
 -- A row of the layout holds its statement's kind and own name.
 -- Assumes nothing.
 use Prim.Native.Nat.{ℕ, _+_, _≤_}
-use mathlib.Core.Path.{_≡_, refl, sym, ap, _∙_}
+use mathlib.Core.Path.{_≡_, refl, ap, _∙_}
 use mathlib.Core.List.{List, [], _∷_, _++_, flatMap, append-nil}
 use mathlib.Core.Option.{none, some, Option·elim}
 use mathlib.Core.Bool.{true}
 use native.Mathlib.Omega.{arith}
-use lib.ListN.{length, take, drop, length-append}
-use lib.Seq.{drop-drop, drop-append-seam}
+use lib.ListN.{length, length-append}
 use Rattle.rules.specs.Bytes.{any}
 use Rattle.rules.specs.Tokens.{Name}
 use Rattle.rules.specs.Statements.{Statement, Constant, value, integer, string, autoidx-stmt, attr-stmt, module-stmt, param-stmt, wire-stmt, memory-stmt, cell-stmt, cell-param-stmt, cell-conn-stmt, conn-stmt, proc-stmt, end-stmt, code, holds, contents, ownName}
@@ -17,6 +16,7 @@ use Rattle.wires.specs.Rows.{column, spanAt}
 use Rattle.wires.specs.RowLaws.{slice-span, RowIs}
 use Rattle.netlist.specs.Rows.{kindAt, nameColumn, nameFrom, nameAt}
 use Rattle.netlist.specs.Kinds.{ofKinds, hasName}
+use Rattle.netlist.specs.Spans.{Has, has-second}
 
 -- a row has eight columns
 length-constant : (u : Used) (c : Constant) → length (constantColumns u c) ≡ 3
@@ -49,34 +49,25 @@ pub row-kind : (t : List ℕ) (k : ℕ) (u : Used) (s : Statement) → RowIs t k
 unfolding kindAt statementRow row padded
 row-kind t k u s h = h 0 (omega arith)
 
--- the second of two lists that stand at a place
-second-part : (xs ys l : List ℕ) (at : ℕ) → take (length (xs ++ ys)) (drop at l) ≡ xs ++ ys → take (length ys) (drop (at + length xs) l) ≡ ys
-second-part xs ys l at e =
-    rw (← drop-drop (length xs) at l)
-    (sym (slice-span (length xs) (length ys) (drop at l))
-    ∙ ap (λ (n : ℕ). drop (length xs) (take n (drop at l))) (sym (length-append xs ys))
-    ∙ ap (drop (length xs)) e
-    ∙ drop-append-seam xs ys)
-
 -- a name that stands where the columns of its kind say, and one that starts at the second column
 module _ (names t : List ℕ) (k : ℕ) (n : Name) where
-  named-at : (c at : ℕ) → nameColumn (kindAt t k) ≡ c → column t k c ≡ at → column t k (c + 1) ≡ length n → take (length n) (drop at names) ≡ n → nameAt names t k ≡ n
-  unfolding nameFrom nameAt spanAt
+  named-at : (c at : ℕ) → nameColumn (kindAt t k) ≡ c → column t k c ≡ at → column t k (c + 1) ≡ length n → Has names at n → nameAt names t k ≡ n
+  unfolding nameFrom nameAt spanAt Has
   named-at c at ec ea en e = rw (ec, ea, en) (slice-span at (length n) names ∙ e)
 
-  first-name : (kind at : ℕ) (rest : List ℕ) → RowIs t k (row (kind ∷ at ∷ length n ∷ rest)) → nameColumn kind ≡ 1 → take (length (n ++ [])) (drop at names) ≡ n ++ [] → nameAt names t k ≡ n
+  first-name : (kind at : ℕ) (rest : List ℕ) → RowIs t k (row (kind ∷ at ∷ length n ∷ rest)) → nameColumn kind ≡ 1 → Has names at (n ++ []) → nameAt names t k ≡ n
   unfolding row padded kindAt
   first-name kind at rest h ek e = named-at 1 at (ap nameColumn (h 0 (omega arith)) ∙ ek) (h 1 (omega arith)) (h 2 (omega arith)) (rw append-nil at e)
 
   -- a cell's type stands before its name
-  second-name : (y : Name) (at : ℕ) → RowIs t k (row (7 ∷ at ∷ length y ∷ (at + length y) ∷ length n ∷ [])) → take (length (y ++ (n ++ []))) (drop at names) ≡ y ++ (n ++ []) → nameAt names t k ≡ n
+  second-name : (y : Name) (at : ℕ) → RowIs t k (row (7 ∷ at ∷ length y ∷ (at + length y) ∷ length n ∷ [])) → Has names at (y ++ (n ++ [])) → nameAt names t k ≡ n
   unfolding row padded kindAt nameColumn
   second-name y at h e =
-      named-at 3 (at + length y) (rw (h 0 (omega arith))) (h 3 (omega arith)) (h 4 (omega arith)) (second-part y n names at (rw append-nil at e))
+      named-at 3 (at + length y) (rw (h 0 (omega arith))) (h 3 (omega arith)) (h 4 (omega arith)) (has-second names at y n (at + length y) refl (rw append-nil at e))
 
 pub row-own :
     (names t : List ℕ) (k : ℕ) (u : Used) (s : Statement) → RowIs t k (statementRow u s) → hasName (code (contents s .kind)) ≡ true →
-    take (length (nameBytes s)) (drop (u .names) names) ≡ nameBytes s → nameAt names t k ≡ ownName (contents s .names)
+    Has names (u .names) (nameBytes s) → nameAt names t k ≡ ownName (contents s .names)
 unfolding statementRow columns code holds contents ownName nameBytes flatMap nameColumn hasName ofKinds any
 row-own names t k u (autoidx-stmt i) h e p = cc
 row-own names t k u (attr-stmt n c) h e p = first-name names t k n _ _ _ h refl p

@@ -1,12 +1,14 @@
 -- What a table begins with, and what it has from a place on.
 -- Assumes nothing.
-use Prim.Native.Nat.{ℕ, _+_}
-use mathlib.Core.Path.{_≡_, sym, ap, _∙_}
-use mathlib.Core.List.{List, _++_, append-assoc}
+use Prim.Native.Nat.{ℕ, _+_, _-_, _*_, _≤_}
+use mathlib.Core.Path.{_≡_, refl, sym, ap, _∙_}
+use mathlib.Core.List.{List, [], _∷_, _++_, append-assoc}
 use native.Mathlib.Omega.{arith}
-use lib.ListN.{length, take, drop, length-append}
+use lib.ListN.{length, take, drop, replicate, length-append, take-append-drop}
 use lib.Seq.{take-take, drop-drop, take-append-seam, drop-append-seam}
-use Rattle.wires.specs.RowLaws.{slice-span}
+use Rattle.rules.specs.Layout.{padded}
+use Rattle.tables.specs.Flat.{flat, Eights, flat-snoc, length-flat}
+use Rattle.wires.specs.RowLaws.{slice-span, RowIs, row-taken}
 
 abbrev pub Starts : List ℕ → List ℕ → Type 0
 Starts t xs = (more : List ℕ) × (t ≡ xs ++ more)
@@ -18,6 +20,9 @@ module _ (t xs ys : List ℕ) where
   pub starts-first : Starts t (xs ++ ys) → Starts t xs
   starts-first s = (ys ++ s .0, s .1 ∙ append-assoc xs ys (s .0))
 
+  pub starts-long : Starts t (xs ++ ys) → length xs + length ys ≤ length t
+  starts-long s = omega (arith, ap length (s .1), length-append (xs ++ ys) (s .0), length-append xs ys)
+
   pub starts-has : (at : ℕ) → at ≡ length xs → Starts t (xs ++ ys) → Has t at ys
   unfolding Has
   starts-has at e s =
@@ -25,6 +30,22 @@ module _ (t xs ys : List ℕ) where
       (ap (λ (x : List ℕ). take (length ys) (drop (length xs) x)) (s .1 ∙ append-assoc xs ys (s .0))
       ∙ ap (take (length ys)) (drop-append-seam xs (ys ++ s .0))
       ∙ take-append-seam ys (s .0))
+
+  pub starts-more : (at : ℕ) → at ≡ length xs → Starts t xs → Has t at ys → Starts t (xs ++ ys)
+  unfolding Has
+  starts-more at e s h =
+      let m = s .0 in
+      let d : drop (length xs) t ≡ m = ap (drop (length xs)) (s .1) ∙ drop-append-seam xs m in
+      let k : take (length ys) m ≡ ys = ap (take (length ys)) (sym d) ∙ ap (λ (n : ℕ). take (length ys) (drop n t)) (sym e) ∙ h in (
+        drop (length ys) m,
+        s .1
+            ∙ ap (λ (x : List ℕ). xs ++ x) (sym (take-append-drop (length ys) m) ∙ ap (λ (x : List ℕ). x ++ drop (length ys) m) k)
+            ∙ sym (append-assoc xs ys (drop (length ys) m)),
+      )
+
+pub starts-padded : (n : ℕ) (xs : List ℕ) → Starts (padded n xs) xs
+unfolding padded
+starts-padded n xs = (replicate (n - length xs) 0, refl)
 
 -- the first and the second of two lists
 module _ (t : List ℕ) (at : ℕ) where
@@ -39,3 +60,11 @@ module _ (t : List ℕ) (at : ℕ) where
       let k : length (xs ++ ys) ≡ length xs + length ys = length-append xs ys in
       rw (e, ← drop-drop (length xs) at t)
       (sym (ap (drop (length xs)) (sym h) ∙ ap (λ (n : ℕ). drop (length xs) (take n (drop at t))) k ∙ slice-span (length xs) (length ys) (drop at t)) ∙ drop-append-seam xs ys)
+
+-- a row of eight columns, and the last of the rows that a table begins with
+pub has-columns : (t : List ℕ) (k : ℕ) (r : List ℕ) → length r ≡ 8 → Has t (8 * k) r → RowIs t k r
+unfolding Has
+has-columns t k r e h = row-taken t k r (ap (λ (n : ℕ). take n (drop (8 * k) t)) (sym e) ∙ h)
+
+pub starts-row : (t : List ℕ) (rs : List (List ℕ)) (r : List ℕ) → Eights rs → length r ≡ 8 → Starts t (flat (rs ++ r ∷ [])) → RowIs t (length rs) r
+starts-row t rs r h n s = has-columns t (length rs) r n (starts-has t (flat rs) r (8 * length rs) (sym (length-flat rs h)) (rw flat-snoc at s))

@@ -2,10 +2,10 @@
 -- Assumes nothing.
 use Prim.Native.Nat.{ℕ, zero, suc, _+_, _-_, _*_}
 use mathlib.Core.Path.{_≡_, refl, sym, ap, ap₂, _∙_}
-use mathlib.Core.List.{List, [], _∷_, _++_, flatMap, zip, zipWith, append-assoc, append-nil}
+use mathlib.Core.List.{List, [], _∷_, flatMap, zip, zipWith, append-nil}
 use mathlib.Core.Bool.{true}
 use native.Mathlib.Omega.{arith}
-use lib.ListN.{length, take, drop, replicate, length-append, length-map}
+use lib.ListN.{length, take, drop, length-append, length-map}
 use Rattle.rules.specs.Bytes.{all}
 use Rattle.rules.specs.Tokens.{Name}
 use Rattle.rules.specs.Statements.{Statement, Wire, autoidx-stmt, attr-stmt, module-stmt, param-stmt, wire-stmt, memory-stmt, cell-stmt, cell-param-stmt, cell-conn-stmt, conn-stmt, proc-stmt, end-stmt, contents, statementsOpen}
@@ -14,7 +14,7 @@ use Rattle.rules.specs.Signals.{Wires}
 use Rattle.rules.specs.Judgement.{Past, wires}
 use Rattle.rules.specs.Session.{Rename}
 use Rattle.rules.specs.Layout.{Rooms, padded, used, nameBytes, wireRow, wireRows, put, putRename, putRenames, memory}
-use Rattle.tables.specs.Flat.{flat, Eights, eights-none, eights-append, eights-map, flat-append, flat-snoc}
+use Rattle.tables.specs.Flat.{flat, Eights, eights-none, eights-append, eights-map, flat-append}
 use Rattle.scanner.specs.Laws.{and-true-left}
 use Rattle.wires.specs.Rows.{nameOf, wireOf, wiresFrom}
 use Rattle.wires.specs.RowLaws.{length-wire-row, RowIs, row-wire, row-name}
@@ -22,7 +22,7 @@ use Rattle.past.specs.Place.{placeOf}
 use Rattle.past.specs.Offsets.{Offsets, more-offsets}
 use Rattle.past.proofs.PlaceLaws.{bounds, length-all-wires, wires-last}
 use Rattle.netlist.specs.Laid.{roomsOf, Wired}
-use Rattle.netlist.specs.LaidLaws.{list-behind, row-behind}
+use Rattle.netlist.specs.Spans.{Has, starts-first, starts-has, starts-padded, starts-row}
 
 -- the wires that statements declare, in their order
 abbrev pub wiresOf : List Statement → Wires
@@ -45,52 +45,38 @@ eights-wires (s ∷ ss) =
 
 -- rooms lie in their padded tables; what is appended to the rooms stands behind them
 pub wired-padded : (m n : ℕ) (R : Rooms) → Wired R (padded m (R .names)) (padded n (flat (R .wires)))
-unfolding padded
-wired-padded m n R =
-    record { more-names = replicate (m - length (R .names)) 0; more-wires = replicate (n - length (flat (R .wires))) 0; names-are = refl; wires-are = refl }
+wired-padded m n R = record { names-start = starts-padded m (R .names); wires-start = starts-padded n (flat (R .wires)) }
 
 module _ {names t : List ℕ} (R : Rooms) where
   pub wired-put : (s : Statement) → Wired (put R s) names t → Wired R names t
   unfolding put
   wired-put s l =
-      let ws : List (List ℕ) = wireRows (used R) s in
       record {
-        more-names = nameBytes s ++ l .more-names;
-        more-wires = flat ws ++ l .more-wires;
-        names-are = l .names-are ∙ append-assoc (R .names) (nameBytes s) (l .more-names);
-        wires-are = l .wires-are ∙ ap (λ (x : List ℕ). x ++ l .more-wires) (flat-append (R .wires) ws) ∙ append-assoc (flat (R .wires)) (flat ws) (l .more-wires);
+        names-start = starts-first names (R .names) (nameBytes s) (l .names-start);
+        wires-start = starts-first t (flat (R .wires)) (flat (wireRows (used R) s)) (rw flat-append at (l .wires-start));
       }
 
   pub wired-rename : (r : Rename) → Wired (putRename R r) names t → Wired R names t
   unfolding putRename
-  wired-rename r l =
-      record {
-        more-names = r .newName ++ l .more-names;
-        more-wires = l .more-wires;
-        names-are = l .names-are ∙ append-assoc (R .names) (r .newName) (l .more-names);
-        wires-are = l .wires-are;
-      }
+  wired-rename r l = record { names-start = starts-first names (R .names) (r .newName) (l .names-start); wires-start = l .wires-start }
 
   -- the wire of the last statement
   module _ (w : Wire) (n : Name) (l : Wired (put R (wire-stmt w n)) names t) where
-    last-row : Eights (R .wires) → RowIs t (length (R .wires)) (wireRow (used R) (n, w))
+    pub wired-row : Eights (R .wires) → RowIs t (length (R .wires)) (wireRow (used R) (n, w))
     unfolding put wireRows zip zipWith statementsOpen
-    last-row h =
-        let r : List ℕ = wireRow (used R) (n, w) in
-        row-behind t (R .wires) r (l .more-wires) h (length-wire-row (used R) (n, w))
-        (l .wires-are ∙ ap (λ (x : List ℕ). x ++ l .more-wires) (flat-snoc (R .wires) r) ∙ append-assoc (flat (R .wires)) r (l .more-wires))
+    wired-row h = starts-row t (R .wires) (wireRow (used R) (n, w)) h (length-wire-row (used R) (n, w)) (l .wires-start)
 
     last-name : take (length n) (drop (length (R .names)) names) ≡ n
-    unfolding put nameBytes flatMap statementsOpen
-    last-name = list-behind names (R .names) n (l .more-names) (rw append-nil at (l .names-are) ∙ append-assoc (R .names) n (l .more-names))
+    unfolding put nameBytes flatMap statementsOpen Has
+    last-name = starts-has names (R .names) n (length (R .names)) refl (rw append-nil at (l .names-start))
 
     last-wire : (k : ℕ) → Eights (R .wires) → k ≡ length (R .wires) → int32 (w .offset) ≡ true → _≡_ {A = Name × Wire} (nameOf names t k, wireOf t k) (n, w)
     unfolding used
     last-wire k h e o =
         rw e
         (ap₂ (λ (a : Name) (b : Wire). (a, b))
-        (row-name t (length (R .wires)) (used R) n w (last-row h) names last-name)
-        (row-wire t (length (R .wires)) (used R) n w (last-row h) o))
+        (row-name t (length (R .wires)) (used R) n w (wired-row h) names last-name)
+        (row-wire t (length (R .wires)) (used R) n w (wired-row h) o))
 
 pub wired-renames : {names t : List ℕ} (R : Rooms) (rs : List Rename) → Wired (putRenames R rs) names t → Wired R names t
 unfolding putRenames

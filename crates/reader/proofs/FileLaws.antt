@@ -35,9 +35,9 @@ use Rattle.netlist.specs.Laid.{roomsOf}
 use Rattle.netlist.specs.LaidLaws.{rooms-past}
 use Rattle.netlist.specs.UsedLaws.{used-past}
 use Rattle.netlist.specs.Lengths.{sizes-exact, rightSizes}
-use Rattle.netlist.specs.Tables.{Tables}
+use Rattle.netlist.specs.Tables.{Tables, tabled}
 use Rattle.layout.specs.Put.{tablesOf}
-use Rattle.layout.specs.Stored.{tabled, Sized}
+use Rattle.layout.specs.Stored.{Sized}
 use Rattle.reader.specs.Read.{Result, result, lent, rightLengths, leaves, readInto}
 use Rattle.reader.specs.Steps.{lineOf, LineFits, Done, Goes, StepIs, StepAs, refusalOf, finishOf, Landed}
 use Rattle.reader.specs.declared.Step.{Step}

@@ -25,7 +25,8 @@ ghost use Rattle.rules.specs.Reading.{readAny, read};
 ghost use Rattle.rules.specs.Layout.{empty, memory};
 ghost use Rattle.syntax.specs.Statements.{kindIn};
 ghost use Rattle.layout.specs.Put.{tablesOf};
-ghost use Rattle.layout.specs.Stored.{tabled, Sized};
+ghost use Rattle.netlist.specs.Tables.{tabled};
+ghost use Rattle.layout.specs.Stored.{Sized};
 ghost use Rattle.reader.specs.Read.{result, lent, leaves, readInto};
 ghost use Rattle.reader.specs.Steps.{LineFits, PlaceFits, judgedAs, OutcomeAs, Storable, SomeDone, StepAs, refusalOf, finishOf, Landed};
 

@@ -2,7 +2,7 @@
 -- Assumes nothing.
 use Prim.Native.Nat.{ℕ, _+_, _*_}
 use mathlib.Core.Path.{_≡_, refl, sym, ap, _∙_, subst}
-use mathlib.Core.List.{List, [], _∷_, _++_, append-assoc, flatMap}
+use mathlib.Core.List.{List, [], _∷_, _++_, append-assoc, append-nil, flatMap}
 use mathlib.Core.Logic.{_⊎_, inl, inr, ⊎-elim}
 use mathlib.Core.Bool.{true, false}
 use native.Mathlib.Omega.{arith}
@@ -47,12 +47,8 @@ done-start t rows p u ep eu =
         place = sym ep;
         sums = sym eu;
       };
-      only = λ qs h. (qs, none qs);
+      only = λ qs h. (qs, sym (append-nil qs));
     }
-  where
-    none : (qs : Past) → qs ≡ qs ++ []
-    none [] = refl
-    none (q ∷ qs) = ap (λ (l : Past). q ∷ l) (none qs)
 
 -- ---- a list's last statement stands first
 

@@ -2,18 +2,18 @@
 -- Assumes nothing.
 use Prim.Native.Nat.{ℕ, _+_, _≤_, _<_}
 use mathlib.Core.Path.{_≡_, sym, _∙_}
-use mathlib.Core.List.{List, [], _∷_}
-use mathlib.Core.Bool.{Bool, true, false, _&&_}
+use mathlib.Core.List.{List}
+use mathlib.Core.Bool.{Bool, true, false}
 use native.Mathlib.Omega.{arith}
 use lib.Dec.{leb}
 use lib.ListN.{length}
 use lib.Seq.{slice}
 use borrow.Author.Tests.{le-leb, lt-leb, leb-true, leb-false}
-use Rattle.rules.specs.Bytes.{all, within, isNameStart, isNameByte, legal}
+use Rattle.rules.specs.Bytes.{all, within, legal}
 use Rattle.rules.specs.Signals.{Wires}
 use Rattle.admitted.specs.Admitted.{fineBit}
 use Rattle.numbers.specs.Kinds.{bitOf, bitAt}
-use Rattle.scanner.specs.Laws.{by-test, and-true-left, and-true-right}
+use Rattle.scanner.specs.Laws.{by-test, and-true-left, and-true-right, legal-short}
 use Rattle.replay.specs.Parts.{span, whole, nameStands, isDigit, digitsStand, textStands, signalStands}
 use Rattle.replay.proofs.Spans.{whole-none, whole-in, whole-out, whole-long, span-none}
 
@@ -83,39 +83,10 @@ module _ (t : List ℕ) (at n : ℕ) (e : n ≡ 0) where
   unfolding signalStands all
   signal-none ws = rw (e, whole-none, span-none)
 
--- a byte of a string
-pub byte-zero : (b : ℕ) → b ≡ 0 → within 1 255 b ≡ false
-unfolding within
-byte-zero b e = rw e
-
-pub byte-given : (b : ℕ) → b < 256 → (b ≡ 0 → ⊥) → within 1 255 b ≡ true
-unfolding within
-byte-given b h e = rw (le-leb 1 b (omega arith), le-leb b 255 (omega arith))
-
--- a memory's width
-pub low-width : (n : ℕ) → n ≡ 0 → within 1 2048 n ≡ false
-unfolding within
-low-width n e = rw e
-
-pub high-width : (n : ℕ) → 2048 < n → within 1 2048 n ≡ false
-unfolding within
-high-width n h = rw (le-leb 1 n (omega arith), lt-leb n 2048 h)
-
-pub fair-width : (n : ℕ) → (n ≡ 0 → ⊥) → n ≤ 2048 → within 1 2048 n ≡ true
-unfolding within
-fair-width n e h = rw (le-leb 1 n (omega arith), le-leb n 2048 h)
-
 -- names and signals are short, so that a place behind one does not wrap
-legal-few : (n : List ℕ) → legal n ≡ true → length n ≤ 255
-unfolding legal within
-legal-few [] h = omega arith
-legal-few (b ∷ bs) h =
-    let k : length bs ≤ 254 = leb-true (length bs) 254 (and-true-right (leb 1 (length bs)) _ (and-true-right (isNameStart b && all isNameByte bs) _ h)) in
-    omega arith
-
 pub name-few : (t : List ℕ) (at n : ℕ) → nameStands t at n ≡ true → n ≤ 255
 unfolding nameStands
-name-few t at n h = omega (arith, whole-long t at n (and-true-left _ _ h), legal-few (span t at n) (and-true-right (whole t at n) _ h))
+name-few t at n h = omega (arith, whole-long t at n (and-true-left _ _ h), legal-short (span t at n) (and-true-right (whole t at n) _ h))
 
 pub signal-few : (ws : Wires) (t : List ℕ) (at n : ℕ) → signalStands ws t at n ≡ true → n ≤ 2048
 unfolding signalStands

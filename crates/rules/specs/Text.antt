@@ -76,11 +76,15 @@ directionWord input = "input"
 directionWord output = "output"
 directionWord inout = "inout"
 
+-- a port's option
+abbrev pub portOptions : Option (Direction × ℕ) → List Opt
+portOptions po = map (λ p. setting (directionWord (p .0)) (pos (p .1))) (Option·toList po)
+
 -- Wire options in the order width, offset, upto, port, signed; memory options width, size, offset (the last one first)
 unfoldable pub wireOptions : Wire → List Opt
 wireOptions w =
     unless (not (w .signed)) (bytes "signed", none)
-    ++ map (λ p. setting (directionWord (p .0)) (pos (p .1))) (Option·toList (w .port))
+    ++ portOptions (w .port)
     ++ unless (not (w .upto)) (bytes "upto", none)
     ++ unless (inRange 0 0 (w .offset)) (setting "offset" (w .offset))
     ++ unless (eqb (w .width) 1) (setting "width" (pos (w .width)))

@@ -10,7 +10,7 @@ use lib.Dec.{eqb, eqb·zero-suc, eqb·suc-suc, leb}
 use lib.ListN.{length, getD, take, drop, length-append, drop-of-length-le}
 use lib.Seq.{drop-cons, take-append-seam, drop-append-seam}
 use borrow.Author.Tests.{eq-eqb, ne-eqb, eqb-true, eqb-false, le-leb, lt-leb, leb-true}
-use Rattle.rules.specs.Bytes.{same, all, run, rest, within}
+use Rattle.rules.specs.Bytes.{same, all, run, rest, within, isNameStart, isNameByte, legal}
 
 -- what holds of both branches, each under its test, holds of the choice
 pub by-cond : {A : Type 0} (P : A → Type 0) (b : Bool) {x y : A} → (b ≡ true → P x) → (b ≡ false → P y) → P (cond b x y)
@@ -65,6 +65,10 @@ module _ (lo hi b : ℕ) where
   unfolding within
   within-below h = rw (lt-leb lo b)
 
+  pub within-above : hi < b → within lo hi b ≡ false
+  unfolding within
+  within-above h = rw (lt-leb b hi) (and-false (leb lo b))
+
   pub within-low : within lo hi b ≡ true → lo ≤ b
   unfolding within
   within-low e = leb-true lo b (and-true-left (leb lo b) (leb b hi) e)
@@ -72,6 +76,12 @@ module _ (lo hi b : ℕ) where
   pub within-high : within lo hi b ≡ true → b ≤ hi
   unfolding within
   within-high e = leb-true b hi (and-true-right (leb lo b) (leb b hi) e)
+
+-- a legal name is short
+pub legal-short : (n : List ℕ) → legal n ≡ true → length n ≤ 255
+unfolding legal
+legal-short [] e = omega arith
+legal-short (b ∷ bs) e = omega (arith, within-high 1 254 (length bs) (and-true-right (isNameStart b && all isNameByte bs) (within 1 254 (length bs)) e))
 
 module _ (f : ℕ → Bool) where
   module _ (b : ℕ) (bs : List ℕ) where

@@ -17,7 +17,7 @@ use Rattle.tables.specs.Flat.{flat, Eights, flat-snoc, length-flat, store-row}
 use Rattle.reader.specs.Read.{lent}
 use Rattle.netlist.specs.RoomLaws.{length-rename-row}
 use Rattle.order.specs.RenamedFine.{accepted-keeps}
-use Rattle.standing.specs.JudgedLaws.{legal-short}
+use Rattle.scanner.specs.Laws.{legal-short}
 use Rattle.held.specs.AllowedLaws.{number-accepted}
 use Rattle.held.specs.RenameLaws.{file-last}
 

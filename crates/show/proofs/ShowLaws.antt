@@ -28,6 +28,7 @@ use Rattle.designs.specs.DeclaredLaws.{Declared, wire-declared, declared-wire, 
 use Rattle.designs.specs.Now.{nameNow, wireNow}
 use Rattle.designs.specs.NowLaws.{wire-now}
 use Rattle.designs.specs.declared.Range.{Range}
+use Rattle.order.specs.Seen.{seen}
 use Rattle.wire_names.specs.Now as table
 use Rattle.reader.specs.Read.{lent}
 use Rattle.netlist.specs.Tables.{Tables, tabled}
@@ -57,13 +58,10 @@ none-by none e = refl
 none-by (some x) e = cc
 
 -- a wire of a design as it stands, by that of its module's pairs
-abbrev pairOf : Object Wire → Name × Wire
-pairOf o = (o .name, o .body)
-
-name-by : (xs : List (Object Wire)) (i : ℕ) (o : Object Wire) (x : Name × Wire) → getElem? xs i ≡ some o → getElem? (map pairOf xs) i ≡ some x → o .name ≡ x .0
+name-by : (xs : List (Object Wire)) (i : ℕ) (o : Object Wire) (x : Name × Wire) → getElem? xs i ≡ some o → getElem? (map seen xs) i ≡ some x → o .name ≡ x .0
 unfolding Option·elim
 name-by xs i o x e q =
-    ap (λ (y : Option (Name × Wire)). Option·elim y [] (λ z. z .0)) (sym (at-map pairOf xs i ∙ ap (Option·map pairOf) e) ∙ q)
+    ap (λ (y : Option (Name × Wire)). Option·elim y [] (λ z. z .0)) (sym (at-map seen xs i ∙ ap (Option·map seen) e) ∙ q)
 
 -- what find_shown ensures of an answer
 abbrev pub Answered : Memory → (m w : ℕ) → Shown → Type 0

@@ -4,19 +4,17 @@ use Prim.Native.Nat.{ℕ, _+_, _≤_, _<_}
 use mathlib.Core.Path.{_≡_, refl, sym, ap, _∙_}
 use mathlib.Core.List.{List, [], _∷_, _++_, reverse, reverse-reverse}
 use mathlib.Core.Option.{Option·elim}
-use mathlib.Core.Bool.{Bool, true, false, cond, _&&_, _||_}
-use native.Mathlib.Omega.{arith}
+use mathlib.Core.Bool.{Bool, true, false, cond, _||_}
 use lib.Dec.{leb, ltb}
 use lib.ListN.{length}
 use borrow.Author.Tests.{leb-true, leb-false}
-use Rattle.rules.specs.Bytes.{all, within, isNameStart, isNameByte, legal}
 use Rattle.rules.specs.Tokens.{Name}
 use Rattle.rules.specs.Statements.{Statement}
 use Rattle.rules.specs.Judgement.{lowest, verdict}
 use Rattle.rules.specs.Design.{design}
 use Rattle.rules.specs.Session.{Rename, wireAt, now, roomUsed, taken, isPort, renameCall, numberOf}
 use Rattle.rules.specs.Layout.{putRenames}
-use Rattle.scanner.specs.Laws.{by-test, and-true-right}
+use Rattle.scanner.specs.Laws.{by-test}
 use Rattle.wires.specs.Rows.{wireOf}
 use Rattle.past.specs.Place.{wiresIn, placeOf}
 use Rattle.past.specs.Offsets.{Offsets}
@@ -31,13 +29,6 @@ use Rattle.standing.specs.Judged.{nameTaken, exceedsRoom, moduleBy, judg
 use Rattle.netlist.specs.RoomLaws.{rooms-file}
 use Rattle.standing.specs.RoomLaws.{room-used}
 use Rattle.standing.specs.TakenLaws.{wire-there, wire-missing, taken-laid}
-
--- a legal name is short
-pub legal-short : (n : Name) → legal n ≡ true → length n ≤ 255
-unfolding legal within
-legal-short [] e = omega arith
-legal-short (b ∷ bs) e =
-    omega (arith, leb-true (length bs) 254 (and-true-right (leb 1 (length bs)) (leb (length bs) 254) (and-true-right (isNameStart b && all isNameByte bs) (within 1 254 (length bs)) e)))
 
 -- the first test that holds
 lowest-number :

@@ -2,17 +2,18 @@
 -- Assumes nothing.
 use Prim.Native.Nat.{ℕ, _+_}
 use mathlib.Core.Path.{_≡_, refl, sym, ap, _∙_}
-use mathlib.Core.List.{List, [], _∷_, _++_, reverse, reverse-cons, reverse-reverse, append-assoc}
+use mathlib.Core.List.{List, [], _∷_, reverse, reverse-cons, reverse-reverse}
 use native.Mathlib.Omega.{arith}
-use lib.ListN.{length, take, drop, length-reverse}
+use lib.ListN.{length, length-reverse}
 use Rattle.rules.specs.Session.{Rename}
 use Rattle.rules.specs.Layout.{Rooms, padded, row, renameRow, putRename, putRenames}
-use Rattle.tables.specs.Flat.{flat, Eights, flat-snoc}
+use Rattle.tables.specs.Flat.{Eights}
 use Rattle.wires.specs.Rows.{nameOf, spanAt}
 use Rattle.wires.specs.RowLaws.{RowIs, slice-span}
 use Rattle.netlist.specs.Rows.{nameFrom}
 use Rattle.netlist.specs.Laid.{Laid}
-use Rattle.netlist.specs.LaidLaws.{list-behind, row-behind, laid-rename}
+use Rattle.netlist.specs.Spans.{Has, starts-has, starts-row}
+use Rattle.netlist.specs.LaidLaws.{laid-rename}
 use Rattle.designs.specs.Now as designs
 use Rattle.designs.specs.NowLaws.{name-last}
 use Rattle.wire_names.specs.Now as rows
@@ -24,23 +25,19 @@ module _ (t : List ℕ) (k at : ℕ) (r : Rename) (h : RowIs t k (renameRow at r
   unfolding rows.renames designs.renames renameRow row padded
   rename-row m w = rw (h 3 (omega arith), h 4 (omega arith))
 
-  rename-name : (names : List ℕ) → take (length (r .newName)) (drop at names) ≡ r .newName → nameFrom names t k 1 ≡ r .newName
-  unfolding nameFrom spanAt renameRow row padded
+  rename-name : (names : List ℕ) → Has names at (r .newName) → nameFrom names t k 1 ≡ r .newName
+  unfolding nameFrom spanAt Has renameRow row padded
   rename-name names e = rw (h 1 (omega arith), h 2 (omega arith)) (slice-span at (length (r .newName)) names ∙ e)
 
 -- the row and the name of the last rename
 module _ {names t : List ℕ} (R : Rooms) (r : Rename) (h : Eights (R .rows)) (l : Laid (putRename R r) names t) where
   pub last-rename-row : RowIs t (length (R .rows)) (renameRow (length (R .names)) r)
   unfolding putRename
-  last-rename-row =
-      let x : List ℕ = renameRow (length (R .names)) r in
-      row-behind t (R .rows) x (l .more-rows) h (length-rename-row (length (R .names)) r)
-      (l .rows-are ∙ ap (λ (y : List ℕ). y ++ l .more-rows) (flat-snoc (R .rows) x) ∙ append-assoc (flat (R .rows)) x (l .more-rows))
+  last-rename-row = starts-row t (R .rows) (renameRow (length (R .names)) r) h (length-rename-row (length (R .names)) r) (l .rows-start)
 
-  pub last-rename-name : take (length (r .newName)) (drop (length (R .names)) names) ≡ r .newName
+  pub last-rename-name : Has names (length (R .names)) (r .newName)
   unfolding putRename
-  last-rename-name =
-      list-behind names (R .names) (r .newName) (l .more-names) (l .names-are ∙ append-assoc (R .names) (r .newName) (l .more-names))
+  last-rename-name = starts-has names (R .names) (r .newName) (length (R .names)) refl (l .names-start)
 
 -- NAMES NOW, from the newest rename on
 module _ {names t : List ℕ} (wires : List ℕ) (R : Rooms) (h : Eights (R .rows)) (m w k : ℕ) where

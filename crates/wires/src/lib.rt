@@ -10,7 +10,7 @@ ghost use mathlib.Core.Path.{_≡_};
 ghost use Prim.Native.Nat.{_<_};
 ghost use Rattle.rules.specs.Session.{indexIn};
 ghost use Rattle.numbers.specs.Signed.{verdictOf};
-ghost use Rattle.wires.specs.Rows.{column, spanAt, nameOf, wireOf, hasPort, TakenIs};
+ghost use Rattle.wires.specs.Rows.{column, spanAt, wireOf, hasPort, TakenIs};
 ghost use Rattle.wires.specs.Found.{FoundIs};
 
 // A wire's number in its module and its width.

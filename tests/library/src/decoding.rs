@@ -64,6 +64,16 @@ fn part<T>(table: &[T], start: u32, length: u32) -> Option<&[T]> {
     table.get(start..start + length as usize)
 }
 
+/// The word before a cell's parameter: none, or its sign; a column may hold neither.
+fn sign(column: u32) -> Option<Option<Sign>> {
+    match column {
+        0 => Some(None),
+        1 => Some(Some(Sign::Signed)),
+        2 => Some(Some(Sign::Real)),
+        _ => None,
+    }
+}
+
 impl Tables {
     fn statement(&self, row: &[u32], in_cell: bool) -> Option<Statement> {
         Some(match row[0] {
@@ -75,10 +85,7 @@ impl Tables {
             kind::MODULE => Statement::Module(self.name(row[1], row[2])?),
             kind::MODULE_PARAMETER => Statement::ModuleParameter(ModuleParameter {
                 name: self.name(row[1], row[2])?,
-                constant: match row[3] {
-                    0 => None,
-                    kind => Some(self.constant(kind, row[4], row[5])?),
-                },
+                constant: self.optional(row[3], row[4], row[5])?,
             }),
             kind::WIRE => Statement::Wire(self.wire(self.name(row[1], row[2])?, row[3])?),
             kind::MEMORY => Statement::Memory(Memory {
@@ -89,12 +96,7 @@ impl Tables {
             }),
             kind::CELL => Statement::Cell(self.name(row[1], row[2])?, self.name(row[3], row[4])?),
             kind::CELL_PARAMETER => Statement::CellParameter(CellParameter {
-                sign: match row[6] {
-                    0 => None,
-                    1 => Some(Sign::Signed),
-                    2 => Some(Sign::Real),
-                    _ => return None,
-                },
+                sign: sign(row[6])?,
                 name: self.name(row[1], row[2])?,
                 constant: self.constant(row[3], row[4], row[5])?,
             }),
@@ -114,6 +116,13 @@ impl Tables {
 
     fn name(&self, start: u32, length: u32) -> Option<Name> {
         part(&self.names, start, length).map(<[u8]>::to_vec)
+    }
+
+    fn optional(&self, kind: u32, first: u32, second: u32) -> Option<Option<Constant>> {
+        match kind {
+            0 => Some(None),
+            kind => self.constant(kind, first, second).map(Some),
+        }
     }
 
     fn constant(&self, kind: u32, first: u32, second: u32) -> Option<Constant> {

@@ -1,5 +1,5 @@
 use denote.Ref.{now}
-use Rattle.layout.specs.Stored.{tabled}
+use Rattle.netlist.specs.Tables.{tabled}
 use Rattle.layout.proofs.Stored.{valued-room, plain-room, valued-put}
 use borrow.Author.Needs.{needs}
 use Rattle.layout.proofs.put_statement.Statement.{statement}

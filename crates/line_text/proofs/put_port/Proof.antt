@@ -9,7 +9,6 @@ use Rattle.rules.specs.Bytes.{bytes}
 use Rattle.rules.specs.Text.{setting, directionWord, optionTokens, integerText, behind}
 use Rattle.wires.specs.Rows.{portOf}
 use Rattle.line_text.specs.Pieces.{spread}
-use Rattle.line_text.specs.Lines.{portOptions}
 use Rattle.line_text.specs.LineLaws.{option-number}
 use borrow.Author.Needs.{needs}
 use denote.Ref.{now}
@@ -26,7 +25,7 @@ put-number-requires : tie.Need-put-number-requires
 put-number-requires c κs = written-most (c .before .before .before .put-bytes .ensures)
 
 returns : tie.Need-returns
-unfolding portOptions portOf Option·toList directionWord setting integerText
+unfolding portOf Option·toList directionWord setting integerText
 returns c = rw (c .before .before .before .before .before .before .before .before .before .if1 .taken) (written-as (written-then (c .before .before .before .before .before .before .put-bytes .ensures) (c .before .before .put-number .ensures)) (option-number (bytes "input") (pos (c .before .before .before .before .before .before .before .before .before .before .before .args .n))))
 
 same-length : tie.Need-same-length
@@ -42,7 +41,7 @@ put-number-requires-2 : tie.Need-put-number-requires-2
 put-number-requires-2 c κs = written-most (c .before .before .before .put-bytes2 .ensures)
 
 returns-2 : tie.Need-returns-2
-unfolding portOptions portOf Option·toList directionWord setting integerText
+unfolding portOf Option·toList directionWord setting integerText
 returns-2 c = rw (c .before .before .before .before .before .before .before .before .before .if2 .taken) (written-as (written-then (c .before .before .before .before .before .before .put-bytes2 .ensures) (c .before .before .put-number2 .ensures)) (option-number (bytes "output") (pos (c .before .before .before .before .before .before .before .before .before .before .before .before .args .n))))
 
 same-length-2 : tie.Need-same-length-2
@@ -58,14 +57,14 @@ put-number-requires-3 : tie.Need-put-number-requires-3
 put-number-requires-3 c κs = written-most (c .before .before .before .put-bytes3 .ensures)
 
 returns-3 : tie.Need-returns-3
-unfolding portOptions portOf Option·toList directionWord setting integerText
+unfolding portOf Option·toList directionWord setting integerText
 returns-3 c = rw (c .before .before .before .before .before .before .before .before .before .if3 .taken) (written-as (written-then (c .before .before .before .before .before .before .put-bytes3 .ensures) (c .before .before .put-number3 .ensures)) (option-number (bytes "inout") (pos (c .before .before .before .before .before .before .before .before .before .before .before .before .before .args .n))))
 
 same-length-3 : tie.Need-same-length-3
 same-length-3 c = returns-3 c .kept
 
 returns-4 : tie.Need-returns-4
-unfolding portOptions portOf Option·toList directionWord setting integerText optionTokens spread behind
+unfolding portOf Option·toList directionWord setting integerText optionTokens spread behind
 returns-4 c = rw (ne-eqb _ _ (c .before .before .if1 .left), ne-eqb _ _ (c .before .if2 .left), ne-eqb _ _ (c .if3 .left)) (written-none (c .before .before .before .before .args .at) (now (c .before .before .before .before .args .out)) (c .before .before .before .before .pre))
 
 pub put-port-spec : {M : Type 1} → statement M

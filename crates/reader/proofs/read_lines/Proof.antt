@@ -1,7 +1,7 @@
 use Prim.Native.Nat.{_-_}
 use mathlib.Core.Path.{_∙_, sym}
 use lib.ListN.{length}
-use Rattle.layout.specs.Stored.{tabled}
+use Rattle.netlist.specs.Tables.{tabled}
 use Rattle.reader.proofs.StepLaws.{done-sized}
 use Rattle.reader.proofs.FileLaws.{reached-fits, less, zero-sized, Before, before, reached-start, reached-more, landed-stop, landed-end}
 use Rattle.reader.proofs.read_lines.Statement.{statement}

@@ -6,7 +6,8 @@ use borrow.Author.Needs.{needs}
 use borrow.Author.Tests.{le-leb, lt-leb, not-false}
 use Rattle.standing.specs.Judged.{judged}
 use denote.Ref.{now}
-use Rattle.standing.specs.JudgedLaws.{legal-short, judged-is}
+use Rattle.scanner.specs.Laws.{legal-short}
+use Rattle.standing.specs.JudgedLaws.{judged-is}
 use Rattle.standing.proofs.judge_rename.Statement.{statement}
 use Rattle.standing.proofs.judge_rename.Tie as tie
 

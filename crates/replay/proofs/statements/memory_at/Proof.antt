@@ -5,7 +5,8 @@ use native.Mathlib.Omega.{arith}
 use borrow.Author.Tests.{not-true, not-false, le-leb, lt-leb}
 use Rattle.rules.specs.Layout.{padded, row}
 use Rattle.tables.specs.Row.{words}
-use Rattle.replay.proofs.PartLaws.{low-width, high-width, fair-width}
+use Rattle.scanner.specs.Laws.{within-yes, within-below, within-above}
+use Rattle.replay.proofs.PartLaws.{positive}
 use Rattle.replay.proofs.KindLaws.{memory-name, memory-width, memory-size, memory-settled}
 use borrow.Author.Needs.{needs}
 use Rattle.replay.proofs.statements.memory_at.Statement.{statement}
@@ -18,10 +19,10 @@ returns : tie.Need-returns
 returns c = memory-name _ _ _ (sym (c .before .name-stands .ensures) ∙ not-true _ (c .if1 .taken))
 
 returns-2 : tie.Need-returns-2
-returns-2 c = memory-width _ _ _ (low-width _ (c .if2 .taken))
+returns-2 c = memory-width _ _ _ (within-below 1 2048 _ (omega (arith, c .if2 .taken)))
 
 returns-3 : tie.Need-returns-3
-returns-3 c = memory-width _ _ _ (high-width _ (c .if3 .taken))
+returns-3 c = memory-width _ _ _ (within-above 1 2048 _ (c .if3 .taken))
 
 returns-4 : tie.Need-returns-4
 returns-4 c = memory-size _ _ _ (lt-leb _ _ (c .if4 .taken))
@@ -31,7 +32,7 @@ settle-requires c κs = search needs
 
 returns-5 : tie.Need-returns-5
 unfolding words row padded
-returns-5 c = memory-settled _ _ _ (sym (c .before .before .before .before .before .before .before .before .name-stands .ensures) ∙ not-false _ (c .before .before .before .before .before .before .before .if1 .left)) (fair-width _ (c .before .before .before .before .before .if2 .left) (c .before .before .before .if3 .left)) (le-leb _ _ (c .before .if4 .left)) (omega arith) _ refl _ (c .settle .ensures)
+returns-5 c = memory-settled _ _ _ (sym (c .before .before .before .before .before .before .before .before .name-stands .ensures) ∙ not-false _ (c .before .before .before .before .before .before .before .if1 .left)) (within-yes 1 2048 _ (positive _ (c .before .before .before .before .before .if2 .left)) (c .before .before .before .if3 .left)) (le-leb _ _ (c .before .if4 .left)) (omega arith) _ refl _ (c .settle .ensures)
 
 pub memory-at-spec : {M : Type 1} → statement M
 memory-at-spec =
