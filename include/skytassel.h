@@ -1,7 +1,8 @@
 /* Skytassel: reads, writes and reversibly renames RTLIL netlists. The calls of target/staticlib/libcard.a, which `rt staticlib card` writes; link it statically.
  *
  * Every call is proved to answer for any bytes and any lengths, and to end. It relies on C for what C alone can promise: no pointer is null, each length is
- * that of its part, and no two parts overlap where one of them is changed. A call takes about 700 KB of stack and keeps nothing between calls.
+ * that of its part, and no two parts overlap where one of them is changed. Reading takes about 700 KB of stack, the other calls far less; nothing is
+ * kept between calls.
  *
  * Numbers: 0 none. 1 a table hasn't its exact length. 2 file over 32,768 bytes. 3 memory that holds no design. 4 bad token, ill-formed new name. 5 no permitted
  * shape, a missing line end or end. 6 `process` line, rename of a port wire. 7 number or option rule broken. 8 module or wire not there. 9 name taken. 10 slice or
@@ -19,8 +20,8 @@ extern "C" {
 
 enum { SKYTASSEL_NAMES = 16384, SKYTASSEL_STRINGS = 8192, SKYTASSEL_BITS = 16384, SKYTASSEL_WIRES = 8 * 512, SKYTASSEL_ROWS = 8 * 4769, SKYTASSEL_TEXT = 32768 };
 
-/* The session card: renames standing, name room used. A refusal's place is 0 but in reading: the position of the refused line's first byte that is neither space
- * nor tab, or the file's length. A refused call gives 0 beside its number. */
+/* The session card: renames standing, name room used. A refusal's place is 0, but from number 4 on in reading: the position of the refused line's first byte that is
+ * neither space nor tab, or the file's length. A refused call gives 0 beside its number. */
 struct skytassel_card { uint32_t renames, room; };
 struct skytassel_answer { uint32_t number, place; };
 struct skytassel_wire_answer { uint32_t number, wire; };

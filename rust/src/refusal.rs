@@ -92,7 +92,7 @@ impl fmt::Display for Refusal {
 
 impl Error for Refusal {}
 
-/// A refused file: why, and the place of the line's first byte that is neither space nor tab, or the file's length for its end.
+/// A refused file: why, and the place of the line's first byte that is neither space nor tab, or the file's length for its end; 0 for [`Refusal::FileTooLong`].
 #[derive(Debug, Clone, Copy, PartialEq, Eq)]
 pub struct Refused {
     pub refusal: Refusal,

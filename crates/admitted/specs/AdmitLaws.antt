@@ -2,7 +2,7 @@
 -- their wires fit in 32 bits.
 -- Assumes nothing.
 use Prim.Native.Nat.{_-_, _≤_}
-use mathlib.Core.Path.{_≡_, refl}
+use mathlib.Core.Path.{_≡_}
 use mathlib.Core.List.{List, [], _∷_, reverseAux}
 use mathlib.Core.Bool.{Bool, true, false, not, _&&_, _||_}
 use lib.Dec.{leb, eqb}
@@ -15,17 +15,12 @@ use Rattle.rules.specs.Numbers.{int32}
 use Rattle.rules.specs.Signals.{Wires}
 use Rattle.rules.specs.Judgement.{Past, wires, portNumbers, takesName, exceedsSize}
 use Rattle.scanner.specs.Laws.{and-true-left, and-true-right}
+use Rattle.scanner.specs.Elements.{all-implied}
 use Rattle.past.specs.Sizes.{sumsOf, Within}
 use Rattle.past.specs.Offsets.{fitsOffset, Offsets, no-offsets, more-offsets}
 use Rattle.past.proofs.SizeLaws.{within-past, within-none}
 use Rattle.admitted.specs.Admitted.{stands, fineConstant, fineWire, fineMemory, fineSignal, sameLength, fineParts, admits, admitted}
 use Rattle.admitted.specs.CountLaws.{Standing, none-stand, one-stands, rows-few}
-
--- a test that follows from another, for all of a list
-pub all-implied : {A : Type 0} (f g : A → Bool) → ((x : A) → f x ≡ true → g x ≡ true) → (xs : List A) → all f xs ≡ true → all g xs ≡ true
-unfolding all
-all-implied f g h [] e = refl
-all-implied f g h (x ∷ xs) e = rw (h x (and-true-left (f x) _ e)) (all-implied f g h xs (and-true-right (f x) _ e))
 
 -- the parts, one by one
 pub record FineParts (ws : Wires) (s : Statement) : Type 0 where

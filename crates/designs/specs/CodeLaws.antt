@@ -16,7 +16,7 @@ use Rattle.rules.specs.Signals.{Wires}
 use Rattle.rules.specs.Judgement.{Past, until, ofModule, wires}
 use Rattle.rules.specs.Layout.{digitCode, bitCode}
 use Rattle.scanner.specs.Laws.{by-test, and-true-left, and-true-right}
-use Rattle.scanner.specs.Lists.{all-append, all-reverse, all-element}
+use Rattle.scanner.specs.Elements.{all-append, all-reverse, all-element}
 use Rattle.numbers.specs.Kinds.{digitOf, bitOf, bitAt}
 use Rattle.numbers.specs.KindLaws.{Within, digit-back, bit-back}
 use Rattle.admitted.specs.Admitted.{fineWire, fineBit, fineSignal, admitted}

@@ -2,11 +2,11 @@
 -- Assumes nothing.
 use Prim.Native.Nat.{ℕ, _+_, _*_, _≤_}
 use mathlib.Core.Path.{_≡_, refl, sym, ap, ap₂, _∙_, subst}
-use mathlib.Core.List.{List, [], _∷_, _++_, reverse, append-assoc, append-nil}
+use mathlib.Core.List.{List, [], _∷_, _++_, reverse, append-assoc}
 use mathlib.Core.Bool.{true}
 use native.Mathlib.Omega.{arith}
 use lib.Dec.{eqb}
-use lib.ListN.{length, take, drop, length-append}
+use lib.ListN.{length, take, drop}
 use borrow.Author.Tests.{eqb-true, eq-eqb}
 use Rattle.rules.specs.Tokens.{Name}
 use Rattle.rules.specs.Statements.{Statement}
@@ -16,6 +16,7 @@ use Rattle.tables.specs.Row.{words, rowAt, words-rowAt}
 use Rattle.tables.specs.Flat.{flat, Eights, flat-snoc, length-flat}
 use Rattle.tables.specs.declared.Row.{Row}
 use Rattle.scanner.specs.Laws.{and-true-left, and-true-right}
+use Rattle.scanner.specs.Lists.{none-more}
 use Rattle.netlist.specs.Laid.{roomsOf, Laid}
 use Rattle.netlist.specs.Spans.{Starts, Has, starts-has, starts-long, starts-more}
 use Rattle.netlist.specs.LaidLaws.{laid-renames, eights-rows, length-rows}
@@ -107,10 +108,6 @@ module _ {names rows : List ℕ} (S : Rooms) (h : Eights (S .rows)) (q : Rename)
       }
 
 -- THERE IS ONE ONLY
-none-more : {A : Type 0} (xs ys more : List A) → xs ≡ ys ++ more → length xs ≡ length ys → xs ≡ ys
-none-more xs ys [] e l = e ∙ append-nil ys
-none-more xs ys (y ∷ more) e l = absurd (omega (arith, ap length e, length-append ys (y ∷ more)))
-
 one-only : {names rows : List ℕ} (S : Rooms) (h : Eights (S .rows)) (q r : Rename) → Laid (putRename S q) names rows → Laid (putRename S r) names rows → q ≡ r
 unfolding Has renameRow row padded
 one-only {names} S h q r l k =

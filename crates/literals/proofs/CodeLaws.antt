@@ -28,7 +28,8 @@ use Rattle.tokens.specs.declared.Integer.{Integer}
 use Rattle.tokens.specs.declared.Constant.{Constant}
 use Rattle.tokens.specs.declared.Constant.the-variants as constant
 use Rattle.literals.specs.Codes.{codes, wordCodes, filledCodes}
-use Rattle.literals.proofs.Lists.{map-reverse, map-at, map-replicate, getD-reverse, flatMap-snoc, length-flatMap}
+use Rattle.literals.proofs.Lists.{map-reverse, map-at, map-replicate, getD-reverse, length-flatMap}
+use Rattle.scanner.specs.Lists.{flatMap-snoc}
 
 -- ---- widths
 

@@ -1,13 +1,12 @@
 -- Lists read from their end, and the beginning of a table.
 -- Assumes nothing.
 use mathlib.Core.Path.{_≡_, refl, sym, ap, ap₂, _∙_}
-use mathlib.Core.List.{List, [], _∷_, _++_, map, map-append, flatMap, reverse, reverse-cons, append-nil}
+use mathlib.Core.List.{List, [], _∷_, _++_, map, map-append, flatMap, reverse, reverse-cons}
 use Prim.Native.Nat.{ℕ, zero, suc, _+_, _*_, _≤_, _<_}
 use native.Mathlib.Omega.{arith}
 use lib.ListN.{length, getD, take, replicate, length-append, length-take, length-reverse, drop-of-length-le, List·getD-append}
 use lib.Seq.{slice, getD-at}
 use Rattle.tables.specs.Store.{store, store-slice}
-use Rattle.scanner.specs.Lists.{flatMap-append}
 
 pub map-reverse : {A B : Type 0} (g : A → B) (xs : List A) → map g (reverse xs) ≡ reverse (map g xs)
 map-reverse g [] = refl
@@ -36,10 +35,6 @@ getD-reverse (x ∷ xs) i (suc j) e =
     ap (λ (l : List ℕ). getD l i 0) (reverse-cons x xs) ∙ List·getD-append (reverse xs) (x ∷ []) 0 i h ∙ getD-reverse xs i j (omega arith)
 
 module _ {A B : Type 0} (f : A → List B) where
-  pub flatMap-snoc : (xs : List A) (x : A) → flatMap f (xs ++ x ∷ []) ≡ flatMap f xs ++ f x
-  unfolding flatMap
-  flatMap-snoc xs x = flatMap-append f xs (x ∷ []) ∙ ap (λ (l : List B). flatMap f xs ++ l) (append-nil (f x))
-
   pub length-flatMap : (k : ℕ) → ((x : A) → length (f x) ≡ k) → (xs : List A) → length (flatMap f xs) ≡ k * length xs
   unfolding flatMap
   length-flatMap k h [] = omega arith

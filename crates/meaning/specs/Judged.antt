@@ -18,14 +18,14 @@ use Rattle.rules.specs.Reading.{shaped}
 use Rattle.rules.specs.Text.{sig, literalOf, wireOptions, memoryOptions, written, shapeTokens}
 use Rattle.admitted.specs.Admitted.{stands, fineConstant, fineWire, fineMemory, fineSignal, sameLength, admits, admitted}
 use Rattle.scanner.specs.Laws.{and-true-left, and-true-right}
-use Rattle.scanner.specs.Lists.{all-append}
-use Rattle.admitted.specs.AdmitLaws.{all-implied, FineParts, fine-parts, Admits, admits-all}
+use Rattle.scanner.specs.Elements.{all-append, all-implied, all-through}
+use Rattle.admitted.specs.AdmitLaws.{FineParts, fine-parts, Admits, admits-all}
 use Rattle.past.specs.Forms.{translated, contents-translated}
 use Rattle.admitted.specs.CountLaws.{never-process}
 use Rattle.meaning.specs.Shapes.{shape-written}
 use Rattle.meaning.specs.Wires.{Sound}
 use Rattle.meaning.specs.Bits.{fill-all}
-use Rattle.meaning.specs.Parts.{goodPart, all-map, sig-means}
+use Rattle.meaning.specs.Parts.{goodPart, sig-means}
 use Rattle.meaning.specs.Settings.{wire-back, wire-fine, memory-back, memory-fine}
 use Rattle.meaning.specs.Kept.{admitted-sound}
 
@@ -125,9 +125,9 @@ module _ (ws : Wires) (sound : Sound ws) where
           each-good goodNumbers part-numbers,
           contents-written ws s,
           f .integers,
-          all-map fineConstant literalOf goodLiteral (contents s .constants) literal-good (f .constants),
-          all-map (fineWire ws) wireOptions (λ os. goodWire os && newPort ws os) (contents s .wires) (wire-fine ws) (f .wires),
-          all-map fineMemory memoryOptions goodMemory (contents s .memories) memory-fine (f .memories),
+          all-through fineConstant literalOf goodLiteral (contents s .constants) literal-good (f .constants),
+          all-through (fineWire ws) wireOptions (λ os. goodWire os && newPort ws os) (contents s .wires) (wire-fine ws) (f .wires),
+          all-through fineMemory memoryOptions goodMemory (contents s .memories) memory-fine (f .memories),
         )
 
     pub wires-there : lacksWire ws (written ws s) ≡ false

@@ -1,10 +1,10 @@
 -- What a statement that may stand keeps, and the wires of statements that may stand after one another.
 -- Assumes nothing.
 use Prim.Native.Nat.{_≤_}
-use mathlib.Core.Path.{_≡_, refl, sym, ap, _∙_}
+use mathlib.Core.Path.{_≡_, refl}
 use mathlib.Core.List.{List, [], _∷_, map, flatMap, zip}
 use mathlib.Core.Option.{none}
-use mathlib.Core.Bool.{true, false, false≢true}
+use mathlib.Core.Bool.{true, false}
 use Rattle.rules.specs.Bytes.{same, any, all}
 use Rattle.rules.specs.Tokens.{Name}
 use Rattle.rules.specs.Statements.{Constant, Signal, Wire, Memory, Statement, wire-stmt, aWire, aMemory, aCell, contents, ownName, statementsOpen}
@@ -12,16 +12,12 @@ use Rattle.rules.specs.Signals.{Wires, find}
 use Rattle.rules.specs.Judgement.{Past, until, only, ofModule, wires, among, space, namesIn, nameSpaces, takesName}
 use Rattle.past.specs.Forms.{by-form}
 use Rattle.admitted.specs.Admitted.{fineWire, admitted}
-use Rattle.scanner.specs.Laws.{by-test, and-true-left, and-true-right, same-refl, same-eq, or-false-left, or-false-right}
+use Rattle.scanner.specs.Laws.{and-true-left, and-true-right, same-sym, or-false-left, or-false-right}
 use Rattle.admitted.specs.AdmitLaws.{FineParts, fine-parts, Admits, admits-all}
 use Rattle.meaning.specs.Wires.{Sound, no-wire, one-more}
 use Rattle.meaning.specs.Settings.{wire-width}
 
 -- ---- a wire's name is new
-
-same-not : (m n : Name) → same n m ≡ false → same m n ≡ false
-same-not m n h =
-    by-test (same m n) (λ t. absurd (false≢true (sym h ∙ ap (same n) (same-eq m n t) ∙ same-refl n))) (λ t. t)
 
 -- the names among some statements
 abbrev ownNames : List Statement → List Name
@@ -33,7 +29,7 @@ not-found n [] h = refl
 not-found n (s ∷ xs) h =
     by-form (λ s. any (same n) (ownNames (s ∷ xs)) ≡ false → find n (flatMap (λ s. zip (contents s .names) (contents s .wires)) (s ∷ xs)) ≡ none)
     (λ i. not-found n xs) (λ m c. not-found n xs) (λ m. not-found n xs) (λ m c. not-found n xs)
-    (λ w m k. rw (same-not m n (or-false-left (same n m) _ k)) (not-found n xs (or-false-right (same n m) _ k)))
+    (λ w m k. rw (same-sym m n, or-false-left (same n m) _ k) (not-found n xs (or-false-right (same n m) _ k)))
     (λ y m k. not-found n xs (or-false-right (same n m) _ k)) (λ t m k. not-found n xs (or-false-right (same n m) _ k))
     (λ o m c. not-found n xs) (λ m g. not-found n xs) (λ x y. not-found n xs) (λ m. not-found n xs) (not-found n xs) s h
 

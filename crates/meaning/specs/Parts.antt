@@ -19,7 +19,8 @@ use Rattle.rules.specs.Signals.{Wires, literalWidth, wireBits, inside, span, wi
 use Rattle.rules.specs.Text.{Run, digits, runs, cut, runSig, runsSig, sig}
 use Rattle.admitted.specs.Admitted.{fineSignal}
 use Rattle.scanner.specs.Laws.{by-test, by-cond, and-true-left, and-true-right}
-use Rattle.scanner.specs.Lists.{all-append, length-wire, element-none}
+use Rattle.scanner.specs.Lists.{length-wire, element-none}
+use Rattle.scanner.specs.Elements.{all-append}
 use Rattle.meaning.specs.Wires.{Sound, Located, located}
 use Rattle.meaning.specs.Bits.{runBits, allBits, runs-bits, widthAt, Inside, digits-in, span-in, AllInside, no-more, also, runs-inside, fill-all, part-wire, lower-is}
 
@@ -32,14 +33,6 @@ pub record Means (ws : Wires) (s : Sig) (bs : Signal) : Type 0 where
   pub same-bits : bits ws s ≡ bs
   pub same-width : width ws s ≡ length bs
   pub good-parts : all (goodPart ws) (parts s) ≡ true
-
--- ---- tests of lists
-
-module _ {A : Type 0} (f : A → Bool) where
-  pub all-map : {B : Type 0} (k : A → B) (g : B → Bool) (xs : List A) → ((x : A) → f x ≡ true → g (k x) ≡ true) → all f xs ≡ true → all g (map k xs) ≡ true
-  unfolding all
-  all-map k g [] e h = refl
-  all-map k g (x ∷ xs) e h = rw (e x (and-true-left (f x) _ h), all-map k g xs e (and-true-right (f x) _ h))
 
 -- ---- a value
 

@@ -18,7 +18,7 @@ use Rattle.rules.specs.Judgement.{portNumbers, newPort}
 use Rattle.rules.specs.Text.{setting, unless, directionWord, portOptions, wireOptions, memoryOptions}
 use Rattle.admitted.specs.Admitted.{newPorts, fineWire, fineMemory}
 use Rattle.scanner.specs.Laws.{by-test, and-true-left, and-true-right}
-use Rattle.scanner.specs.Lists.{all-append}
+use Rattle.scanner.specs.Elements.{all-append}
 
 -- ---- an option that is left out where it says the default
 

@@ -14,7 +14,7 @@ use Rattle.rules.specs.Statements.{Opt}
 use Rattle.rules.specs.Numbers.{once}
 use Rattle.scanner.specs.Words.{keywordAt}
 use Rattle.scanner.specs.Laws.{by-test, or-true-right, or-false-left, or-false-right}
-use Rattle.scanner.specs.Lists.{_then_, by-any}
+use Rattle.scanner.specs.Elements.{_then_, by-any}
 use Rattle.tokens.specs.Rows.{integerIn}
 use Rattle.tokens.specs.declared.Integer.{Integer}
 use Rattle.tokens.specs.declared.Slot.{Slot}

@@ -16,7 +16,7 @@ use Rattle.scanner.specs.Words.{keywordAt}
 use Rattle.scanner.specs.Laws.{by-test}
 use Rattle.tokens.proofs.Words.{word-is}
 use Rattle.options.specs.Forms.{forms, codes, accepted, isFlag, numberCodes, optionCodes, isOption}
-use Rattle.scanner.specs.Lists.{_then_, by-any}
+use Rattle.scanner.specs.Elements.{_then_, by-any}
 
 pub offers-word : (m : Bool) (c : ℕ) → offers (forms m) (word (keywordAt c)) ≡ accepted m c
 unfolding offers any forms accepted codes wireOptionForms memoryOptionForms numbered flag keywords keywordAt

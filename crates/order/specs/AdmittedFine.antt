@@ -9,16 +9,16 @@ use Rattle.rules.specs.Tokens.{Name}
 use Rattle.rules.specs.Statements.{Statement, autoidx-stmt, module-stmt, param-stmt, wire-stmt, memory-stmt, cell-stmt, conn-stmt, end-stmt, statementsOpen}
 use Rattle.rules.specs.Judgement.{Past, wires}
 use Rattle.rules.specs.Design.{Setting, Object, design, flatten}
-use Rattle.scanner.specs.Lists.{Each}
+use Rattle.scanner.specs.Elements.{Each, each-map, each-together, all-flatMap}
 use Rattle.admitted.specs.Admitted.{admits, admitted, closes}
 use Rattle.order.specs.Nesting.{Entry, param-entry, wire-entry, memory-entry, cell-entry, connection-entry, File, settings, lineIn, linesOf, linesOfModule, linesOfFile, wiresOf, memoriesOf, cellsOf, bodyOf, moduleIn, designOf}
-use Rattle.order.specs.DesignLaws.{all-flatMap, design-lines}
+use Rattle.order.specs.DesignLaws.{design-lines}
 use Rattle.order.specs.Fine.{Differ, settingNames, wiresIn, FineCell, FineModule, fineAlone, FineDesign}
 use Rattle.order.specs.Tally.{Through, through-before, held-once, held-behind, part-once, notAttribute, nameTally, moduleNames, objectNames, attributeNames, parameterNames, cellParameterNames, cellPortNames, portTally, module-names-lawful, object-names-lawful, attribute-names-lawful, parameter-names-lawful, cell-parameter-names-lawful, cell-port-names-lawful, port-lawful}
 use Rattle.order.specs.Sums.{sum-reverse, all-fewer, sizes-fewer}
 use Rattle.order.specs.BodySums.{body-end, canonical-sum, object-sum, parameter-sum, port-sum, file-names-sum, cell-parameter-sum, cell-port-sum, attribute-sum}
 use Rattle.order.specs.Apart.{sees, Apart, admits-apart, through-admits, through-each, admitted-apart}
-use Rattle.order.specs.Walks.{Clean, clean-behind, opening-clean, settings-stay, each-map, each-together, all-true, is-module, is-cell, noModule, body-stays, cell-stays, entry-inside, object-ends, parameter-ends, port-ends, object-end, parameter-end, port-end, cell-parameter-ends, cell-port-ends}
+use Rattle.order.specs.Walks.{Clean, clean-behind, opening-clean, settings-stay, all-true, is-module, is-cell, noModule, body-stays, cell-stays, entry-inside, object-ends, parameter-ends, port-ends, object-end, parameter-end, port-end, cell-parameter-ends, cell-port-ends}
 use Rattle.order.specs.Seen.{body-wires, seen-sound, body-sound}
 use Rattle.order.specs.Parse.{parsed}
 

@@ -15,7 +15,7 @@ use Rattle.rules.specs.Signals.{Wires}
 use Rattle.rules.specs.Statements.{Statement, Wire, contents, ownName}
 use Rattle.rules.specs.Judgement.{Past, sum, wires, among, Space, namesIn, nameSpaces, portNumbers, takesName, sizes, exceedsSize}
 use Rattle.scanner.specs.Laws.{and-true-left, and-true-right, or-false-left, or-false-right}
-use Rattle.scanner.specs.Lists.{Each}
+use Rattle.scanner.specs.Elements.{Each}
 use Rattle.admitted.specs.Admitted.{stands, fineConstant, newPorts, fineWire, fineMemory, fineSignal, sameLength, fineParts, admits, admitted}
 use Rattle.admitted.specs.AdmitLaws.{fine-parts, admits-all}
 use Rattle.order.specs.Fine.{fineAlone}

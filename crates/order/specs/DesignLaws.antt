@@ -12,7 +12,8 @@ use Rattle.rules.specs.Bytes.{all}
 use Rattle.rules.specs.Judgement.{until}
 use Rattle.rules.specs.Design.{Setting, Object, object, Cell, Module, Design, Item, settingIn, items, blocks, objectsIn, parameterIn, portIn, pair, connectionIn, cellParameterIn, each, cellOf, moduleOf, design, flatten, objects, cellLines, moduleLines, designOpen}
 use Rattle.scanner.specs.Laws.{and-true-left, and-true-right}
-use Rattle.scanner.specs.Lists.{all-append, flatMap-append, flatMap-same}
+use Rattle.scanner.specs.Lists.{flatMap-append, flatMap-same}
+use Rattle.scanner.specs.Elements.{all-append, all-flatMap}
 use Rattle.order.specs.Nesting.{CellEntry, parameter-entry, port-entry, Entry, param-entry, wire-entry, memory-entry, cell-entry, connection-entry, File, settings, lineIn, linesOf, linesOfModule, linesOfFile, parameterOf, portOf, parametersOf, wiresOf, memoriesOf, cellsOf, connectionsOf, bodyOf, moduleIn, designOf, cellEntries, entries, fileOf, nestingOpen}
 
 -- lists
@@ -37,11 +38,6 @@ pub flatMap-one : {A B : Type 0} (f : A → List B) (g : A → B) → ((x : A) �
 unfolding flatMap
 flatMap-one f g h [] = refl
 flatMap-one f g h (x ∷ xs) = rw (h x) (ap (λ (l : List _). g x ∷ l) (flatMap-one f g h xs))
-
-pub all-flatMap : {A B : Type 0} (f : B → Bool) (g : A → List B) → ((x : A) → all f (g x) ≡ true) → (xs : List A) → all f (flatMap g xs) ≡ true
-unfolding all flatMap
-all-flatMap f g h [] = refl
-all-flatMap f g h (x ∷ xs) = all-append f (g x) (flatMap g xs) (h x) (all-flatMap f g h xs)
 
 -- THE ITEMS OF A FILE
 abbrev plain : Statement → Item

@@ -12,7 +12,7 @@ use Rattle.rules.specs.Signals.{Wires}
 use Rattle.rules.specs.Judgement.{sum, portNumbers, exceedsSize}
 use Rattle.rules.specs.Design.{Setting, Object, Cell, Module, Design, flatten}
 use Rattle.rules.specs.Session.{names}
-use Rattle.scanner.specs.Lists.{Each}
+use Rattle.scanner.specs.Elements.{Each}
 use Rattle.admitted.specs.Admitted.{fineConstant, fineWire, fineMemory, fineSignal, sameLength}
 
 -- how many pass a test

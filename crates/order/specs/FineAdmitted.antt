@@ -11,7 +11,7 @@ use Rattle.rules.specs.Bytes.{any, all}
 use Rattle.rules.specs.Statements.{Statement, autoidx-stmt, statementsOpen}
 use Rattle.rules.specs.Judgement.{Past, sum, among, space}
 use Rattle.rules.specs.Design.{Object, object, Module, Design, flatten}
-use Rattle.scanner.specs.Lists.{Each}
+use Rattle.scanner.specs.Elements.{Each}
 use Rattle.admitted.specs.Admitted.{admitted, closes}
 use Rattle.order.specs.Nesting.{Entry, File, linesOfModule, linesOfFile, moduleIn, entries, fileOf}
 use Rattle.order.specs.DesignLaws.{flatMap-map, body-entries, flatten-file}

@@ -18,7 +18,8 @@ use Rattle.rules.specs.Design.{Object, object, Module, Design, flatten}
 use Rattle.rules.specs.Session.{Rename, wireAt, change, renameWire, renamed, now, roomUsed, names, taken, renameCall, undoCall}
 use Rattle.admitted.specs.Admitted.{fineBit, fineSignal}
 use Rattle.scanner.specs.Laws.{by-test, same-eq, or-false-left, or-false-right}
-use Rattle.scanner.specs.Lists.{drop-last, Each}
+use Rattle.scanner.specs.Lists.{drop-last}
+use Rattle.scanner.specs.Elements.{Each}
 use Rattle.past.specs.Sizes.{sizesBy, sumsOf}
 use Rattle.past.proofs.SizeLaws.{within-past, limits-within, exceeds-sums}
 use Rattle.admitted.specs.Holds.{Allowed, no-renames, one-rename}

@@ -15,40 +15,11 @@ use Rattle.rules.specs.Judgement.{Past, sum, among, space}
 use Rattle.rules.specs.Design.{Setting, Object}
 use Rattle.rules.specs.Session.{names}
 use Rattle.scanner.specs.Laws.{and-true-left, and-true-right, or-false-left, or-false-right}
-use Rattle.scanner.specs.Lists.{all-append, Each}
+use Rattle.scanner.specs.Elements.{all-append, Each, all-flatMap, each-front, each-back, each-apart, each-map}
 use Rattle.order.specs.Nesting.{CellEntry, parameter-entry, port-entry, Entry, param-entry, wire-entry, memory-entry, cell-entry, connection-entry, File, settings, lineIn, linesOf, linesOfModule, linesOfFile, wiresOf, memoriesOf, cellsOf, bodyOf, moduleIn, nestingOpen}
-use Rattle.order.specs.DesignLaws.{all-flatMap}
 use Rattle.order.specs.Fine.{Differ, settingNames, FineCell, FineModule}
 use Rattle.order.specs.Tally.{Through, Tally, Lawful, Neutral, through-neutral, through-behind, part-new, notAttribute, nameTally, moduleNames, objectNames, attributeNames, parameterNames, cellParameterNames, cellPortNames, portTally, module-names-lawful, object-names-lawful, attribute-names-lawful, parameter-names-lawful, cell-parameter-names-lawful, cell-port-names-lawful, port-lawful}
 use Rattle.order.specs.BodySums.{body-end, object-sum, parameter-sum, port-sum, file-names-sum, cell-parameter-sum, cell-port-sum, attribute-sum}
-
--- LISTS OF LISTS
-module _ {A : Type 0} (P : A → Type 0) where
-  pub each-front : (xs ys : List A) → Each P (xs ++ ys) → Each P xs
-  each-front [] ys h = tt
-  each-front (x ∷ xs) ys h = (h .0, each-front xs ys (h .1))
-
-  pub each-back : (xs ys : List A) → Each P (xs ++ ys) → Each P ys
-  each-back [] ys h = h
-  each-back (x ∷ xs) ys h = each-back xs ys (h .1)
-
-  pub each-append : (xs ys : List A) → Each P xs → Each P ys → Each P (xs ++ ys)
-  each-append [] ys h k = k
-  each-append (x ∷ xs) ys h k = (h .0, each-append xs ys (h .1) k)
-
-  pub each-apart : {B : Type 0} (g : B → List A) (xs : List B) → Each P (flatMap g xs) → Each (λ x. Each P (g x)) xs
-  unfolding flatMap
-  each-apart g [] h = tt
-  each-apart g (x ∷ xs) h = (each-front (g x) (flatMap g xs) h, each-apart g xs (each-back (g x) (flatMap g xs) h))
-
-  pub each-together : {B : Type 0} (g : B → List A) (xs : List B) → Each (λ x. Each P (g x)) xs → Each P (flatMap g xs)
-  unfolding flatMap
-  each-together g [] h = tt
-  each-together g (x ∷ xs) h = each-append (g x) (flatMap g xs) (h .0) (each-together g xs (h .1))
-
-  pub each-map : (R : A → Type 0) → ((x : A) → P x → R x) → (xs : List A) → Each P xs → Each R xs
-  each-map R h [] e = tt
-  each-map R h (x ∷ xs) e = (h x (e .0), each-map R h xs (e .1))
 
 -- what each element's statements keep, all keep
 pub behind-each :

@@ -125,6 +125,12 @@ same-eq [] (y ∷ ys) e = cc
 same-eq (x ∷ xs) [] e = cc
 same-eq (x ∷ xs) (y ∷ ys) e = ap₂ _∷_ (eqb-true x y (and-true-left _ _ e)) (same-eq xs ys (and-true-right (eqb x y) _ e))
 
+pub same-sym : (a b : List ℕ) → same a b ≡ same b a
+same-sym a b =
+    by-test (same a b)
+    (λ e. rw (same-eq a b e))
+    (λ e. by-test (same b a) (λ h. rw (same-eq b a h)) (λ h. rw (e, h)))
+
 -- bytes of different lengths are not the same
 pub same-length : (a b : List ℕ) → (length a ≡ length b → ⊥) → same a b ≡ false
 unfolding same

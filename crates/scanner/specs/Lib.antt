@@ -5,3 +5,4 @@ pub mod Words
 pub mod Numbers
 pub mod Laws
 pub mod Lists
+pub mod Elements

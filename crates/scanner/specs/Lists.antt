@@ -1,19 +1,13 @@
--- Laws of lists: joined lists, an element by its number, tests of all elements, what holds of each, the bits of a wire, nothing before the bytes of a
--- string.
+-- Laws of lists: joined lists, an element by its number, the bits of a wire, nothing before the bytes of a string.
 -- Assumes nothing.
 use mathlib.Core.Path.{_≡_, refl, sym, ap, ap₂, _∙_}
-use mathlib.Core.Bool.{Bool, true, _&&_, false≢true}
-use mathlib.Core.List.{List, [], _∷_, _++_, flatMap, zip, zipWith, dropLast, reverseAux, append-assoc}
-use mathlib.Core.Option.{none, some}
+use mathlib.Core.List.{List, [], _∷_, _++_, map, flatMap, zip, zipWith, dropLast, reverseAux, append-assoc, append-nil}
+use mathlib.Core.Option.{Option·map, none, some}
 use Prim.Native.Nat.{ℕ, zero, suc, _+_, _≤_}
 use native.Mathlib.Omega.{arith}
-use lib.Dec.{eqb}
-use lib.ListN.{length, getElem?}
-use borrow.Author.Tests.{eqb-true}
-use Rattle.rules.specs.Bytes.{all, any}
+use lib.ListN.{length, getElem?, length-append}
 use Rattle.rules.specs.Tokens.{Quoted, closed, broken, quotedOnto}
 use Rattle.rules.specs.Signals.{wireBits}
-use Rattle.scanner.specs.Laws.{by-test, and-true-left, and-true-right}
 
 module _ {A B : Type 0} (f : A → List B) where
   pub flatMap-append : (xs ys : List A) → flatMap f (xs ++ ys) ≡ flatMap f xs ++ flatMap f ys
@@ -26,6 +20,16 @@ module _ {A B : Type 0} (f : A → List B) where
   flatMap-same g h [] = refl
   flatMap-same g h (x ∷ xs) = ap₂ (λ (a b : List B). a ++ b) (h x) (flatMap-same g h xs)
 
+  pub flatMap-snoc : (xs : List A) (x : A) → flatMap f (xs ++ x ∷ []) ≡ flatMap f xs ++ f x
+  unfolding flatMap
+  flatMap-snoc xs x = flatMap-append xs (x ∷ []) ∙ ap (λ (l : List B). flatMap f xs ++ l) (append-nil (f x))
+
+-- an element of a mapped list
+pub at-map : {A B : Type 0} (f : A → B) (xs : List A) (i : ℕ) → getElem? (map f xs) i ≡ Option·map f (getElem? xs i)
+at-map f [] i = refl
+at-map f (x ∷ xs) zero = refl
+at-map f (x ∷ xs) (suc i) = at-map f xs i
+
 pub zip-none : {A B : Type 0} (xs : List A) → zip {A = A} {B = B} xs [] ≡ []
 unfolding zip zipWith
 zip-none [] = refl
@@ -36,6 +40,11 @@ module _ {A : Type 0} where
   drop-last [] x = refl
   drop-last (y ∷ []) x = refl
   drop-last (y ∷ z ∷ xs) x = ap (λ (l : List A). y ∷ l) (drop-last (z ∷ xs) x)
+
+  -- a list with nothing more behind it
+  pub none-more : (xs ys more : List A) → xs ≡ ys ++ more → length xs ≡ length ys → xs ≡ ys
+  none-more xs ys [] e l = e ∙ append-nil ys
+  none-more xs ys (y ∷ more) e l = absurd (omega (arith, ap length e, length-append ys (y ∷ more)))
 
   -- none past the end
   pub element-none : (xs : List A) (i : ℕ) → length xs ≤ i → getElem? xs i ≡ none
@@ -52,47 +61,6 @@ module _ {A : Type 0} where
   pub element-behind : (xs ys : List A) (i n : ℕ) → n ≡ length xs + i → getElem? (reverseAux xs ys) n ≡ getElem? ys i
   element-behind [] ys i n e = let q : n ≡ i = omega arith in rw q
   element-behind (x ∷ xs) ys i n e = element-behind xs (x ∷ ys) (suc i) n (omega arith)
-
-  module _ (f : A → Bool) where
-    pub all-split : (xs ys : List A) → all f (xs ++ ys) ≡ all f xs && all f ys
-    unfolding all
-    all-split [] ys = refl
-    all-split (x ∷ xs) ys = by-test (f x) (λ e. rw (e, all-split xs ys)) (λ e. rw e)
-
-    pub all-append : (xs ys : List A) → all f xs ≡ true → all f ys ≡ true → all f (xs ++ ys) ≡ true
-    all-append xs ys h k = rw (all-split xs ys, h, k)
-
-    pub all-left : (xs ys : List A) → all f (xs ++ ys) ≡ true → all f xs ≡ true
-    all-left xs ys h = and-true-left (all f xs) (all f ys) (rw (all-split xs ys) at h)
-
-    pub all-right : (xs ys : List A) → all f (xs ++ ys) ≡ true → all f ys ≡ true
-    all-right xs ys h = and-true-right (all f xs) (all f ys) (rw (all-split xs ys) at h)
-
-    pub all-reverse : (xs ys : List A) → all f xs ≡ true → all f ys ≡ true → all f (reverseAux xs ys) ≡ true
-    unfolding all
-    all-reverse [] ys h k = k
-    all-reverse (x ∷ xs) ys h k = all-reverse xs (x ∷ ys) (and-true-right (f x) _ h) (rw (and-true-left (f x) _ h) k)
-
-    pub all-element : (xs : List A) (i : ℕ) (v : A) → all f xs ≡ true → getElem? xs i ≡ some v → f v ≡ true
-    unfolding all
-    all-element [] i v h e = cc
-    all-element (x ∷ xs) zero v h e = let q : x ≡ v = cc in rw q at (and-true-left (f x) _ h)
-    all-element (x ∷ xs) (suc i) v h e = all-element xs i v (and-true-right (f x) _ h) e
-
--- what holds of each element, written as `p then q then tt`
-abbrev pub Each : {A : Type 0} → (A → Type 0) → List A → Type 0
-Each P [] = Unit {0}
-Each P (x ∷ xs) = P x × Each P xs
-
-infixr 20 _then_
-abbrev pub _then_ : {A B : Type 0} → A → B → A × B
-p then q = (p, q)
-
--- holds of a number that is found among them
-pub by-any : (P : ℕ → Type 0) (xs : List ℕ) → Each P xs → (n : ℕ) → any (eqb n) xs ≡ true → P n
-unfolding any
-by-any P [] ps n h = absurd (false≢true h)
-by-any P (x ∷ xs) ps n h = by-test (eqb n x) (λ e. rw (eqb-true n x e) (ps .0)) (λ e. by-any P xs (ps .1) n (rw e at h))
 
 -- the bits of a wire are as many as they should be
 pub length-wire : (n i w : ℕ) → length (wireBits n i w) ≡ w

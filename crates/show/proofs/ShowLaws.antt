@@ -1,6 +1,6 @@
 -- What show answers on memory that holds a design.
 -- Assumes nothing.
-use Prim.Native.Nat.{ℕ, zero, suc, _+_, _-_, _≤_, _<_}
+use Prim.Native.Nat.{ℕ, _+_, _-_, _≤_, _<_}
 use mathlib.Core.Path.{_≡_, refl, sym, ap, ap₂, subst, _∙_}
 use mathlib.Core.List.{List, [], _∷_, _++_, map, reverse, append-nil}
 use mathlib.Core.Option.{Option, none, some, Option·map, Option·elim}
@@ -17,6 +17,7 @@ use Rattle.rules.specs.Session.{Rename, wiresAt, wireAt, now, hdlname, plainNam
 use Rattle.rules.specs.Layout.{Memory}
 use Rattle.wires.specs.Rows.{nameOf, wireOf, wiresFrom}
 use Rattle.wires.specs.RowLaws.{length-wires, wire-numbered}
+use Rattle.scanner.specs.Lists.{at-map}
 use Rattle.past.specs.Place.{wiresIn}
 use Rattle.past.specs.declared.place.Place.{Place}
 use Rattle.netlist.specs.Laid.{roomsOf}
@@ -46,11 +47,6 @@ use Rattle.show.specs.Parts.{shownPart, shownIn, numberOf, bytesIn, InRa
 use Rattle.show.specs.declared.Shown.{Shown}
 use Rattle.show.proofs.PartLaws.{shown-part}
 use Rattle.show.proofs.FoundLaws.{line-found, hdlname-found}
-
-at-map : {A B : Type 0} (f : A → B) (xs : List A) (i : ℕ) → getElem? (map f xs) i ≡ Option·map f (getElem? xs i)
-at-map f [] i = refl
-at-map f (x ∷ xs) zero = refl
-at-map f (x ∷ xs) (suc i) = at-map f xs i
 
 none-by : {A : Type 0} (o : Option A) → Option·elim o true (λ x. false) ≡ true → o ≡ none
 unfolding Option·elim

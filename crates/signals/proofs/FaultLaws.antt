@@ -14,7 +14,7 @@ use Rattle.rules.specs.Signals.{Wires, width, declaredWire, goodSlice}
 use Rattle.rules.specs.Numbers.{goodNumbers}
 use Rattle.rules.specs.Judgement.{lowest}
 use Rattle.scanner.specs.Laws.{by-cond, by-test}
-use Rattle.scanner.specs.Lists.{all-split}
+use Rattle.scanner.specs.Elements.{all-split}
 use Rattle.signals.specs.Faults.{faults, merge, tooWide, mild}
 
 -- ---- merge

@@ -18,11 +18,11 @@ use Rattle.rules.specs.Reading.{shaped}
 use Rattle.scanner.specs.Laws.{and-true-left, and-true-right, or-false-right, or-false-left}
 use Rattle.admitted.specs.Admitted.{stands, fineWire, fineMemory, fineParts, admits}
 use Rattle.admitted.specs.StandLaws.{meaning-kind, judge-passed, accepted-stands}
-use Rattle.meaning.specs.Parts.{all-map}
 use Rattle.written.specs.TokenLaws.{fineToken}
 use Rattle.soundness.specs.ShapeLaws.{FineShape, FineShaped, no-shape, fine-shape, shape-fine}
 use Rattle.past.specs.Forms.{translated, contents-translated}
 use Rattle.soundness.specs.PartLaws.{both, constants-fine, wire-fine, memory-fine, narrow, signals-fine, equal-lengths}
+use Rattle.scanner.specs.Elements.{all-through}
 
 -- the tests of a shape that no number refuses
 record GoodShape (ws : Wires) (sh : Shape) : Type 0 where
@@ -74,8 +74,8 @@ module _ (ws : Wires) (sh : Shape) where
       (both _ _
       (both _ _ (f .names) (k .integers))
       (constants-fine (contents sh .constants) (k .constants) (f .constants)))
-      (all-map (λ os. goodWire os && newPort ws os) wireOf (fineWire ws) (contents sh .wires) (wire-fine ws) (k .wires)))
-      (all-map goodMemory memoryOf fineMemory (contents sh .memories) memory-fine (k .memories)))
+      (all-through (λ os. goodWire os && newPort ws os) wireOf (fineWire ws) (contents sh .wires) (wire-fine ws) (k .wires)))
+      (all-through goodMemory memoryOf fineMemory (contents sh .memories) memory-fine (k .memories)))
       (signals-fine ws (contents sh .signals) (k .numbers) (k .slices) (k .narrow)))
       (equal-lengths ws (contents sh .signals) (k .numbers) (k .slices) (k .equal)))
 

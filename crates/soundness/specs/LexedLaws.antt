@@ -11,7 +11,7 @@ use Rattle.rules.specs.Bytes.{byte, all, within, isBlank, isNameStart, isLower,
 use Rattle.rules.specs.Tokens.{integer, Token, word, literal, isKeyword, plain, Quoted, closed, broken, quoted, Step, token, done, wrong, parted, separate, nameStep, wordStep, integerStep, valueStep, numberStep, minusStep, stringStep, stepAt, step, Lexed, good, bad, tokensOnto, tokensBy, tokensFrom, tokens}
 use Rattle.scanner.specs.Laws.{by-cond}
 use Rattle.strings.proofs.StringLaws.{quoted-bytes}
-use Rattle.written.specs.Lists.{all-cons}
+use Rattle.scanner.specs.Elements.{all-cons}
 use Rattle.written.specs.TokenLaws.{fineLiteral, fineToken}
 
 -- ---- tokens

@@ -15,11 +15,10 @@ use Rattle.rules.specs.Numbers.{inRange, goodLiteral, goodNumbers, numberOr, po
 use Rattle.rules.specs.Signals.{Wires, kept, valueBits, literalBits, literalWidth, width, bits, goodSlice, parts, partsOf}
 use Rattle.rules.specs.Judgement.{portNumbers, newPort, equalWidths}
 use Rattle.scanner.specs.Laws.{and-true-left, and-true-right, within-high}
-use Rattle.scanner.specs.Lists.{all-left, all-right}
+use Rattle.scanner.specs.Elements.{all-left, all-right, all-cons, all-first, all-later}
 use Rattle.literals.proofs.CodeLaws.{literal-long}
 use Rattle.admitted.specs.Admitted.{fineConstant, newPorts, fineWire, fineMemory, fineSignal, sameLength}
 use Rattle.admitted.specs.AcceptedLaws.{number-fits, good-offset}
-use Rattle.written.specs.Lists.{all-cons, all-first, all-later}
 use Rattle.written.specs.TokenLaws.{fineLiteral}
 use Rattle.soundness.specs.SignalLaws.{bits-fine, bits-long}
 

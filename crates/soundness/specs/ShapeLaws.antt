@@ -14,7 +14,7 @@ use Rattle.rules.specs.Tokens.{Name, Literal, Token, name, word, literal, mark}
 use Rattle.rules.specs.Statements.{Sig, bundle, Opt, Shape, autoidx-stmt, attr-stmt, module-stmt, param-stmt, wire-stmt, memory-stmt, cell-stmt, cell-param-stmt, cell-conn-stmt, conn-stmt, proc-stmt, end-stmt, contents, holds}
 use Rattle.rules.specs.Shapes.{Parse, Form, Scope, top, inModule, inCell, Context, isWord, isMark, nowhere, give, one, after, of₁, of₂, of₃, either, choice, offers, closedBy, repeat, several, orEnd, isId, isConstant, isInteger, isAtom, id, const, int, atom, low, bounds, sliced, withSlices, sigs, members, signal, sigspec, numbered, flag, wireOptionForms, memoryOptionForms, options, sort, autoidxForm, attributeForm, topForms, objectForms, bodyForms, cellForms, forms, wholeBy, whole, shape}
 use Rattle.scanner.specs.Laws.{by-cond}
-use Rattle.written.specs.Lists.{all-cons, all-first, all-later}
+use Rattle.scanner.specs.Elements.{all-cons, all-first, all-later}
 use Rattle.written.specs.TokenLaws.{fineLiteral, fineToken, Fine}
 
 first-fine : (t : Token) (ts : List Token) → Fine (t ∷ ts) → fineToken t ≡ true

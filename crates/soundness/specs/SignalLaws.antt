@@ -5,7 +5,7 @@ use native.Mathlib.Omega.{arith}
 use mathlib.Core.Path.{_≡_, refl, ap₂, _∙_}
 use mathlib.Core.List.{List, [], _∷_, map, reverse, reverseAux}
 use mathlib.Core.Option.{Option, none, some, Option·elim}
-use mathlib.Core.Bool.{Bool, true, false≢true}
+use mathlib.Core.Bool.{true, false≢true}
 use lib.Dec.{leb, ltb}
 use lib.IntN.{ℤ, pos, negsuc, natAbs}
 use lib.ListN.{length, take, drop, getElem?, length-append, length-map, length-drop}
@@ -19,14 +19,8 @@ use Rattle.rules.specs.Signals.{Wires, find, literalBits, wireBits, inside, low
 use Rattle.scanner.specs.Laws.{by-cond, and-true-left, and-true-right}
 use Rattle.literals.proofs.CodeLaws.{literal-long}
 use Rattle.admitted.specs.Admitted.{fineBit}
-use Rattle.written.specs.Lists.{all-cons, all-first, all-later, all-drop, all-map}
-use Rattle.scanner.specs.Lists.{all-append, length-wire, element-behind, all-left, all-right}
-
-all-take : {A : Type 0} (f : A → Bool) (n : ℕ) (xs : List A) → all f xs ≡ true → all f (take n xs) ≡ true
-unfolding all
-all-take f zero xs h = refl
-all-take f (suc n) [] h = refl
-all-take f (suc n) (x ∷ xs) h = all-cons f x (take n xs) (all-first f x xs h) (all-take f n xs (all-later f x xs h))
+use Rattle.scanner.specs.Elements.{all-cons, all-first, all-later, all-drop, all-append, all-left, all-right, all-map, all-each, all-take}
+use Rattle.scanner.specs.Lists.{length-wire, element-behind}
 
 -- ---- a wire that is found stands at its number
 
@@ -59,7 +53,7 @@ module _ (ws : Wires) where
 
   digit-fine : (c : Literal) → all (fineBit ws) (map digit (literalBits c)) ≡ true
   unfolding fineBit
-  digit-fine c = all-map (fineBit ws) digit (λ d. refl) (literalBits c)
+  digit-fine c = all-map (fineBit ws) digit (literalBits c) ∙ all-each (λ d. fineBit ws (digit d)) (λ d. refl) (literalBits c)
 
   -- whatever a signal is, its bits are fine
   mutual

@@ -1,32 +1,18 @@
 -- A turn of the search for a name now, and that a name is taken just where its wire is found.
 -- Assumes nothing.
 use Prim.Native.Nat.{ℕ, zero, suc, _+_, _-_}
-use mathlib.Core.Path.{_≡_, refl, sym, ap, _∙_}
+use mathlib.Core.Path.{_≡_, sym, ap, _∙_}
 use mathlib.Core.List.{List}
-use mathlib.Core.Bool.{Bool, true, false, _||_}
+use mathlib.Core.Bool.{Bool, true, false, _||_, or-false, or-true}
 use native.Mathlib.Omega.{arith}
 use Rattle.rules.specs.Bytes.{same, any}
 use Rattle.rules.specs.Tokens.{Name}
 use Rattle.rules.specs.Judgement.{accepted, refused}
-use Rattle.scanner.specs.Laws.{by-test, same-eq}
+use Rattle.scanner.specs.Laws.{by-test, same-sym}
 use Rattle.wire_names.specs.Now.{nameNow, wiresNow, wiresIn}
 use Rattle.wire_names.specs.declared.Module.{Module}
 use Rattle.standing.specs.Search.{searchNow, named, isFound}
 use Rattle.standing.specs.declared.Named.{Named}
-
-same-swap : (a b : Name) → same a b ≡ same b a
-same-swap a b =
-    by-test (same a b)
-    (λ e. rw (same-eq a b e))
-    (λ e. by-test (same b a) (λ h. rw (same-eq b a h)) (λ h. rw (e, h)))
-
-or-false : (b : Bool) → b || false ≡ b
-or-false true = refl
-or-false false = refl
-
-or-true : (b : Bool) → b || true ≡ true
-or-true true = refl
-or-true false = refl
 
 -- l wires are left from number k on; b: whether wire k has the name
 module _ (names wires rows : List ℕ) (m : Module) (n own : Name) (l j k : ℕ) (b : Bool) (e : l ≡ suc j)
@@ -62,7 +48,7 @@ module _ (names wires rows : List ℕ) (m : Module) (n : Name) where
       let own : Name = nameNow names wires rows (m .from) (m .renames) (m .number .0) k (m .first + k) in
       let e : k + suc l ≡ k + 1 + l = omega arith in
       let h : taken (k + suc l) ≡ (same own n || taken k) || isFound (searchNow names wires rows m n l (k + 1)) =
-      ap taken e ∙ found-on l (k + 1) ∙ ap (λ (b : Bool). b || isFound (searchNow names wires rows m n l (k + 1))) (taken-more k ∙ ap (λ (b : Bool). b || taken k) (same-swap n own)) in
+      ap taken e ∙ found-on l (k + 1) ∙ ap (λ (b : Bool). b || isFound (searchNow names wires rows m n l (k + 1))) (taken-more k ∙ ap (λ (b : Bool). b || taken k) (same-sym n own)) in
       by-test (same own n) (λ t. h ∙ rw (t, or-true (taken k))) (λ t. h ∙ rw t)
 
   pub taken-found : (r : Named) → named r ≡ searchNow names wires rows m n (m .wires) 0 → any (λ x. same n (x .0)) (wiresIn names wires rows m) ≡ isFound (named r)

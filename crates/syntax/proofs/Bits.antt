@@ -19,7 +19,7 @@ use Rattle.rules.specs.Signals.{Wires, find, lower, span, literalBits, wireBits
 use Rattle.rules.specs.Judgement.{lowest}
 use Rattle.rules.specs.Layout.{bitCode}
 use Rattle.scanner.specs.Laws.{and-true-left, and-true-right}
-use Rattle.scanner.specs.Lists.{all-split}
+use Rattle.scanner.specs.Elements.{all-split}
 use Rattle.numbers.specs.Kinds.{bitOf, bitAt}
 use Rattle.numbers.specs.KindLaws.{Within, bit-back}
 use Rattle.signals.specs.Faults.{faults, fault}

@@ -1,4 +1,4 @@
-pub mod Lists
+pub mod Runs
 pub mod NumberLaws
 pub mod StringLaws
 pub mod TokenLaws

@@ -1,6 +1,6 @@
 -- A written line holds no line end, and lines are read back.
 -- Assumes nothing.
-use mathlib.Core.Path.{_≡_, refl, ap}
+use mathlib.Core.Path.{_≡_, refl, ap, _∙_}
 use mathlib.Core.Bool.{Bool, true, false, cond}
 use mathlib.Core.List.{List, [], _∷_, _++_, map, flatMap}
 use Prim.Native.Nat.{ℕ, zero, suc, _+_, _/_, _%_, _≤_}
@@ -15,9 +15,7 @@ use Rattle.rules.specs.Lines.{Line, longer, linesFrom}
 use Rattle.rules.specs.Text.{decimalText, integerText, digitByte, escaped, literalText, tokenText, tight, behind, spaced}
 use Rattle.scanner.specs.Laws.{by-cond, within-low}
 use Rattle.scanner.proofs.LineLaws.{inLine}
-use Rattle.scanner.specs.Lists.{all-append, by-any}
-use Rattle.admitted.specs.AdmitLaws.{all-implied}
-use Rattle.written.specs.Lists.{all-cons, all-first, all-later, all-map}
+use Rattle.scanner.specs.Elements.{all-append, by-any, all-implied, all-cons, all-first, all-later, all-map, all-each}
 use Rattle.written.specs.NumberLaws.{Digits, some-digits, decimal-digits}
 use Rattle.written.specs.TokenLaws.{fineToken, legal-start, legal-bytes, keyword-lower}
 
@@ -87,7 +85,7 @@ literal-free : (c : Literal) → all inLine (literalText c) ≡ true
 unfolding literalText integerText
 literal-free (value w ds) =
     all-append inLine (decimalText w) (39 ∷ map digitByte ds) (decimal-free w)
-    (all-cons inLine 39 (map digitByte ds) (above-ends 39 (omega arith)) (all-map inLine digitByte value-digit-in ds))
+    (all-cons inLine 39 (map digitByte ds) (above-ends 39 (omega arith)) (all-map inLine digitByte ds ∙ all-each (λ d. inLine (digitByte d)) value-digit-in ds))
 literal-free (integer (pos n)) = decimal-free n
 literal-free (integer (negsuc n)) = all-cons inLine 45 (decimalText (n + 1)) (above-ends 45 (omega arith)) (decimal-free (n + 1))
 literal-free (string s) =

@@ -11,7 +11,7 @@ use Rattle.rules.specs.Bytes.{all, isDigit}
 use Rattle.rules.specs.Tokens.{number, decimal}
 use Rattle.rules.specs.Text.{decimalOnto, decimalText}
 use Rattle.scanner.specs.Laws.{by-cond, within-yes}
-use Rattle.written.specs.Lists.{all-cons}
+use Rattle.scanner.specs.Elements.{all-cons}
 
 number-onto : (k n : ℕ) (ds : List ℕ) → n < k → number 10 0 (decimalOnto k n ds) ≡ number 10 n ds
 unfolding decimalOnto number

@@ -15,9 +15,8 @@ use Rattle.rules.specs.Text.{written, shapeTokens, indent, lineText, textFrom}
 use Rattle.rules.specs.Reading.{shaped, stated, judged, lexed, outcome}
 use Rattle.past.specs.Forms.{by-form}
 use Rattle.admitted.specs.Admitted.{stands, fineParts, admits, admitted}
-use Rattle.scanner.specs.Laws.{by-cond, and-true-left, and-true-right}
-use Rattle.scanner.specs.Lists.{all-append}
-use Rattle.written.specs.Lists.{all-cons, all-first, all-later}
+use Rattle.scanner.specs.Laws.{and-true-left, and-true-right}
+use Rattle.scanner.specs.Elements.{all-append, all-cons, all-first, all-later, all-until}
 use Rattle.written.specs.TokenLaws.{tokens-spaced}
 use Rattle.scanner.proofs.LineLaws.{inLine}
 use Rattle.written.specs.LineLaws.{line-free, lineAt, lines-first}
@@ -66,12 +65,6 @@ unfolding admitted named all
 admitted-named [] a = refl
 admitted-named (s ∷ ss) a =
     all-cons named s ss (parts-names (wires ss) s (admits-fine ss s (and-true-right (admitted ss) (admits ss s) a))) (admitted-named ss (and-true-left (admitted ss) (admits ss s) a))
-
-all-until : {A : Type 0} (f g : A → Bool) (xs : List A) → all f xs ≡ true → all f (until g xs) ≡ true
-unfolding until all
-all-until f g [] h = refl
-all-until f g (x ∷ xs) h =
-    by-cond (λ l. all f l ≡ true) (g x) (λ e. refl) (λ e. all-cons f x (until g xs) (all-first f x xs h) (all-until f g xs (all-later f x xs h)))
 
 abbrev legalFirst : Name × Wire → Bool
 legalFirst w = legal (w .0)

@@ -12,7 +12,7 @@ use Rattle.rules.specs.Tokens.{Inside, plain, escape, octal, goes, closed, turn
 use Rattle.rules.specs.Text.{escaped}
 use Rattle.scanner.specs.Laws.{by-cond, within-yes, within-low, within-high}
 use Rattle.scanner.specs.Lists.{onto-none}
-use Rattle.written.specs.Lists.{all-first, all-later}
+use Rattle.scanner.specs.Elements.{all-first, all-later}
 
 -- a byte that gives bytes, and one that gives none
 module _ (i j : Inside) (b : ℕ) (l : List ℕ) where

@@ -15,8 +15,8 @@ use Rattle.rules.specs.Tokens.{Digit, S0, S1, Sx, Sz, Sm, Sa, Literal, value, i
 use Rattle.rules.specs.Shapes as shapes
 use Rattle.rules.specs.Text.{decimalText, integerText, digitByte, escaped, literalText, tokenText, tight, behind, spaced}
 use Rattle.scanner.specs.Laws.{by-test, and-true-left, and-true-right, within-below, within-low, within-high}
-use Rattle.scanner.specs.Lists.{by-any}
-use Rattle.written.specs.Lists.{all-first, all-later, all-cons, all-map, list-passes, Stops, run-upto, rest-upto}
+use Rattle.scanner.specs.Elements.{by-any, all-first, all-later, all-cons, all-map, all-each}
+use Rattle.written.specs.Runs.{list-passes, Stops, run-upto, rest-upto}
 use Rattle.written.specs.NumberLaws.{decimal-text, Digits, some-digits, decimal-digits}
 use Rattle.written.specs.StringLaws.{quoted-string}
 
@@ -211,7 +211,7 @@ module _ (l : List ℕ) (s : Sep l) where
   value-step : (w : ℕ) (ds : List Digit) → step (decimalText w ++ (39 ∷ map digitByte ds ++ l)) ≡ token (literal (value w ds)) l
   unfolding numberStep valueStep
   value-step w ds =
-      let a : all isValueDigit (map digitByte ds) ≡ true = all-map isValueDigit digitByte digit-byte ds in
+      let a : all isValueDigit (map digitByte ds) ≡ true = all-map isValueDigit digitByte ds ∙ all-each (λ d. isValueDigit (digitByte d)) digit-byte ds in
       let from : List ℕ = decimalText w ++ (39 ∷ map digitByte ds ++ l) in
       digits-step (39 ∷ map digitByte ds ++ l) (decimal-digits w) no-quote
       ∙ rw (decimal-text w, run-upto isValueDigit (map digitByte ds) l a (no-value-digit l s), rest-upto isValueDigit (map digitByte ds) l a (no-value-digit l s), digits-back ds)

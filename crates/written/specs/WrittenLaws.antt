@@ -1,6 +1,6 @@
 -- The tokens of a written statement can be written, if its parts keep the rules and the wires have legal names.
 -- Assumes nothing.
-use mathlib.Core.Path.{_≡_, refl}
+use mathlib.Core.Path.{_≡_, refl, _∙_}
 use mathlib.Core.Bool.{Bool, true, false, not, cond, _&&_}
 use mathlib.Core.List.{List, [], _∷_, _++_, map, Option·toList}
 use mathlib.Core.Option.{Option, none, some, Option·map}
@@ -18,8 +18,7 @@ use Rattle.rules.specs.Signals.{Wires}
 use Rattle.rules.specs.Text.{Run, digits, span, runs, cut, runSig, runsSig, sig, literalOf, setting, unless, directionWord, wireOptions, memoryOptions, written, numberToken, wordToken, lowTokens, sigTokens, sigsTokens, optionTokens, sortTokens, shapeTokens}
 use Rattle.admitted.specs.Admitted.{fineConstant, sameLength, fineParts}
 use Rattle.scanner.specs.Laws.{by-cond, and-true-left, and-true-right}
-use Rattle.scanner.specs.Lists.{all-append, all-split}
-use Rattle.written.specs.Lists.{all-cons, all-first, all-later, all-drop, all-map}
+use Rattle.scanner.specs.Elements.{all-append, all-split, all-cons, all-first, all-later, all-drop, all-map, all-each}
 use Rattle.written.specs.TokenLaws.{fineLiteral, fineToken, Fine}
 
 -- the wires' names are legal
@@ -119,7 +118,7 @@ module _ (ws : Wires) (h : legalNames ws ≡ true) where
 
   sig-fine : (bs : Signal) → Fine (sigTokens (sig ws bs))
   unfolding Fine sig fineSig
-  sig-fine bs = runsSig-fine (map (runSig ws) (runs bs)) (all-map fineSig (runSig ws) run-fine (runs bs))
+  sig-fine bs = runsSig-fine (map (runSig ws) (runs bs)) (all-map fineSig (runSig ws) (runs bs) ∙ all-each (λ r. fineSig (runSig ws r)) run-fine (runs bs))
 
 -- ---- options
 

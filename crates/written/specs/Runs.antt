@@ -1,35 +1,12 @@
--- Tests over lists, and runs.
+-- Runs of bytes that pass a test, and one of some lists that all pass.
 -- Assumes nothing.
 use mathlib.Core.Path.{_≡_, refl}
 use mathlib.Core.Bool.{Bool, true, false, false≢true}
-use mathlib.Core.List.{List, [], _∷_, _++_, map}
-use Prim.Native.Nat.{ℕ, zero, suc}
-use lib.ListN.{drop}
+use mathlib.Core.List.{List, [], _∷_, _++_}
+use Prim.Native.Nat.{ℕ}
 use Rattle.rules.specs.Bytes.{same, any, all, run, rest}
-use Rattle.scanner.specs.Laws.{by-test, and-true-left, and-true-right, same-eq}
-
-module _ {A : Type 0} (f : A → Bool) where
-  pub all-cons : (x : A) (xs : List A) → f x ≡ true → all f xs ≡ true → all f (x ∷ xs) ≡ true
-  unfolding all
-  all-cons x xs h k = rw (h, k)
-
-  pub all-first : (x : A) (xs : List A) → all f (x ∷ xs) ≡ true → f x ≡ true
-  unfolding all
-  all-first x xs h = and-true-left (f x) (all f xs) h
-
-  pub all-later : (x : A) (xs : List A) → all f (x ∷ xs) ≡ true → all f xs ≡ true
-  unfolding all
-  all-later x xs h = and-true-right (f x) (all f xs) h
-
-  pub all-drop : (n : ℕ) (xs : List A) → all f xs ≡ true → all f (drop n xs) ≡ true
-  all-drop zero xs h = h
-  all-drop (suc n) [] h = h
-  all-drop (suc n) (x ∷ xs) h = all-drop n xs (all-later x xs h)
-
-pub all-map : {A B : Type 0} (f : B → Bool) (g : A → B) → ((x : A) → f (g x) ≡ true) → (xs : List A) → all f (map g xs) ≡ true
-unfolding all
-all-map f g i [] = refl
-all-map f g i (x ∷ xs) = all-cons f (g x) (map g xs) (i x) (all-map f g i xs)
+use Rattle.scanner.specs.Laws.{by-test, same-eq}
+use Rattle.scanner.specs.Elements.{all-first, all-later}
 
 -- one of some lists of bytes passes a test that all of them pass
 pub list-passes : (f : List ℕ → Bool) (xs : List (List ℕ)) (b : List ℕ) → all f xs ≡ true → any (same b) xs ≡ true → f b ≡ true

@@ -1,0 +1,174 @@
+-- Tests that all elements of a list pass, and what holds of each.
+-- Assumes nothing.
+use mathlib.Core.Path.{_≡_, refl, ap, ap₂, _∙_}
+use mathlib.Core.Bool.{Bool, true, _&&_, false≢true}
+use mathlib.Core.List.{List, [], _∷_, _++_, map, flatMap, zip, zipWith, reverseAux}
+use mathlib.Core.Option.{some}
+use Prim.Native.Nat.{ℕ, zero, suc}
+use lib.Dec.{eqb}
+use lib.ListN.{getElem?, take, drop}
+use borrow.Author.Tests.{eqb-true}
+use Rattle.rules.specs.Bytes.{all, any}
+use Rattle.rules.specs.Judgement.{until}
+use Rattle.scanner.specs.Laws.{by-cond, by-test, and-true-left, and-true-right}
+
+module _ {A : Type 0} (f : A → Bool) where
+  pub all-split : (xs ys : List A) → all f (xs ++ ys) ≡ all f xs && all f ys
+  unfolding all
+  all-split [] ys = refl
+  all-split (x ∷ xs) ys = by-test (f x) (λ e. rw (e, all-split xs ys)) (λ e. rw e)
+
+  pub all-append : (xs ys : List A) → all f xs ≡ true → all f ys ≡ true → all f (xs ++ ys) ≡ true
+  all-append xs ys h k = rw (all-split xs ys, h, k)
+
+  pub all-left : (xs ys : List A) → all f (xs ++ ys) ≡ true → all f xs ≡ true
+  all-left xs ys h = and-true-left (all f xs) (all f ys) (rw (all-split xs ys) at h)
+
+  pub all-right : (xs ys : List A) → all f (xs ++ ys) ≡ true → all f ys ≡ true
+  all-right xs ys h = and-true-right (all f xs) (all f ys) (rw (all-split xs ys) at h)
+
+  pub all-reverse : (xs ys : List A) → all f xs ≡ true → all f ys ≡ true → all f (reverseAux xs ys) ≡ true
+  unfolding all
+  all-reverse [] ys h k = k
+  all-reverse (x ∷ xs) ys h k = all-reverse xs (x ∷ ys) (and-true-right (f x) _ h) (rw (and-true-left (f x) _ h) k)
+
+  pub all-element : (xs : List A) (i : ℕ) (v : A) → all f xs ≡ true → getElem? xs i ≡ some v → f v ≡ true
+  unfolding all
+  all-element [] i v h e = cc
+  all-element (x ∷ xs) zero v h e = let q : x ≡ v = cc in rw q at (and-true-left (f x) _ h)
+  all-element (x ∷ xs) (suc i) v h e = all-element xs i v (and-true-right (f x) _ h) e
+
+  pub all-cons : (x : A) (xs : List A) → f x ≡ true → all f xs ≡ true → all f (x ∷ xs) ≡ true
+  unfolding all
+  all-cons x xs h k = rw (h, k)
+
+  pub all-first : (x : A) (xs : List A) → all f (x ∷ xs) ≡ true → f x ≡ true
+  unfolding all
+  all-first x xs h = and-true-left (f x) (all f xs) h
+
+  pub all-later : (x : A) (xs : List A) → all f (x ∷ xs) ≡ true → all f xs ≡ true
+  unfolding all
+  all-later x xs h = and-true-right (f x) (all f xs) h
+
+  pub all-take : (n : ℕ) (xs : List A) → all f xs ≡ true → all f (take n xs) ≡ true
+  unfolding all
+  all-take zero xs h = refl
+  all-take (suc n) [] h = refl
+  all-take (suc n) (x ∷ xs) h = all-cons x (take n xs) (all-first x xs h) (all-take n xs (all-later x xs h))
+
+  pub all-drop : (n : ℕ) (xs : List A) → all f xs ≡ true → all f (drop n xs) ≡ true
+  all-drop zero xs h = h
+  all-drop (suc n) [] h = h
+  all-drop (suc n) (x ∷ xs) h = all-drop n xs (all-later x xs h)
+
+  pub all-until : (g : A → Bool) (xs : List A) → all f xs ≡ true → all f (until g xs) ≡ true
+  unfolding until all
+  all-until g [] h = refl
+  all-until g (x ∷ xs) h =
+      by-cond (λ l. all f l ≡ true) (g x) (λ e. refl) (λ e. all-cons x (until g xs) (all-first x xs h) (all-until g xs (all-later x xs h)))
+
+  -- that follows from another test
+  pub all-implied : (g : A → Bool) → ((x : A) → f x ≡ true → g x ≡ true) → (xs : List A) → all f xs ≡ true → all g xs ≡ true
+  unfolding all
+  all-implied g h [] e = refl
+  all-implied g h (x ∷ xs) e = rw (h x (and-true-left (f x) _ e)) (all-implied g h xs (and-true-right (f x) _ e))
+
+  -- that every element passes
+  pub all-each : ((x : A) → f x ≡ true) → (xs : List A) → all f xs ≡ true
+  unfolding all
+  all-each h [] = refl
+  all-each h (x ∷ xs) = all-cons x xs (h x) (all-each h xs)
+
+  module _ {B : Type 0} where
+    pub all-map : (g : B → A) (xs : List B) → all f (map g xs) ≡ all (λ x. f (g x)) xs
+    unfolding all
+    all-map g [] = refl
+    all-map g (x ∷ xs) = ap (λ (b : Bool). f (g x) && b) (all-map g xs)
+
+    pub all-flatMap : (g : B → List A) → ((x : B) → all f (g x) ≡ true) → (xs : List B) → all f (flatMap g xs) ≡ true
+    unfolding all flatMap
+    all-flatMap g h [] = refl
+    all-flatMap g h (x ∷ xs) = all-append (g x) (flatMap g xs) (h x) (all-flatMap g h xs)
+
+-- of mapped elements, by a test of those that are mapped
+pub all-through : {A B : Type 0} (f : A → Bool) (k : A → B) (g : B → Bool) (xs : List A) → ((x : A) → f x ≡ true → g (k x) ≡ true) → all f xs ≡ true → all g (map k xs) ≡ true
+all-through f k g xs h e = all-map g k xs ∙ all-implied f (λ x. g (k x)) h xs e
+
+-- of pairs, by their first or second parts
+module _ {A B : Type 0} where
+  pub all-zip-first : (f : A → Bool) (xs : List A) (ys : List B) → all f xs ≡ true → all (λ z. f (z .0)) (zip xs ys) ≡ true
+  unfolding all zip zipWith
+  all-zip-first f [] ys h = refl
+  all-zip-first f (x ∷ xs) [] h = refl
+  all-zip-first f (x ∷ xs) (y ∷ ys) h = rw (all-first f x xs h) (all-zip-first f xs ys (all-later f x xs h))
+
+  pub all-zip-second : (f : B → Bool) (xs : List A) (ys : List B) → all f ys ≡ true → all (λ z. f (z .1)) (zip xs ys) ≡ true
+  unfolding all zip zipWith
+  all-zip-second f [] ys h = refl
+  all-zip-second f (x ∷ xs) [] h = refl
+  all-zip-second f (x ∷ xs) (y ∷ ys) h = rw (all-first f y ys h) (all-zip-second f xs ys (all-later f y ys h))
+
+-- what holds of each element, written as `p then q then tt`
+abbrev pub Each : {A : Type 0} → (A → Type 0) → List A → Type 0
+Each P [] = Unit {0}
+Each P (x ∷ xs) = P x × Each P xs
+
+infixr 20 _then_
+abbrev pub _then_ : {A B : Type 0} → A → B → A × B
+p then q = (p, q)
+
+-- holds of a number that is found among them
+pub by-any : (P : ℕ → Type 0) (xs : List ℕ) → Each P xs → (n : ℕ) → any (eqb n) xs ≡ true → P n
+unfolding any
+by-any P [] ps n h = absurd (false≢true h)
+by-any P (x ∷ xs) ps n h = by-test (eqb n x) (λ e. rw (eqb-true n x e) (ps .0)) (λ e. by-any P xs (ps .1) n (rw e at h))
+
+module _ {A : Type 0} (P : A → Type 0) where
+  pub each-front : (xs ys : List A) → Each P (xs ++ ys) → Each P xs
+  each-front [] ys h = tt
+  each-front (x ∷ xs) ys h = (h .0, each-front xs ys (h .1))
+
+  pub each-back : (xs ys : List A) → Each P (xs ++ ys) → Each P ys
+  each-back [] ys h = h
+  each-back (x ∷ xs) ys h = each-back xs ys (h .1)
+
+  pub each-append : (xs ys : List A) → Each P xs → Each P ys → Each P (xs ++ ys)
+  each-append [] ys h k = k
+  each-append (x ∷ xs) ys h k = (h .0, each-append xs ys (h .1) k)
+
+  pub each-apart : {B : Type 0} (g : B → List A) (xs : List B) → Each P (flatMap g xs) → Each (λ x. Each P (g x)) xs
+  unfolding flatMap
+  each-apart g [] h = tt
+  each-apart g (x ∷ xs) h = (each-front (g x) (flatMap g xs) h, each-apart g xs (each-back (g x) (flatMap g xs) h))
+
+  pub each-together : {B : Type 0} (g : B → List A) (xs : List B) → Each (λ x. Each P (g x)) xs → Each P (flatMap g xs)
+  unfolding flatMap
+  each-together g [] h = tt
+  each-together g (x ∷ xs) h = each-append (g x) (flatMap g xs) (h .0) (each-together g xs (h .1))
+
+  pub each-map : (R : A → Type 0) → ((x : A) → P x → R x) → (xs : List A) → Each P xs → Each R xs
+  each-map R h [] e = tt
+  each-map R h (x ∷ xs) e = (h x (e .0), each-map R h xs (e .1))
+
+  pub each-all : ((x : A) → P x) → (xs : List A) → Each P xs
+  each-all h [] = tt
+  each-all h (x ∷ xs) = (h x, each-all h xs)
+
+  -- by a test that all pass
+  pub each-of : (f : A → Bool) → ((x : A) → f x ≡ true → P x) → (xs : List A) → all f xs ≡ true → Each P xs
+  each-of f h [] e = tt
+  each-of f h (x ∷ xs) e = (h x (all-first f x xs e), each-of f h xs (all-later f x xs e))
+
+-- there and back
+pub map-back : {A B : Type 0} (f : A → B) (g : B → A) (xs : List A) → Each (λ x. g (f x) ≡ x) xs → map g (map f xs) ≡ xs
+map-back f g [] h = refl
+map-back f g (x ∷ xs) h = ap₂ _∷_ (h .0) (map-back f g xs (h .1))
+
+-- tests that all hold, one by one
+abbrev pub tests : Bool → List Bool → Bool
+tests b [] = b
+tests b (c ∷ cs) = tests (b && c) cs
+
+pub each-test : (b : Bool) (cs : List Bool) → tests b cs ≡ true → Each (λ c. c ≡ true) (b ∷ cs)
+each-test b [] e = (e, tt)
+each-test b (c ∷ cs) e = let h = each-test (b && c) cs e in (and-true-left b c (h .0), (and-true-right b c (h .0), h .1))
