@@ -4,13 +4,19 @@ use answer::answer;
 use libc::STDIN_FILENO;
 use libc::STDOUT_FILENO;
 
-// A byte over the limit is read, so that a file over it is told.
-fn answer_open(fd: i32) {
+// A byte over the limit is read, so that a file over it is told. A short count may be a read that failed; errno was 0 before.
+fn answer_open(fd: i32, name: &[u8]) {
     let mut file = [0u8; 32769];
     let mut out = [0u8; 32768];
     let n = io::read_full(fd, &mut file);
+    if (n < 32769) & (os::errno() != 0) {
+        os::fail(name);
+        return;
+    }
     let size = answer(&file[..n], &mut out);
-    io::write_all(STDOUT_FILENO, &out[0..size]);
+    if !io::write_all(STDOUT_FILENO, &out[0..size]) {
+        os::fail(b"standard output");
+    }
 }
 
 fn answer_named(i: usize) {
@@ -28,14 +34,14 @@ fn answer_named(i: usize) {
     io::write_all(STDOUT_FILENO, b"== ");
     io::write_all(STDOUT_FILENO, &path[..length]);
     io::write_all(STDOUT_FILENO, b"\n");
-    answer_open(fd);
+    answer_open(fd, &path[..length]);
     libc::close(fd);
 }
 
 fn main() {
     let count = os::arg_count();
     if count < 2 {
-        answer_open(STDIN_FILENO);
+        answer_open(STDIN_FILENO, b"standard input");
         return;
     }
     let mut i = 1;

@@ -11,6 +11,15 @@ slice-aggregate-read-full c = search needs
 read-full-requires : tie.Need-read-full-requires
 read-full-requires c κs = search needs
 
+errno-requires : tie.Need-errno-requires
+errno-requires c κs = search needs
+
+fail-requires : tie.Need-fail-requires
+fail-requires c κs = search needs
+
+returns : tie.Need-returns
+returns c = search needs
+
 array-share-prefix-file : tie.Need-array-share-prefix-file
 array-share-prefix-file c = search needs
 
@@ -32,8 +41,17 @@ part-write-all-end c = putting-fits _ _ _ _ (c .before .answer .ensures .0) (c .
 write-all-requires : tie.Need-write-all-requires
 write-all-requires c κs = search needs
 
-returns : tie.Need-returns
-returns c = search needs
+slice-aggregate-fail : tie.Need-slice-aggregate-fail
+slice-aggregate-fail c = search needs
+
+fail-requires-2 : tie.Need-fail-requires-2
+fail-requires-2 c κs = search needs
+
+returns-2 : tie.Need-returns-2
+returns-2 c = search needs
+
+returns-3 : tie.Need-returns-3
+returns-3 c = search needs
 
 pub answer-open-spec : {M : Type 1} → statement M
 answer-open-spec =
@@ -41,6 +59,9 @@ answer-open-spec =
     (tie.spec
     slice-aggregate-read-full
     read-full-requires
+    errno-requires
+    fail-requires
+    returns
     array-share-prefix-file
     slice-aggregate-answer
     answer-requires
@@ -48,4 +69,7 @@ answer-open-spec =
     part-write-all-start
     part-write-all-end
     write-all-requires
-    returns)
+    slice-aggregate-fail
+    fail-requires-2
+    returns-2
+    returns-3)

@@ -1,6 +1,7 @@
 -- `skytassel::main` meets its contract: the loop counts the arguments up.
 -- Assumes nothing.
 use Prim.Native.Nat.{_-_}
+use mathlib.Core.Path.{refl}
 use native.Mathlib.Omega.{arith}
 use Rattle.skytassel.proofs.main.Statement.{statement}
 use Rattle.skytassel.proofs.main.Tie as tie
@@ -13,6 +14,9 @@ abbrev μ-loop : tie.MeasureT-loop
 
 arg-count-requires : tie.Need-arg-count-requires Inv-loop μ-loop
 arg-count-requires c κs = tt
+
+slice-aggregate-answer-open : tie.Need-slice-aggregate-answer-open Inv-loop μ-loop
+slice-aggregate-answer-open c = refl
 
 answer-open-requires : tie.Need-answer-open-requires Inv-loop μ-loop
 answer-open-requires c κs = tt
@@ -41,4 +45,4 @@ returns-2 c = tt
 pub main-spec : {M : Type 1} → statement M
 main-spec =
     tie.close
-    (tie.spec Inv-loop μ-loop arg-count-requires answer-open-requires returns loop-holds answer-named-requires add-i loop-less loop-again returns-2)
+    (tie.spec Inv-loop μ-loop arg-count-requires slice-aggregate-answer-open answer-open-requires returns loop-holds answer-named-requires add-i loop-less loop-again returns-2)
