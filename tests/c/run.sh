@@ -1,5 +1,5 @@
 #!/usr/bin/env bash
-# The C example, compiled as C and as C++ against include/skytassel.h and the static library, writes what it must.
+# The C example, compiled against include/skytassel.h and the static library, writes what it must; as C++ it is only checked.
 set -euo pipefail
 cd "$(dirname "$0")/../.."
 built=target/c

@@ -42,7 +42,7 @@ module _ (u : layout.Used) (s : Statement) (t : List ℕ) where
   abbrev pub rowsPut : List ℕ
   rowsPut = store t (8 * u .rows) (statementRow u s)
 
--- the tables of memory (closed, or the check computes whole tables of zeros), and how each changes where a statement is stored
+-- the tables of memory (kept folded, or the check computes whole tables of zeros), and how each changes where a statement is stored
 unfoldable pub tablesOf : layout.Memory → Tables
 tablesOf m = tablesIn m
 

@@ -106,7 +106,7 @@ pub fn as_valued(statement: Statement) -> Valued
     }
 }
 
-// Row k of a table; no row has an eighth column.
+// Row k of a table; its eighth column is 0.
 fn put_columns(table: &mut [u32], k: u32, kind: u32, a: u32, b: u32, c: u32, d: u32, e: u32, g: u32)
     requires { ⌜ 8 * k + 8 ≤ length (now table) ⌝ }
     ensures { λ _. ⌜ now (table .exit) ≡ store (now (table .entry)) (8 * k) (row (kind ∷ a ∷ b ∷ c ∷ d ∷ e ∷ g ∷ [])) ⌝ }

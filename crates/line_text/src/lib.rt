@@ -150,7 +150,7 @@ fn put_bounds(out: &mut [u8], at: usize, low: u32, count: u32) -> usize
     put_byte(out, end, b']')
 }
 
-// So many bits of a wire from a bit up. (A number past the module's wires counts as that of the last one.)
+// So many bits of a wire from a bit up; a number past the module's wires counts as that of the last one.
 fn put_cut(
     names: &[u8],
     wires: &[u32],
@@ -260,7 +260,7 @@ fn put_signal(
     put_bytes(out, end, b" }")
 }
 
-// Options, with defaults left out.
+// An option with its number, left out where it is the default.
 fn put_setting(out: &mut [u8], at: usize, w: &[u8], n: u32, usual: u32) -> usize
     requires { ⌜ at ≤ 32769 ⌝ }
     ensures { λ r. ⌜ Written at (spread (optionTokens (unless (eqb n usual) (now (w .entry), some (pos n))))) (now (out .entry)) (now (out .exit)) r ⌝ }

@@ -95,7 +95,7 @@ pub fn good_literal(f: &[u8], c: Constant) -> bool
     }
 }
 
-// The bits of a string, 8 a byte; the same cap as a decimal's.
+// How many bits a string has, 8 a byte; the same cap as a decimal's.
 fn text_width(f: &[u8], start: usize) -> usize
     ensures { λ r. ⌜ r ≡ capped (8 * length (decoded (drop start (now (f .entry))))) ⌝ }
 {
@@ -106,7 +106,7 @@ fn text_width(f: &[u8], start: usize) -> usize
     8 * size
 }
 
-// The bits of a constant; 2147483649 where there are more, so that the widths of a line add up.
+// How many bits a constant has; 2147483649 where there are more, so that the widths of a line add up.
 pub fn literal_width(f: &[u8], c: Constant) -> usize
     ensures { λ r. ⌜ (r ≡ capped (literalWidth (literalIn (now (f .entry)) c))) × (r ≤ 2147483649) ⌝ }
 {

@@ -1,4 +1,4 @@
--- What lies in the tables: in padded tables, after one statement more, behind a rename, and after a store behind it.
+-- What lies in the tables: in padded tables, before one statement more and before renames, and what the last statement left.
 -- Assumes nothing.
 use Prim.Native.Nat.{ℕ}
 use mathlib.Core.Path.{_≡_, refl, ap, _∙_}

@@ -2,7 +2,7 @@
 -- module has.
 -- Assumes nothing.
 use Prim.Native.Nat.{ℕ, _+_, _-_, _≤_}
-use mathlib.Core.Path.{_≡_, refl, ap}
+use mathlib.Core.Path.{_≡_, refl, ap, sym, ap₂, _∙_}
 use mathlib.Core.Bool.{Bool, true, false, not, cond}
 use mathlib.Core.List.{List, [], _∷_, _++_, flatMap, zip, zipWith}
 use native.Mathlib.Omega.{arith}
@@ -13,7 +13,8 @@ use Rattle.rules.specs.Statements.{Statement, anAttribute, aModule, aWire, aCel
 use Rattle.rules.specs.Shapes.{Scope, top, inModule, inCell}
 use Rattle.rules.specs.Judgement.{Past, until, sum, outer, scope, context, ofModule, ofCell, ofObject, wires, among, count}
 use Rattle.past.specs.Forms.{by-form}
-use Rattle.past.specs.Place.{scopeCode, scopeOf, wiresIn, placeOf, contextOf, Bounds, scopeAfter, placeAfter}
+use Rattle.past.specs.Place.{scopeCode, scopeOf, wiresIn, placeOf, contextOf, Bounds, scopeAfter, placeAfter, AfterIs}
+use Rattle.past.specs.declared.place.Place.{Place}
 use Rattle.scanner.specs.Laws.{by-test}
 use Rattle.past.proofs.KindLaws.{is-code, count-one, count-le}
 
@@ -160,3 +161,7 @@ module _ (ss : Past) (s : Statement) where
         «wires_from» = (rw (is-code s aModule, count-one s aWire) at (sum-before (count (aWire ∷ [])) (is aModule) s ss)) i;
         modules = (rw (count-one s aModule) at (sum-more (count (aModule ∷ [])) s ss)) i;
       }
+
+-- so the next place is that behind each statement of the kind
+pub after-is : (p : Place) (k : ℕ) (r : Place) → r ≡ placeAfter p k → AfterIs p k r
+after-is p k r e ss s ep ek = place-step ss s ∙ ap₂ placeAfter (sym ep) (sym ek) ∙ sym e

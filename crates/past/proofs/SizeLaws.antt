@@ -9,13 +9,13 @@ use native.Mathlib.Omega.{arith}
 use lib.Dec.{ltb}
 use borrow.Author.Tests.{ltb-false, le-ltb}
 use Rattle.rules.specs.Bytes.{any}
-use Rattle.rules.specs.Statements.{Statement}
+use Rattle.rules.specs.Statements.{Statement, anAttribute, aModule, aParameter, aWire, aMemory, aCell, aCellParameter, aCellConnection, aConnection, code, contents}
 use Rattle.rules.specs.Judgement.{Past, sum, signalSize, valueSize, stringSize, nameSize, sizes, exceedsSize}
 use Rattle.past.specs.Place.{placeOf, wiresIn}
-use Rattle.past.specs.Sizes.{sizesBy, sizesOf, sumsOf, plusOf, limits, exceeds, Within, AtMost}
+use Rattle.past.specs.Sizes.{sizesBy, sizesOf, sumsOf, plusOf, limits, exceeds, Within, AtMost, kindSizes, KindSizesAre}
 use Rattle.past.specs.declared.sizes.Sizes.{Sizes}
 use Rattle.scanner.specs.Laws.{by-test}
-use Rattle.past.proofs.KindLaws.{count-le}
+use Rattle.past.proofs.KindLaws.{count-le, count-one, count-two}
 
 -- the sums with one statement more
 pub sums-step : (ss : Past) (s : Statement) → sumsOf (s ∷ ss) ≡ plusOf (sumsOf ss) (sizesOf s)
@@ -92,3 +92,26 @@ sizes-small s n h g v t m =
       string-bytes = t;
       name-bytes = m;
     }
+
+-- the sizes of a statement are those of its kind with what it holds
+sizes-kind : (s : Statement) → sizesOf s ≡ kindSizes (code (contents s .kind)) (signalSize s) (valueSize s) (stringSize s) (nameSize s)
+unfolding code sizesBy sizesOf kindSizes
+sizes-kind s =
+    λ i.
+    record {
+      modules = count-one s aModule i;
+      wires = count-one s aWire i;
+      memories = count-one s aMemory i;
+      cells = count-one s aCell i;
+      parameters = count-two s aParameter aCellParameter i;
+      attributes = count-one s anAttribute i;
+      ports = count-one s aCellConnection i;
+      connections = count-one s aConnection i;
+      «signal_bits» = signalSize s;
+      «value_bits» = valueSize s;
+      «string_bytes» = stringSize s;
+      «name_bytes» = nameSize s;
+    }
+
+pub kind-sizes-are : (k g v t n : ℕ) (r : Sizes) → r ≡ kindSizes k g v t n → KindSizesAre k g v t n r
+kind-sizes-are k g v t n r e s ek eg ev et en = rw (e, ek, eg, ev, et, en) (sizes-kind s)

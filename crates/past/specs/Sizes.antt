@@ -1,9 +1,9 @@
 -- The sizes of a statement and of the past, field by field from the rules, and the limit of each.
 use Prim.Native.Nat.{ℕ, _+_, _≤_}
 use mathlib.Core.Path.{_≡_}
-use mathlib.Core.Bool.{Bool}
+use mathlib.Core.Bool.{Bool, cond, _||_}
 use mathlib.Core.List.{List, [], _∷_}
-use lib.Dec.{ltb}
+use lib.Dec.{eqb, ltb}
 use Rattle.rules.specs.Bytes.{any}
 use Rattle.rules.specs.Statements.{Statement, anAttribute, aModule, aParameter, aWire, aMemory, aCell, aCellParameter, aCellConnection, aConnection, code, contents}
 use Rattle.rules.specs.Judgement.{Past, sum, count, signalSize, valueSize, stringSize, nameSize}
@@ -102,6 +102,24 @@ pub record AtMost (n : ℕ) (u : Sizes) : Type 0 where
   pub value-bits : u .«value_bits» ≤ n
   pub string-bytes : u .«string_bytes» ≤ n
   pub name-bytes : u .«name_bytes» ≤ n
+
+-- the sizes of one statement of a kind that holds so many bits and bytes
+unfoldable pub kindSizes : (k g v t n : ℕ) → Sizes
+kindSizes k g v t n =
+    record {
+      modules = cond (eqb k 3) 1 0;
+      wires = cond (eqb k 5) 1 0;
+      memories = cond (eqb k 6) 1 0;
+      cells = cond (eqb k 7) 1 0;
+      parameters = cond (eqb k 4 || eqb k 8) 1 0;
+      attributes = cond (eqb k 2) 1 0;
+      ports = cond (eqb k 9) 1 0;
+      connections = cond (eqb k 10) 1 0;
+      «signal_bits» = g;
+      «value_bits» = v;
+      «string_bytes» = t;
+      «name_bytes» = n;
+    }
 
 -- r is the sizes of each statement of this kind that holds so many bits and bytes
 abbrev pub KindSizesAre : ℕ → ℕ → ℕ → ℕ → ℕ → Sizes → Type 0

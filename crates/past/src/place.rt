@@ -3,7 +3,7 @@ ghost use mathlib.Core.Path.{_≡_};
 ghost use mathlib.Core.Bool.{cond};
 ghost use mathlib.Core.List.{[]};
 ghost use Prim.Native.Nat.{_<_};
-ghost use Rattle.past.specs.Place.{placeOf, scopeAfter, Bounds, AfterIs};
+ghost use Rattle.past.specs.Place.{placeOf, scopeAfter, placeAfter, Bounds};
 
 pub struct Place {
     // 0: outside of modules, 1: in a module, 2: in a cell.
@@ -69,7 +69,7 @@ fn scope_after(scope: u32, kind: u32) -> u32
 pub fn after(p: Place, kind: u32) -> Place
     requires { ⌜ p .rows < 4294967295 ⌝ }
     requires { ⌜ Bounds p ⌝ }
-    ensures { λ r. ⌜ AfterIs p kind r ⌝ }
+    ensures { λ r. ⌜ r ≡ placeAfter p kind ⌝ }
 {
     let rows = p.rows + 1;
     let wires = p.wires + pick(kind == 5, 1, 0);

@@ -2,7 +2,7 @@
 ghost use mathlib.Core.Path.{_≡_};
 ghost use mathlib.Core.Bool.{not, cond};
 ghost use mathlib.Core.List.{[]};
-ghost use Rattle.past.specs.Sizes.{sumsOf, plusOf, exceeds, AtMost, KindSizesAre};
+ghost use Rattle.past.specs.Sizes.{sumsOf, plusOf, exceeds, AtMost, kindSizes};
 
 // Statements of each kind, and what they hold: bits of signals and of values, bytes of strings and of names.
 pub struct Sizes {
@@ -96,7 +96,7 @@ pub fn kind_sizes(
     string_bytes: u32,
     name_bytes: u32,
 ) -> Sizes
-    ensures { λ r. ⌜ KindSizesAre kind «signal_bits» «value_bits» «string_bytes» «name_bytes» r ⌝ }
+    ensures { λ r. ⌜ r ≡ kindSizes kind «signal_bits» «value_bits» «string_bytes» «name_bytes» ⌝ }
 {
     Sizes {
         modules: one_if(kind == 3),

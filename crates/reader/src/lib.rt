@@ -162,7 +162,7 @@ fn kind_code(statement: Statement) -> u32
     }
 }
 
-// The line's first byte that is neither space nor tab.
+// A refusal at the line's first byte that is neither space nor tab.
 fn refusal(f: &[u8], line: Line, step: Step) -> Answer
     requires { ⌜ (line .end ≤ length (now f)) × (length (now f) ≤ 32768) × (line .start ≤ line .end) ⌝ }
     ensures { λ r. ⌜ r ≡ refusalOf (now (f .entry)) line step ⌝ }

@@ -1,4 +1,4 @@
-// The parts of a statement that stand in the tables behind what is used of them: names, digits, strings and signals.
+// The parts of a statement that stand in the tables behind what is used of them: names, digits and strings.
 // All of it is total: a span past a table's end stands nowhere.
 use scanner::names::legal;
 use scanner::parts::part;

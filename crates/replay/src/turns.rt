@@ -25,7 +25,7 @@ pub enum Turn {
     Nothing,
 }
 
-// Kinds that attributes may stand before.
+// Kinds that attributes may stand before, in a module.
 fn is_object(kind: u32) -> bool
     ensures { λ r. ⌜ r ≡ ofKinds objectKinds kind ⌝ }
 {

@@ -208,7 +208,7 @@ fn refused(fault: u32, statement: Statement) -> Statement
     statement
 }
 
-// A module's connection of two signals, which have the same width.
+// A module's connection of two signals; unequal widths leave 10.
 fn connected(left: Bits, right: Bits) -> Statement
     ensures { λ r. ⌜ ConnectedIs left right r ⌝ }
 {

@@ -43,7 +43,7 @@ pub fn put_words(table: &mut [u32], at: usize, src: &[u32])
     }
 }
 
-// The words of src from `from` to `to`, last first: a bundle's first member is its highest, and a signal is kept lowest first.
+// The words of src from `from` to `to`, last first.
 pub fn reverse_words(src: &[u32], from: usize, to: usize, out: &mut [u32], at: usize)
     requires { ⌜ (from ≤ to) × (to ≤ length (now src)) × (at + (to - from) ≤ length (now out)) ⌝ }
     ensures { λ _. ⌜ now (out .exit) ≡ store (now (out .entry)) at (reverse (slice from to (now (src .entry)))) ⌝ }

@@ -1,5 +1,5 @@
 // The leaves of the writer. Each writes a piece of text into lent room from a place on and answers the place behind it: a byte is stored
-// only where the room has a place for it, and the place moves on all the same, so that writing into an empty room measures.
+// only where the room has a place for it, and the place moves on all the same, so that writing into any room measures.
 ghost use mathlib.Core.Path.{_≡_};
 ghost use mathlib.Core.List.{[], _∷_, map, flatMap, reverse};
 ghost use Prim.Native.Nat.{min, _+_, _≤_};

@@ -20,7 +20,7 @@ pub struct Written {
     pub length: u32,
 }
 
-// Where the text of these rows ends, at most 32,769: it is written into no room.
+// Where the text of these rows ends, at most 32,769: it is written into a room of one byte that is dropped.
 fn text_end(
     names: &[u8],
     strings: &[u8],

@@ -3,7 +3,7 @@
 mod calls;
 mod files;
 
-use library::oracle::reading;
+use library::expected::reading;
 use library::{read, Card, Tables};
 use std::hint::black_box;
 use std::time::{Duration, Instant};

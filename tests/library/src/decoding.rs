@@ -11,7 +11,7 @@ use reference::statements::{
 use reference::tokens::Name;
 use reference::{read_any_length, Design};
 
-/// Tables of the right lengths and a card.
+/// Do some text and accepted renames leave this memory? The tables have the right lengths.
 pub fn valid(tables: &Tables, card: Card) -> bool {
     leaves(tables, card).is_some()
 }
@@ -64,7 +64,7 @@ fn part<T>(table: &[T], start: u32, length: u32) -> Option<&[T]> {
     table.get(start..start + length as usize)
 }
 
-/// The word before a cell's parameter: none, or its sign; a column may hold neither.
+/// The word before a cell's parameter by its column: none, signed or real.
 fn sign(column: u32) -> Option<Option<Sign>> {
     match column {
         0 => Some(None),

@@ -1,11 +1,11 @@
 //! The exported calls of Skytassel as Rust sees them, and what the reference says that they answer and leave.
 
 pub mod decoding;
+pub mod expected;
 pub mod exported;
 pub mod files;
 pub mod layout;
 pub mod lines;
-pub mod oracle;
 pub mod tables;
 
 pub use decoding::valid;

@@ -1,8 +1,8 @@
 //! Reading into memory filled with anything answers and leaves what the reference says, and the text written from there is the reference's.
 //! GENERATED_FILES=1000000 asks for more files than the default; `--nocapture` shows what they gave.
 
+use library::expected::{reading, text_is_of};
 use library::files::{count, generated};
-use library::oracle::{reading, text_is_of};
 use library::tables::any_card;
 use library::{read, Card, Tables};
 use reference::generate::generated_or_mutated;

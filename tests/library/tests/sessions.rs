@@ -1,7 +1,7 @@
 //! Random sessions through the exported calls, held to the plain session: every answer, and all memory and the text at the end.
 //! SESSIONS=20000 asks for more of them than the default; `--nocapture` shows what was met.
 
-use library::oracle::{right_lengths, text_is_of};
+use library::expected::{right_lengths, text_is_of};
 use library::tables::any_card;
 use library::{index, layout, look_up, read, rename, show, undo, Answer, Card, Tables};
 use reference::generate::random::Random;

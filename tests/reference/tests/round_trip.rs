@@ -1,5 +1,5 @@
 //! Generated files: reading ends; what is written reads back to the same design and text.
-//! GENERATED_FILES=100000 asks for the full count.
+//! GENERATED_FILES=100000 asks for more files than the default, 5,000.
 
 use reference::generate::{self, SizeClass};
 use reference::{measure, program, read, read_any_length, sizes, text, write, Refusal};

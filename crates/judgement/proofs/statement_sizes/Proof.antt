@@ -1,5 +1,6 @@
 -- The signals of a sound statement are narrow, and its other parts are no longer than the file.
 use native.Mathlib.Omega.{arith}
+use Rattle.past.proofs.SizeLaws.{kind-sizes-are}
 use Rattle.judgement.proofs.PartLaws.{parts-good, parts-narrow, name-few, sizes-are, sizes-few}
 use borrow.Author.Needs.{needs}
 use Rattle.judgement.proofs.statement_sizes.Statement.{statement}
@@ -33,7 +34,7 @@ kind-sizes-requires : tie.Need-kind-sizes-requires
 kind-sizes-requires c κs = search needs
 
 returns : tie.Need-returns
-returns c = (sizes-are (c .before .before .before .before .before .before .before .before .args .f .now) _ _ _ _ _ _ _ (c .before .before .before .before .before .before .parts-of .ensures) (c .before .before .before .before .before .before .before .before .pre .1 .1 .1) (c .before .before .before .before .before .before .before .before .pre .1 .1 .0) (c .before .before .value-bits .ensures) (c .before .string-bytes .ensures) (c .before .before .before .before .span-size .ensures) (c .before .before .before .span-size2 .ensures) (c .kind-sizes .ensures), sizes-few (c .before .before .before .before .before .before .before .before .args .f .now) _ _ _ _ _ _ _ (c .before .before .before .before .before .before .parts-of .ensures) (c .before .before .before .before .before .before .before .before .pre .1 .1 .1) (c .before .before .before .before .before .before .before .before .pre .1 .1 .0) (c .before .before .value-bits .ensures) (c .before .string-bytes .ensures) (c .before .before .before .before .span-size .ensures) (c .before .before .before .span-size2 .ensures) (c .kind-sizes .ensures) (c .before .before .before .before .before .before .before .before .pre .1 .0) (c .before .before .before .before .before .before .before .before .pre .0))
+returns c = (sizes-are (c .before .before .before .before .before .before .before .before .args .f .now) _ _ _ _ _ _ _ (c .before .before .before .before .before .before .parts-of .ensures) (c .before .before .before .before .before .before .before .before .pre .1 .1 .1) (c .before .before .before .before .before .before .before .before .pre .1 .1 .0) (c .before .before .value-bits .ensures) (c .before .string-bytes .ensures) (c .before .before .before .before .span-size .ensures) (c .before .before .before .span-size2 .ensures) (kind-sizes-are _ _ _ _ _ _ (c .kind-sizes .ensures)), sizes-few (c .before .before .before .before .before .before .before .before .args .f .now) _ _ _ _ _ _ _ (c .before .before .before .before .before .before .parts-of .ensures) (c .before .before .before .before .before .before .before .before .pre .1 .1 .1) (c .before .before .before .before .before .before .before .before .pre .1 .1 .0) (c .before .before .value-bits .ensures) (c .before .string-bytes .ensures) (c .before .before .before .before .span-size .ensures) (c .before .before .before .span-size2 .ensures) (kind-sizes-are _ _ _ _ _ _ (c .kind-sizes .ensures)) (c .before .before .before .before .before .before .before .before .pre .1 .0) (c .before .before .before .before .before .before .before .before .pre .0))
 
 pub statement-sizes-spec : {M : Type 1} → statement M
 statement-sizes-spec =

@@ -1,5 +1,6 @@
 use mathlib.Core.Path.{refl, _∙_}
 use denote.Ref.{now}
+use Rattle.past.proofs.PlaceLaws.{after-is}
 use Rattle.reader.specs.Steps.{lineOf}
 use Rattle.reader.proofs.StepLaws.{done-fits, done-stands, done-rows, put-storable, step-stated, step-skipped, step-refused}
 use Rattle.reader.proofs.take_line.Statement.{statement}
@@ -87,7 +88,7 @@ same-length-17 : tie.Need-same-length-17
 same-length-17 c = c .before .before .before .before .before .before .before .before .before .before .before .before .before .before .put-statement .kept .1 .1 .1 .1 .1 .1 .1 .1 .0
 
 returns-3 : tie.Need-returns-3
-returns-3 c = λ ss d. step-stated d _ _ _ _ _ _ (c .before .before .before .before .before .before .before .before .before .before .before .before .before .before .before .before .before .before .before .before .before .before .before .statement .given .1) (c .before .before .before .before .before .before .before .before .before .before .before .before .before .before .before .before .before .before .before .before .before .before .before .before .before .before .before .before .before .line-outcome .ensures .1 ss (done-stands d)) (c .before .before .before .before .before .before .before .before .before .before .before .before .before .before .before .before .before .before .before .before .before .before .before .before .before .before .before .before .before .line-outcome .ensures .0) _ _ _ _ (c .before .before .before .before .before .before .before .before .before .before .before .before .before .before .before .before .before .before .before .before .before .used-from .ensures) (c .before .before .before .before .before .before .before .before .before .before .before .before .before .before .put-statement .ensures) (c .before .kind-code .ensures) (c .after .ensures)
+returns-3 c = λ ss d. step-stated d _ _ _ _ _ _ (c .before .before .before .before .before .before .before .before .before .before .before .before .before .before .before .before .before .before .before .before .before .before .before .statement .given .1) (c .before .before .before .before .before .before .before .before .before .before .before .before .before .before .before .before .before .before .before .before .before .before .before .before .before .before .before .before .before .line-outcome .ensures .1 ss (done-stands d)) (c .before .before .before .before .before .before .before .before .before .before .before .before .before .before .before .before .before .before .before .before .before .before .before .before .before .before .before .before .before .line-outcome .ensures .0) _ _ _ _ (c .before .before .before .before .before .before .before .before .before .before .before .before .before .before .before .before .before .before .before .before .before .used-from .ensures) (c .before .before .before .before .before .before .before .before .before .before .before .before .before .before .put-statement .ensures) (c .before .kind-code .ensures) (after-is _ _ _ (c .after .ensures))
 
 pub take-line-spec : {M : Type 1} → statement M
 take-line-spec =

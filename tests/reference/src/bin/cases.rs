@@ -1,4 +1,4 @@
-//! Writes the module of crate `vectors` that computes the specification: every vector under 2,000 bytes and some hundred small generated
+//! Writes the module of crate `vectors` that computes the specification: every vector under 2,000 bytes and 300 small generated
 //! files, each with what the program must write. The vectors' outputs are those stored beside them, the generated files' the reference's.
 
 use reference::generate::{self, SizeClass};

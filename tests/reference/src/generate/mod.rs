@@ -1,12 +1,12 @@
 //! Seeded files: well-formed, aimed at refusals, at the limits, mutated and random.
 
+mod any_text;
 mod faults;
 mod limits;
 mod mutations;
 mod pieces;
 pub mod random;
 mod signals;
-mod soup;
 mod well_formed;
 
 use crate::reading::read;
@@ -117,7 +117,7 @@ fn any_file(random: &mut Random, size: SizeClass) -> Vec<u8> {
             };
             mutations::mutate(random, file)
         }
-        18 => soup::bytes(random, budget),
-        _ => soup::tokens(random, size, budget),
+        18 => any_text::bytes(random, budget),
+        _ => any_text::tokens(random, size, budget),
     }
 }

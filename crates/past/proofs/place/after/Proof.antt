@@ -1,13 +1,11 @@
 -- `place::after` meets its contract.
 use Prim.Native.Nat.{_+_}
-use mathlib.Core.Path.{sym, ap₂, _∙_}
 use mathlib.Core.Bool.{false}
 use native.Mathlib.Omega.{arith}
 use lib.Dec.{eqb}
 use borrow.Author.Needs.{needs}
 use Rattle.past.specs.Place.{placeAfter}
 use Rattle.scanner.specs.Laws.{one-le}
-use Rattle.past.proofs.PlaceLaws.{place-step}
 use Rattle.past.proofs.place.after.Statement.{statement}
 use Rattle.past.proofs.place.after.Tie as tie
 
@@ -43,22 +41,20 @@ add-t17 c = omega (arith, c .before .before .before .before .before .before .bef
 
 returns : tie.Need-returns
 unfolding placeAfter
-returns c ss s e f =
-    place-step ss s
-    ∙ ap₂ placeAfter (sym e) (sym f)
-    ∙ (λ i.
+returns c =
+    λ i.
     record {
-      scope = sym (c .before .before .before .before .before .before .scope-after .ensures) i;
+      scope = (c .before .before .before .before .before .before .scope-after .ensures) i;
       first = false;
       attributed = eqb (c .before .before .before .before .before .before .before .before .before .before .args .kind) 2;
       rows = c .before .before .before .before .before .before .before .before .before .before .args .p .rows + 1;
-      «module_from» = sym (c .before .before .before .before .before .pick2 .ensures) i;
-      «cell_from» = sym (c .before .before .before .before .pick3 .ensures) i;
-      «object_from» = sym (c .before .before .before .pick4 .ensures) i;
-      wires = c .before .before .before .before .before .before .before .before .before .before .args .p .wires + sym (c .before .before .before .before .before .before .before .before .pick .ensures) i;
-      «wires_from» = sym (rw (c .before .before .before .before .before .before .before .before .pick .ensures) at (c .before .before .pick5 .ensures)) i;
-      modules = c .before .before .before .before .before .before .before .before .before .before .args .p .modules + sym (c .before .pick6 .ensures) i;
-    })
+      «module_from» = (c .before .before .before .before .before .pick2 .ensures) i;
+      «cell_from» = (c .before .before .before .before .pick3 .ensures) i;
+      «object_from» = (c .before .before .before .pick4 .ensures) i;
+      wires = c .before .before .before .before .before .before .before .before .before .before .args .p .wires + (c .before .before .before .before .before .before .before .before .pick .ensures) i;
+      «wires_from» = (rw (c .before .before .before .before .before .before .before .before .pick .ensures) at (c .before .before .pick5 .ensures)) i;
+      modules = c .before .before .before .before .before .before .before .before .before .before .args .p .modules + (c .before .pick6 .ensures) i;
+    }
 
 pub after-spec : {M : Type 1} → statement M
 after-spec =

@@ -1,9 +1,6 @@
 -- `sizes::kind_sizes` meets its contract.
-use mathlib.Core.Path.{sym, _∙_}
 use borrow.Author.Needs.{needs}
-use Rattle.rules.specs.Statements.{code, anAttribute, aModule, aParameter, aWire, aMemory, aCell, aCellParameter, aCellConnection, aConnection}
-use Rattle.past.specs.Sizes.{sizesBy, sizesOf}
-use Rattle.past.proofs.KindLaws.{count-one, count-two}
+use Rattle.past.specs.Sizes.{kindSizes}
 use Rattle.past.proofs.sizes.kind_sizes.Statement.{statement}
 use Rattle.past.proofs.sizes.kind_sizes.Tie as tie
 
@@ -32,22 +29,22 @@ one-if-requires-8 : tie.Need-one-if-requires-8
 one-if-requires-8 c κs = search needs
 
 returns : tie.Need-returns
-unfolding code sizesBy sizesOf
-returns c s e g v t n =
+unfolding kindSizes
+returns c =
     λ i.
     record {
-      modules = (count-one s aModule ∙ sym (rw e at (c .before .before .before .before .before .before .before .one-if .ensures))) i;
-      wires = (count-one s aWire ∙ sym (rw e at (c .before .before .before .before .before .before .one-if2 .ensures))) i;
-      memories = (count-one s aMemory ∙ sym (rw e at (c .before .before .before .before .before .one-if3 .ensures))) i;
-      cells = (count-one s aCell ∙ sym (rw e at (c .before .before .before .before .one-if4 .ensures))) i;
-      parameters = (count-two s aParameter aCellParameter ∙ sym (rw e at (c .before .before .before .one-if5 .ensures))) i;
-      attributes = (count-one s anAttribute ∙ sym (rw e at (c .before .before .one-if6 .ensures))) i;
-      ports = (count-one s aCellConnection ∙ sym (rw e at (c .before .one-if7 .ensures))) i;
-      connections = (count-one s aConnection ∙ sym (rw e at (c .one-if8 .ensures))) i;
-      «signal_bits» = sym g i;
-      «value_bits» = sym v i;
-      «string_bytes» = sym t i;
-      «name_bytes» = sym n i;
+      modules = (c .before .before .before .before .before .before .before .one-if .ensures) i;
+      wires = (c .before .before .before .before .before .before .one-if2 .ensures) i;
+      memories = (c .before .before .before .before .before .one-if3 .ensures) i;
+      cells = (c .before .before .before .before .one-if4 .ensures) i;
+      parameters = (c .before .before .before .one-if5 .ensures) i;
+      attributes = (c .before .before .one-if6 .ensures) i;
+      ports = (c .before .one-if7 .ensures) i;
+      connections = (c .one-if8 .ensures) i;
+      «signal_bits» = c .before .before .before .before .before .before .before .before .args .signal-bits;
+      «value_bits» = c .before .before .before .before .before .before .before .before .args .value-bits;
+      «string_bytes» = c .before .before .before .before .before .before .before .before .args .string-bytes;
+      «name_bytes» = c .before .before .before .before .before .before .before .before .args .name-bytes;
     }
 
 pub kind-sizes-spec : {M : Type 1} → statement M
