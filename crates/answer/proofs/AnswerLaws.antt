@@ -13,7 +13,7 @@ use Rattle.rules.specs.Judgement.{Verdict, verdict, lowest}
 use Rattle.rules.specs.Reading.{Answer, accepted, refused, read}
 use Rattle.rules.specs.Design.{design}
 use Rattle.rules.specs.Session.{Rename, now}
-use Rattle.rules.specs.Text.{decimalOnto, decimalText, text, write, refusal, printed, programBy, program}
+use Rattle.rules.specs.Text.{decimalOnto, decimalText, text, writeText, write, refusal, printed, programBy, program}
 use Rattle.rules.specs.Layout.{Memory}
 use Rattle.scanner.specs.Laws.{by-cond, never}
 use Rattle.tables.specs.Store.{store}
@@ -89,7 +89,7 @@ module _ (m : Memory) (old mid : List ℕ) (n len : ℕ) where
     refused-by t false q = absurd (z (number-is 0 (length t) (store old 0 t) q))
 
     pub held-refused : Wrote → PrintedAs m old new r
-    unfolding write
+    unfolding write writeText
     held-refused (wrong-lengths e q) = wrong-lengths e (put-number 1 q)
     held-refused (damaged e d q) = damaged e d (put-number 3 q)
     held-refused (holding ss rs e h q) = holding ss rs e h (refused-by (text (now (design ss) rs)) _ q)
@@ -104,7 +104,7 @@ module _ (m : Memory) (old mid : List ℕ) (n len : ℕ) where
     written-by t false q = λ i. (length-is 0 (length t) (store old 0 t) q i, room-is 0 (length t) (store old 0 t) q i)
 
     pub held-written : Wrote → PrintedAs m old mid len
-    unfolding write
+    unfolding write writeText
     held-written (wrong-lengths e q) = no-number 1 (omega arith) q
     held-written (damaged e d q) = no-number 3 (omega arith) q
     held-written (holding ss rs e h q) = holding ss rs e h (written-by (text (now (design ss) rs)) _ q)
@@ -116,7 +116,7 @@ module _ (m : Memory) (old mid : List ℕ) (n len : ℕ) where
   fits-by t false false e q = omega (arith, length-is 0 (length t) (store old 0 t) q, ltb-false 32768 (length t) e)
 
   pub written-fits : Wrote → len ≤ 32768
-  unfolding write
+  unfolding write writeText
   written-fits (wrong-lengths e q) = omega (arith, length-is 1 0 old q)
   written-fits (damaged e d q) = omega (arith, length-is 3 0 old q)
   written-fits (holding ss rs e h q) = fits-by (text (now (design ss) rs)) _ _ refl q

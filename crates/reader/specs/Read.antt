@@ -4,7 +4,7 @@ use mathlib.Core.List.{List, []}
 use mathlib.Core.Bool.{cond}
 use Rattle.rules.specs.Reading.{Answer, accepted, refused, read}
 use Rattle.rules.specs.Layout.{Memory, empty, memory, layout}
--- 1: a table or the card is lent at the wrong length
+-- 1: a lent table hasn't its exact stated length
 unfoldable pub use Rattle.netlist.specs.Lengths.{rightLengths}
 
 -- number, place, and all memory lent

@@ -224,11 +224,17 @@ unfoldable pub text : Design → List ℕ
 text d = textFrom [] (flatten d)
 
 -- 12: text over 32,768 bytes or over the room lent. Measuring refuses as writing does, but for the room lent
+unfoldable pub writeText : ℕ → List ℕ → Verdict (List ℕ)
+writeText room t = verdict t (lowest ((12, ltb 32768 (length t) || ltb room (length t)) ∷ []))
+
 unfoldable pub write : ℕ → Design → Verdict (List ℕ)
-write room d = verdict (text d) (lowest ((12, ltb 32768 (length (text d)) || ltb room (length (text d))) ∷ []))
+write room d = writeText room (text d)
+
+unfoldable pub measureText : List ℕ → Verdict ℕ
+measureText t = verdict (length t) (lowest ((12, ltb 32768 (length t)) ∷ []))
 
 unfoldable pub measure : Design → Verdict ℕ
-measure d = verdict (length (text d)) (lowest ((12, ltb 32768 (length (text d))) ∷ []))
+measure d = measureText (text d)
 
 -- The program writes its text, or number and place in decimal, a space between, line end 10
 unfoldable pub refusal : ℕ → ℕ → List ℕ
@@ -246,5 +252,5 @@ unfoldable pub program : List ℕ → List ℕ
 program file = programBy (read file)
 
 unfoldable pub textOpen : Unit {0}
-unfolding flatMap Option·toList join runs cut runSig runsSig sig literalOf setting unless directionWord wireOptions memoryOptions written numberToken wordToken lowTokens sigTokens optionTokens sortTokens shapeTokens decimalOnto decimalText integerText digitByte escaped literalText tokenText tight behind spaced level indent lineText textFrom text write measure refusal printed programBy program
+unfolding flatMap Option·toList join runs cut runSig runsSig sig literalOf setting unless directionWord wireOptions memoryOptions written numberToken wordToken lowTokens sigTokens optionTokens sortTokens shapeTokens decimalOnto decimalText integerText digitByte escaped literalText tokenText tight behind spaced level indent lineText textFrom text writeText write measureText measure refusal printed programBy program
 textOpen = tt

@@ -9,7 +9,7 @@ use borrow.Author.Tests.{lt-ltb, le-ltb}
 use Rattle.rules.specs.Judgement.{verdict, lowest}
 use Rattle.rules.specs.Design.{design}
 use Rattle.rules.specs.Session.{now}
-use Rattle.rules.specs.Text.{text, write, measure}
+use Rattle.rules.specs.Text.{text, writeText, write, measureText, measure}
 use Rattle.rules.specs.Layout.{Memory}
 use Rattle.past.specs.Place.{wiresIn, placeOf}
 use Rattle.past.specs.declared.place.Place.{Place}
@@ -23,7 +23,7 @@ use Rattle.netlist.specs.Tables.{tabled}
 use Rattle.design_text.specs.Rows.{textRows}
 use Rattle.design_text.specs.declared.Counts.{Counts}
 use Rattle.design_text.proofs.Text.{text-held}
-use Rattle.writer.specs.Write.{measureText, writeText, wrote}
+use Rattle.writer.specs.Write.{wrote}
 
 -- ---- the verdict on a text that ends at r
 module _ (t : List ℕ) (r : ℕ) (e : r ≡ moved 0 (length t)) where

@@ -1,10 +1,8 @@
 -- What writing and measuring give, for all memory.
 use Prim.Native.Nat.{ℕ}
-use mathlib.Core.List.{List, [], _∷_}
-use mathlib.Core.Bool.{_||_}
-use lib.Dec.{ltb}
+use mathlib.Core.List.{List}
 use lib.ListN.{length}
-use Rattle.rules.specs.Judgement.{Verdict, accepted, refused, verdict, lowest}
+use Rattle.rules.specs.Judgement.{Verdict, accepted, refused}
 use Rattle.rules.specs.Design.{design}
 use Rattle.rules.specs.Session.{now}
 use Rattle.rules.specs.Text.{write, measure}
@@ -12,13 +10,6 @@ use Rattle.rules.specs.Layout.{Memory}
 use Rattle.tables.specs.Store.{store}
 use Rattle.session.specs.Called.{Called, answer}
 use Rattle.writer.specs.declared.Written.{Written}
-
--- the verdicts on a text, as the rules have them on a design
-unfoldable pub measureText : List ℕ → Verdict ℕ
-measureText t = verdict (length t) (lowest ((12, ltb 32768 (length t)) ∷ []))
-
-unfoldable pub writeText : (room : ℕ) → List ℕ → Verdict (List ℕ)
-writeText room t = verdict t (lowest ((12, ltb 32768 (length t) || ltb room (length t)) ∷ []))
 
 -- number, length and the room lent: the text stands at its start, and a refusal changes nothing
 unfoldable pub wrote : List ℕ → Verdict (List ℕ) → ℕ × ℕ × List ℕ

@@ -12,7 +12,8 @@ ghost use Rattle.session.specs.Called.{answer};
 ghost use Rattle.text.specs.Written.{moved};
 ghost use Rattle.netlist.specs.Tables.{tabled};
 ghost use Rattle.design_text.specs.Rows.{textRows};
-ghost use Rattle.writer.specs.Write.{measureText, writeText, wrote, MeasuredAs, WrittenAs};
+ghost use Rattle.rules.specs.Text.{measureText, writeText};
+ghost use Rattle.writer.specs.Write.{wrote, MeasuredAs, WrittenAs};
 
 // Number 0 is none; a refusal's length is 0.
 pub struct Written {
