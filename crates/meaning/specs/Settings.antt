@@ -1,12 +1,12 @@
 -- Written options mean the wire or the memory that they were written from, and keep the rules.
 -- Assumes nothing.
-use Prim.Native.Nat.{ℕ, _-_, _≤_}
+use Prim.Native.Nat.{ℕ, _≤_}
 use mathlib.Core.Path.{_≡_, refl, sym, ap}
 use mathlib.Core.List.{List, _∷_, _++_, map, append-assoc, Option·toList}
 use mathlib.Core.Option.{Option, none, some}
-use mathlib.Core.Bool.{Bool, true, false, not, _&&_, _||_, false≢true}
+use mathlib.Core.Bool.{Bool, true, false, not, _&&_, false≢true}
 use native.Mathlib.Omega.{arith}
-use lib.IntN.{ℤ, pos, negsuc, _+ℤ_}
+use lib.IntN.{ℤ, pos, negsuc}
 use lib.Dec.{eqb, leb}
 use lib.ListN.{length}
 use borrow.Author.Tests.{eqb-true, leb-true, lt-ltb, le-leb}
@@ -17,6 +17,7 @@ use Rattle.rules.specs.Signals.{Wires}
 use Rattle.rules.specs.Judgement.{portNumbers, newPort}
 use Rattle.rules.specs.Text.{setting, unless, directionWord, portOptions, wireOptions, memoryOptions}
 use Rattle.admitted.specs.Admitted.{newPorts, fineWire, fineMemory}
+use Rattle.admitted.specs.AdmitLaws.{FineWire, fine-wire}
 use Rattle.scanner.specs.Laws.{by-test, and-true-left, and-true-right}
 use Rattle.scanner.specs.Elements.{all-append}
 
@@ -161,28 +162,6 @@ wire-int32 w h k p =
     (all-append f _ _ (all-append f _ _ (unless-int32 (not (w .signed)) (bytes "signed", none) no-number) (port-int32 (w .port) p)) (unless-int32 (not (w .upto)) (bytes "upto", none) no-number))
     (unless-int32 (inRange 0 0 (w .offset)) (setting "offset" (w .offset)) (setting-int32 (w .offset) k)))
     (unless-int32 (eqb (w .width) 1) (setting "width" (pos (w .width))) (setting-int32 (pos (w .width)) (number-int32 (w .width) (omega arith))))
-
--- what a fine wire keeps
-record FineWire (ws : Wires) (w : Wire) : Type 0 where
-  narrow : leb (w .width) 2048 ≡ true
-  offset : int32 (w .offset) ≡ true
-  last-bit : (eqb (w .width) 0 || int32 (w .offset +ℤ pos (w .width - 1))) ≡ true
-  port : all (within 1 1023) (portNumbers w) ≡ true
-  new : newPorts ws w ≡ true
-
-five : (a b c d e : Bool) → a && b && c && d && e ≡ true → (a ≡ true) × (b ≡ true) × (c ≡ true) × (d ≡ true) × (e ≡ true)
-five true true true true true h = (refl, refl, refl, refl, refl)
-five true true true true false h = absurd (false≢true h)
-five true true true false e h = absurd (false≢true h)
-five true true false d e h = absurd (false≢true h)
-five true false c d e h = absurd (false≢true h)
-five false b c d e h = absurd (false≢true h)
-
-fine-wire : (ws : Wires) (w : Wire) → fineWire ws w ≡ true → FineWire ws w
-unfolding fineWire
-fine-wire ws w h =
-    let q = five (leb (w .width) 2048) (int32 (w .offset)) (eqb (w .width) 0 || int32 (w .offset +ℤ pos (w .width - 1))) (all (within 1 1023) (portNumbers w)) (newPorts ws w) h in
-    record { narrow = q .0; offset = q .1; last-bit = q .2; port = q .3; new = q .4 }
 
 pub wire-width : (ws : Wires) (w : Wire) → fineWire ws w ≡ true → w .width ≤ 2048
 wire-width ws w h = leb-true (w .width) 2048 (fine-wire ws w h .narrow)

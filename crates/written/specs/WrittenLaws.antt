@@ -1,7 +1,7 @@
 -- The tokens of a written statement can be written, if its parts keep the rules and the wires have legal names.
 -- Assumes nothing.
 use mathlib.Core.Path.{_≡_, refl, _∙_}
-use mathlib.Core.Bool.{Bool, true, false, not, cond, _&&_}
+use mathlib.Core.Bool.{Bool, true, false, not, cond}
 use mathlib.Core.List.{List, [], _∷_, _++_, map, Option·toList}
 use mathlib.Core.Option.{Option, none, some, Option·map}
 use Prim.Native.Nat.{ℕ, _+_, _-_}
@@ -13,11 +13,12 @@ use Rattle.rules.specs.Bytes.{bytes, all, isMark, legal, bytesOpen}
 use Rattle.rules.specs.Tokens.{Name, Literal, Token, name, word, literal, mark, keywords, isKeyword}
 use Rattle.rules.specs.Statements.{Sig, wire, slice, bundle, nothing, Opt, Sort, Constant, Signal, Direction, input, output, inout, Wire, Memory, Statement, autoidx-stmt, attr-stmt, module-stmt, param-stmt, wire-stmt, memory-stmt, cell-stmt, cell-param-stmt, cell-conn-stmt, conn-stmt, proc-stmt, end-stmt, contents, holds, translate}
 use Rattle.rules.specs.Shapes.{sigs}
-use Rattle.rules.specs.Numbers.{int32, inRange}
+use Rattle.rules.specs.Numbers.{inRange}
 use Rattle.rules.specs.Signals.{Wires}
 use Rattle.rules.specs.Text.{Run, digits, span, runs, cut, runSig, runsSig, sig, literalOf, setting, unless, directionWord, wireOptions, memoryOptions, written, numberToken, wordToken, lowTokens, sigTokens, sigsTokens, optionTokens, sortTokens, shapeTokens}
-use Rattle.admitted.specs.Admitted.{fineConstant, sameLength, fineParts}
-use Rattle.scanner.specs.Laws.{by-cond, and-true-left, and-true-right}
+use Rattle.admitted.specs.Admitted.{fineConstant, fineParts}
+use Rattle.admitted.specs.AdmitLaws.{fine-parts}
+use Rattle.scanner.specs.Laws.{by-cond}
 use Rattle.scanner.specs.Elements.{all-append, all-split, all-cons, all-first, all-later, all-drop, all-map, all-each}
 use Rattle.written.specs.TokenLaws.{fineLiteral, fineToken, Fine}
 
@@ -197,18 +198,6 @@ first-fine w h ts f = word-fine (bytes w) ts h f
 named-fine : (w : String) → isKeyword (bytes w) ≡ true → (os : List Token) (n : Name) → Fine os → legal n ≡ true → Fine ((wordToken w ∷ os) ++ name n ∷ [])
 named-fine w h os n f g = append-fine (wordToken w ∷ os) (name n ∷ []) (first-fine w h os f) (name-fine n [] g none-fine)
 
--- of the parts that keep the rules: names and constants
-module _ (ws : Wires) (s : Statement) (f : fineParts ws s ≡ true) where
-  parts-early : (all legal (contents s .names) && all int32 (contents s .integers) && all fineConstant (contents s .constants)) ≡ true
-  unfolding fineParts
-  parts-early = and-true-left _ _ (and-true-left _ _ (and-true-left _ _ (and-true-left _ (sameLength (contents s .signals)) f)))
-
-  pub parts-names : all legal (contents s .names) ≡ true
-  parts-names = and-true-left _ _ (and-true-left _ _ parts-early)
-
-  pub parts-constants : all fineConstant (contents s .constants) ≡ true
-  parts-constants = and-true-right (all legal (contents s .names) && all int32 (contents s .integers)) _ parts-early
-
 module _ (ws : Wires) (h : legalNames ws ≡ true) where
   parts-fine : (s : Statement) → all legal (contents s .names) ≡ true → all fineConstant (contents s .constants) ≡ true → Fine (shapeTokens (written ws s))
   unfolding contents holds written translate shapeTokens isKeyword keywords bytesOpen
@@ -235,5 +224,5 @@ module _ (ws : Wires) (h : legalNames ws ≡ true) where
 
 -- the tokens of a written statement can be written
 pub fine-written : (ws : Wires) (s : Statement) → legalNames ws ≡ true → fineParts ws s ≡ true → all fineToken (shapeTokens (written ws s)) ≡ true
-unfolding Fine fineParts
-fine-written ws s h f = parts-fine ws h s (parts-names ws s f) (parts-constants ws s f)
+unfolding Fine
+fine-written ws s h f = let p = fine-parts ws s f in parts-fine ws h s (p .names) (p .constants)
