@@ -12,8 +12,8 @@ use Rattle.rules.specs.Signals.{Wires, find}
 use Rattle.rules.specs.Judgement.{Past, until, only, ofModule, wires, among, space, namesIn, nameSpaces, takesName}
 use Rattle.past.specs.Forms.{by-form}
 use Rattle.admitted.specs.Admitted.{fineWire, admitted}
-use Rattle.scanner.specs.Laws.{and-true-left, and-true-right, same-sym, or-false-left, or-false-right}
-use Rattle.admitted.specs.AdmitLaws.{FineParts, fine-parts, Admits, admits-all}
+use Rattle.scanner.specs.Laws.{and-true-left, same-sym, or-false-left, or-false-right}
+use Rattle.admitted.specs.AdmitLaws.{FineParts, fine-parts, Admits, admitted-before, admitted-last}
 use Rattle.meaning.specs.Wires.{Sound, no-wire, one-more}
 use Rattle.meaning.specs.Settings.{wire-width}
 
@@ -54,7 +54,5 @@ unfolding wires ofModule until flatMap
 no-past = no-wire
 
 pub admitted-sound : (ss : Past) → admitted ss ≡ true → Sound (wires ss)
-unfolding admitted
 admitted-sound [] h = no-past
-admitted-sound (s ∷ ss) h =
-    sound-more ss s (admits-all ss s (and-true-right (admitted ss) _ h)) (admitted-sound ss (and-true-left (admitted ss) _ h))
+admitted-sound (s ∷ ss) h = sound-more ss s (admitted-last s ss h) (admitted-sound ss (admitted-before s ss h))

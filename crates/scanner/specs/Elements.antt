@@ -181,3 +181,8 @@ each-at P d p (x ∷ xs) h (suc i) = each-at P d p xs (h .1) i
 
 pub test-at : (b : Bool) (cs : List Bool) → tests b cs ≡ true → (i : ℕ) → getD (b ∷ cs) i true ≡ true
 test-at b cs e i = each-at (λ c. c ≡ true) true refl (b ∷ cs) (each-test b cs e) i
+
+pub all-of : {A : Type 0} (f : A → Bool) (xs : List A) → Each (λ x. f x ≡ true) xs → all f xs ≡ true
+unfolding all
+all-of f [] h = refl
+all-of f (x ∷ xs) h = all-cons f x xs (h .0) (all-of f xs (h .1))

@@ -15,7 +15,7 @@ use Rattle.rules.specs.Tokens.{Digit, S0, S1, Sx, Sz, Sm, Sa, Literal, value, i
 use Rattle.rules.specs.Shapes as shapes
 use Rattle.rules.specs.Text.{decimalText, integerText, digitByte, escaped, literalText, tokenText, tight, behind, spaced}
 use Rattle.scanner.specs.Laws.{by-test, and-true-left, and-true-right, within-below, within-low, within-high}
-use Rattle.scanner.specs.Elements.{by-any, all-first, all-later, all-cons, all-map, all-each}
+use Rattle.scanner.specs.Elements.{by-any, all-first, all-later, all-cons, all-map, all-each, each-all, map-back}
 use Rattle.written.specs.Runs.{list-passes, Stops, run-upto, rest-upto}
 use Rattle.written.specs.NumberLaws.{decimal-text, Digits, some-digits, decimal-digits}
 use Rattle.written.specs.StringLaws.{quoted-string}
@@ -176,8 +176,7 @@ digit-back Sm = refl
 digit-back Sa = refl
 
 digits-back : (ds : List Digit) → map digit (map digitByte ds) ≡ ds
-digits-back [] = refl
-digits-back (d ∷ ds) = rw (digit-back d, digits-back ds)
+digits-back ds = map-back digitByte digit ds (each-all _ digit-back ds)
 
 digit-byte : (d : Digit) → isValueDigit (digitByte d) ≡ true
 unfolding digitByte bytesOpen
