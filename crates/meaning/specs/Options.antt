@@ -1,22 +1,22 @@
 -- The tokens of written options read as those options.
 -- Assumes nothing.
-use Prim.Native.Nat.{ℕ, zero, suc, _+_, _-_, _≤_}
+use Prim.Native.Nat.{ℕ, zero, suc, _+_}
 use Prim.Native.String.{String}
-use mathlib.Core.Path.{_≡_, refl, ap, ap₂, _∙_}
-use mathlib.Core.List.{List, [], _∷_, _++_, map, append-assoc, append-nil, Option·toList}
+use mathlib.Core.Path.{_≡_, refl}
+use mathlib.Core.List.{List, [], _∷_, _++_, map, Option·toList}
 use mathlib.Core.Option.{Option, none, some}
 use mathlib.Core.Bool.{Bool, true, false, not}
 use native.Mathlib.Omega.{arith}
 use lib.IntN.{ℤ, pos}
 use lib.Dec.{eqb}
-use lib.ListN.{length, length-append}
 use Rattle.rules.specs.Bytes.{bytes, bytesOpen}
 use Rattle.rules.specs.Tokens.{Name, Token, name, word}
 use Rattle.rules.specs.Statements.{Opt, Direction, input, output, inout, Wire, Memory}
-use Rattle.rules.specs.Shapes.{Parse, after, choice, offers, repeat, several, options, wireOptionForms, memoryOptionForms, shapesOpen}
+use Rattle.rules.specs.Shapes.{Parse, after, choice, offers, repeat, options, wireOptionForms, memoryOptionForms, shapesOpen}
 use Rattle.rules.specs.Numbers.{inRange}
 use Rattle.rules.specs.Text.{setting, unless, directionWord, portOptions, wireOptions, memoryOptions, numberToken, optionTokens, textOpen}
-use Rattle.scanner.specs.Elements.{Each, each-append}
+use Rattle.scanner.specs.Elements.{Each, each-append, each-map}
+use Rattle.meaning.specs.Items.{Item, items-read}
 
 abbrev pub OptionForms : Type 0
 OptionForms = List (String × Parse Opt)
@@ -33,24 +33,9 @@ pub record Reads (fs : OptionForms) (o : Opt) : Type 0 where
 -- ---- any forms
 
 module _ (fs : OptionForms) where
-  option-on : (m : ℕ) (as′ : List Opt) (o : Opt) (rest : List Token) → Reads fs o
-      → repeat (offers fs) (choice fs) (suc m) as′ (tokensOf o ++ rest) ≡ repeat (offers fs) (choice fs) m (o ∷ as′) rest
+  read-item : (o : Opt) → Reads fs o → Item (offers fs) (choice fs) tokensOf (λ ts. Unit {0}) o
   unfolding repeat after
-  option-on m as′ o rest r = rw (r .offered, r .taken rest)
-
-  options-on : (m : ℕ) (as′ : List Opt) (os : List Opt) (rest : List Token) → Each (Reads fs) os
-      → repeat (offers fs) (choice fs) (length os + m) as′ (optionTokens os ++ rest) ≡ repeat (offers fs) (choice fs) m (os ++ as′) rest
-  unfolding optionTokens
-  options-on m as′ [] rest rs = ap (λ j. repeat (offers fs) (choice fs) j as′ rest) (omega arith)
-  options-on m as′ (o ∷ os) rest rs =
-      ap₂ (λ j ts. repeat (offers fs) (choice fs) j as′ ts) (omega arith) (append-assoc (optionTokens os) (tokensOf o) rest)
-      ∙ options-on (suc m) as′ os (tokensOf o ++ rest) (rs .1)
-      ∙ option-on m (os ++ as′) o rest (rs .0)
-
-  options-long : (os : List Opt) → length os ≤ length (optionTokens os)
-  unfolding optionTokens
-  options-long [] = omega arith
-  options-long (o ∷ os) = simp length-append (omega (arith, options-long os))
+  read-item o r = record { long = omega arith; taken = λ m as′ rest b. rw (r .offered, r .taken rest); behind = λ rest. tt }
 
   offers-name : (gs : OptionForms) (n : Name) → offers gs (name n) ≡ false
   unfolding shapesOpen bytesOpen
@@ -63,16 +48,10 @@ module _ (fs : OptionForms) where
   at-name (suc m) as′ n rest = rw (offers-name fs n)
 
   pub options-read : (os : List Opt) (n : Name) (rest : List Token) → Each (Reads fs) os → options fs (optionTokens os ++ name n ∷ rest) ≡ some (os, name n ∷ rest)
-  unfolding options several
+  unfolding options optionTokens
   options-read os n rest rs =
-      let ts : List Token = name n ∷ rest in
-      let k : ℕ = length (optionTokens os ++ ts) in
-      let m : ℕ = k - length os in
-      let e : k ≡ length os + m = omega (arith, options-long os, length-append (optionTokens os) ts) in
-      ap (λ j. repeat (offers fs) (choice fs) j [] (optionTokens os ++ ts)) e
-      ∙ options-on m [] os ts rs
-      ∙ at-name m (os ++ []) n rest
-      ∙ ap (λ (xs : List Opt). some (xs, ts)) (append-nil os)
+      items-read (offers fs) (choice fs) tokensOf (λ ts. Unit {0}) optionTokens refl (λ o os. refl) os (name n ∷ rest) (each-map (Reads fs) _ read-item os rs) tt
+      (λ m as′. at-name m as′ n rest)
 
 -- ---- what holds of each option of a wire or a memory
 
