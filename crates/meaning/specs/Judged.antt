@@ -18,8 +18,7 @@ use Rattle.rules.specs.Judgement.{Past, context, wires, among, newPort, allPart
 use Rattle.rules.specs.Reading.{shaped}
 use Rattle.rules.specs.Text.{sig, literalOf, wireOptions, memoryOptions, written, shapeTokens}
 use Rattle.admitted.specs.Admitted.{stands, fineConstant, fineWire, fineMemory, fineSignal, sameLength, admits, admitted}
-use Rattle.scanner.specs.Laws.{and-true-left, and-true-right}
-use Rattle.scanner.specs.Elements.{all-append, all-implied, all-through, test-at}
+use Rattle.scanner.specs.Elements.{all-append, all-first, all-later, all-implied, all-through, test-at}
 use Rattle.admitted.specs.AdmitLaws.{FineParts, fine-parts, Admits, admits-all}
 use Rattle.past.specs.Forms.{translated, contents-translated}
 use Rattle.admitted.specs.CountLaws.{never-process}
@@ -49,7 +48,7 @@ module _ (ws : Wires) (sound : Sound ws) where
   signal-back g h = sig-means ws sound g h .same-bits
 
   pub meaning-written : (s : Statement) → FineParts ws s → meaning ws (written ws s) ≡ s
-  unfolding meaning written statementsOpen all
+  unfolding meaning written statementsOpen
   meaning-written (autoidx-stmt i) f = refl
   meaning-written (attr-stmt n c) f = rw (literal-back c)
   meaning-written (module-stmt n) f = refl
@@ -59,9 +58,9 @@ module _ (ws : Wires) (sound : Sound ws) where
   meaning-written (memory-stmt m n) f = rw (memory-back m)
   meaning-written (cell-stmt t n) f = refl
   meaning-written (cell-param-stmt o n c) f = rw (literal-back c)
-  meaning-written (cell-conn-stmt n g) f = rw (signal-back g (and-true-left (fineSignal ws g) _ (f .signals)))
+  meaning-written (cell-conn-stmt n g) f = rw (signal-back g (all-first (fineSignal ws) g [] (f .signals)))
   meaning-written (conn-stmt g h) f =
-      rw (signal-back g (and-true-left (fineSignal ws g) _ (f .signals)), signal-back h (and-true-left (fineSignal ws h) _ (and-true-right (fineSignal ws g) _ (f .signals))))
+      rw (signal-back g (all-first (fineSignal ws) g (h ∷ []) (f .signals)), signal-back h (all-first (fineSignal ws) h [] (all-later (fineSignal ws) g (h ∷ []) (f .signals))))
   meaning-written (proc-stmt n) f = refl
   meaning-written end-stmt f = refl
 
@@ -84,16 +83,15 @@ module _ (ws : Wires) (sound : Sound ws) where
   unfolding all flatMap
   parts-good [] h = refl
   parts-good (g ∷ gs) h =
-      all-append (goodPart ws) (parts (sig ws g)) (flatMap parts (map (sig ws) gs)) (sig-means ws sound g (and-true-left (fineSignal ws g) _ h) .good-parts)
-      (parts-good gs (and-true-right (fineSignal ws g) _ h))
+      all-append (goodPart ws) (parts (sig ws g)) (flatMap parts (map (sig ws) gs)) (sig-means ws sound g (all-first (fineSignal ws) g gs h) .good-parts)
+      (parts-good gs (all-later (fineSignal ws) g gs h))
 
   widths-equal : (gs : List Signal) → all (fineSignal ws) gs ≡ true → sameLength gs ≡ true → equalWidths ws (map (sig ws) gs) ≡ true
-  unfolding all sameLength equalWidths
+  unfolding sameLength equalWidths
   widths-equal [] h k = refl
   widths-equal (g ∷ []) h k = refl
   widths-equal (g ∷ q ∷ gs) h k =
-      let hq : all (fineSignal ws) (q ∷ gs) ≡ true = and-true-right (fineSignal ws g) _ h in
-      rw (sig-means ws sound g (and-true-left (fineSignal ws g) _ h) .same-width, sig-means ws sound q (and-true-left (fineSignal ws q) _ hq) .same-width) k
+      rw (sig-means ws sound g (all-first (fineSignal ws) g (q ∷ gs) h) .same-width, sig-means ws sound q (all-first (fineSignal ws) q gs (all-later (fineSignal ws) g (q ∷ gs) h)) .same-width) k
 
   -- what a good part keeps, by number
   part-keeps : (x : Sig) → goodPart ws x ≡ true → (i : ℕ) → getD (goodNumbers x ∷ declaredWire ws x ∷ goodSlice ws x ∷ leb (width ws x) 2048 ∷ []) i true ≡ true
