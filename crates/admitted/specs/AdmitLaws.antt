@@ -1,5 +1,5 @@
--- What is admitted stands, has fine parts, takes no name and exceeds no size; so there are at most 4,705 statements, and the offsets of
--- their wires fit in 32 bits.
+-- What is admitted stands, has fine parts, takes no name and exceeds no size; so there are at most 4,705 statements, the offsets of
+-- their wires fit in 32 bits, and their wires pass what the wires of fine parts pass.
 -- Assumes nothing.
 use Prim.Native.Nat.{_-_, _≤_}
 use mathlib.Core.Path.{_≡_, refl}

@@ -150,6 +150,16 @@ module _ (d : Design) (rs : List Rename) where
         || (any (same n) (map (λ o. o .name) (memoriesAt d m)) || any (same n) (map (λ o. o .name) (cellsAt d m)))
     taken-now n = taken-parts (now d rs) m n ∙ rw (names-now, memories-now, cells-now)
 
+-- the same by the statements behind the module's line
+module _ (ss : List Statement) (rs : List Rename) (m : ℕ) where
+  pub taken-read-now :
+      (n : Name) →
+      taken (now (design ss) rs) m n
+      ≡ any (same n) (numbered (nameNow rs m) (map (λ x. x .0) (wiresOf (statementsOf m ss)))) || any (same n) (ownNames (aMemory ∷ aCell ∷ []) (statementsOf m ss))
+  taken-read-now n =
+      taken-now (design ss) rs m n
+      ∙ rw (wire-names-at ss m, memories-at ss m, cell-names-at ss m, any-kinds (same n) aMemory aCell (statementsOf m ss))
+
 -- the newest rename gives its wire its name, and every other wire stays as it was
 module _ (d : Design) (rs : List Rename) (r : Rename) (m w : ℕ) where
   last-given :
@@ -161,13 +171,3 @@ module _ (d : Design) (rs : List Rename) (r : Rename) (m w : ℕ) where
 
   pub wire-last : wireAt (now d (rs ++ r ∷ [])) m w ≡ cond (renames r m w) (Option·map (given r) (wireAt (now d rs) m w)) (wireAt (now d rs) m w)
   wire-last = wire-now d (rs ++ r ∷ []) m w ∙ last-given (wireAt d m w) ∙ rw (wire-now d rs m w)
-
--- the same by the statements behind the module's line
-module _ (ss : List Statement) (rs : List Rename) (m : ℕ) where
-  pub taken-read-now :
-      (n : Name) →
-      taken (now (design ss) rs) m n
-      ≡ any (same n) (numbered (nameNow rs m) (map (λ x. x .0) (wiresOf (statementsOf m ss)))) || any (same n) (ownNames (aMemory ∷ aCell ∷ []) (statementsOf m ss))
-  taken-read-now n =
-      taken-now (design ss) rs m n
-      ∙ rw (wire-names-at ss m, memories-at ss m, cell-names-at ss m, any-kinds (same n) aMemory aCell (statementsOf m ss))
