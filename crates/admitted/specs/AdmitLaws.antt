@@ -1,26 +1,43 @@
--- What is admitted stands, has fine parts, takes no name and exceeds no size; so there are at most 4,705 statements, and the offsets of
--- their wires fit in 32 bits.
+-- What is admitted stands, has fine parts, takes no name and exceeds no size; so there are at most 4,705 statements, the offsets of
+-- their wires fit in 32 bits, and their wires pass what the wires of fine parts pass.
 -- Assumes nothing.
 use Prim.Native.Nat.{_-_, _≤_}
-use mathlib.Core.Path.{_≡_}
-use mathlib.Core.List.{List, [], _∷_, reverseAux}
-use mathlib.Core.Bool.{Bool, true, false, not, _&&_, _||_}
+use mathlib.Core.Path.{_≡_, refl}
+use mathlib.Core.List.{List, [], _∷_, flatMap, zip, reverseAux}
+use mathlib.Core.Bool.{Bool, true, false, not, _||_}
 use lib.Dec.{leb, eqb}
 use lib.IntN.{pos, _+ℤ_}
 use lib.ListN.{length}
 use borrow.Author.Tests.{not-true}
 use Rattle.rules.specs.Bytes.{all, within, legal}
-use Rattle.rules.specs.Statements.{Statement, Wire, contents}
+use Rattle.rules.specs.Tokens.{Name}
+use Rattle.rules.specs.Statements.{Statement, Wire, aModule, contents, is}
 use Rattle.rules.specs.Numbers.{int32}
 use Rattle.rules.specs.Signals.{Wires}
-use Rattle.rules.specs.Judgement.{Past, wires, portNumbers, takesName, exceedsSize}
-use Rattle.scanner.specs.Laws.{and-true-left, and-true-right}
-use Rattle.scanner.specs.Elements.{all-implied}
+use Rattle.rules.specs.Judgement.{Past, until, ofModule, wires, portNumbers, takesName, exceedsSize}
+use Rattle.scanner.specs.Laws.{by-test, and-true-left, and-true-right}
+use Rattle.scanner.specs.Elements.{all-append, all-implied, test-at}
 use Rattle.past.specs.Sizes.{sumsOf, Within}
 use Rattle.past.specs.Offsets.{fitsOffset, Offsets, no-offsets, more-offsets}
 use Rattle.past.proofs.SizeLaws.{within-past, within-none}
-use Rattle.admitted.specs.Admitted.{stands, fineConstant, fineWire, fineMemory, fineSignal, sameLength, fineParts, admits, admitted}
+use Rattle.admitted.specs.Admitted.{stands, fineConstant, newPorts, fineWire, fineMemory, fineSignal, sameLength, fineParts, admits, admitted}
 use Rattle.admitted.specs.CountLaws.{Standing, none-stand, one-stands, rows-few}
+
+-- a fine wire
+pub record FineWire (ws : Wires) (w : Wire) : Type 0 where
+  pub narrow : leb (w .width) 2048 ≡ true
+  pub offset : int32 (w .offset) ≡ true
+  pub last-bit : (eqb (w .width) 0 || int32 (w .offset +ℤ pos (w .width - 1))) ≡ true
+  pub port : all (within 1 1023) (portNumbers w) ≡ true
+  pub new : newPorts ws w ≡ true
+
+pub fine-wire : (ws : Wires) (w : Wire) → fineWire ws w ≡ true → FineWire ws w
+unfolding fineWire
+fine-wire ws w e =
+    let h =
+    test-at (leb (w .width) 2048)
+    (int32 (w .offset) ∷ (eqb (w .width) 0 || int32 (w .offset +ℤ pos (w .width - 1))) ∷ all (within 1 1023) (portNumbers w) ∷ newPorts ws w ∷ []) e in
+    record { narrow = h 0; offset = h 1; last-bit = h 2; port = h 3; new = h 4 }
 
 -- the parts, one by one
 pub record FineParts (ws : Wires) (s : Statement) : Type 0 where
@@ -35,39 +52,16 @@ pub record FineParts (ws : Wires) (s : Statement) : Type 0 where
 pub fine-parts : (ws : Wires) (s : Statement) → fineParts ws s ≡ true → FineParts ws s
 unfolding fineParts
 fine-parts ws s e =
-    let a : Bool = all legal (contents s .names) in
-    let b : Bool = all int32 (contents s .integers) in
-    let c : Bool = all fineConstant (contents s .constants) in
-    let d : Bool = all (fineWire ws) (contents s .wires) in
-    let m : Bool = all fineMemory (contents s .memories) in
-    let g : Bool = all (fineSignal ws) (contents s .signals) in
-    let e₆ = and-true-left (a && b && c && d && m && g) (sameLength (contents s .signals)) e in
-    let e₅ = and-true-left (a && b && c && d && m) g e₆ in
-    let e₄ = and-true-left (a && b && c && d) m e₅ in
-    let e₃ = and-true-left (a && b && c) d e₄ in
-    let e₂ = and-true-left (a && b) c e₃ in
-    record {
-      names = and-true-left a b e₂;
-      integers = and-true-right a b e₂;
-      constants = and-true-right (a && b) c e₃;
-      wires = and-true-right (a && b && c) d e₄;
-      memories = and-true-right (a && b && c && d) m e₅;
-      signals = and-true-right (a && b && c && d && m) g e₆;
-      same-length = and-true-right (a && b && c && d && m && g) _ e;
-    }
+    let c = contents s in
+    let h =
+    test-at (all legal (c .names))
+    (all int32 (c .integers) ∷ all fineConstant (c .constants) ∷ all (fineWire ws) (c .wires) ∷ all fineMemory (c .memories) ∷ all (fineSignal ws) (c .signals) ∷ sameLength (c .signals) ∷ [])
+    e in
+    record { names = h 0; integers = h 1; constants = h 2; wires = h 3; memories = h 4; signals = h 5; same-length = h 6 }
 
 -- offsets fit
-fine-offset : (ws : Wires) (w : Wire) → fineWire ws w ≡ true → int32 (w .offset) ≡ true
-unfolding fineWire
-fine-offset ws w e =
-    let a : Bool = leb (w .width) 2048 in
-    let b : Bool = int32 (w .offset) in
-    let c : Bool = eqb (w .width) 0 || int32 (w .offset +ℤ pos (w .width - 1)) in
-    let d : Bool = all (within 1 1023) (portNumbers w) in
-    and-true-right a b (and-true-left (a && b) c (and-true-left (a && b && c) d (and-true-left (a && b && c && d) _ e)))
-
 pub fine-fits : (ws : Wires) (s : Statement) → fineParts ws s ≡ true → fitsOffset s ≡ true
-fine-fits ws s e = all-implied (fineWire ws) (λ w. int32 (w .offset)) (fine-offset ws) (contents s .wires) (fine-parts ws s e .wires)
+fine-fits ws s e = all-implied (fineWire ws) (λ w. int32 (w .offset)) (λ w h. fine-wire ws w h .offset) (contents s .wires) (fine-parts ws s e .wires)
 
 -- what an admitted statement keeps
 pub record Admits (ss : Past) (s : Statement) : Type 0 where
@@ -79,17 +73,8 @@ pub record Admits (ss : Past) (s : Statement) : Type 0 where
 pub admits-all : (ss : Past) (s : Statement) → admits ss s ≡ true → Admits ss s
 unfolding admits
 admits-all ss s e =
-    let a : Bool = stands ss s in
-    let b : Bool = fineParts (wires ss) s in
-    let c : Bool = not (takesName ss s) in
-    let e₃ = and-true-left (a && b && c) (not (exceedsSize (s ∷ ss))) e in
-    let e₂ = and-true-left (a && b) c e₃ in
-    record {
-      standing = and-true-left a b e₂;
-      parts = and-true-right a b e₂;
-      new-name = not-true (takesName ss s) (and-true-right (a && b) c e₃);
-      room = not-true (exceedsSize (s ∷ ss)) (and-true-right (a && b && c) _ e);
-    }
+    let h = test-at (stands ss s) (fineParts (wires ss) s ∷ not (takesName ss s) ∷ not (exceedsSize (s ∷ ss)) ∷ []) e in
+    record { standing = h 0; parts = h 1; new-name = not-true (takesName ss s) (h 2); room = not-true (exceedsSize (s ∷ ss)) (h 3) }
 
 -- all statements so far
 module _ (s : Statement) (ss : Past) (e : admitted (s ∷ ss) ≡ true) where
@@ -97,14 +82,30 @@ module _ (s : Statement) (ss : Past) (e : admitted (s ∷ ss) ≡ true) where
   unfolding admitted
   admitted-before = and-true-left (admitted ss) _ e
 
-  pub admitted-last : Admits ss s
+  pub admits-last : admits ss s ≡ true
   unfolding admitted
-  admitted-last = admits-all ss s (and-true-right (admitted ss) _ e)
+  admits-last = and-true-right (admitted ss) _ e
+
+  pub admitted-last : Admits ss s
+  admitted-last = admits-all ss s admits-last
 
 -- the statements behind which others were admitted
 pub admitted-past : (more : List Statement) (ss : Past) → admitted (reverseAux more ss) ≡ true → admitted ss ≡ true
 admitted-past [] ss a = a
 admitted-past (s ∷ more) ss a = admitted-before s ss (admitted-past more (s ∷ ss) a)
+
+-- a test that the wires of each statement with fine parts pass
+module _ (f : Name × Wire → Bool) (one : (ws : Wires) (s : Statement) → FineParts ws s → all f (zip (contents s .names) (contents s .wires)) ≡ true) where
+  wires-until : (g : Statement → Bool) (ss : Past) → admitted ss ≡ true → all f (flatMap (λ s. zip (contents s .names) (contents s .wires)) (until g ss)) ≡ true
+  unfolding until flatMap all
+  wires-until g [] h = refl
+  wires-until g (s ∷ ss) h =
+      by-test (g s) (λ e. rw e)
+      (λ e. rw e (all-append f (zip (contents s .names) (contents s .wires)) _ (one (wires ss) s (fine-parts (wires ss) s (admitted-last s ss h .parts))) (wires-until g ss (admitted-before s ss h))))
+
+  pub admitted-wires : (ss : Past) → admitted ss ≡ true → all f (wires ss) ≡ true
+  unfolding wires ofModule
+  admitted-wires ss h = wires-until (is aModule) ss h
 
 pub admitted-standing : (ss : Past) → admitted ss ≡ true → Standing ss
 admitted-standing [] e = none-stand

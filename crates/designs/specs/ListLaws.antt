@@ -2,14 +2,14 @@
 -- Assumes nothing.
 use Prim.Native.Nat.{ℕ, zero, suc}
 use mathlib.Core.Path.{_≡_, refl, sym, ap, _∙_}
-use mathlib.Core.List.{List, [], _∷_, _++_, map, map-append, flatMap, reverse, reverse-cons, append-nil}
+use mathlib.Core.List.{List, [], _∷_, _++_, map, map-append, flatMap, reverse, reverse-cons}
 use mathlib.Core.Option.{Option·elim}
 use mathlib.Core.Bool.{Bool, cond, _||_, or-assoc}
 use lib.ListN.{getD, getElem?}
 use Rattle.rules.specs.Bytes.{any}
 use Rattle.rules.specs.Judgement.{only}
 use Rattle.scanner.specs.Laws.{by-test}
-use Rattle.scanner.specs.Lists.{flatMap-append}
+use Rattle.scanner.specs.Lists.{flatMap-snoc}
 
 module _ {A B : Type 0} where
   -- the element of that number, or a value given for none
@@ -25,9 +25,7 @@ module _ {A B : Type 0} where
 
   -- with one element more in front, read from the end
   pub flatMap-back : (f : A → List B) (x : A) (xs : List A) → flatMap f (reverse (x ∷ xs)) ≡ flatMap f (reverse xs) ++ f x
-  unfolding flatMap
-  flatMap-back f x xs =
-      ap (flatMap f) (reverse-cons x xs) ∙ flatMap-append f (reverse xs) (x ∷ []) ∙ ap (λ (l : List B). flatMap f (reverse xs) ++ l) (append-nil (f x))
+  flatMap-back f x xs = ap (flatMap f) (reverse-cons x xs) ∙ flatMap-snoc f (reverse xs) x
 
   pub map-flatMap : {C : Type 0} (g : B → C) (f : A → List B) (xs : List A) → map g (flatMap f xs) ≡ flatMap (λ x. map g (f x)) xs
   unfolding flatMap

@@ -63,16 +63,17 @@ module-none : (m : ℕ) (o : Object Module) → moduleNow [] m o ≡ o
 unfolding moduleNow
 module-none m o = rw (wires-none m (o .body .wires))
 
-module _ (r : Rename) (rs : List Rename) (m : ℕ) where
-  abbrev given : Object Wire → Object Wire
-  given w = object (w .attributes) (r .newName) (w .body)
+-- a wire with the name that a rename gives
+abbrev pub given : Rename → Object Wire → Object Wire
+given r w = object (w .attributes) (r .newName) (w .body)
 
+module _ (r : Rename) (rs : List Rename) (m : ℕ) where
   wires-changed :
       eqb (r .moduleNumber) m ≡ true → (ws : List (Object Wire)) →
-      numbered (wireNow rs m) (change given (r .wireNumber) ws) ≡ numbered (wireNow (r ∷ rs) m) ws
+      numbered (wireNow rs m) (change (given r) (r .wireNumber) ws) ≡ numbered (wireNow (r ∷ rs) m) ws
   unfolding wireNow nameNow renames
   wires-changed e ws =
-      ap (numbered (wireNow rs m)) (change-numbered given (r .wireNumber) ws)
+      ap (numbered (wireNow rs m)) (change-numbered (given r) (r .wireNumber) ws)
       ∙ numbered-twice (wireNow rs m) _ ws
       ∙ numbered-same _ (wireNow (r ∷ rs) m) (λ i x. by-test (eqb (r .wireNumber) i) (λ h. rw (e, h)) (λ h. rw (e, h))) ws
 
@@ -110,15 +111,10 @@ unfolding Option·elim moduleNow numbered
 now-wires none rs m = refl
 now-wires (some o) rs m = refl
 
-now-memories : (o : Option (Object Module)) (rs : List Rename) (m : ℕ) → Option·elim (Option·map (moduleNow rs m) o) [] (λ o. o .body .memories) ≡ Option·elim o [] (λ o. o .body .memories)
-unfolding Option·elim moduleNow
-now-memories none rs m = refl
-now-memories (some o) rs m = refl
-
-now-cells : (o : Option (Object Module)) (rs : List Rename) (m : ℕ) → Option·elim (Option·map (moduleNow rs m) o) [] (λ o. o .body .cells) ≡ Option·elim o [] (λ o. o .body .cells)
-unfolding Option·elim moduleNow
-now-cells none rs m = refl
-now-cells (some o) rs m = refl
+now-kept : {A : Type 0} (f : Module → List A) (rs : List Rename) (m : ℕ) → ((o : Object Module) → f (moduleNow rs m o .body) ≡ f (o .body)) → (o : Option (Object Module)) → Option·elim (Option·map (moduleNow rs m) o) [] (λ o. f (o .body)) ≡ Option·elim o [] (λ o. f (o .body))
+unfolding Option·elim
+now-kept f rs m h none = refl
+now-kept f rs m h (some o) = h o
 
 -- of each module only its wires' names change
 module _ (d : Design) (rs : List Rename) where
@@ -140,12 +136,12 @@ module _ (d : Design) (rs : List Rename) where
     names-now = ap (map (λ o. o .name)) wires-now ∙ map-numbered (λ o. o .name) (wireNow rs m) (nameNow rs m) (λ i x. refl) (wiresAt d m)
 
     pub memories-now : memoriesAt (now d rs) m ≡ memoriesAt d m
-    unfolding memoriesAt
-    memories-now = rw module-now (now-memories (getElem? (d .modules) m) rs m)
+    unfolding memoriesAt moduleNow
+    memories-now = rw module-now (now-kept (λ b. b .memories) rs m (λ o. refl) (getElem? (d .modules) m))
 
     pub cells-now : cellsAt (now d rs) m ≡ cellsAt d m
-    unfolding cellsAt
-    cells-now = rw module-now (now-cells (getElem? (d .modules) m) rs m)
+    unfolding cellsAt moduleNow
+    cells-now = rw module-now (now-kept (λ b. b .cells) rs m (λ o. refl) (getElem? (d .modules) m))
 
     pub taken-now :
         (n : Name) →
@@ -163,3 +159,15 @@ module _ (ss : List Statement) (rs : List Rename) (m : ℕ) where
   taken-read-now n =
       taken-now (design ss) rs m n
       ∙ rw (wire-names-at ss m, memories-at ss m, cell-names-at ss m, any-kinds (same n) aMemory aCell (statementsOf m ss))
+
+-- the newest rename gives its wire its name, and every other wire stays as it was
+module _ (d : Design) (rs : List Rename) (r : Rename) (m w : ℕ) where
+  last-given :
+      (o : Option (Object Wire)) →
+      Option·map (wireNow (rs ++ r ∷ []) m w) o ≡ cond (renames r m w) (Option·map (given r) (Option·map (wireNow rs m w) o)) (Option·map (wireNow rs m w) o)
+  unfolding wireNow
+  last-given none = by-test (renames r m w) (λ e. rw e) (λ e. rw e)
+  last-given (some o) = by-test (renames r m w) (λ e. rw (name-last rs r m w (o .name), e)) (λ e. rw (name-last rs r m w (o .name), e))
+
+  pub wire-last : wireAt (now d (rs ++ r ∷ [])) m w ≡ cond (renames r m w) (Option·map (given r) (wireAt (now d rs) m w)) (wireAt (now d rs) m w)
+  wire-last = wire-now d (rs ++ r ∷ []) m w ∙ last-given (wireAt d m w) ∙ rw (wire-now d rs m w)

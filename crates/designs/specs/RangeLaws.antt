@@ -51,7 +51,7 @@ where-next t m (suc k) = omega (arith, where-next t m k, below-next (column t k 
 -- MODULE LINES
 module _ (rows : List ℕ) where
   pub lines-more : (k : ℕ) → (linesIn rows k ≤ linesIn rows (suc k)) × (linesIn rows (suc k) ≤ linesIn rows k + 1)
-  unfolding linesIn rowsWhere
+  unfolding rowsWhere
   lines-more k = (omega arith, omega (arith, one-le (eqb (column rows k 0) 3)))
 
   pub line-le : (k m : ℕ) → lineOf rows k m ≤ k
@@ -85,7 +85,7 @@ module _ (rows : List ℕ) where
 
   -- the next module line is further on
   no-lines : (m : ℕ) → linesIn rows 0 ≤ m
-  unfolding linesIn rowsWhere
+  unfolding rowsWhere
   no-lines m = omega arith
 
   line-lines : (k m : ℕ) → linesIn rows (lineOf rows k m) ≤ m
@@ -113,14 +113,6 @@ module _ (rows : List ℕ) where
       let d : suc m < linesIn rows (suc k) = omega (arith, leb-false (linesIn rows (suc k)) (suc m) f) in
       let far : lineOf rows k m < k = line-before k m (omega (arith, lines-more k .1)) in
       omega (arith, q, line-back k (suc m) d, line-next k m far)))
-
-  pub lines-turn : (k n : ℕ) → n ≡ linesIn rows k → (x r : ℕ) → x ≡ column rows k 0 → r ≡ cond (eqb x 3) 1 0 → n + r ≡ linesIn rows (k + 1)
-  unfolding linesIn
-  lines-turn k n e x r ex er = where-turn (λ c. eqb c 3) rows k n e x r ex er
-
-  pub lines-sum : (k n : ℕ) → n ≡ linesIn rows k → (x r : ℕ) → x ≡ column rows k 0 → r ≡ cond (eqb x 3) 1 0 → n + r ≤ k + 1
-  unfolding linesIn
-  lines-sum k n e x r ex er = where-sum (λ c. eqb c 3) rows k n e x r ex er
 
   -- a search for the line stops at it, or at the end
   pub line-stop :

@@ -16,7 +16,7 @@ unfoldable pub wireRange : List ℕ → (total m : ℕ) → Range
 wireRange t total m = record { first = rowsWhere (λ c. ltb c m) t total; count = rowsWhere (λ c. eqb c m) t total }
 
 -- how many of the first k rows are module lines; and how many stand before the module line of number m, from 0: all k if there is none
-unfoldable pub linesIn : List ℕ → ℕ → ℕ
+abbrev pub linesIn : List ℕ → ℕ → ℕ
 linesIn rows k = rowsWhere (λ c. eqb c 3) rows k
 
 unfoldable pub lineOf : List ℕ → (k m : ℕ) → ℕ

@@ -42,7 +42,7 @@ module _ {names rows : List ℕ} where
       row-kind rows k (used (roomsOf ss)) s r
 
   lines-laid : (ss : Past) → Laid (roomsOf ss) names rows → linesIn rows (length ss) ≡ moduleCount ss
-  unfolding linesIn rowsWhere sum code
+  unfolding rowsWhere sum code
   lines-laid [] l = refl
   lines-laid (s ∷ ss) l =
       let e : column rows (length ss) 0 ≡ code (contents s .kind) = last-kind s ss (length ss) refl l in

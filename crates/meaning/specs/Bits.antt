@@ -18,7 +18,8 @@ use Rattle.rules.specs.Statements.{Bit, digit, bit, Signal, Wire}
 use Rattle.rules.specs.Signals.{Wires, fill, valueBits, literalBits, wireBits, lower, width}
 use Rattle.rules.specs.Text.{Run, digits, join, runs}
 use Rattle.admitted.specs.Admitted.{fineBit}
-use Rattle.scanner.specs.Laws.{by-cond, and-true-left, and-true-right}
+use Rattle.scanner.specs.Laws.{by-cond}
+use Rattle.scanner.specs.Elements.{all-first, all-later, Each}
 
 -- ---- the bits of runs
 
@@ -62,10 +63,6 @@ module _ (ws : Wires) where
     digits-in : (ds : List Digit) → Inside (digits ds)
     span-in : {w l n : ℕ} → 0 < n → l + n ≤ widthAt w → Inside (Run.span w l n)
 
-  pub data AllInside : List Run → Type 0 where
-    no-more : AllInside []
-    also : {r : Run} {rs : List Run} → Inside r → AllInside rs → AllInside (r ∷ rs)
-
   fine-width : (w i : ℕ) → fineBit ws (bit w i) ≡ true → i < widthAt w
   unfolding fineBit widthAt Option·elim
   fine-width w i h = go (getElem? (reverse ws) w) h
@@ -80,22 +77,22 @@ module _ (ws : Wires) where
   more-in : (w v i l n : ℕ) → w ≡ v → i + 1 ≡ l → l + n ≤ widthAt v → Inside (Run.span w i (n + 1))
   more-in w v i l n e f h = let p : 0 < n + 1 = omega arith in let q : i + (n + 1) ≤ widthAt w = rw e (omega arith) in span-in p q
 
-  join-inside : (b : Bit) {rs : List Run} → fineBit ws b ≡ true → AllInside rs → AllInside (join b rs)
+  join-inside : (b : Bit) (rs : List Run) → fineBit ws b ≡ true → Each Inside rs → Each Inside (join b rs)
   unfolding join
-  join-inside (digit d) h no-more = also (digits-in (d ∷ [])) no-more
-  join-inside (digit d) h (also (digits-in ds) a) = also (digits-in (d ∷ ds)) a
-  join-inside (digit d) h (also (span-in p q) a) = also (digits-in (d ∷ [])) (also (span-in p q) a)
-  join-inside (bit w i) h no-more = also (one-in w i h) no-more
-  join-inside (bit w i) h (also (digits-in ds) a) = also (one-in w i h) (also (digits-in ds) a)
-  join-inside (bit w i) h (also (span-in {w = v} {l = l} {n = n} p q) a) =
-      by-and AllInside (eqb w v) (eqb (i + 1) l)
-      (λ s t. also (more-in w v i l n (eqb-true w v s) (eqb-true (i + 1) l t) q) a)
-      (also (one-in w i h) (also (span-in p q) a))
+  join-inside (digit d) [] h a = (digits-in (d ∷ []), tt)
+  join-inside (digit d) (digits ds ∷ rs) h a = (digits-in (d ∷ ds), a .1)
+  join-inside (digit d) (Run.span w l n ∷ rs) h a = (digits-in (d ∷ []), a)
+  join-inside (bit w i) [] h a = (one-in w i h, tt)
+  join-inside (bit w i) (digits ds ∷ rs) h a = (one-in w i h, a)
+  join-inside (bit w i) (Run.span v l n ∷ rs) h (span-in p q, a) =
+      by-and (Each Inside) (eqb w v) (eqb (i + 1) l)
+      (λ s t. (more-in w v i l n (eqb-true w v s) (eqb-true (i + 1) l t) q, a))
+      (one-in w i h, (span-in p q, a))
 
-  pub runs-inside : (bs : Signal) → all (fineBit ws) bs ≡ true → AllInside (runs bs)
-  unfolding runs all
-  runs-inside [] h = no-more
-  runs-inside (b ∷ bs) h = join-inside b (and-true-left (fineBit ws b) _ h) (runs-inside bs (and-true-right (fineBit ws b) _ h))
+  pub runs-inside : (bs : Signal) → all (fineBit ws) bs ≡ true → Each Inside (runs bs)
+  unfolding runs
+  runs-inside [] h = tt
+  runs-inside (b ∷ bs) h = join-inside b (runs bs) (all-first (fineBit ws) b bs h) (runs-inside bs (all-later (fineBit ws) b bs h))
 
 -- ---- a value, and a part of a wire
 

@@ -1,12 +1,13 @@
 -- A written statement that may stand is accepted, as that statement.
 -- Assumes nothing.
+use Prim.Native.Nat.{ℕ}
 use mathlib.Core.Path.{_≡_, refl, ap}
 use mathlib.Core.List.{List, [], _∷_, map, flatMap}
 use mathlib.Core.Option.{none, some}
 use mathlib.Core.Bool.{Bool, true, false, _&&_}
 use native.Mathlib.Omega.{arith}
 use lib.Dec.{leb}
-use lib.ListN.{length, length-reverse}
+use lib.ListN.{length, getD, length-reverse}
 use borrow.Author.Tests.{le-leb}
 use Rattle.rules.specs.Bytes.{all}
 use Rattle.rules.specs.Statements.{Sig, Constant, Signal, Statement, holds, autoidx-stmt, attr-stmt, module-stmt, param-stmt, wire-stmt, memory-stmt, cell-stmt, cell-param-stmt, cell-conn-stmt, conn-stmt, proc-stmt, end-stmt, aProcess, contents, is, statementsOpen}
@@ -17,8 +18,7 @@ use Rattle.rules.specs.Judgement.{Past, context, wires, among, newPort, allPart
 use Rattle.rules.specs.Reading.{shaped}
 use Rattle.rules.specs.Text.{sig, literalOf, wireOptions, memoryOptions, written, shapeTokens}
 use Rattle.admitted.specs.Admitted.{stands, fineConstant, fineWire, fineMemory, fineSignal, sameLength, admits, admitted}
-use Rattle.scanner.specs.Laws.{and-true-left, and-true-right}
-use Rattle.scanner.specs.Elements.{all-append, all-implied, all-through}
+use Rattle.scanner.specs.Elements.{all-append, all-first, all-later, all-implied, all-through, test-at}
 use Rattle.admitted.specs.AdmitLaws.{FineParts, fine-parts, Admits, admits-all}
 use Rattle.past.specs.Forms.{translated, contents-translated}
 use Rattle.admitted.specs.CountLaws.{never-process}
@@ -48,7 +48,7 @@ module _ (ws : Wires) (sound : Sound ws) where
   signal-back g h = sig-means ws sound g h .same-bits
 
   pub meaning-written : (s : Statement) → FineParts ws s → meaning ws (written ws s) ≡ s
-  unfolding meaning written statementsOpen all
+  unfolding meaning written statementsOpen
   meaning-written (autoidx-stmt i) f = refl
   meaning-written (attr-stmt n c) f = rw (literal-back c)
   meaning-written (module-stmt n) f = refl
@@ -58,9 +58,9 @@ module _ (ws : Wires) (sound : Sound ws) where
   meaning-written (memory-stmt m n) f = rw (memory-back m)
   meaning-written (cell-stmt t n) f = refl
   meaning-written (cell-param-stmt o n c) f = rw (literal-back c)
-  meaning-written (cell-conn-stmt n g) f = rw (signal-back g (and-true-left (fineSignal ws g) _ (f .signals)))
+  meaning-written (cell-conn-stmt n g) f = rw (signal-back g (all-first (fineSignal ws) g [] (f .signals)))
   meaning-written (conn-stmt g h) f =
-      rw (signal-back g (and-true-left (fineSignal ws g) _ (f .signals)), signal-back h (and-true-left (fineSignal ws h) _ (and-true-right (fineSignal ws g) _ (f .signals))))
+      rw (signal-back g (all-first (fineSignal ws) g (h ∷ []) (f .signals)), signal-back h (all-first (fineSignal ws) h [] (all-later (fineSignal ws) g (h ∷ []) (f .signals))))
   meaning-written (proc-stmt n) f = refl
   meaning-written end-stmt f = refl
 
@@ -83,32 +83,20 @@ module _ (ws : Wires) (sound : Sound ws) where
   unfolding all flatMap
   parts-good [] h = refl
   parts-good (g ∷ gs) h =
-      all-append (goodPart ws) (parts (sig ws g)) (flatMap parts (map (sig ws) gs)) (sig-means ws sound g (and-true-left (fineSignal ws g) _ h) .good-parts)
-      (parts-good gs (and-true-right (fineSignal ws g) _ h))
+      all-append (goodPart ws) (parts (sig ws g)) (flatMap parts (map (sig ws) gs)) (sig-means ws sound g (all-first (fineSignal ws) g gs h) .good-parts)
+      (parts-good gs (all-later (fineSignal ws) g gs h))
 
   widths-equal : (gs : List Signal) → all (fineSignal ws) gs ≡ true → sameLength gs ≡ true → equalWidths ws (map (sig ws) gs) ≡ true
-  unfolding all sameLength equalWidths
+  unfolding sameLength equalWidths
   widths-equal [] h k = refl
   widths-equal (g ∷ []) h k = refl
   widths-equal (g ∷ q ∷ gs) h k =
-      let hq : all (fineSignal ws) (q ∷ gs) ≡ true = and-true-right (fineSignal ws g) _ h in
-      rw (sig-means ws sound g (and-true-left (fineSignal ws g) _ h) .same-width, sig-means ws sound q (and-true-left (fineSignal ws q) _ hq) .same-width) k
+      rw (sig-means ws sound g (all-first (fineSignal ws) g (q ∷ gs) h) .same-width, sig-means ws sound q (all-first (fineSignal ws) q gs (all-later (fineSignal ws) g (q ∷ gs) h)) .same-width) k
 
-  part-numbers : (x : Sig) → goodPart ws x ≡ true → goodNumbers x ≡ true
+  -- what a good part keeps, by number
+  part-keeps : (x : Sig) → goodPart ws x ≡ true → (i : ℕ) → getD (goodNumbers x ∷ declaredWire ws x ∷ goodSlice ws x ∷ leb (width ws x) 2048 ∷ []) i true ≡ true
   unfolding goodPart
-  part-numbers x h = and-true-left (goodNumbers x) _ (and-true-left (goodNumbers x && declaredWire ws x) _ (and-true-left (goodNumbers x && declaredWire ws x && goodSlice ws x) _ h))
-
-  part-declared : (x : Sig) → goodPart ws x ≡ true → declaredWire ws x ≡ true
-  unfolding goodPart
-  part-declared x h = and-true-right (goodNumbers x) _ (and-true-left (goodNumbers x && declaredWire ws x) _ (and-true-left (goodNumbers x && declaredWire ws x && goodSlice ws x) _ h))
-
-  part-slice : (x : Sig) → goodPart ws x ≡ true → goodSlice ws x ≡ true
-  unfolding goodPart
-  part-slice x h = and-true-right (goodNumbers x && declaredWire ws x) _ (and-true-left (goodNumbers x && declaredWire ws x && goodSlice ws x) _ h)
-
-  part-narrow : (x : Sig) → goodPart ws x ≡ true → leb (width ws x) 2048 ≡ true
-  unfolding goodPart
-  part-narrow x h = and-true-right (goodNumbers x && declaredWire ws x && goodSlice ws x) _ h
+  part-keeps x h = test-at (goodNumbers x) (declaredWire ws x ∷ goodSlice ws x ∷ leb (width ws x) 2048 ∷ []) h
 
   module _ (s : Statement) (f : FineParts ws s) where
     all-good : all (goodPart ws) (allParts (written ws s)) ≡ true
@@ -122,7 +110,7 @@ module _ (ws : Wires) (sound : Sound ws) where
     unfolding breaksNumber translated holds
     numbers-kept =
         rw (
-          each-good goodNumbers part-numbers,
+          each-good goodNumbers (λ x h. part-keeps x h 0),
           contents-written ws s,
           f .integers,
           all-through fineConstant literalOf goodLiteral (contents s .constants) literal-good (f .constants),
@@ -132,15 +120,15 @@ module _ (ws : Wires) (sound : Sound ws) where
 
     pub wires-there : lacksWire ws (written ws s) ≡ false
     unfolding lacksWire
-    wires-there = rw (each-good (declaredWire ws) part-declared)
+    wires-there = rw (each-good (declaredWire ws) (λ x h. part-keeps x h 1))
 
     pub widths-kept : breaksWidth ws (written ws s) ≡ false
     unfolding breaksWidth translated holds
-    widths-kept = rw (each-good (goodSlice ws) part-slice, contents-written ws s, widths-equal (contents s .signals) (f .signals) (f .same-length))
+    widths-kept = rw (each-good (goodSlice ws) (λ x h. part-keeps x h 2), contents-written ws s, widths-equal (contents s .signals) (f .signals) (f .same-length))
 
     pub parts-narrow : partTooWide ws (written ws s) ≡ false
     unfolding partTooWide
-    parts-narrow = rw (each-good (λ x. leb (width ws x) 2048) part-narrow)
+    parts-narrow = rw (each-good (λ x. leb (width ws x) 2048) (λ x h. part-keeps x h 3))
 
 -- ---- 9: its name
 

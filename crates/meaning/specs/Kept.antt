@@ -5,15 +5,16 @@ use mathlib.Core.Path.{_≡_, refl}
 use mathlib.Core.List.{List, [], _∷_, map, flatMap, zip}
 use mathlib.Core.Option.{none}
 use mathlib.Core.Bool.{true, false}
-use Rattle.rules.specs.Bytes.{same, any, all}
+use Rattle.rules.specs.Bytes.{same, any}
 use Rattle.rules.specs.Tokens.{Name}
 use Rattle.rules.specs.Statements.{Constant, Signal, Wire, Memory, Statement, wire-stmt, aWire, aMemory, aCell, contents, ownName, statementsOpen}
 use Rattle.rules.specs.Signals.{Wires, find}
 use Rattle.rules.specs.Judgement.{Past, until, only, ofModule, wires, among, space, namesIn, nameSpaces, takesName}
 use Rattle.past.specs.Forms.{by-form}
 use Rattle.admitted.specs.Admitted.{fineWire, admitted}
-use Rattle.scanner.specs.Laws.{and-true-left, and-true-right, same-sym, or-false-left, or-false-right}
-use Rattle.admitted.specs.AdmitLaws.{FineParts, fine-parts, Admits, admits-all}
+use Rattle.scanner.specs.Laws.{same-sym, or-false-left, or-false-right}
+use Rattle.scanner.specs.Elements.{all-first}
+use Rattle.admitted.specs.AdmitLaws.{FineParts, fine-parts, Admits, admitted-before, admitted-last}
 use Rattle.meaning.specs.Wires.{Sound, no-wire, one-more}
 use Rattle.meaning.specs.Settings.{wire-width}
 
@@ -38,8 +39,8 @@ unfolding takesName nameSpaces namesIn space any among statementsOpen wires
 wire-new ss w n h = not-found n (ofModule ss) (or-false-left (any (same n) (ownNames (ofModule ss))) _ h)
 
 wire-narrow : (ws : Wires) (w : Wire) (n : Name) → FineParts ws (wire-stmt w n) → w .width ≤ 2048
-unfolding statementsOpen all
-wire-narrow ws w n f = wire-width ws w (and-true-left (fineWire ws w) _ (f .wires))
+unfolding statementsOpen
+wire-narrow ws w n f = wire-width ws w (all-first (fineWire ws) w [] (f .wires))
 
 sound-more : (ss : Past) (s : Statement) → Admits ss s → Sound (wires ss) → Sound (wires (s ∷ ss))
 unfolding wires ofModule until flatMap zip statementsOpen
@@ -54,7 +55,5 @@ unfolding wires ofModule until flatMap
 no-past = no-wire
 
 pub admitted-sound : (ss : Past) → admitted ss ≡ true → Sound (wires ss)
-unfolding admitted
 admitted-sound [] h = no-past
-admitted-sound (s ∷ ss) h =
-    sound-more ss s (admits-all ss s (and-true-right (admitted ss) _ h)) (admitted-sound ss (and-true-left (admitted ss) _ h))
+admitted-sound (s ∷ ss) h = sound-more ss s (admitted-last s ss h) (admitted-sound ss (admitted-before s ss h))

@@ -1,3 +1,4 @@
+pub mod Items
 pub mod Sigs
 pub mod Options
 pub mod Shapes

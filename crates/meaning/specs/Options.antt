@@ -1,21 +1,22 @@
 -- The tokens of written options read as those options.
 -- Assumes nothing.
-use Prim.Native.Nat.{ℕ, zero, suc, _+_, _-_, _≤_}
+use Prim.Native.Nat.{ℕ, zero, suc, _+_}
 use Prim.Native.String.{String}
-use mathlib.Core.Path.{_≡_, refl, ap, ap₂, _∙_}
-use mathlib.Core.List.{List, [], _∷_, _++_, map, append-assoc, append-nil, Option·toList}
+use mathlib.Core.Path.{_≡_, refl}
+use mathlib.Core.List.{List, [], _∷_, _++_, map, Option·toList}
 use mathlib.Core.Option.{Option, none, some}
 use mathlib.Core.Bool.{Bool, true, false, not}
 use native.Mathlib.Omega.{arith}
 use lib.IntN.{ℤ, pos}
 use lib.Dec.{eqb}
-use lib.ListN.{length, length-append}
 use Rattle.rules.specs.Bytes.{bytes, bytesOpen}
 use Rattle.rules.specs.Tokens.{Name, Token, name, word}
 use Rattle.rules.specs.Statements.{Opt, Direction, input, output, inout, Wire, Memory}
-use Rattle.rules.specs.Shapes.{Parse, after, choice, offers, repeat, several, options, wireOptionForms, memoryOptionForms, shapesOpen}
+use Rattle.rules.specs.Shapes.{Parse, after, choice, offers, repeat, options, wireOptionForms, memoryOptionForms, shapesOpen}
 use Rattle.rules.specs.Numbers.{inRange}
-use Rattle.rules.specs.Text.{setting, unless, directionWord, wireOptions, memoryOptions, numberToken, optionTokens, textOpen}
+use Rattle.rules.specs.Text.{setting, unless, directionWord, portOptions, wireOptions, memoryOptions, numberToken, optionTokens, textOpen}
+use Rattle.scanner.specs.Elements.{Each, each-append, each-map}
+use Rattle.meaning.specs.Items.{Item, items-read}
 
 abbrev pub OptionForms : Type 0
 OptionForms = List (String × Parse Opt)
@@ -29,31 +30,12 @@ pub record Reads (fs : OptionForms) (o : Opt) : Type 0 where
   pub offered : offers fs (word (o .0)) ≡ true
   pub taken : (rest : List Token) → choice fs (tokensOf o ++ rest) ≡ some (o, rest)
 
-pub data AllRead (fs : OptionForms) : List Opt → Type 0 where
-  no-more : AllRead fs []
-  also : {o : Opt} {os : List Opt} → Reads fs o → AllRead fs os → AllRead fs (o ∷ os)
-
 -- ---- any forms
 
 module _ (fs : OptionForms) where
-  option-on : (m : ℕ) (as′ : List Opt) (o : Opt) (rest : List Token) → Reads fs o
-      → repeat (offers fs) (choice fs) (suc m) as′ (tokensOf o ++ rest) ≡ repeat (offers fs) (choice fs) m (o ∷ as′) rest
+  read-item : (o : Opt) → Reads fs o → Item (offers fs) (choice fs) tokensOf (λ ts. Unit {0}) o
   unfolding repeat after
-  option-on m as′ o rest r = rw (r .offered, r .taken rest)
-
-  options-on : (m : ℕ) (as′ : List Opt) (os : List Opt) (rest : List Token) → AllRead fs os
-      → repeat (offers fs) (choice fs) (length os + m) as′ (optionTokens os ++ rest) ≡ repeat (offers fs) (choice fs) m (os ++ as′) rest
-  unfolding optionTokens
-  options-on m as′ [] rest no-more = ap (λ j. repeat (offers fs) (choice fs) j as′ rest) (omega arith)
-  options-on m as′ (o ∷ os) rest (also r rs) =
-      ap₂ (λ j ts. repeat (offers fs) (choice fs) j as′ ts) (omega arith) (append-assoc (optionTokens os) (tokensOf o) rest)
-      ∙ options-on (suc m) as′ os (tokensOf o ++ rest) rs
-      ∙ option-on m (os ++ as′) o rest r
-
-  options-long : (os : List Opt) → length os ≤ length (optionTokens os)
-  unfolding optionTokens
-  options-long [] = omega arith
-  options-long (o ∷ os) = simp length-append (omega (arith, options-long os))
+  read-item o r = record { long = omega arith; taken = λ m as′ rest b. rw (r .offered, r .taken rest); behind = λ rest. tt }
 
   offers-name : (gs : OptionForms) (n : Name) → offers gs (name n) ≡ false
   unfolding shapesOpen bytesOpen
@@ -65,45 +47,47 @@ module _ (fs : OptionForms) where
   at-name zero as′ n rest = refl
   at-name (suc m) as′ n rest = rw (offers-name fs n)
 
-  pub options-read : (os : List Opt) (n : Name) (rest : List Token) → AllRead fs os → options fs (optionTokens os ++ name n ∷ rest) ≡ some (os, name n ∷ rest)
-  unfolding options several
+  pub options-read : (os : List Opt) (n : Name) (rest : List Token) → Each (Reads fs) os → options fs (optionTokens os ++ name n ∷ rest) ≡ some (os, name n ∷ rest)
+  unfolding options optionTokens
   options-read os n rest rs =
-      let ts : List Token = name n ∷ rest in
-      let k : ℕ = length (optionTokens os ++ ts) in
-      let m : ℕ = k - length os in
-      let e : k ≡ length os + m = omega (arith, options-long os, length-append (optionTokens os) ts) in
-      ap (λ j. repeat (offers fs) (choice fs) j [] (optionTokens os ++ ts)) e
-      ∙ options-on m [] os ts rs
-      ∙ at-name m (os ++ []) n rest
-      ∙ ap (λ (xs : List Opt). some (xs, ts)) (append-nil os)
+      items-read (offers fs) (choice fs) tokensOf (λ ts. Unit {0}) optionTokens refl (λ o os. refl) os (name n ∷ rest) (each-map (Reads fs) _ read-item os rs) tt
+      (λ m as′. at-name m as′ n rest)
 
-  -- options behind one another, and one that is left out
-  all-append : {os ps : List Opt} → AllRead fs os → AllRead fs ps → AllRead fs (os ++ ps)
-  all-append no-more rs = rs
-  all-append (also r qs) rs = also r (all-append qs rs)
+-- ---- what holds of each option of a wire or a memory
 
-  all-unless : (t : Bool) {o : Opt} → Reads fs o → AllRead fs (unless t o)
+module _ (P : Opt → Type 0) where
+  each-unless : (os : List Opt) (t : Bool) (o : Opt) → Each P os → P o → Each P (os ++ unless t o)
   unfolding unless
-  all-unless true r = no-more
-  all-unless false r = also r no-more
+  each-unless os true o h p = each-append P os [] h tt
+  each-unless os false o h p = each-append P os (o ∷ []) h (p, tt)
 
--- ---- a wire's and a memory's
+  each-port : (po : Option (Direction × ℕ)) → ((q : Direction × ℕ) → po ≡ some q → P (setting (directionWord (q .0)) (pos (q .1)))) → Each P (portOptions po)
+  unfolding Option·toList
+  each-port none h = tt
+  each-port (some q) h = (h q refl, tt)
 
-wire-flag-signed : Reads wireOptionForms (bytes "signed", none)
-unfolding shapesOpen bytesOpen textOpen
-wire-flag-signed = record { offered = refl; taken = λ rest. refl }
+  pub wire-each : (w : Wire) → P (bytes "signed", none) → ((q : Direction × ℕ) → w .port ≡ some q → P (setting (directionWord (q .0)) (pos (q .1))))
+      → P (bytes "upto", none) → P (setting "offset" (w .offset)) → P (setting "width" (pos (w .width))) → Each P (wireOptions w)
+  unfolding wireOptions
+  wire-each w signed port upto offset width =
+      let a : List Opt = unless (not (w .signed)) (bytes "signed", none) in
+      let b : List Opt = a ++ portOptions (w .port) in
+      let c : List Opt = b ++ unless (not (w .upto)) (bytes "upto", none) in
+      let d : List Opt = c ++ unless (inRange 0 0 (w .offset)) (setting "offset" (w .offset)) in
+      each-unless d (eqb (w .width) 1) _
+      (each-unless c (inRange 0 0 (w .offset)) _
+      (each-unless b (not (w .upto)) _ (each-append P a (portOptions (w .port)) (each-unless [] (not (w .signed)) _ tt signed) (each-port (w .port) port)) upto)
+      offset)
+      width
 
-wire-flag-upto : Reads wireOptionForms (bytes "upto", none)
-unfolding shapesOpen bytesOpen textOpen
-wire-flag-upto = record { offered = refl; taken = λ rest. refl }
+  pub memory-each : (m : Memory) → P (setting "offset" (m .offset)) → P (setting "size" (pos (m .size))) → P (setting "width" (pos (m .width))) → Each P (memoryOptions m)
+  unfolding memoryOptions
+  memory-each m offset size width =
+      let a : List Opt = unless (inRange 0 0 (m .offset)) (setting "offset" (m .offset)) in
+      let b : List Opt = a ++ unless (eqb (m .size) 0) (setting "size" (pos (m .size))) in
+      each-unless b (eqb (m .width) 1) _ (each-unless a (eqb (m .size) 0) _ (each-unless [] (inRange 0 0 (m .offset)) _ tt offset) size) width
 
-wire-offset : (i : ℤ) → Reads wireOptionForms (setting "offset" i)
-unfolding shapesOpen bytesOpen textOpen
-wire-offset i = record { offered = refl; taken = λ rest. refl }
-
-wire-width : (i : ℤ) → Reads wireOptionForms (setting "width" i)
-unfolding shapesOpen bytesOpen textOpen
-wire-width i = record { offered = refl; taken = λ rest. refl }
+-- ---- they read as themselves
 
 wire-port : (d : Direction) (i : ℤ) → Reads wireOptionForms (setting (directionWord d) i)
 unfolding shapesOpen bytesOpen textOpen
@@ -111,29 +95,20 @@ wire-port input i = record { offered = refl; taken = λ rest. refl }
 wire-port output i = record { offered = refl; taken = λ rest. refl }
 wire-port inout i = record { offered = refl; taken = λ rest. refl }
 
-wire-ports : (p : Option (Direction × ℕ)) → AllRead wireOptionForms (map (λ q. setting (directionWord (q .0)) (pos (q .1))) (Option·toList p))
-unfolding Option·toList
-wire-ports none = no-more
-wire-ports (some q) = also (wire-port (q .0) (pos (q .1))) no-more
-
-pub wire-options-read : (w : Wire) → AllRead wireOptionForms (wireOptions w)
-unfolding wireOptions
-wire-options-read w =
-    let fs : OptionForms = wireOptionForms in
-    all-append fs
-    (all-append fs
-    (all-append fs (all-append fs (all-unless fs (not (w .signed)) wire-flag-signed) (wire-ports (w .port))) (all-unless fs (not (w .upto)) wire-flag-upto))
-    (all-unless fs (inRange 0 0 (w .offset)) (wire-offset (w .offset))))
-    (all-unless fs (eqb (w .width) 1) (wire-width (pos (w .width))))
-
-memory-number : (i : ℤ) → Reads memoryOptionForms (setting "offset" i) × Reads memoryOptionForms (setting "size" i) × Reads memoryOptionForms (setting "width" i)
+pub wire-options-read : (w : Wire) → Each (Reads wireOptionForms) (wireOptions w)
 unfolding shapesOpen bytesOpen textOpen
-memory-number i = (record { offered = refl; taken = λ rest. refl }, record { offered = refl; taken = λ rest. refl }, record { offered = refl; taken = λ rest. refl })
+wire-options-read w =
+    wire-each (Reads wireOptionForms) w
+    (record { offered = refl; taken = λ rest. refl })
+    (λ q e. wire-port (q .0) (pos (q .1)))
+    (record { offered = refl; taken = λ rest. refl })
+    (record { offered = refl; taken = λ rest. refl })
+    (record { offered = refl; taken = λ rest. refl })
 
-pub memory-options-read : (m : Memory) → AllRead memoryOptionForms (memoryOptions m)
-unfolding memoryOptions
+pub memory-options-read : (m : Memory) → Each (Reads memoryOptionForms) (memoryOptions m)
+unfolding shapesOpen bytesOpen textOpen
 memory-options-read m =
-    let fs : OptionForms = memoryOptionForms in
-    all-append fs
-    (all-append fs (all-unless fs (inRange 0 0 (m .offset)) (memory-number (m .offset) .0)) (all-unless fs (eqb (m .size) 0) (memory-number (pos (m .size)) .1)))
-    (all-unless fs (eqb (m .width) 1) (memory-number (pos (m .width)) .2))
+    memory-each (Reads memoryOptionForms) m
+    (record { offered = refl; taken = λ rest. refl })
+    (record { offered = refl; taken = λ rest. refl })
+    (record { offered = refl; taken = λ rest. refl })

@@ -20,9 +20,9 @@ use Rattle.rules.specs.Text.{Run, digits, runs, cut, runSig, runsSig, sig}
 use Rattle.admitted.specs.Admitted.{fineSignal}
 use Rattle.scanner.specs.Laws.{by-test, by-cond, and-true-left, and-true-right}
 use Rattle.scanner.specs.Lists.{length-wire, element-none}
-use Rattle.scanner.specs.Elements.{all-append}
+use Rattle.scanner.specs.Elements.{all-append, Each}
 use Rattle.meaning.specs.Wires.{Sound, Located, located}
-use Rattle.meaning.specs.Bits.{runBits, allBits, runs-bits, widthAt, Inside, digits-in, span-in, AllInside, no-more, also, runs-inside, fill-all, part-wire, lower-is}
+use Rattle.meaning.specs.Bits.{runBits, allBits, runs-bits, widthAt, Inside, digits-in, span-in, runs-inside, fill-all, part-wire, lower-is}
 
 -- a part of a signal that no rule refuses
 unfoldable pub goodPart : Wires → Sig → Bool
@@ -138,13 +138,13 @@ module _ (ws : Wires) (sound : Sound ws) where
     pub same-width : widths ws (sigsOf rs) ≡ length (allBits rs)
     pub good-parts : all (goodPart ws) (partsOf (sigsOf rs)) ≡ true
 
-  runs-mean : {rs : List Run} → AllInside ws rs → length (allBits rs) ≤ 2048 → MeansAll rs
+  runs-mean : (rs : List Run) → Each (Inside ws) rs → length (allBits rs) ≤ 2048 → MeansAll rs
   unfolding bits width parts sigs allBits all
-  runs-mean no-more h = record { same-bits = refl; same-width = refl; good-parts = refl }
-  runs-mean (also {r = r} {rs = rs} i is′) h =
+  runs-mean [] i h = record { same-bits = refl; same-width = refl; good-parts = refl }
+  runs-mean (r ∷ rs) i h =
       let e : length (runBits r ++ allBits rs) ≡ length (runBits r) + length (allBits rs) = length-append (runBits r) (allBits rs) in
-      let m : Means ws (runSig ws r) (runBits r) = run-means i (omega arith) in
-      let ms : MeansAll rs = runs-mean is′ (omega arith) in
+      let m : Means ws (runSig ws r) (runBits r) = run-means (i .0) (omega arith) in
+      let ms : MeansAll rs = runs-mean rs (i .1) (omega arith) in
       record {
         same-bits = ap₂ _++_ (m .same-bits) (ms .same-bits);
         same-width = ap₂ _+_ (m .same-width) (ms .same-width) ∙ sym e;
@@ -161,16 +161,16 @@ module _ (ws : Wires) (sound : Sound ws) where
       }
 
   -- one run stands bare
-  written-means : {rs : List Run} → AllInside ws rs → length (allBits rs) ≤ 2048 → Means ws (runsSig (map (runSig ws) rs)) (allBits rs)
+  written-means : (rs : List Run) → Each (Inside ws) rs → length (allBits rs) ≤ 2048 → Means ws (runsSig (map (runSig ws) rs)) (allBits rs)
   unfolding runsSig allBits sigs
-  written-means no-more h = bundle-means [] (runs-mean no-more h) h
-  written-means (also {r = r} i no-more) h = rw (append-nil (runBits r)) (run-means i (omega (arith, ap length (append-nil (runBits r)))))
-  written-means (also {r = r} i (also {r = q} {rs = rs} j is′)) h = bundle-means (r ∷ q ∷ rs) (runs-mean (also i (also j is′)) h) h
+  written-means [] i h = bundle-means [] (runs-mean [] i h) h
+  written-means (r ∷ []) i h = rw (append-nil (runBits r)) (run-means (i .0) (omega (arith, ap length (append-nil (runBits r)))))
+  written-means (r ∷ q ∷ rs) i h = bundle-means (r ∷ q ∷ rs) (runs-mean (r ∷ q ∷ rs) i h) h
 
   pub sig-means : (bs : Signal) → fineSignal ws bs ≡ true → Means ws (sig ws bs) bs
   unfolding sig fineSignal
   sig-means bs h =
       let n : length bs ≤ 2048 = leb-true (length bs) 2048 (and-true-left (leb (length bs) 2048) _ h) in
       let m : Means ws (runsSig (map (runSig ws) (runs bs))) (allBits (runs bs)) =
-      written-means (runs-inside ws bs (and-true-right (leb (length bs) 2048) _ h)) (omega (arith, ap length (runs-bits bs))) in
+      written-means (runs bs) (runs-inside ws bs (and-true-right (leb (length bs) 2048) _ h)) (omega (arith, ap length (runs-bits bs))) in
       rw (runs-bits bs) at m

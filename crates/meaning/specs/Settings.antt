@@ -1,15 +1,15 @@
 -- Written options mean the wire or the memory that they were written from, and keep the rules.
 -- Assumes nothing.
-use Prim.Native.Nat.{ℕ, _-_, _≤_}
+use Prim.Native.Nat.{ℕ, _≤_}
 use mathlib.Core.Path.{_≡_, refl, sym, ap}
-use mathlib.Core.List.{List, _∷_, _++_, map, append-assoc, Option·toList}
+use mathlib.Core.List.{List, [], _∷_, _++_, map, append-assoc, Option·toList}
 use mathlib.Core.Option.{Option, none, some}
-use mathlib.Core.Bool.{Bool, true, false, not, _&&_, _||_, false≢true}
+use mathlib.Core.Bool.{Bool, true, false, not, _&&_, false≢true}
 use native.Mathlib.Omega.{arith}
-use lib.IntN.{ℤ, pos, negsuc, _+ℤ_}
+use lib.IntN.{ℤ, pos, negsuc}
 use lib.Dec.{eqb, leb}
 use lib.ListN.{length}
-use borrow.Author.Tests.{eqb-true, leb-true, lt-ltb, le-leb}
+use borrow.Author.Tests.{eqb-true, leb-true, lt-ltb}
 use Rattle.rules.specs.Bytes.{bytes, all, within, bytesOpen}
 use Rattle.rules.specs.Statements.{Opt, Direction, input, output, inout, Wire, Memory}
 use Rattle.rules.specs.Numbers.{int32, inRange, has, numberOr, ports, portOf, wireOf, memoryOf, once, goodOptions, goodWire, goodMemory, numbersOpen}
@@ -17,8 +17,10 @@ use Rattle.rules.specs.Signals.{Wires}
 use Rattle.rules.specs.Judgement.{portNumbers, newPort}
 use Rattle.rules.specs.Text.{setting, unless, directionWord, portOptions, wireOptions, memoryOptions}
 use Rattle.admitted.specs.Admitted.{newPorts, fineWire, fineMemory}
-use Rattle.scanner.specs.Laws.{by-test, and-true-left, and-true-right}
-use Rattle.scanner.specs.Elements.{all-append}
+use Rattle.admitted.specs.AdmitLaws.{FineWire, fine-wire}
+use Rattle.scanner.specs.Laws.{by-test, within-yes, within-low, within-high}
+use Rattle.scanner.specs.Elements.{all-first, test-at, all-of}
+use Rattle.meaning.specs.Options.{wire-each, memory-each}
 
 -- ---- an option that is left out where it says the default
 
@@ -28,8 +30,8 @@ by-unless P true o os f g = f refl
 by-unless P false o os f g = g refl
 
 in-zero : (i : ℤ) → inRange 0 0 i ≡ true → pos 0 ≡ i
-unfolding inRange within
-in-zero (pos n) h = ap pos (let z : 0 ≡ n = omega (arith, leb-true n 0 (and-true-right (leb 0 n) _ h)) in z)
+unfolding inRange
+in-zero (pos n) h = ap pos (let z : 0 ≡ n = omega (arith, within-high 0 0 n h) in z)
 in-zero (negsuc n) h = absurd (false≢true h)
 
 -- each number that is given has 32 bits
@@ -118,18 +120,6 @@ wire-back w =
 
 -- ---- the rules of a wire
 
-unless-int32 : (t : Bool) (o : Opt) → all int32 (Option·toList (o .1)) ≡ true → allInt32 (unless t o) ≡ true
-unfolding unless all
-unless-int32 true o h = refl
-unless-int32 false o h = rw h
-
-port-int32 : (po : Option (Direction × ℕ)) → all (within 1 1023) (map (λ p. p .1) (Option·toList po)) ≡ true → allInt32 (portOptions po) ≡ true
-unfolding all Option·toList setting int32 within
-port-int32 none h = refl
-port-int32 (some p) h =
-    let k : p .1 ≤ 1023 = leb-true (p .1) 1023 (and-true-right (leb 1 (p .1)) _ (and-true-left (leb 1 (p .1) && leb (p .1) 1023) _ h)) in
-    rw (lt-ltb (p .1) 2147483648 (omega arith))
-
 one-port : (po : Option (Direction × ℕ)) → leb (length (portList po)) 1 ≡ true
 unfolding Option·toList
 one-port none = refl
@@ -153,43 +143,19 @@ unfolding all Option·toList
 no-number = refl
 
 wire-int32 : (w : Wire) → w .width ≤ 2048 → int32 (w .offset) ≡ true → all (within 1 1023) (portNumbers w) ≡ true → allInt32 (wireOptions w) ≡ true
-unfolding wireOptions portNumbers setting
+unfolding setting portNumbers Option·toList
 wire-int32 w h k p =
-    let f : Opt → Bool = λ o. all int32 (Option·toList (o .1)) in
-    all-append f _ _
-    (all-append f _ _
-    (all-append f _ _ (all-append f _ _ (unless-int32 (not (w .signed)) (bytes "signed", none) no-number) (port-int32 (w .port) p)) (unless-int32 (not (w .upto)) (bytes "upto", none) no-number))
-    (unless-int32 (inRange 0 0 (w .offset)) (setting "offset" (w .offset)) (setting-int32 (w .offset) k)))
-    (unless-int32 (eqb (w .width) 1) (setting "width" (pos (w .width))) (setting-int32 (pos (w .width)) (number-int32 (w .width) (omega arith))))
-
--- what a fine wire keeps
-record FineWire (ws : Wires) (w : Wire) : Type 0 where
-  narrow : leb (w .width) 2048 ≡ true
-  offset : int32 (w .offset) ≡ true
-  last-bit : (eqb (w .width) 0 || int32 (w .offset +ℤ pos (w .width - 1))) ≡ true
-  port : all (within 1 1023) (portNumbers w) ≡ true
-  new : newPorts ws w ≡ true
-
-five : (a b c d e : Bool) → a && b && c && d && e ≡ true → (a ≡ true) × (b ≡ true) × (c ≡ true) × (d ≡ true) × (e ≡ true)
-five true true true true true h = (refl, refl, refl, refl, refl)
-five true true true true false h = absurd (false≢true h)
-five true true true false e h = absurd (false≢true h)
-five true true false d e h = absurd (false≢true h)
-five true false c d e h = absurd (false≢true h)
-five false b c d e h = absurd (false≢true h)
-
-fine-wire : (ws : Wires) (w : Wire) → fineWire ws w ≡ true → FineWire ws w
-unfolding fineWire
-fine-wire ws w h =
-    let q = five (leb (w .width) 2048) (int32 (w .offset)) (eqb (w .width) 0 || int32 (w .offset +ℤ pos (w .width - 1))) (all (within 1 1023) (portNumbers w)) (newPorts ws w) h in
-    record { narrow = q .0; offset = q .1; last-bit = q .2; port = q .3; new = q .4 }
+    all-of _ (wireOptions w)
+    (wire-each (λ o. all int32 (Option·toList (o .1)) ≡ true) w no-number
+    (λ q e. setting-int32 (pos (q .1)) (number-int32 (q .1) (omega (arith, within-high 1 1023 (q .1) (all-first (within 1 1023) (q .1) [] (rw e at p))))))
+    no-number (setting-int32 (w .offset) k) (setting-int32 (pos (w .width)) (number-int32 (w .width) (omega arith))))
 
 pub wire-width : (ws : Wires) (w : Wire) → fineWire ws w ≡ true → w .width ≤ 2048
 wire-width ws w h = leb-true (w .width) 2048 (fine-wire ws w h .narrow)
 
 in-range : (lo hi n : ℕ) → lo ≤ n → n ≤ hi → inRange lo hi (pos n) ≡ true
-unfolding inRange within
-in-range lo hi n h k = rw (le-leb lo n h) (le-leb n hi k)
+unfolding inRange
+in-range lo hi n h k = within-yes lo hi n h k
 
 wire-good : (ws : Wires) (w : Wire) → fineWire ws w ≡ true → goodWire (wireOptions w) ≡ true
 unfolding goodWire goodOptions portNumbers
@@ -251,22 +217,17 @@ memory-back m =
 -- ---- the rules of a memory
 
 memory-int32 : (m : Memory) → m .width ≤ 2048 → m .size ≤ 2147483647 → int32 (m .offset) ≡ true → allInt32 (memoryOptions m) ≡ true
-unfolding memoryOptions setting
+unfolding setting
 memory-int32 m h k e =
-    let f : Opt → Bool = λ o. all int32 (Option·toList (o .1)) in
-    all-append f _ _
-    (all-append f _ _ (unless-int32 (inRange 0 0 (m .offset)) (setting "offset" (m .offset)) (setting-int32 (m .offset) e))
-    (unless-int32 (eqb (m .size) 0) (setting "size" (pos (m .size))) (setting-int32 (pos (m .size)) (number-int32 (m .size) k))))
-    (unless-int32 (eqb (m .width) 1) (setting "width" (pos (m .width))) (setting-int32 (pos (m .width)) (number-int32 (m .width) (omega arith))))
+    all-of _ (memoryOptions m)
+    (memory-each (λ o. all int32 (Option·toList (o .1)) ≡ true) m (setting-int32 (m .offset) e) (setting-int32 (pos (m .size)) (number-int32 (m .size) k)) (setting-int32 (pos (m .width)) (number-int32 (m .width) (omega arith))))
 
 pub memory-fine : (m : Memory) → fineMemory m ≡ true → goodMemory (memoryOptions m) ≡ true
-unfolding goodMemory goodOptions fineMemory within
+unfolding goodMemory goodOptions fineMemory
 memory-fine m h =
     let p : SaysMemory (memoryOptions m) (m .width) (m .size) (m .offset) = memory-says m in
-    let ws : leb 1 (m .width) && leb (m .width) 2048 && leb (m .size) 2147483647 ≡ true = and-true-left (leb 1 (m .width) && leb (m .width) 2048 && leb (m .size) 2147483647) _ h in
-    let wd : leb 1 (m .width) && leb (m .width) 2048 ≡ true = and-true-left (leb 1 (m .width) && leb (m .width) 2048) _ ws in
-    let a : 1 ≤ m .width = leb-true 1 (m .width) (and-true-left (leb 1 (m .width)) _ wd) in
-    let b : m .width ≤ 2048 = leb-true (m .width) 2048 (and-true-right (leb 1 (m .width)) _ wd) in
-    let c : m .size ≤ 2147483647 = leb-true (m .size) 2147483647 (and-true-right (leb 1 (m .width) && leb (m .width) 2048) _ ws) in
-    let e : int32 (m .offset) ≡ true = and-true-right (leb 1 (m .width) && leb (m .width) 2048 && leb (m .size) 2147483647) _ h in
-    rw (p .once-each, memory-int32 m b c e, p .width, p .size, in-range 1 2048 (m .width) a b, in-range 0 2147483647 (m .size) (omega arith) c)
+    let q = test-at (within 1 2048 (m .width)) (leb (m .size) 2147483647 ∷ int32 (m .offset) ∷ []) h in
+    let a : 1 ≤ m .width = within-low 1 2048 (m .width) (q 0) in
+    let b : m .width ≤ 2048 = within-high 1 2048 (m .width) (q 0) in
+    let c : m .size ≤ 2147483647 = leb-true (m .size) 2147483647 (q 1) in
+    rw (p .once-each, memory-int32 m b c (q 2), p .width, p .size, in-range 1 2048 (m .width) a b, in-range 0 2147483647 (m .size) (omega arith) c)

@@ -1,14 +1,14 @@
 -- The tokens of a written signal read as that signal.
 -- Assumes nothing.
 use Prim.Native.Nat.{ℕ, zero, suc, _+_, _-_, _≤_}
-use mathlib.Core.Path.{_≡_, refl, ap, ap₂, _∙_}
-use mathlib.Core.List.{List, [], _∷_, _++_, map, reverse, append-assoc, append-nil}
+use mathlib.Core.Path.{_≡_, refl}
+use mathlib.Core.List.{List, [], _∷_, _++_, map, reverse, append-assoc}
 use mathlib.Core.Option.{Option, none, some}
 use mathlib.Core.Bool.{Bool, false, not, cond}
 use native.Mathlib.Omega.{arith}
 use lib.IntN.{ℤ, pos}
 use lib.Dec.{eqb}
-use lib.ListN.{length, drop, length-append}
+use lib.ListN.{length, drop}
 use Rattle.rules.specs.Bytes.{byte}
 use Rattle.rules.specs.Tokens.{Name, Literal, Token, mark}
 use Rattle.rules.specs.Statements.{Sig, constant, wire, slice, bundle, nothing, Signal}
@@ -16,6 +16,8 @@ use Rattle.rules.specs.Shapes.{Parse, isMark, bounds, repeat, several, sigs, si
 use Rattle.rules.specs.Signals.{Wires}
 use Rattle.rules.specs.Text.{Run, digits, span, runs, cut, runSig, runsSig, sig, sigTokens, sigsTokens, textOpen}
 use Rattle.scanner.specs.Laws.{by-cond}
+use Rattle.scanner.specs.Elements.{Each, each-map}
+use Rattle.meaning.specs.Items.{Item, items-read}
 
 -- a member of a written bundle
 pub data Member : Sig → Type 0 where
@@ -23,10 +25,6 @@ pub data Member : Sig → Type 0 where
   a-wire : (n : Name) → Member (wire n)
   a-slice : (n : Name) (h : ℤ) (l : Option ℤ) → Member (slice (wire n) h l)
   empty : Member (bundle nothing)
-
-pub data Members : List Sig → Type 0 where
-  no-more : Members []
-  also : {s : Sig} {ss : List Sig} → Member s → Members ss → Members (s ∷ ss)
 
 -- whether a slice stands next
 unfoldable pub slices : List Token → Bool
@@ -71,15 +69,6 @@ step-on p m as′ rest (a-wire n) e = rw e
 step-on p m as′ rest (a-slice n h l) e = rw e
 step-on p m as′ rest empty e = rw e
 
-members-on : (k m : ℕ) (as′ : List Sig) (ss : List Sig) (rest : List Token) → Members ss → slices rest ≡ false
-    → repeat goesOn (signal (suc k)) (length ss + m) as′ (sigsTokens (sigs ss) ++ rest) ≡ repeat goesOn (signal (suc k)) m (ss ++ as′) rest
-unfolding sigTokens sigs
-members-on k m as′ [] rest no-more e = ap (λ j. repeat goesOn (signal (suc k)) j as′ rest) (omega arith)
-members-on k m as′ (s ∷ ss) rest (also g gs) e =
-    ap₂ (λ j ts. repeat goesOn (signal (suc k)) j as′ ts) (omega arith) (append-assoc (sigsTokens (sigs ss)) (sigTokens s) rest)
-    ∙ members-on k (suc m) as′ ss (sigTokens s ++ rest) gs (member-no-slice rest g)
-    ∙ step-on (signal (suc k)) m (ss ++ as′) rest g (member-reads k rest g e)
-
 at-end : (p : Parse Sig) (m : ℕ) (as′ : List Sig) (rest : List Token) → repeat goesOn p m as′ (mark (byte "}") ∷ rest) ≡ some (as′, mark (byte "}") ∷ rest)
 unfolding shapesOpen
 at-end p zero as′ rest = refl
@@ -92,46 +81,38 @@ member-long (a-wire n) = omega arith
 member-long (a-slice n h l) = omega arith
 member-long empty = omega arith
 
-members-long : {ss : List Sig} → Members ss → length ss ≤ length (sigsTokens (sigs ss))
-unfolding sigTokens sigs
-members-long no-more = omega arith
-members-long (also {s = s} {ss = ss} g gs) = simp length-append (omega (arith, member-long g, members-long gs))
+member-item : (k : ℕ) (s : Sig) → Member s → Item goesOn (signal (suc k)) sigTokens (λ ts. slices ts ≡ false) s
+member-item k s g = record { long = member-long g; taken = λ m as′ rest e. step-on (signal (suc k)) m as′ rest g (member-reads k rest g e); behind = λ rest. member-no-slice rest g }
 
 close-no-slice : (rest : List Token) → slices (mark (byte "}") ∷ rest) ≡ false
 unfolding slices isMark
 close-no-slice rest = refl
 
-members-read : (k : ℕ) (ss : List Sig) (rest : List Token) → Members ss
+members-read : (k : ℕ) (ss : List Sig) (rest : List Token) → Each Member ss
     → several goesOn (signal (suc k)) (sigsTokens (sigs ss) ++ mark (byte "}") ∷ rest) ≡ some (ss, mark (byte "}") ∷ rest)
-unfolding several
+unfolding sigTokens sigs
 members-read k ss rest gs =
-    let ts : List Token = mark (byte "}") ∷ rest in
-    let n : ℕ = length (sigsTokens (sigs ss) ++ ts) in
-    let m : ℕ = n - length ss in
-    let e : n ≡ length ss + m = omega (arith, members-long gs, length-append (sigsTokens (sigs ss)) ts) in
-    ap (λ j. repeat goesOn (signal (suc k)) j [] (sigsTokens (sigs ss) ++ ts)) e
-    ∙ members-on k m [] ss ts gs (close-no-slice rest)
-    ∙ at-end (signal (suc k)) m (ss ++ []) rest
-    ∙ ap (λ (xs : List Sig). some (xs, ts)) (append-nil ss)
+    items-read goesOn (signal (suc k)) sigTokens (λ ts. slices ts ≡ false) (λ ss. sigsTokens (sigs ss)) refl (λ s ss. refl) ss (mark (byte "}") ∷ rest)
+    (each-map Member _ (member-item k) ss gs) (close-no-slice rest) (λ m as′. at-end (signal (suc k)) m as′ rest)
 
 -- ---- a written signal
 
-bundle-reads : (k : ℕ) (ss : List Sig) (rest : List Token) → Members ss → slices rest ≡ false
+bundle-reads : (k : ℕ) (ss : List Sig) (rest : List Token) → Each Member ss → slices rest ≡ false
     → signal (suc (suc k)) (sigTokens (bundle (sigs ss)) ++ rest) ≡ some (bundle (sigs ss), rest)
 unfolding shapesOpen sigTokens
 bundle-reads k ss rest gs e =
     rw (append-assoc (sigsTokens (sigs ss)) (mark (byte "}") ∷ []) rest, members-read k ss rest gs, no-slice (length rest) [] rest e)
 
-pub written-reads : (ss : List Sig) (rest : List Token) → Members ss → slices rest ≡ false → sigspec (sigTokens (runsSig ss) ++ rest) ≡ some (runsSig ss, rest)
+pub written-reads : (ss : List Sig) (rest : List Token) → Each Member ss → slices rest ≡ false → sigspec (sigTokens (runsSig ss) ++ rest) ≡ some (runsSig ss, rest)
 unfolding sigspec runsSig
-written-reads [] rest no-more e = member-reads 15 rest empty e
-written-reads (s ∷ []) rest (also g no-more) e = member-reads 15 rest g e
-written-reads (s ∷ t ∷ ss) rest (also g gs) e = bundle-reads 14 (s ∷ t ∷ ss) rest (also g gs) e
+written-reads [] rest gs e = member-reads 15 rest empty e
+written-reads (s ∷ []) rest gs e = member-reads 15 rest (gs .0) e
+written-reads (s ∷ t ∷ ss) rest gs e = bundle-reads 14 (s ∷ t ∷ ss) rest gs e
 
-written-no-slice : (ss : List Sig) (rest : List Token) → Members ss → slices (sigTokens (runsSig ss) ++ rest) ≡ false
+written-no-slice : (ss : List Sig) (rest : List Token) → Each Member ss → slices (sigTokens (runsSig ss) ++ rest) ≡ false
 unfolding runsSig shapesOpen textOpen slices
-written-no-slice [] rest no-more = refl
-written-no-slice (s ∷ []) rest (also g no-more) = member-no-slice rest g
+written-no-slice [] rest gs = refl
+written-no-slice (s ∷ []) rest gs = member-no-slice rest (gs .0)
 written-no-slice (s ∷ t ∷ ss) rest gs = refl
 
 -- ---- the runs of a signal are members
@@ -147,9 +128,9 @@ unfolding runSig
 run-member ws (digits ds) = a-constant (Literal.value (length ds) (reverse ds))
 run-member ws (span n l k) = cut-member (drop (length ws - (n + 1)) ws) l k
 
-pub run-members : (ws : Wires) (rs : List Run) → Members (map (runSig ws) rs)
-run-members ws [] = no-more
-run-members ws (r ∷ rs) = also (run-member ws r) (run-members ws rs)
+pub run-members : (ws : Wires) (rs : List Run) → Each Member (map (runSig ws) rs)
+run-members ws [] = tt
+run-members ws (r ∷ rs) = (run-member ws r, run-members ws rs)
 
 module _ (ws : Wires) (bs : Signal) (rest : List Token) where
   pub sig-reads : slices rest ≡ false → sigspec (sigTokens (sig ws bs) ++ rest) ≡ some (sig ws bs, rest)

@@ -1,14 +1,15 @@
 -- A bit is the one that its code stands for, and so is a sort.
 use Prim.Native.Nat.{ℕ, zero, suc, _+_, _-_, _*_, _/_, _%_, _<_, _≤_}
-use mathlib.Core.Path.{_≡_, refl, ap, ap₂}
-use mathlib.Core.Bool.{Bool, true, false, cond}
+use mathlib.Core.Path.{_≡_, refl, ap}
 use native.Mathlib.Omega.{arith}
 use lib.Dec.{ltb}
 use borrow.Author.Tests.{lt-ltb, le-ltb, ltb-true, ltb-false}
-use mathlib.Core.List.{List, [], _∷_, map}
+use mathlib.Core.List.{List, map}
 use Rattle.rules.specs.Tokens.{Digit, S0, S1, Sx, Sz, Sm, Sa}
 use Rattle.rules.specs.Statements.{Bit, digit, bit, Sort}
 use Rattle.rules.specs.Layout.{digitCode, bitCode, sortCode}
+use Rattle.scanner.specs.Laws.{by-cond}
+use Rattle.scanner.specs.Elements.{each-all, map-back}
 use Rattle.numbers.specs.Kinds.{digitOf, bitOf, bitAt, sortOf}
 use Rattle.numbers.specs.declared.kinds.SignalBit.{SignalBit}
 
@@ -63,19 +64,14 @@ by-code :
     (6 ≤ c → P (SignalBit.Wire (record { 0 = (c - 6) / 2048 }) ((c - 6) % 2048))) →
     P (bitAt c)
 unfolding bitAt
-by-code P c low high = pick (ltb c 6) refl
-  where
-    pick : (t : Bool) → ltb c 6 ≡ t → P (cond t (SignalBit.Digit c) (SignalBit.Wire (record { 0 = (c - 6) / 2048 }) ((c - 6) % 2048)))
-    pick true e = low (ltb-true c 6 e)
-    pick false e = high (ltb-false c 6 e)
+by-code P c low high = by-cond P (ltb c 6) (λ e. low (ltb-true c 6 e)) (λ e. high (ltb-false c 6 e))
 
 pub code-back : (c : ℕ) → bitCode (bitOf (bitAt c)) ≡ c
 unfolding bitOf bitCode
 code-back c = by-code (λ b. bitCode (bitOf b) ≡ c) c (λ l. code-digit c l) (λ l. omega arith)
 
 pub codes-back : (cs : List ℕ) → map bitCode (map (λ c. bitOf (bitAt c)) cs) ≡ cs
-codes-back [] = refl
-codes-back (c ∷ cs) = ap₂ (λ (x : ℕ) (l : List ℕ). x ∷ l) (code-back c) (codes-back cs)
+codes-back cs = map-back (λ c. bitOf (bitAt c)) bitCode cs (each-all _ code-back cs)
 
 pub sort-back : (o : Sort) → sortOf (sortCode o) ≡ o
 unfolding sortOf sortCode

@@ -14,6 +14,7 @@ use Rattle.rules.specs.Tokens.{S0, S1}
 use Rattle.rules.specs.Numbers.{int32}
 use Rattle.rules.specs.Signals.{twosComplement, binary}
 use Rattle.rules.specs.Layout.{digitCode}
+use Rattle.scanner.specs.Laws.{by-cond}
 use Rattle.numbers.specs.Signed.{signedOf, integerOf}
 
 pub signed-word : (z : ℤ) → int32 z ≡ true → signedOf (twosComplement z) ≡ z
@@ -30,11 +31,7 @@ pub by-half :
     (2147483648 ≤ w → P (negsuc (4294967295 - w))) →
     P (signedOf w)
 unfolding signedOf
-by-half P w low high = half (ltb w 2147483648) refl
-  where
-    half : (t : Bool) → ltb w 2147483648 ≡ t → P (cond t (pos w) (negsuc (4294967295 - w)))
-    half true e = low (ltb-true w 2147483648 e)
-    half false e = high (ltb-false w 2147483648 e)
+by-half P w low high = by-cond P (ltb w 2147483648) (λ e. low (ltb-true w 2147483648 e)) (λ e. high (ltb-false w 2147483648 e))
 
 pub word-signed : (w : ℕ) → w < 4294967296 → twosComplement (signedOf w) ≡ w
 unfolding twosComplement
@@ -74,11 +71,7 @@ binary-length (suc k) n = ap suc (binary-length k (n / 2))
 
 last-digit : (n : ℕ) → digitCode (cond (eqb (n % 2) 0) S0 S1) ≡ n % 2
 unfolding digitCode
-last-digit n = pick (eqb (n % 2) 0) refl
-  where
-    pick : (t : Bool) → eqb (n % 2) 0 ≡ t → digitCode (cond t S0 S1) ≡ n % 2
-    pick true e = sym (eqb-true (n % 2) 0 e)
-    pick false e = omega (arith, eqb-false (n % 2) 0 e)
+last-digit n = by-cond (λ d. digitCode d ≡ n % 2) (eqb (n % 2) 0) (λ e. sym (eqb-true (n % 2) 0 e)) (λ e. omega (arith, eqb-false (n % 2) 0 e))
 
 pub binary-at : (k n i : ℕ) → i < k → getD (map digitCode (binary k n)) i 0 ≡ n / 2 ^ i % 2
 unfolding binary

@@ -1,10 +1,10 @@
 -- Digits and bits by their codes, and a constant in its columns.
 -- Assumes nothing.
 use Prim.Native.Nat.{ℕ, _<_}
-use mathlib.Core.Path.{_≡_, refl, sym, ap, ap₂, _∙_}
+use mathlib.Core.Path.{_≡_, refl, sym, ap, _∙_}
 use mathlib.Core.List.{List, [], _∷_, _++_, map}
-use mathlib.Core.Bool.{Bool, true, false, _&&_}
-use lib.Dec.{leb, ltb}
+use mathlib.Core.Bool.{true, false, _&&_}
+use lib.Dec.{leb}
 use lib.ListN.{length, take, drop, getD, length-map}
 use borrow.Author.Tests.{ltb-true, lt-ltb, ne-eqb}
 use Rattle.rules.specs.Bytes.{all, within}
@@ -20,6 +20,7 @@ use Rattle.numbers.specs.Kinds.{digitOf, bitOf, bitAt}
 use Rattle.numbers.specs.KindLaws.{digit-code, code-digit}
 use Rattle.numbers.specs.SignedLaws.{word-signed, signed-int32}
 use Rattle.scanner.specs.Laws.{and-true-left, and-true-right, never}
+use Rattle.scanner.specs.Elements.{all-map, all-each, each-of, map-back}
 use Rattle.replay.specs.Parts.{span, whole, isDigit, digitsStand, textStands, signalOf, signalStands}
 use Rattle.replay.specs.Reads.{constantOf, TellsConstant}
 use Rattle.replay.specs.declared.statements.Held.{Held}
@@ -27,15 +28,12 @@ use Rattle.replay.proofs.Spans.{whole-long, long-whole, has-none, has-s
 
 -- codes of digits are those of the digits that they mean, and digits have such codes
 pub digits-back : (cs : List ℕ) → all isDigit cs ≡ true → map digitCode (map digitOf cs) ≡ cs
-unfolding all isDigit
-digits-back [] h = refl
-digits-back (c ∷ cs) h =
-    ap₂ (λ (x : ℕ) (l : List ℕ). x ∷ l) (code-digit c (ltb-true c 6 (and-true-left _ _ h))) (digits-back cs (and-true-right (ltb c 6) _ h))
+unfolding isDigit
+digits-back cs h = map-back digitOf digitCode cs (each-of _ isDigit (λ c e. code-digit c (ltb-true c 6 e)) cs h)
 
 pub all-digit : (ds : List Digit) → all isDigit (map digitCode ds) ≡ true
-unfolding all isDigit
-all-digit [] = refl
-all-digit (d ∷ ds) = rw (lt-ltb (digitCode d) 6 (digit-code d)) (all-digit ds)
+unfolding isDigit
+all-digit ds = all-map isDigit digitCode ds ∙ all-each _ (λ d. lt-ltb (digitCode d) 6 (digit-code d)) ds
 
 pub codes-back : (cs : List ℕ) → map bitCode (signalOf cs) ≡ cs
 unfolding signalOf
@@ -46,9 +44,8 @@ unfolding signalOf
 length-signal cs = length-map cs _
 
 all-signal : (ws : Wires) (cs : List ℕ) → all (fineBit ws) (signalOf cs) ≡ all (λ c. fineBit ws (bitOf (bitAt c))) cs
-unfolding all signalOf
-all-signal ws [] = refl
-all-signal ws (c ∷ cs) = ap (λ (b : Bool). fineBit ws (bitOf (bitAt c)) && b) (all-signal ws cs)
+unfolding signalOf
+all-signal ws cs = all-map (fineBit ws) (λ c. bitOf (bitAt c)) cs
 
 -- a signal stands there just where it is whole and fine
 pub signal-fine : (ws : Wires) (bits : List ℕ) (at n : ℕ) → whole bits at n ≡ true → signalStands ws bits at n ≡ fineSignal ws (signalOf (span bits at n))

@@ -6,7 +6,7 @@ use mathlib.Core.List.{List, [], _∷_, _++_, map, flatMap, zip, zipWith, revers
 use mathlib.Core.Option.{some}
 use Prim.Native.Nat.{ℕ, zero, suc}
 use lib.Dec.{eqb}
-use lib.ListN.{getElem?, take, drop}
+use lib.ListN.{getElem?, getD, take, drop}
 use borrow.Author.Tests.{eqb-true}
 use Rattle.rules.specs.Bytes.{all, any}
 use Rattle.rules.specs.Judgement.{until}
@@ -172,3 +172,17 @@ tests b (c ∷ cs) = tests (b && c) cs
 pub each-test : (b : Bool) (cs : List Bool) → tests b cs ≡ true → Each (λ c. c ≡ true) (b ∷ cs)
 each-test b [] e = (e, tt)
 each-test b (c ∷ cs) e = let h = each-test (b && c) cs e in (and-true-left b c (h .0), (and-true-right b c (h .0), h .1))
+
+-- what holds of each, and of what stands behind the end, by number; so do tests
+pub each-at : {A : Type 0} (P : A → Type 0) (d : A) → P d → (xs : List A) → Each P xs → (i : ℕ) → P (getD xs i d)
+each-at P d p [] h i = p
+each-at P d p (x ∷ xs) h zero = h .0
+each-at P d p (x ∷ xs) h (suc i) = each-at P d p xs (h .1) i
+
+pub test-at : (b : Bool) (cs : List Bool) → tests b cs ≡ true → (i : ℕ) → getD (b ∷ cs) i true ≡ true
+test-at b cs e i = each-at (λ c. c ≡ true) true refl (b ∷ cs) (each-test b cs e) i
+
+pub all-of : {A : Type 0} (f : A → Bool) (xs : List A) → Each (λ x. f x ≡ true) xs → all f xs ≡ true
+unfolding all
+all-of f [] h = refl
+all-of f (x ∷ xs) h = all-cons f x xs (h .0) (all-of f xs (h .1))

@@ -15,7 +15,7 @@ use Rattle.rules.specs.Lines.{Line, longer, linesFrom}
 use Rattle.rules.specs.Text.{decimalText, integerText, digitByte, escaped, literalText, tokenText, tight, behind, spaced}
 use Rattle.scanner.specs.Laws.{by-cond, within-low}
 use Rattle.scanner.proofs.LineLaws.{inLine}
-use Rattle.scanner.specs.Elements.{all-append, by-any, all-implied, all-cons, all-first, all-later, all-map, all-each}
+use Rattle.scanner.specs.Elements.{all-append, by-any, all-implied, all-cons, all-first, all-later, all-map, all-each, all-flatMap}
 use Rattle.written.specs.NumberLaws.{Digits, some-digits, decimal-digits}
 use Rattle.written.specs.TokenLaws.{fineToken, legal-start, legal-bytes, keyword-lower}
 
@@ -77,9 +77,7 @@ escaped-free b =
     (λ m. by-cond P (ltb b 32) (λ t. octal-free b) (λ t. byte-free b (ltb-false b 32 t))))))
 
 string-free : (s : List ℕ) → all inLine (flatMap escaped s) ≡ true
-unfolding flatMap all
-string-free [] = refl
-string-free (b ∷ s) = all-append inLine (escaped b) (flatMap escaped s) (escaped-free b) (string-free s)
+string-free s = all-flatMap inLine escaped escaped-free s
 
 literal-free : (c : Literal) → all inLine (literalText c) ≡ true
 unfolding literalText integerText

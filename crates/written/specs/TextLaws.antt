@@ -13,22 +13,16 @@ use Rattle.rules.specs.Text.{lineText, textFrom}
 use Rattle.rules.specs.Reading.{states, judged, outcome, accepted, finish, next, readLines, readAny, read}
 use Rattle.admitted.specs.Admitted.{admits, admitted, closes}
 use Rattle.meaning.specs.Judged.{shaped-written}
-use Rattle.scanner.specs.Laws.{and-true-right}
 use Rattle.scanner.proofs.LineLaws.{last-line}
-use Rattle.admitted.specs.AdmitLaws.{admitted-past}
+use Rattle.admitted.specs.AdmitLaws.{admits-all, admits-last, admitted-past}
 use Rattle.written.specs.LineLaws.{lineAt}
-use Rattle.written.specs.OutcomeLaws.{admits-fine, wires-legal, outcome-written, lines-written}
-
--- what is admitted behind admitted statements is admitted one by one
-admitted-next : (s : Statement) (more : List Statement) (ss : Past) → admitted (reverseAux more (s ∷ ss)) ≡ true → admits ss s ≡ true
-unfolding admitted
-admitted-next s more ss a = and-true-right (admitted ss) (admits ss s) (admitted-past more (s ∷ ss) a)
+use Rattle.written.specs.OutcomeLaws.{wires-legal, outcome-written, lines-written}
 
 -- a line gives its statement
 pub states-written : (ss : Past) (s : Statement) (at : ℕ) → admitted ss ≡ true → admits ss s ≡ true → outcome ss (lineAt at (lineText ss s) true) ≡ states s
 unfolding judged
 states-written ss s at a m =
-    outcome-written ss s (wires-legal ss a) (admits-fine ss s m) at
+    outcome-written ss s (wires-legal ss a) (admits-all ss s m .parts) at
     ∙ ap (judged (place (lineAt at (lineText ss s) true))) (shaped-written ss s a m)
 
 -- the lines of statements behind others give those statements
@@ -36,9 +30,9 @@ pub lines-read : (size at : ℕ) (ss : Past) (more : List Statement) → admitte
 unfolding readLines next textFrom
 lines-read size at ss [] a = last-line size at ss
 lines-read size at ss (s ∷ more) a =
-    let m : admits ss s ≡ true = admitted-next s more ss a in
+    let m : admits ss s ≡ true = admits-last s ss (admitted-past more (s ∷ ss) a) in
     let p : admitted ss ≡ true = admitted-past (s ∷ more) ss a in
-    ap (λ ls. readLines size ls ss) (lines-written ss s (wires-legal ss p) (admits-fine ss s m) at more)
+    ap (λ ls. readLines size ls ss) (lines-written ss s (wires-legal ss p) (admits-all ss s m .parts) at more)
     ∙ ap (next (readLines size (linesFrom (at + length (lineText ss s) + 1) (textFrom (s ∷ ss) more))) ss) (states-written ss s at p m)
     ∙ lines-read size (at + length (lineText ss s) + 1) (s ∷ ss) more a
 

@@ -1,21 +1,21 @@
 -- The tokens of a written line are read back.
 -- Assumes nothing.
 use mathlib.Core.Path.{_≡_, refl, ap, _∙_}
-use mathlib.Core.Bool.{Bool, true, false, cond, _&&_, _||_, false≢true}
+use mathlib.Core.Bool.{Bool, true, false, cond, _||_, false≢true}
 use mathlib.Core.List.{List, [], _∷_, _++_, map, append-assoc, flatMap}
 use Prim.Native.Nat.{ℕ, zero, suc, _+_, _≤_}
 use native.Mathlib.Numerals.{add-one}
 use native.Mathlib.Omega.{arith}
 use lib.Dec.{eqb}
 use lib.IntN.{pos, negsuc, negℤ}
-use lib.ListN.{length, replicate, length-append, length-replicate}
+use lib.ListN.{length, getD, replicate, length-append, length-replicate}
 use borrow.Author.Tests.{eqb-true, ne-eqb}
 use Rattle.rules.specs.Bytes.{all, any, within, oneOf, isBlank, isNameStart, isNameByte, isLower, isDigit, isValueDigit, isMark, legal, run, rest, bytesOpen}
 use Rattle.rules.specs.Tokens.{Digit, S0, S1, Sx, Sz, Sm, Sa, Literal, value, integer, string, Token, name, word, literal, mark, keywords, isKeyword, decimal, digit, token, done, separate, parted, nameStep, wordStep, integerStep, valueStep, numberStep, minusStep, stringStep, stepAt, step, good, tokensOnto, tokensBy, tokensFrom, tokens}
 use Rattle.rules.specs.Shapes as shapes
 use Rattle.rules.specs.Text.{decimalText, integerText, digitByte, escaped, literalText, tokenText, tight, behind, spaced}
-use Rattle.scanner.specs.Laws.{by-test, and-true-left, and-true-right, within-below, within-low, within-high}
-use Rattle.scanner.specs.Elements.{by-any, all-first, all-later, all-cons, all-map, all-each}
+use Rattle.scanner.specs.Laws.{by-test, within-below, within-low, within-high}
+use Rattle.scanner.specs.Elements.{by-any, all-first, all-later, all-cons, all-map, all-each, each-all, map-back, test-at}
 use Rattle.written.specs.Runs.{list-passes, Stops, run-upto, rest-upto}
 use Rattle.written.specs.NumberLaws.{decimal-text, Digits, some-digits, decimal-digits}
 use Rattle.written.specs.StringLaws.{quoted-string}
@@ -93,13 +93,15 @@ mark-start b bs h =
 -- ---- each kind of token
 
 module _ (b : ℕ) (bs : List ℕ) (h : legal (b ∷ bs) ≡ true) where
-  pub legal-start : isNameStart b ≡ true
+  legal-keeps : (i : ℕ) → getD (isNameStart b ∷ all isNameByte bs ∷ within 1 254 (length bs) ∷ []) i true ≡ true
   unfolding legal
-  legal-start = and-true-left (isNameStart b) (all isNameByte bs) (and-true-left (isNameStart b && all isNameByte bs) (within 1 254 (length bs)) h)
+  legal-keeps = test-at (isNameStart b) (all isNameByte bs ∷ within 1 254 (length bs) ∷ []) h
+
+  pub legal-start : isNameStart b ≡ true
+  legal-start = legal-keeps 0
 
   pub legal-bytes : all isNameByte bs ≡ true
-  unfolding legal
-  legal-bytes = and-true-right (isNameStart b) (all isNameByte bs) (and-true-left (isNameStart b && all isNameByte bs) (within 1 254 (length bs)) h)
+  legal-bytes = legal-keeps 1
 
 no-name : legal [] ≡ true → ⊥
 unfolding legal
@@ -176,8 +178,7 @@ digit-back Sm = refl
 digit-back Sa = refl
 
 digits-back : (ds : List Digit) → map digit (map digitByte ds) ≡ ds
-digits-back [] = refl
-digits-back (d ∷ ds) = rw (digit-back d, digits-back ds)
+digits-back ds = map-back digitByte digit ds (each-all _ digit-back ds)
 
 digit-byte : (d : Digit) → isValueDigit (digitByte d) ≡ true
 unfolding digitByte bytesOpen

@@ -1,7 +1,7 @@
 -- The tokens of a written statement can be written, if its parts keep the rules and the wires have legal names.
 -- Assumes nothing.
 use mathlib.Core.Path.{_≡_, refl, _∙_}
-use mathlib.Core.Bool.{Bool, true, false, not, cond, _&&_}
+use mathlib.Core.Bool.{Bool, true, cond}
 use mathlib.Core.List.{List, [], _∷_, _++_, map, Option·toList}
 use mathlib.Core.Option.{Option, none, some, Option·map}
 use Prim.Native.Nat.{ℕ, _+_, _-_}
@@ -13,12 +13,13 @@ use Rattle.rules.specs.Bytes.{bytes, all, isMark, legal, bytesOpen}
 use Rattle.rules.specs.Tokens.{Name, Literal, Token, name, word, literal, mark, keywords, isKeyword}
 use Rattle.rules.specs.Statements.{Sig, wire, slice, bundle, nothing, Opt, Sort, Constant, Signal, Direction, input, output, inout, Wire, Memory, Statement, autoidx-stmt, attr-stmt, module-stmt, param-stmt, wire-stmt, memory-stmt, cell-stmt, cell-param-stmt, cell-conn-stmt, conn-stmt, proc-stmt, end-stmt, contents, holds, translate}
 use Rattle.rules.specs.Shapes.{sigs}
-use Rattle.rules.specs.Numbers.{int32, inRange}
 use Rattle.rules.specs.Signals.{Wires}
-use Rattle.rules.specs.Text.{Run, digits, span, runs, cut, runSig, runsSig, sig, literalOf, setting, unless, directionWord, wireOptions, memoryOptions, written, numberToken, wordToken, lowTokens, sigTokens, sigsTokens, optionTokens, sortTokens, shapeTokens}
-use Rattle.admitted.specs.Admitted.{fineConstant, sameLength, fineParts}
-use Rattle.scanner.specs.Laws.{by-cond, and-true-left, and-true-right}
-use Rattle.scanner.specs.Elements.{all-append, all-split, all-cons, all-first, all-later, all-drop, all-map, all-each}
+use Rattle.rules.specs.Text.{Run, digits, span, runs, cut, runSig, runsSig, sig, literalOf, setting, directionWord, wireOptions, memoryOptions, written, numberToken, wordToken, lowTokens, sigTokens, sigsTokens, optionTokens, sortTokens, shapeTokens}
+use Rattle.admitted.specs.Admitted.{fineConstant, fineParts}
+use Rattle.admitted.specs.AdmitLaws.{fine-parts}
+use Rattle.scanner.specs.Laws.{by-cond}
+use Rattle.scanner.specs.Elements.{Each, all-append, all-cons, all-first, all-later, all-drop, all-map, all-each}
+use Rattle.meaning.specs.Options.{wire-each, memory-each}
 use Rattle.written.specs.TokenLaws.{fineLiteral, fineToken, Fine}
 
 -- the wires' names are legal
@@ -122,54 +123,34 @@ module _ (ws : Wires) (h : legalNames ws ≡ true) where
 
 -- ---- options
 
-unfoldable fineOption : Opt → Bool
-fineOption o = isKeyword (o .0)
+abbrev KeywordFirst : Opt → Type 0
+KeywordFirst o = isKeyword (o .0) ≡ true
 
 numbers-fine : (x : Option ℤ) → Fine (map numberToken (Option·toList x))
 unfolding Option·toList
 numbers-fine none = none-fine
 numbers-fine (some i) = number-fine i [] none-fine
 
-options-fine : (os : List Opt) → all fineOption os ≡ true → Fine (optionTokens os)
-unfolding optionTokens fineOption
+options-fine : (os : List Opt) → Each KeywordFirst os → Fine (optionTokens os)
+unfolding optionTokens
 options-fine [] f = none-fine
 options-fine (o ∷ os) f =
-    append-fine (optionTokens os) (word (o .0) ∷ map numberToken (Option·toList (o .1))) (options-fine os (all-later fineOption o os f))
-    (word-fine (o .0) (map numberToken (Option·toList (o .1))) (all-first fineOption o os f) (numbers-fine (o .1)))
+    append-fine (optionTokens os) (word (o .0) ∷ map numberToken (Option·toList (o .1))) (options-fine os (f .1))
+    (word-fine (o .0) (map numberToken (Option·toList (o .1))) (f .0) (numbers-fine (o .1)))
 
-unless-fine : (b : Bool) (o : Opt) → fineOption o ≡ true → all fineOption (unless b o) ≡ true
-unfolding unless all
-unless-fine true o h = refl
-unless-fine false o h = rw h
+port-word : (d : Direction) → isKeyword (bytes (directionWord d)) ≡ true
+unfolding directionWord isKeyword keywords bytesOpen
+port-word input = refl
+port-word output = refl
+port-word inout = refl
 
-ports-fine : (p : Option (Direction × ℕ)) → all fineOption (map (λ (p : Direction × ℕ). setting (directionWord (p .0)) (pos (p .1))) (Option·toList p)) ≡ true
-unfolding fineOption Option·toList setting directionWord isKeyword keywords bytesOpen
-ports-fine none = refl
-ports-fine (some (input, n)) = refl
-ports-fine (some (output, n)) = refl
-ports-fine (some (inout, n)) = refl
+wire-options : (w : Wire) → Each KeywordFirst (wireOptions w)
+unfolding setting isKeyword keywords bytesOpen
+wire-options w = wire-each KeywordFirst w refl (λ q e. port-word (q .0)) refl refl refl
 
-wire-options : (w : Wire) → all fineOption (wireOptions w) ≡ true
-unfolding fineOption wireOptions setting isKeyword keywords bytesOpen
-wire-options w =
-    simp (all-split fineOption)
-    (rw (
-      unless-fine (not (w .signed)) (bytes "signed", none) refl,
-      ports-fine (w .port),
-      unless-fine (not (w .upto)) (bytes "upto", none) refl,
-      unless-fine (inRange 0 0 (w .offset)) (setting "offset" (w .offset)) refl,
-      unless-fine (eqb (w .width) 1) (setting "width" (pos (w .width))) refl,
-    ))
-
-memory-options : (m : Memory) → all fineOption (memoryOptions m) ≡ true
-unfolding fineOption memoryOptions setting isKeyword keywords bytesOpen
-memory-options m =
-    simp (all-split fineOption)
-    (rw (
-      unless-fine (inRange 0 0 (m .offset)) (setting "offset" (m .offset)) refl,
-      unless-fine (eqb (m .size) 0) (setting "size" (pos (m .size))) refl,
-      unless-fine (eqb (m .width) 1) (setting "width" (pos (m .width))) refl,
-    ))
+memory-options : (m : Memory) → Each KeywordFirst (memoryOptions m)
+unfolding setting isKeyword keywords bytesOpen
+memory-options m = memory-each KeywordFirst m refl refl refl
 
 -- ---- statements
 
@@ -197,18 +178,6 @@ first-fine w h ts f = word-fine (bytes w) ts h f
 named-fine : (w : String) → isKeyword (bytes w) ≡ true → (os : List Token) (n : Name) → Fine os → legal n ≡ true → Fine ((wordToken w ∷ os) ++ name n ∷ [])
 named-fine w h os n f g = append-fine (wordToken w ∷ os) (name n ∷ []) (first-fine w h os f) (name-fine n [] g none-fine)
 
--- of the parts that keep the rules: names and constants
-module _ (ws : Wires) (s : Statement) (f : fineParts ws s ≡ true) where
-  parts-early : (all legal (contents s .names) && all int32 (contents s .integers) && all fineConstant (contents s .constants)) ≡ true
-  unfolding fineParts
-  parts-early = and-true-left _ _ (and-true-left _ _ (and-true-left _ _ (and-true-left _ (sameLength (contents s .signals)) f)))
-
-  pub parts-names : all legal (contents s .names) ≡ true
-  parts-names = and-true-left _ _ (and-true-left _ _ parts-early)
-
-  pub parts-constants : all fineConstant (contents s .constants) ≡ true
-  parts-constants = and-true-right (all legal (contents s .names) && all int32 (contents s .integers)) _ parts-early
-
 module _ (ws : Wires) (h : legalNames ws ≡ true) where
   parts-fine : (s : Statement) → all legal (contents s .names) ≡ true → all fineConstant (contents s .constants) ≡ true → Fine (shapeTokens (written ws s))
   unfolding contents holds written translate shapeTokens isKeyword keywords bytesOpen
@@ -235,5 +204,5 @@ module _ (ws : Wires) (h : legalNames ws ≡ true) where
 
 -- the tokens of a written statement can be written
 pub fine-written : (ws : Wires) (s : Statement) → legalNames ws ≡ true → fineParts ws s ≡ true → all fineToken (shapeTokens (written ws s)) ≡ true
-unfolding Fine fineParts
-fine-written ws s h f = parts-fine ws h s (parts-names ws s f) (parts-constants ws s f)
+unfolding Fine
+fine-written ws s h f = let p = fine-parts ws s f in parts-fine ws h s (p .names) (p .constants)

@@ -3,9 +3,10 @@
 use Prim.Native.Nat.{_-_, _≤_}
 use mathlib.Core.Path.{_≡_, refl}
 use native.Mathlib.Omega.{arith}
+use lib.Dec.{eqb}
 use borrow.Author.Needs.{needs}
 use Rattle.designs.specs.Ranges.{rowsWhere, linesIn}
-use Rattle.designs.specs.RangeLaws.{lines-turn, lines-sum, line-stop, line-end}
+use Rattle.designs.specs.RangeLaws.{where-turn, where-sum, line-stop, line-end}
 use Rattle.designs.proofs.module_line.Statement.{statement}
 use Rattle.designs.proofs.module_line.Tie as tie
 
@@ -16,7 +17,7 @@ abbrev μ-loop : tie.MeasureT-loop
 μ-loop rows total number lines₀ k₀ lines k = total - k
 
 loop-holds : tie.Need-loop-holds Inv-loop μ-loop
-unfolding linesIn rowsWhere
+unfolding rowsWhere
 loop-holds c = (omega arith, refl, omega arith)
 
 first-column-requires : tie.Need-first-column-requires Inv-loop μ-loop
@@ -26,14 +27,14 @@ one-if-same-requires : tie.Need-one-if-same-requires Inv-loop μ-loop
 one-if-same-requires c κs = search needs
 
 add-more : tie.Need-add-more Inv-loop μ-loop
-add-more c = omega (arith, lines-sum _ _ _ (c .before .before .before .loop .inv .1) _ _ (c .before .first-column .ensures) (c .one-if-same .ensures))
+add-more c = omega (arith, where-sum (λ x. eqb x 3) _ _ _ (c .before .before .before .loop .inv .1) _ _ (c .before .first-column .ensures) (c .one-if-same .ensures))
 
 cast-if1 : tie.Need-cast-if1 Inv-loop μ-loop
-cast-if1 c = omega (arith, lines-sum _ _ _ (c .before .before .before .loop .inv .1) _ _ (c .before .first-column .ensures) (c .one-if-same .ensures))
+cast-if1 c = omega (arith, where-sum (λ x. eqb x 3) _ _ _ (c .before .before .before .loop .inv .1) _ _ (c .before .first-column .ensures) (c .one-if-same .ensures))
 
 returns : tie.Need-returns Inv-loop μ-loop
 returns c =
-    line-stop _ _ _ _ _ _ (c .before .before .before .before .loop .inv .1) (lines-turn _ _ _ (c .before .before .before .before .loop .inv .1) _ _ (c .before .before .first-column .ensures) (c .before .one-if-same .ensures)) (c .before .before .before .before .loop .inv .2)
+    line-stop _ _ _ _ _ _ (c .before .before .before .before .loop .inv .1) (where-turn (λ x. eqb x 3) _ _ _ (c .before .before .before .before .loop .inv .1) _ _ (c .before .before .first-column .ensures) (c .before .one-if-same .ensures)) (c .before .before .before .before .loop .inv .2)
     (omega arith)
     (omega arith)
 
@@ -45,7 +46,7 @@ loop-less c = omega arith
 
 loop-again : tie.Need-loop-again Inv-loop μ-loop
 loop-again c =
-    (omega arith, lines-turn _ _ _ (c .before .before .before .before .loop .inv .1) _ _ (c .before .before .first-column .ensures) (c .before .one-if-same .ensures), omega arith)
+    (omega arith, where-turn (λ x. eqb x 3) _ _ _ (c .before .before .before .before .loop .inv .1) _ _ (c .before .before .first-column .ensures) (c .before .one-if-same .ensures), omega arith)
 
 returns-2 : tie.Need-returns-2 Inv-loop μ-loop
 returns-2 c = line-end _ _ _ _ _ (omega arith) (c .before .loop .inv .1) (c .before .loop .inv .2)
