@@ -14,11 +14,11 @@ use Rattle.admitted.specs.Admitted.{admits, admitted, closes}
 use Rattle.order.specs.Nesting.{Entry, param-entry, wire-entry, memory-entry, cell-entry, connection-entry, File, settings, lineIn, linesOf, linesOfModule, linesOfFile, wiresOf, memoriesOf, cellsOf, bodyOf, moduleIn, designOf}
 use Rattle.order.specs.DesignLaws.{design-lines}
 use Rattle.order.specs.Fine.{Differ, settingNames, wiresIn, FineCell, FineModule, fineAlone, FineDesign}
-use Rattle.order.specs.Tally.{Through, through-before, held-once, held-behind, part-once, notAttribute, nameTally, moduleNames, objectNames, attributeNames, parameterNames, cellParameterNames, cellPortNames, portTally, module-names-lawful, object-names-lawful, attribute-names-lawful, parameter-names-lawful, cell-parameter-names-lawful, cell-port-names-lawful, port-lawful}
+use Rattle.order.specs.Tally.{Through, through-before, held-once, held-behind, notAttribute, nameTally, moduleNames, attributeNames, module-names-lawful, attribute-names-lawful}
 use Rattle.order.specs.Sums.{sum-reverse, all-fewer, sizes-fewer}
-use Rattle.order.specs.BodySums.{body-end, canonical-sum, object-sum, parameter-sum, port-sum, file-names-sum, cell-parameter-sum, cell-port-sum, attribute-sum}
+use Rattle.order.specs.BodySums.{canonical-sum, file-names-sum, attribute-sum}
 use Rattle.order.specs.Apart.{sees, Apart, admits-apart, through-admits, through-each, admitted-apart}
-use Rattle.order.specs.Walks.{Clean, clean-behind, opening-clean, settings-stay, all-true, is-module, is-cell, noModule, body-stays, cell-stays, entry-inside, object-ends, parameter-ends, port-ends, object-end, parameter-end, port-end, cell-parameter-ends, cell-port-ends}
+use Rattle.order.specs.Walks.{Clean, clean-behind, opening-clean, settings-stay, all-true, noModule, entry-inside, module-once, objects, parameters, port-numbers, cell-once, cell-parameters, cell-ports}
 use Rattle.order.specs.Seen.{body-wires, seen-sound, body-sound}
 use Rattle.order.specs.Parse.{parsed}
 
@@ -98,24 +98,11 @@ entry-cells (cell-entry at y n es) t =
     let r = reverseAux (settings at) (t .past) in
     let l : List Statement = map lineIn es ++ end-stmt ∷ [] in
     let k : Through admits (reverseAux l (cell-stmt y n ∷ r)) = rw reverseAux-append at (t .admits) in
-    let a = includes (cellParameterNames .new) (λ q s a. a .cell-parameter-names) (reverseAux l (cell-stmt y n ∷ r)) k in
-    let b = includes (cellPortNames .new) (λ q s a. a .cell-port-names) (reverseAux l (cell-stmt y n ∷ r)) k in (
+    let lines = reverseAux l (cell-stmt y n ∷ r) in (
       record {
         attributes = settings-differ at _ t;
-        parameters =
-            λ i.
-            omega (
-              arith,
-              part-once cellParameterNames cell-parameter-names-lawful (cell-stmt y n) l r (cell-parameter-ends (cell-stmt y n) ∙ is-cell y n) (cell-stays cellParameterNames cell-parameter-ends es) a i,
-              cell-parameter-sum i es,
-            );
-        ports =
-            λ i.
-            omega (
-              arith,
-              part-once cellPortNames cell-port-names-lawful (cell-stmt y n) l r (cell-port-ends (cell-stmt y n) ∙ is-cell y n) (cell-stays cellPortNames cell-port-ends es) b i,
-              cell-port-sum i es,
-            );
+        parameters = cell-once cell-parameters y n es r (includes _ (λ q s a. a .cell-parameter-names) lines k);
+        ports = cell-once cell-ports y n es r (includes _ (λ q s a. a .cell-port-names) lines k);
       },
       tt,
     )
@@ -147,36 +134,12 @@ module-fine o t =
     let whole : Through admits (reverseAux l (m ∷ r)) = rw reverseAux-append at (t .admits) in
     let ended : Through admits (end-stmt ∷ reverseAux (flatMap linesOf es) (m ∷ r)) = rw reverseAux-append at whole in
     let body : Through admits (reverseAux (flatMap linesOf es) (m ∷ r)) = ended .1 in
-    let a = includes (objectNames .new) (λ q s a. a .object-names) (reverseAux l (m ∷ r)) whole in
-    let b = includes (parameterNames .new) (λ q s a. a .parameter-names) (reverseAux l (m ∷ r)) whole in
-    let c = includes (portTally .new) (λ q s a. a .ports) (reverseAux l (m ∷ r)) whole in
     let placed = all-placed linesOf entry-clean es (m ∷ r) (clean-module (o .name) r) body in
     record {
       attributes = settings-differ (o .attributes) _ t;
-      names =
-          λ i.
-          omega (
-            arith,
-            part-once objectNames object-names-lawful m l r (object-ends m ∙ is-module (o .name)) (body-stays objectNames object-ends es) a i,
-            body-end (objectNames .one i) es (object-end i),
-            object-sum i (bodyOf es),
-          );
-      parameters =
-          λ i.
-          omega (
-            arith,
-            part-once parameterNames parameter-names-lawful m l r (parameter-ends m ∙ is-module (o .name)) (body-stays parameterNames parameter-ends es) b i,
-            body-end (parameterNames .one i) es (parameter-end i),
-            parameter-sum i (bodyOf es),
-          );
-      port-numbers =
-          λ i.
-          omega (
-            arith,
-            part-once portTally port-lawful m l r (port-ends m ∙ is-module (o .name)) (body-stays portTally port-ends es) c i,
-            body-end (portTally .one i) es (port-end i),
-            port-sum i (bodyOf es),
-          );
+      names = module-once objects (o .name) es r (includes _ (λ q s a. a .object-names) (reverseAux l (m ∷ r)) whole);
+      parameters = module-once parameters (o .name) es r (includes _ (λ q s a. a .parameter-names) (reverseAux l (m ∷ r)) whole);
+      port-numbers = module-once port-numbers (o .name) es r (includes _ (λ q s a. a .ports) (reverseAux l (m ∷ r)) whole);
       wires = entries-wires es placed;
       memories = entries-memories es placed;
       cells = entries-cells es placed;

@@ -101,21 +101,27 @@ module _ (f : Statement → ℕ) where
   pub canonical-sum : (x : File) → sum f (flatten (designOf x)) ≡ sum f (linesOfFile x)
   canonical-sum x = flatten-sum (designOf x) ∙ sym (file-sum x)
 
--- SUMS THAT LEAVE OUT attributes, what is inside cells, and ends
+-- SUMS THAT LEAVE OUT `autoidx`, attributes, what is inside cells, and ends
 pub sum-zero : {A : Type 0} (f : A → ℕ) → ((x : A) → f x ≡ 0) → (xs : List A) → sum f xs ≡ 0
 unfolding sum
 sum-zero f h [] = refl
 sum-zero f h (x ∷ xs) = omega (arith, h x, sum-zero f h xs)
 
-record Sparse (f : Statement → ℕ) : Type 0 where
-  attribute : (n : Name) (c : Constant) → f (attr-stmt n c) ≡ 0
-  parameter : (o : Sort) (n : Name) (c : Constant) → f (cell-param-stmt o n c) ≡ 0
-  port : (n : Name) (x : Signal) → f (cell-conn-stmt n x) ≡ 0
-  end : f end-stmt ≡ 0
+pub record Sparse (f : Statement → ℕ) : Type 0 where
+  pub autoidx : (i : ℤ) → f (autoidx-stmt i) ≡ 0
+  pub attribute : (n : Name) (c : Constant) → f (attr-stmt n c) ≡ 0
+  pub parameter : (o : Sort) (n : Name) (c : Constant) → f (cell-param-stmt o n c) ≡ 0
+  pub port : (n : Name) (x : Signal) → f (cell-conn-stmt n x) ≡ 0
+  pub end : f end-stmt ≡ 0
 
 module _ (f : Statement → ℕ) (z : Sparse f) where
-  settings-zero : (at : List Setting) → sum f (settings at) ≡ 0
+  pub settings-zero : (at : List Setting) → sum f (settings at) ≡ 0
   settings-zero at = sum-map f (λ a. attr-stmt (a .0) (a .1)) at ∙ sum-zero _ (λ a. z .attribute (a .0) (a .1)) at
+
+  autoidx-zero : (o : Option ℤ) → sum f (map autoidx-stmt (Option·toList o)) ≡ 0
+  unfolding sum Option·toList
+  autoidx-zero none = refl
+  autoidx-zero (some i) = omega (arith, z .autoidx i)
 
   cell-zero : (c : Object Cell) → cellSum f c ≡ f (cell-stmt (c .body .type) (c .name))
   unfolding cellSum
@@ -149,9 +155,9 @@ times-map : {A : Type 0} (n : Name) (g : A → Name) (xs : List A) → times (sa
 unfolding times
 times-map n g xs = sum-map (λ m. cond (same n m) 1 0) g xs
 
-object-sparse : (n : Name) → Sparse (objectNames .one n)
+pub object-sparse : (n : Name) → Sparse (objectNames .one n)
 unfolding nameTally space among any statementsOpen
-object-sparse n = record { attribute = λ m c. refl; parameter = λ o m c. refl; port = λ m x. refl; end = refl }
+object-sparse n = record { autoidx = λ i. refl; attribute = λ m c. refl; parameter = λ o m c. refl; port = λ m x. refl; end = refl }
 
 pub object-sum : (n : Name) (m : Module) → bodySum (objectNames .one n) m ≡ times (same n) (names m)
 unfolding nameTally space among any names statementsOpen
@@ -164,9 +170,9 @@ object-sum n m =
           (sym (times-map n (λ o. o .name) (m .memories))) (sym (times-map n (λ o. o .name) (m .cells))) (sum-zero _ (λ k. refl) (m .connections)),
     )
 
-parameter-sparse : (n : Name) → Sparse (parameterNames .one n)
+pub parameter-sparse : (n : Name) → Sparse (parameterNames .one n)
 unfolding nameTally space among any statementsOpen
-parameter-sparse n = record { attribute = λ m c. refl; parameter = λ o m c. refl; port = λ m x. refl; end = refl }
+parameter-sparse n = record { autoidx = λ i. refl; attribute = λ m c. refl; parameter = λ o m c. refl; port = λ m x. refl; end = refl }
 
 pub parameter-sum : (n : Name) (m : Module) → bodySum (parameterNames .one n) m ≡ times (same n) (map (λ p. p .0) (m .parameters))
 unfolding nameTally space among any statementsOpen
@@ -179,7 +185,7 @@ parameter-sum n m =
 
 module-sparse : (n : Name) → Sparse (moduleNames .one n)
 unfolding nameTally space among any statementsOpen
-module-sparse n = record { attribute = λ m c. refl; parameter = λ o m c. refl; port = λ m x. refl; end = refl }
+module-sparse n = record { autoidx = λ i. refl; attribute = λ m c. refl; parameter = λ o m c. refl; port = λ m x. refl; end = refl }
 
 module-named : (n : Name) (o : Object Module) → moduleSum (moduleNames .one n) o ≡ cond (same n (o .name)) 1 0
 unfolding moduleSum nameTally space among any statementsOpen
@@ -192,26 +198,21 @@ module-named n o =
           (sum-zero _ (λ y. refl) (m .memories)) (sum-zero _ (λ c. refl) (m .cells)) (sum-zero _ (λ k. refl) (m .connections)),
     )
 
-autoidx-zero : (n : Name) (o : Option ℤ) → sum (moduleNames .one n) (map autoidx-stmt (Option·toList o)) ≡ 0
-unfolding nameTally space among any sum Option·toList statementsOpen
-autoidx-zero n none = refl
-autoidx-zero n (some i) = refl
-
 pub file-names-sum : (n : Name) (x : File) → sum (moduleNames .one n) (linesOfFile x) ≡ times (same n) (map (λ o. o .name) (x .modules))
 unfolding designSum designOf moduleIn
 file-names-sum n x =
     omega (
       arith,
       file-sum (moduleNames .one n) x,
-      autoidx-zero n (x .autoidx),
+      autoidx-zero (moduleNames .one n) (module-sparse n) (x .autoidx),
       sum-map (moduleSum (moduleNames .one n)) moduleIn (x .modules),
       sum-same _ _ (λ o. module-named n (moduleIn o)) (x .modules),
       times-map n (λ (o : Object (List Entry)). o .name) (x .modules),
     )
 
-port-sparse : (n : ℕ) → Sparse (portTally .one n)
+pub port-sparse : (n : ℕ) → Sparse (portTally .one n)
 unfolding portTally sum statementsOpen
-port-sparse n = record { attribute = λ m c. refl; parameter = λ o m c. refl; port = λ m x. refl; end = refl }
+port-sparse n = record { autoidx = λ i. refl; attribute = λ m c. refl; parameter = λ o m c. refl; port = λ m x. refl; end = refl }
 
 port-wires :
     (n : ℕ) (ws : List (Object Wire)) → sum (λ w. portTally .one n (wire-stmt (w .body) (w .name))) ws ≡ times (eqb n) (flatMap (λ w. portNumbers (w .body)) ws)

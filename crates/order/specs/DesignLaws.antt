@@ -14,7 +14,7 @@ use Rattle.rules.specs.Design.{Setting, Object, object, Cell, Module, Design, I
 use Rattle.scanner.specs.Laws.{and-true-left, and-true-right}
 use Rattle.scanner.specs.Lists.{flatMap-append, flatMap-same}
 use Rattle.scanner.specs.Elements.{all-append, all-flatMap}
-use Rattle.order.specs.Nesting.{CellEntry, parameter-entry, port-entry, Entry, param-entry, wire-entry, memory-entry, cell-entry, connection-entry, File, settings, lineIn, linesOf, linesOfModule, linesOfFile, parameterOf, portOf, parametersOf, wiresOf, memoriesOf, cellsOf, connectionsOf, bodyOf, moduleIn, designOf, cellEntries, entries, fileOf, nestingOpen}
+use Rattle.order.specs.Nesting.{CellEntry, parameter-entry, port-entry, Entry, param-entry, wire-entry, memory-entry, cell-entry, connection-entry, File, settings, lineIn, linesOf, linesOfModule, linesOfFile, parameterOf, portOf, parametersOf, wiresOf, memoriesOf, cellBody, cellsOf, connectionsOf, bodyOf, moduleIn, designOf, cellEntries, entries, fileOf, nestingOpen}
 
 -- lists
 module _ {A B : Type 0} (f : A → List B) where
@@ -284,7 +284,7 @@ cell-in-cell (parameter-entry o a ∷ es) = cell-in-cell es
 cell-in-cell (port-entry n x ∷ es) = cell-in-cell es
 
 abbrev cellAt : List Setting → Name → Name → List CellEntry → Object Cell
-cellAt at t n cs = object at n (record { type = t; parameters = flatMap parameterOf cs; connections = flatMap portOf cs })
+cellAt at t n cs = object at n (cellBody t cs)
 
 -- what a cell's block has of a kind
 block-has :

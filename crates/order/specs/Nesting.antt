@@ -73,11 +73,14 @@ memoriesOf (memory-entry o) = o ∷ []
 memoriesOf (cell-entry at t n es) = []
 memoriesOf (connection-entry x y) = []
 
+abbrev pub cellBody : Name → List CellEntry → Cell
+cellBody t es = record { type = t; parameters = flatMap parameterOf es; connections = flatMap portOf es }
+
 unfoldable pub cellsOf : Entry → List (Object Cell)
 cellsOf (param-entry n c) = []
 cellsOf (wire-entry o) = []
 cellsOf (memory-entry o) = []
-cellsOf (cell-entry at t n es) = object at n (record { type = t; parameters = flatMap parameterOf es; connections = flatMap portOf es }) ∷ []
+cellsOf (cell-entry at t n es) = object at n (cellBody t es) ∷ []
 cellsOf (connection-entry x y) = []
 
 unfoldable pub connectionsOf : Entry → List (Signal × Signal)
