@@ -19,7 +19,7 @@ use Rattle.admitted.specs.Admitted.{kinds, stands, closes}
 use Rattle.admitted.specs.CountLaws.{context-scope}
 use Rattle.order.specs.Nesting.{CellEntry, parameter-entry, port-entry, Entry, param-entry, wire-entry, memory-entry, cell-entry, connection-entry, File, settings, lineIn, linesOf, linesOfModule, linesOfFile}
 use Rattle.order.specs.Tally.{Through}
-use Rattle.order.specs.Walks.{behind-each}
+use Rattle.order.specs.Walks.{behind-each, behind-settings}
 
 -- statements that stand, and the next one's place: its scope, and that no attribute waits
 pub record At (z : Scope) (p : Past) : Type 0 where
@@ -57,13 +57,9 @@ unfolding scope statementsOpen
 scope-attribute n c p = refl
 
 settings-at : (z : Scope) → (z ≡ inCell → ⊥) → (at : List Setting) (p : Past) → At z p → At z (reverseAux (settings at) p)
-settings-at z h [] p a = a
-settings-at z h (b ∷ at) p a =
-    settings-at z h at (attr-stmt (b .0) (b .1) ∷ p)
-    (record {
-      standing = (stands-in z p (attr-stmt (b .0) (b .1)) (a .scope) (attribute-at z h (b .0) (b .1)), a .standing);
-      scope = scope-attribute (b .0) (b .1) p ∙ a .scope;
-    })
+settings-at z h =
+    behind-settings (At z)
+    (λ n c p a. record { standing = (stands-in z p (attr-stmt n c) (a .scope) (attribute-at z h n c), a .standing); scope = scope-attribute n c p ∙ a .scope })
 
 -- a statement that is no attribute, where any may stand or where no attribute waits
 next :

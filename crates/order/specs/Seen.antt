@@ -18,11 +18,11 @@ use Rattle.rules.specs.Design.{Setting, Object, object, Cell, Module}
 use Rattle.admitted.specs.Admitted.{fineBit, fineSignal}
 use Rattle.scanner.specs.Laws.{and-true-left, and-true-right}
 use Rattle.scanner.specs.Lists.{flatMap-append}
-use Rattle.scanner.specs.Elements.{all-append, all-right, all-flatMap}
+use Rattle.scanner.specs.Elements.{all-append, all-both, all-right, all-flatMap}
 use Rattle.order.specs.Nesting.{CellEntry, parameter-entry, port-entry, Entry, param-entry, wire-entry, memory-entry, cell-entry, connection-entry, settings, lineIn, linesOf, wiresOf, bodyOf, linesOfModule, cellEntries, entries}
 use Rattle.order.specs.DesignLaws.{flatMap-map, cellEntry, body-entries}
 use Rattle.order.specs.Fine.{wiresIn, signalsIn}
-use Rattle.order.specs.Tally.{Through, through-before, by-wire, wires-none, wires-one, wires-reset}
+use Rattle.order.specs.Tally.{Through, behind-all, through-before, by-wire, wires-none, wires-one, wires-reset}
 use Rattle.order.specs.Apart.{sees}
 use Rattle.order.specs.Sums.{sum-append, sum-map, sum-flatMap, sum-same, fails, all-none, none-all}
 use Rattle.order.specs.BodySums.{cellSum, bodySum, body-sum, sum-zero}
@@ -42,9 +42,7 @@ quiet-step s p =
     (λ s q e. wires-none s p (not-true _ (and-true-left (not (is aModule s)) _ e)) q) s
 
 pub wires-still : (l : List Statement) (p : Past) → all quiet l ≡ true → wires (reverseAux l p) ≡ wires p
-unfolding all
-wires-still [] p e = refl
-wires-still (s ∷ l) p e = wires-still l (s ∷ p) (and-true-right (quiet s) _ e) ∙ quiet-step s p (and-true-left (quiet s) _ e)
+wires-still l p e = behind-all (λ q. wires q ≡ wires p) quiet (λ s q k h. quiet-step s q k ∙ h) l p e refl
 
 settings-quiet : (at : List Setting) → all quiet (settings at) ≡ true
 unfolding quiet statementsOpen
@@ -112,19 +110,14 @@ pub record Grown (ws vs : Wires) : Type 0 where
   pub later : Wires
   pub are : vs ≡ later ++ ws
 
-step-grown : (s : Statement) (p : Past) → noModule s ≡ true → Grown (wires p) (wires (s ∷ p))
-step-grown s p =
-    by-wire (λ s. noModule s ≡ true → Grown (wires p) (wires (s ∷ p)))
-    (λ w n e. record { later = (n, w) ∷ []; are = wires-one w n p })
-    (λ s q e. record { later = []; are = wires-none s p (not-true (is aModule s) e) q }) s
+step-grown : (ws : Wires) (s : Statement) (p : Past) → noModule s ≡ true → Grown ws (wires p) → Grown ws (wires (s ∷ p))
+step-grown ws s p =
+    by-wire (λ s. noModule s ≡ true → Grown ws (wires p) → Grown ws (wires (s ∷ p)))
+    (λ w n e g. record { later = (n, w) ∷ g .later; are = wires-one w n p ∙ ap (λ (vs : Wires). (n, w) ∷ vs) (g .are) })
+    (λ s q e g. record { later = g .later; are = wires-none s p (not-true (is aModule s) e) q ∙ g .are }) s
 
 grown : (l : List Statement) (p : Past) → all noModule l ≡ true → Grown (wires p) (wires (reverseAux l p))
-unfolding all
-grown [] p e = record { later = []; are = refl }
-grown (s ∷ l) p e =
-    let a = step-grown s p (and-true-left (noModule s) _ e) in
-    let b = grown l (s ∷ p) (and-true-right (noModule s) _ e) in
-    record { later = b .later ++ a .later; are = b .are ∙ ap (λ (ws : Wires). b .later ++ ws) (a .are) ∙ sym (append-assoc (b .later) (a .later) (wires p)) }
+grown l p e = behind-all (λ q. Grown (wires p) (wires q)) noModule (step-grown (wires p)) l p e (record { later = []; are = refl })
 
 -- SIGNALS IN THE WIRES ws
 unfoldable pub sound : Wires → Statement → Bool
@@ -142,11 +135,11 @@ seen-sound ws (s ∷ l) p q e h =
 
 pub sound-sees :
     (ws : Wires) (l : List Statement) (p : Past) → wires p ≡ ws → all quiet l ≡ true → all (sound ws) l ≡ true → Through sees p → Through sees (reverseAux l p)
-unfolding all sees sound
-sound-sees ws [] p q e k h = h
-sound-sees ws (s ∷ l) p q e k h =
-    sound-sees ws l (s ∷ p) (quiet-step s p (and-true-left (quiet s) _ e) ∙ q) (and-true-right (quiet s) _ e) (and-true-right (sound ws s) _ k)
-    (rw q (and-true-left (sound ws s) _ k), h)
+unfolding sees sound
+sound-sees ws l p q e k h =
+    behind-all (λ p. (wires p ≡ ws) × Through sees p) (λ s. quiet s && sound ws s)
+    (λ s p b a. (quiet-step s p (and-true-left (quiet s) _ b) ∙ a .0, (rw (a .0) (and-true-right (quiet s) _ b), a .1)))
+    l p (all-both quiet (sound ws) _ (λ s a b. rw (a, b)) l e k) (q, h) .1
 
 -- of a module's lines those of its signals
 unfoldable signalsBy : (Signal → ℕ) → Statement → ℕ
@@ -212,9 +205,7 @@ unfolding mute sees
 mute-sees s p e = by-none (fineSignal (wires p)) (contents s .signals) e
 
 mute-through : (l : List Statement) (p : Past) → all mute l ≡ true → Through sees p → Through sees (reverseAux l p)
-unfolding all
-mute-through [] p e h = h
-mute-through (s ∷ l) p e h = mute-through l (s ∷ p) (and-true-right (mute s) _ e) (mute-sees s p (and-true-left (mute s) _ e), h)
+mute-through = behind-all (Through sees) mute (λ s p e h. (mute-sees s p e, h))
 
 settings-mute : (at : List Setting) → all mute (settings at) ≡ true
 unfolding mute any statementsOpen

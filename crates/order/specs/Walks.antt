@@ -15,8 +15,8 @@ use Rattle.rules.specs.Statements.{Constant, Signal, Wire, Memory, Statement, a
 use Rattle.rules.specs.Judgement.{Past, sum, among, space}
 use Rattle.rules.specs.Design.{Setting, Object, Cell, Module}
 use Rattle.rules.specs.Session.{names}
-use Rattle.scanner.specs.Laws.{and-true-left, and-true-right, or-false-left, or-false-right}
-use Rattle.scanner.specs.Elements.{all-append, Each, all-flatMap, each-front, each-back, each-apart}
+use Rattle.scanner.specs.Laws.{or-false-left, or-false-right}
+use Rattle.scanner.specs.Elements.{all-append, all-first, all-later, Each, all-flatMap, each-front, each-back, each-apart}
 use Rattle.order.specs.Nesting.{CellEntry, parameter-entry, port-entry, Entry, param-entry, wire-entry, memory-entry, cell-entry, connection-entry, File, settings, lineIn, linesOf, linesOfModule, linesOfFile, wiresOf, memoriesOf, cellBody, cellsOf, bodyOf, moduleIn, nestingOpen}
 use Rattle.order.specs.Fine.{times, Differ, portsIn, settingNames, FineCell, FineModule}
 use Rattle.order.specs.Tally.{Through, Tally, Lawful, behind-all, through-behind, held-once, part-once, part-new, notAttribute, nameTally, moduleNames, objectNames, attributeNames, parameterNames, cellParameterNames, cellPortNames, portTally, module-names-lawful, object-names-lawful, attribute-names-lawful, parameter-names-lawful, cell-parameter-names-lawful, cell-port-names-lawful, port-lawful}
@@ -252,23 +252,19 @@ unfolding Option·toList statementsOpen
 opening-clean none n = attribute-names-lawful .none n
 opening-clean (some i) n = clean-behind (autoidx-stmt i) [] refl n
 
+next-attributed : (s : Statement) (p : Past) → notAttribute s ≡ true → Through (attributeNames .new) p → Attributed (s ∷ p)
+next-attributed s p e h = ((attribute-names-lawful .opens s p (attribute-ends s ∙ e), h), clean-behind s p e)
+
 others-attributed : (l : List Statement) (p : Past) → all notAttribute l ≡ true → Attributed p → Attributed (reverseAux l p)
-unfolding all
-others-attributed [] p e h = h
-others-attributed (s ∷ l) p e h =
-    let k = and-true-left (notAttribute s) _ e in
-    others-attributed l (s ∷ p) (and-true-right (notAttribute s) _ e) ((attribute-names-lawful .opens s p (attribute-ends s ∙ k), h .0), clean-behind s p k)
+others-attributed = behind-all Attributed notAttribute (λ s p e h. next-attributed s p e (h .0))
 
 object-attributed :
     (at : List Setting) (s : Statement) (l : List Statement) (p : Past) → Differ (settingNames at) → all notAttribute (s ∷ l) ≡ true → Attributed p →
     Attributed (reverseAux (settings at ++ s ∷ l) p)
-unfolding all
 object-attributed at s l p d e h =
-    let r = reverseAux (settings at) p in
-    let k = and-true-left (notAttribute s) _ e in
     let t = through-behind attributeNames attribute-names-lawful (settings at) p (settings-stay at) (λ n. omega (arith, attribute-sum n at, d n, h .1 n)) (h .0) in
     rw (reverseAux-append (settings at))
-    (others-attributed l (s ∷ r) (and-true-right (notAttribute s) _ e) ((attribute-names-lawful .opens s r (attribute-ends s ∙ k), t), clean-behind s r k))
+    (others-attributed l (s ∷ reverseAux (settings at) p) (all-later notAttribute s l e) (next-attributed s (reverseAux (settings at) p) (all-first notAttribute s l e) t))
 
 pub record EntryDiffers (e : Entry) : Type 0 where
   pub wires : Each (λ w. Differ (settingNames (w .attributes))) (wiresOf e)

@@ -172,3 +172,9 @@ tests b (c ∷ cs) = tests (b && c) cs
 pub each-test : (b : Bool) (cs : List Bool) → tests b cs ≡ true → Each (λ c. c ≡ true) (b ∷ cs)
 each-test b [] e = (e, tt)
 each-test b (c ∷ cs) e = let h = each-test (b && c) cs e in (and-true-left b c (h .0), (and-true-right b c (h .0), h .1))
+
+-- that follows from two tests
+pub all-both : {A : Type 0} (f g h : A → Bool) → ((x : A) → f x ≡ true → g x ≡ true → h x ≡ true) → (xs : List A) → all f xs ≡ true → all g xs ≡ true → all h xs ≡ true
+unfolding all
+all-both f g h k [] a b = refl
+all-both f g h k (x ∷ xs) a b = all-cons h x xs (k x (all-first f x xs a) (all-first g x xs b)) (all-both f g h k xs (all-later f x xs a) (all-later g x xs b))
