@@ -9,7 +9,7 @@ use Rattle.rules.specs.Tokens.{Name}
 use Rattle.rules.specs.Statements.{Statement, autoidx-stmt, module-stmt, param-stmt, wire-stmt, memory-stmt, cell-stmt, conn-stmt, end-stmt, statementsOpen}
 use Rattle.rules.specs.Judgement.{Past, wires}
 use Rattle.rules.specs.Design.{Setting, Object, design, flatten}
-use Rattle.scanner.specs.Elements.{Each, each-map, each-together, all-flatMap}
+use Rattle.scanner.specs.Elements.{Each, each-map, each-together, all-each, all-flatMap}
 use Rattle.admitted.specs.Admitted.{admits, admitted, closes}
 use Rattle.order.specs.Nesting.{Entry, param-entry, wire-entry, memory-entry, cell-entry, connection-entry, File, settings, lineIn, linesOf, linesOfModule, linesOfFile, wiresOf, memoriesOf, cellsOf, bodyOf, moduleIn, designOf}
 use Rattle.order.specs.DesignLaws.{design-lines}
@@ -18,7 +18,7 @@ use Rattle.order.specs.Tally.{Through, through-before, held-once, held-b
 use Rattle.order.specs.Sums.{sum-reverse, all-fewer, sizes-fewer}
 use Rattle.order.specs.BodySums.{canonical-sum, file-names-sum, attribute-sum}
 use Rattle.order.specs.Apart.{sees, Apart, admits-apart, through-admits, through-each, admitted-apart}
-use Rattle.order.specs.Walks.{Clean, clean-behind, opening-clean, settings-stay, all-true, noModule, entry-inside, module-once, objects, parameters, port-numbers, cell-once, cell-parameters, cell-ports}
+use Rattle.order.specs.Walks.{Clean, clean-behind, opening-clean, settings-stay, noModule, entry-inside, module-once, objects, parameters, port-numbers, cell-once, cell-parameters, cell-ports}
 use Rattle.order.specs.Seen.{body-wires, seen-sound, body-sound}
 use Rattle.order.specs.Parse.{parsed}
 
@@ -160,7 +160,7 @@ map-names os = map-map (λ o. o .name) moduleIn os
 
 never-ends : (l : List Statement) → all (λ s. not (moduleNames .ends s)) l ≡ true
 unfolding nameTally
-never-ends l = all-true l
+never-ends l = all-each _ (λ s. refl) l
 
 file-through :
     (x : File) → admitted (reverse (linesOfFile x)) ≡ true →

@@ -18,15 +18,15 @@ use Rattle.rules.specs.Design.{Setting, Object, object, Cell, Module}
 use Rattle.admitted.specs.Admitted.{fineBit, fineSignal}
 use Rattle.scanner.specs.Laws.{and-true-left, and-true-right}
 use Rattle.scanner.specs.Lists.{flatMap-append}
-use Rattle.scanner.specs.Elements.{all-append, all-both, all-right, all-flatMap}
-use Rattle.order.specs.Nesting.{CellEntry, parameter-entry, port-entry, Entry, param-entry, wire-entry, memory-entry, cell-entry, connection-entry, settings, lineIn, linesOf, wiresOf, bodyOf, linesOfModule, cellEntries, entries}
-use Rattle.order.specs.DesignLaws.{flatMap-map, cellEntry, body-entries}
+use Rattle.scanner.specs.Elements.{all-append, all-implied, all-both, all-right, all-flatMap}
+use Rattle.order.specs.Nesting.{CellEntry, Entry, param-entry, wire-entry, memory-entry, cell-entry, connection-entry, settings, lineIn, linesOf, wiresOf, bodyOf, linesOfModule, cellEntries, entries}
+use Rattle.order.specs.DesignLaws.{flatMap-map, settings-pass, cell-pass, cellEntry, body-entries}
 use Rattle.order.specs.Fine.{wiresIn, signalsIn}
 use Rattle.order.specs.Tally.{Through, behind-all, through-before, by-wire, wires-none, wires-one, wires-reset}
 use Rattle.order.specs.Apart.{sees}
 use Rattle.order.specs.Sums.{sum-append, sum-map, sum-flatMap, sum-same, fails, all-none, none-all}
 use Rattle.order.specs.BodySums.{cellSum, bodySum, body-sum, sum-zero}
-use Rattle.order.specs.Walks.{noModule, settings-pass}
+use Rattle.order.specs.Walks.{noModule}
 
 -- THE WIRES BEHIND SOME LINES
 abbrev pub seen : Object Wire → Name × Wire
@@ -49,10 +49,8 @@ unfolding quiet statementsOpen
 settings-quiet at = settings-pass quiet (λ n c. refl) at
 
 cell-quiet : (es : List CellEntry) → all quiet (map lineIn es ++ end-stmt ∷ []) ≡ true
-unfolding all quiet lineIn statementsOpen
-cell-quiet [] = refl
-cell-quiet (parameter-entry o a ∷ es) = cell-quiet es
-cell-quiet (port-entry n x ∷ es) = cell-quiet es
+unfolding quiet statementsOpen
+cell-quiet es = cell-pass (λ s. s) quiet (λ o n c. refl) (λ n x. refl) refl es
 
 entry-wires : (e : Entry) (p : Past) → wires (reverseAux (linesOf e) p) ≡ reverseAux (map seen (wiresOf e)) (wires p)
 unfolding linesOf wiresOf all quiet statementsOpen
@@ -93,17 +91,10 @@ unfolding fineBit
 bit-more later ws (digit d) e = refl
 bit-more later ws (bit w i) e = rw (reverse-append later ws) (get-more (λ v. ltb i (v .1 .width)) (reverse ws) (reverse later) w e)
 
-bits-more : (later ws : Wires) (bs : Signal) → all (fineBit ws) bs ≡ true → all (fineBit (later ++ ws)) bs ≡ true
-unfolding all
-bits-more later ws [] e = refl
-bits-more later ws (b ∷ bs) e = rw (bit-more later ws b (and-true-left (fineBit ws b) _ e)) (bits-more later ws bs (and-true-right (fineBit ws b) _ e))
-
-signals-more : (later ws : Wires) (xs : List Signal) → all (fineSignal ws) xs ≡ true → all (fineSignal (later ++ ws)) xs ≡ true
-unfolding all fineSignal
-signals-more later ws [] e = refl
-signals-more later ws (x ∷ xs) e =
-    let h = and-true-left (fineSignal ws x) _ e in
-    rw (and-true-left (leb (length x) 2048) _ h, bits-more later ws x (and-true-right (leb (length x) 2048) _ h)) (signals-more later ws xs (and-true-right (fineSignal ws x) _ e))
+signal-more : (later ws : Wires) (x : Signal) → fineSignal ws x ≡ true → fineSignal (later ++ ws) x ≡ true
+unfolding fineSignal
+signal-more later ws x e =
+    rw (and-true-left (leb (length x) 2048) _ e, all-implied (fineBit ws) (fineBit (later ++ ws)) (bit-more later ws) x (and-true-right (leb (length x) 2048) _ e))
 
 -- the wires behind lines of a module are those before them and more
 pub record Grown (ws vs : Wires) : Type 0 where
@@ -129,7 +120,7 @@ unfolding all sees sound
 seen-sound ws [] p q e h = refl
 seen-sound ws (s ∷ l) p q e h =
     let g = grown (s ∷ l) p e in
-    let k = signals-more (g .later) (wires p) (contents s .signals) (through-before sees l (s ∷ p) h .0) in
+    let k = all-implied (fineSignal (wires p)) (fineSignal (g .later ++ wires p)) (signal-more (g .later) (wires p)) (contents s .signals) (through-before sees l (s ∷ p) h .0) in
     let r : all (fineSignal ws) (contents s .signals) ≡ true = rw (q, g .are) k in
     rw r (seen-sound ws l (s ∷ p) q (and-true-right (noModule s) _ e) h)
 

@@ -16,8 +16,9 @@ use Rattle.rules.specs.Judgement.{Past, sum, among, space}
 use Rattle.rules.specs.Design.{Setting, Object, Cell, Module}
 use Rattle.rules.specs.Session.{names}
 use Rattle.scanner.specs.Laws.{or-false-left, or-false-right}
-use Rattle.scanner.specs.Elements.{all-append, all-first, all-later, Each, all-flatMap, each-front, each-back, each-apart}
-use Rattle.order.specs.Nesting.{CellEntry, parameter-entry, port-entry, Entry, param-entry, wire-entry, memory-entry, cell-entry, connection-entry, File, settings, lineIn, linesOf, linesOfModule, linesOfFile, wiresOf, memoriesOf, cellBody, cellsOf, bodyOf, moduleIn, nestingOpen}
+use Rattle.scanner.specs.Elements.{all-append, all-each, all-same, all-first, all-later, Each, all-flatMap, each-front, each-back, each-apart}
+use Rattle.order.specs.Nesting.{CellEntry, Entry, param-entry, wire-entry, memory-entry, cell-entry, connection-entry, File, settings, lineIn, linesOf, linesOfModule, linesOfFile, wiresOf, memoriesOf, cellBody, cellsOf, bodyOf, moduleIn, nestingOpen}
+use Rattle.order.specs.DesignLaws.{settings-pass, cell-pass}
 use Rattle.order.specs.Fine.{times, Differ, portsIn, settingNames, FineCell, FineModule}
 use Rattle.order.specs.Tally.{Through, Tally, Lawful, behind-all, through-behind, held-once, part-once, part-new, notAttribute, nameTally, moduleNames, objectNames, attributeNames, parameterNames, cellParameterNames, cellPortNames, portTally, module-names-lawful, object-names-lawful, attribute-names-lawful, parameter-names-lawful, cell-parameter-names-lawful, cell-port-names-lawful, port-lawful}
 use Rattle.order.specs.BodySums.{bodySum, body-end, Sparse, object-sparse, parameter-sparse, port-sparse, object-sum, parameter-sum, port-sum, file-names-sum, cell-parameter-sum, cell-port-sum, attribute-sum}
@@ -37,34 +38,12 @@ pub behind-settings :
 behind-settings Q h [] p q = q
 behind-settings Q h (a ∷ at) p q = behind-settings Q h at (attr-stmt (a .0) (a .1) ∷ p) (h (a .0) (a .1) p q)
 
-pub all-same : {A : Type 0} (f g : A → Bool) → ((x : A) → f x ≡ g x) → (xs : List A) → all f xs ≡ all g xs
-unfolding all
-all-same f g h [] = refl
-all-same f g h (x ∷ xs) = rw (h x, all-same f g h xs)
-
 -- LINES
 abbrev pub noModule : Statement → Bool
 noModule s = not (is aModule s)
 
 abbrev pub noCell : Statement → Bool
 noCell s = not (is aCell s)
-
-pub settings-pass : (f : Statement → Bool) → ((n : Name) (c : Constant) → f (attr-stmt n c) ≡ true) → (at : List Setting) → all f (settings at) ≡ true
-unfolding all
-settings-pass f h [] = refl
-settings-pass f h (a ∷ at) = rw (h (a .0) (a .1)) (settings-pass f h at)
-
-cell-inside : (es : List CellEntry) → all noModule (map lineIn es ++ end-stmt ∷ []) ≡ true
-unfolding all lineIn statementsOpen
-cell-inside [] = refl
-cell-inside (parameter-entry o a ∷ es) = cell-inside es
-cell-inside (port-entry n x ∷ es) = cell-inside es
-
-pub cell-no-cell : (es : List CellEntry) → all noCell (map lineIn es ++ end-stmt ∷ []) ≡ true
-unfolding all lineIn statementsOpen
-cell-no-cell [] = refl
-cell-no-cell (parameter-entry o a ∷ es) = cell-no-cell es
-cell-no-cell (port-entry n x ∷ es) = cell-no-cell es
 
 attribute-no-module : (n : Name) (c : Constant) → noModule (attr-stmt n c) ≡ true
 unfolding statementsOpen
@@ -75,7 +54,7 @@ unfolding all linesOf statementsOpen
 entry-inside (param-entry n c) = refl
 entry-inside (wire-entry o) = all-append noModule (settings (o .attributes)) _ (settings-pass noModule attribute-no-module (o .attributes)) refl
 entry-inside (memory-entry o) = all-append noModule (settings (o .attributes)) _ (settings-pass noModule attribute-no-module (o .attributes)) refl
-entry-inside (cell-entry at t n es) = all-append noModule (settings at) _ (settings-pass noModule attribute-no-module at) (cell-inside es)
+entry-inside (cell-entry at t n es) = all-append noModule (settings at) _ (settings-pass noModule attribute-no-module at) (cell-pass (λ s. s) noModule (λ o n c. refl) (λ n x. refl) refl es)
 entry-inside (connection-entry x y) = refl
 
 pub body-inside : (es : List Entry) → all noModule (flatMap linesOf es ++ end-stmt ∷ []) ≡ true
@@ -98,7 +77,8 @@ body-stays t q es = all-same (λ s. not (t .ends s)) noModule (λ s. ap not (q s
 
 pub cell-stays :
     (t : Tally Name) → ((s : Statement) → t .ends s ≡ is aCell s) → (es : List CellEntry) → all (λ s. not (t .ends s)) (map lineIn es ++ end-stmt ∷ []) ≡ true
-cell-stays t q es = all-same (λ s. not (t .ends s)) noCell (λ s. ap not (q s)) _ ∙ cell-no-cell es
+unfolding statementsOpen
+cell-stays t q es = all-same (λ s. not (t .ends s)) noCell (λ s. ap not (q s)) _ ∙ cell-pass (λ s. s) noCell (λ o n c. refl) (λ n x. refl) refl es
 
 -- A MODULE'S PARTS: a tally of what may stand only once in a module, and how often it stands in a module's design
 pub record OfModule {I : Type 0} (t : Tally I) (of : Module → I → ℕ) : Type 0 where
@@ -271,18 +251,12 @@ pub record EntryDiffers (e : Entry) : Type 0 where
   pub memories : Each (λ y. Differ (settingNames (y .attributes))) (memoriesOf e)
   pub cells : Each FineCell (cellsOf e)
 
-cell-no-attribute : (es : List CellEntry) → all notAttribute (map lineIn es ++ end-stmt ∷ []) ≡ true
-unfolding all lineIn statementsOpen
-cell-no-attribute [] = refl
-cell-no-attribute (parameter-entry o a ∷ es) = cell-no-attribute es
-cell-no-attribute (port-entry n x ∷ es) = cell-no-attribute es
-
 entry-attributed : (e : Entry) (p : Past) → EntryDiffers e → Attributed p → Attributed (reverseAux (linesOf e) p)
 unfolding all nestingOpen statementsOpen
 entry-attributed (param-entry n c) p d h = others-attributed (param-stmt n c ∷ []) p refl h
 entry-attributed (wire-entry o) p d h = object-attributed (o .attributes) (wire-stmt (o .body) (o .name)) [] p (d .wires .0) refl h
 entry-attributed (memory-entry o) p d h = object-attributed (o .attributes) (memory-stmt (o .body) (o .name)) [] p (d .memories .0) refl h
-entry-attributed (cell-entry at y n es) p d h = object-attributed at (cell-stmt y n) (map lineIn es ++ end-stmt ∷ []) p (d .cells .0 .attributes) (cell-no-attribute es) h
+entry-attributed (cell-entry at y n es) p d h = object-attributed at (cell-stmt y n) (map lineIn es ++ end-stmt ∷ []) p (d .cells .0 .attributes) (cell-pass (λ s. s) notAttribute (λ o m c. refl) (λ m x. refl) refl es) h
 entry-attributed (connection-entry x y) p d h = others-attributed (conn-stmt x y ∷ []) p refl h
 
 entries-differ : (es : List Entry) → let m = bodyOf es in Each (λ w. Differ (settingNames (w .attributes))) (m .wires) → Each (λ y. Differ (settingNames (y .attributes))) (m .memories) → Each FineCell (m .cells) → Each EntryDiffers es
@@ -311,12 +285,7 @@ pub attributes-new :
 attributes-new os p fine h c = behind-each linesOfModule FineIn Attributed module-attributed os p fine (h, c) .0
 
 -- MODULE NAMES
-pub all-true : {A : Type 0} (xs : List A) → all (λ x. true) xs ≡ true
-unfolding all
-all-true [] = refl
-all-true (x ∷ xs) = all-true xs
-
 pub modules-named : (x : File) → Differ (map (λ o. o .name) (x .modules)) → Through (moduleNames .new) (reverse (linesOfFile x))
 unfolding nameTally
 modules-named x d =
-    through-behind moduleNames module-names-lawful (linesOfFile x) [] (all-true (linesOfFile x)) (λ n. omega (arith, file-names-sum n x, d n, module-names-lawful .none n)) tt
+    through-behind moduleNames module-names-lawful (linesOfFile x) [] (all-each _ (λ s. refl) (linesOfFile x)) (λ n. omega (arith, file-names-sum n x, d n, module-names-lawful .none n)) tt

@@ -178,3 +178,9 @@ pub all-both : {A : Type 0} (f g h : A → Bool) → ((x : A) → f x ≡ true �
 unfolding all
 all-both f g h k [] a b = refl
 all-both f g h k (x ∷ xs) a b = all-cons h x xs (k x (all-first f x xs a) (all-first g x xs b)) (all-both f g h k xs (all-later f x xs a) (all-later g x xs b))
+
+-- tests that answer the same
+pub all-same : {A : Type 0} (f g : A → Bool) → ((x : A) → f x ≡ g x) → (xs : List A) → all f xs ≡ all g xs
+unfolding all
+all-same f g h [] = refl
+all-same f g h (x ∷ xs) = rw (h x, all-same f g h xs)
