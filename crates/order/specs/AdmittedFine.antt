@@ -9,7 +9,7 @@ use Rattle.rules.specs.Tokens.{Name}
 use Rattle.rules.specs.Statements.{Statement, autoidx-stmt, module-stmt, param-stmt, wire-stmt, memory-stmt, cell-stmt, conn-stmt, end-stmt, statementsOpen}
 use Rattle.rules.specs.Judgement.{Past, wires}
 use Rattle.rules.specs.Design.{Setting, Object, design, flatten}
-use Rattle.scanner.specs.Elements.{Each, each-map, each-together, all-each, all-flatMap}
+use Rattle.scanner.specs.Elements.{Each, each-map, each-through, each-together, all-each, all-flatMap}
 use Rattle.admitted.specs.Admitted.{admits, admitted, closes}
 use Rattle.order.specs.Nesting.{Entry, param-entry, wire-entry, memory-entry, cell-entry, connection-entry, File, settings, lineIn, linesOf, linesOfModule, linesOfFile, wiresOf, memoriesOf, cellsOf, bodyOf, moduleIn, designOf}
 use Rattle.order.specs.DesignLaws.{design-lines}
@@ -150,10 +150,6 @@ module-fine o t =
     }
 
 -- THE FILE
-modules-fine : (os : List (Object (List Entry))) → Each (λ o. Placed (linesOfModule o)) os → Each FineModule (map moduleIn os)
-modules-fine [] e = tt
-modules-fine (o ∷ os) e = (module-fine o (e .0), modules-fine os (e .1))
-
 map-names : (os : List (Object (List Entry))) → map (λ o. o .name) (map moduleIn os) ≡ map (λ o. o .name) os
 unfolding moduleIn
 map-names os = map-map (λ o. o .name) moduleIn os
@@ -174,7 +170,7 @@ lines-fine x e =
     let a = admitted-apart (reverse (linesOfFile x)) e in
     let t : Through admits (reverseAux (flatMap linesOfModule (x .modules)) (reverseAux (map autoidx-stmt (Option·toList (x .autoidx))) [])) = file-through x e in
     record {
-      modules = modules-fine (x .modules) (all-placed linesOfModule module-clean (x .modules) _ (opening-clean (x .autoidx)) t);
+      modules = each-through _ moduleIn FineModule module-fine (x .modules) (all-placed linesOfModule module-clean (x .modules) _ (opening-clean (x .autoidx)) t);
       names =
           rw (map-names (x .modules))
           (λ n.

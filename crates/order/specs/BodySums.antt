@@ -114,10 +114,10 @@ pub record Sparse (f : Statement → ℕ) : Type 0 where
   pub port : (n : Name) (x : Signal) → f (cell-conn-stmt n x) ≡ 0
   pub end : f end-stmt ≡ 0
 
-module _ (f : Statement → ℕ) (z : Sparse f) where
-  pub settings-zero : (at : List Setting) → sum f (settings at) ≡ 0
-  settings-zero at = sum-map f (λ a. attr-stmt (a .0) (a .1)) at ∙ sum-zero _ (λ a. z .attribute (a .0) (a .1)) at
+pub settings-zero : (f : Statement → ℕ) → ((n : Name) (c : Constant) → f (attr-stmt n c) ≡ 0) → (at : List Setting) → sum f (settings at) ≡ 0
+settings-zero f z at = sum-map f (λ a. attr-stmt (a .0) (a .1)) at ∙ sum-zero _ (λ a. z (a .0) (a .1)) at
 
+module _ (f : Statement → ℕ) (z : Sparse f) where
   autoidx-zero : (o : Option ℤ) → sum f (map autoidx-stmt (Option·toList o)) ≡ 0
   unfolding sum Option·toList
   autoidx-zero none = refl
@@ -128,7 +128,7 @@ module _ (f : Statement → ℕ) (z : Sparse f) where
   cell-zero c =
       let p = sum-zero (λ (p : Sort × Setting). f (cell-param-stmt (p .0) (p .1 .0) (p .1 .1))) (λ p. z .parameter (p .0) (p .1 .0) (p .1 .1)) (c .body .parameters) in
       let k = sum-zero (λ (k : Name × Signal). f (cell-conn-stmt (k .0) (k .1))) (λ k. z .port (k .0) (k .1)) (c .body .connections) in
-      omega (arith, settings-zero (c .attributes), z .end)
+      omega (arith, settings-zero f (z .attribute) (c .attributes), z .end)
 
   -- by the sums of a module's five lists
   sparse-sum :
@@ -144,9 +144,9 @@ module _ (f : Statement → ℕ) (z : Sparse f) where
       omega (
         arith,
         sum-same (λ (w : Object Wire). sum f (settings (w .attributes)) + f (wire-stmt (w .body) (w .name))) (λ w. f (wire-stmt (w .body) (w .name)))
-            (λ w. omega (arith, settings-zero (w .attributes))) (m .wires),
+            (λ w. omega (arith, settings-zero f (z .attribute) (w .attributes))) (m .wires),
         sum-same (λ (y : Object Memory). sum f (settings (y .attributes)) + f (memory-stmt (y .body) (y .name))) (λ y. f (memory-stmt (y .body) (y .name)))
-            (λ y. omega (arith, settings-zero (y .attributes))) (m .memories),
+            (λ y. omega (arith, settings-zero f (z .attribute) (y .attributes))) (m .memories),
         sum-same (cellSum f) (λ c. f (cell-stmt (c .body .type) (c .name))) cell-zero (m .cells),
       )
 
@@ -193,7 +193,7 @@ module-named n o =
     let m = o .body in
     omega (
       arith,
-      settings-zero (moduleNames .one n) (module-sparse n) (o .attributes),
+      settings-zero (moduleNames .one n) (module-sparse n .attribute) (o .attributes),
       sparse-sum (moduleNames .one n) (module-sparse n) m (sum-zero _ (λ p. refl) (m .parameters)) (sum-zero _ (λ w. refl) (m .wires))
           (sum-zero _ (λ y. refl) (m .memories)) (sum-zero _ (λ c. refl) (m .cells)) (sum-zero _ (λ k. refl) (m .connections)),
     )

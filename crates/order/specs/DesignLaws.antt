@@ -1,7 +1,7 @@
 -- The design of a file is found kind by kind; so a design is that of its own statements in canonical order.
 -- Assumes nothing.
 use mathlib.Core.Path.{_≡_, refl, sym, ap, ap₂, _∙_}
-use mathlib.Core.List.{List, [], _∷_, _++_, map, flatMap, zip, zipWith, head?, Option·toList, append-assoc, append-nil, map-append, map-map}
+use mathlib.Core.List.{List, [], _∷_, _++_, map, flatMap, zip, zipWith, head?, Option·toList, append-assoc, append-nil, map-append, map-map, map-id, map-congr-left}
 use mathlib.Core.Option.{Option, none, some}
 use mathlib.Core.Bool.{Bool, true, false, not}
 use lib.IntN.{ℤ}
@@ -13,8 +13,8 @@ use Rattle.rules.specs.Judgement.{until}
 use Rattle.rules.specs.Design.{Setting, Object, object, Cell, Module, Design, Item, settingIn, items, blocks, objectsIn, parameterIn, portIn, pair, connectionIn, cellParameterIn, each, cellOf, moduleOf, design, flatten, objects, cellLines, moduleLines, designOpen}
 use Rattle.scanner.specs.Laws.{and-true-left, and-true-right}
 use Rattle.scanner.specs.Lists.{flatMap-append, flatMap-same}
-use Rattle.scanner.specs.Elements.{all-append, all-map, all-each, all-flatMap}
-use Rattle.order.specs.Nesting.{CellEntry, parameter-entry, port-entry, Entry, param-entry, wire-entry, memory-entry, cell-entry, connection-entry, File, settings, lineIn, linesOf, linesOfModule, linesOfFile, parameterOf, portOf, parametersOf, wiresOf, memoriesOf, cellBody, cellsOf, connectionsOf, bodyOf, moduleIn, designOf, cellEntries, entries, fileOf, nestingOpen}
+use Rattle.scanner.specs.Elements.{all-append, all-map, all-each, map-back, each-all, all-flatMap}
+use Rattle.order.specs.Nesting.{CellEntry, parameter-entry, port-entry, Entry, param-entry, wire-entry, memory-entry, cell-entry, connection-entry, File, settings, lineIn, linesOf, linesOfModule, linesOfFile, parameterOf, portOf, parametersOf, wiresOf, memoriesOf, cellBody, cellsOf, connectionsOf, bodyOf, moduleIn, designOf, cellEntries, entries, asFile, fileOf, nestingOpen}
 
 -- lists
 module _ {A B : Type 0} (f : A → List B) where
@@ -221,8 +221,7 @@ parameters-in (connection-entry x y) = refl
 
 wires-in : (e : Entry) → flatMap (objectsIn (λ c. c .wires)) (itemsOf e) ≡ wiresOf e
 unfolding nestingOpen itemsOf designOpen statementsOpen
-wires-in (param-entry n none) = refl
-wires-in (param-entry n (some c)) = refl
+wires-in (param-entry n c) = refl
 wires-in (wire-entry o) = refl
 wires-in (memory-entry o) = refl
 wires-in (cell-entry at t n es) = cell-none plain (objectsIn (λ c. c .wires)) (λ o m c. refl) (λ m x. refl) refl es
@@ -230,8 +229,7 @@ wires-in (connection-entry x y) = refl
 
 memories-in : (e : Entry) → flatMap (objectsIn (λ c. c .memories)) (itemsOf e) ≡ memoriesOf e
 unfolding nestingOpen itemsOf designOpen statementsOpen
-memories-in (param-entry n none) = refl
-memories-in (param-entry n (some c)) = refl
+memories-in (param-entry n c) = refl
 memories-in (wire-entry o) = refl
 memories-in (memory-entry o) = refl
 memories-in (cell-entry at t n es) = cell-none plain (objectsIn (λ c. c .memories)) (λ o m c. refl) (λ m x. refl) refl es
@@ -239,8 +237,7 @@ memories-in (connection-entry x y) = refl
 
 connections-in : (e : Entry) → flatMap (λ i. connectionIn (i .statement)) (itemsOf e) ≡ connectionsOf e
 unfolding nestingOpen itemsOf designOpen statementsOpen
-connections-in (param-entry n none) = refl
-connections-in (param-entry n (some c)) = refl
+connections-in (param-entry n c) = refl
 connections-in (wire-entry o) = refl
 connections-in (memory-entry o) = refl
 connections-in (cell-entry at t n es) = cell-none plain (λ i. connectionIn (i .statement)) (λ o m c. refl) (λ m x. refl) refl es
@@ -266,8 +263,7 @@ module _ {A : Type 0} (f : Statement → List A) (out : (e : Entry) → outside 
 
 outside-parameter : (e : Entry) → outside cellParameterIn e
 unfolding outside designOpen statementsOpen
-outside-parameter (param-entry n none) = refl
-outside-parameter (param-entry n (some c)) = refl
+outside-parameter (param-entry n c) = refl
 outside-parameter (wire-entry o) = refl
 outside-parameter (memory-entry o) = refl
 outside-parameter (cell-entry at t n es) = tt
@@ -353,8 +349,7 @@ module-block o =
     )
 
 module-blocks : (os : List (Object (List Entry))) → map moduleOf (map blockOf os) ≡ map moduleIn os
-module-blocks [] = refl
-module-blocks (o ∷ os) = ap₂ _∷_ (module-block o) (module-blocks os)
+module-blocks os = map-map moduleOf blockOf os ∙ map-congr-left {l = os} (λ o m. module-block o)
 
 -- no module has an `autoidx` line
 abbrev integersIn : List Statement → List ℤ
@@ -402,15 +397,11 @@ pub design-lines : (f : File) → design (linesOfFile f) ≡ designOf f
 design-lines f = lines-by (f .autoidx) (f .modules)
 
 -- THE CANONICAL ORDER
-alone : {A : Type 0} (xs : List A) → flatMap (λ x. x ∷ []) xs ≡ xs
-unfolding flatMap
-alone [] = refl
-alone (x ∷ xs) = ap (λ (l : List _). x ∷ l) (alone xs)
-
 flatMap-self : {A : Type 0} (f : A → List A) → ((x : A) → f x ≡ x ∷ []) → (xs : List A) → flatMap f xs ≡ xs
-unfolding flatMap
-flatMap-self f h [] = refl
-flatMap-self f h (x ∷ xs) = rw (h x) (ap (λ (l : List _). x ∷ l) (flatMap-self f h xs))
+flatMap-self f h xs = flatMap-one f (λ x. x) h xs ∙ map-id xs
+
+alone : {A : Type 0} (xs : List A) → flatMap (λ x. x ∷ []) xs ≡ xs
+alone xs = flatMap-self (λ x. x ∷ []) (λ x. refl) xs
 
 abbrev pub cellEntry : Object Cell → Entry
 cellEntry c = cell-entry (c .attributes) (c .body .type) (c .name) (cellEntries (c .body))
@@ -454,14 +445,10 @@ pub body-entries : (m : Module) → bodyOf (entries m) ≡ m
 unfolding bodyOf
 body-entries m = rw (parameters-apart m, wires-apart m, memories-apart m, cells-apart m, connections-apart m)
 
-modules-file : (os : List (Object Module)) → map moduleIn (map (λ o. object (o .attributes) (o .name) (entries (o .body))) os) ≡ os
-unfolding moduleIn
-modules-file [] = refl
-modules-file (o ∷ os) = ap₂ _∷_ (ap (object (o .attributes) (o .name)) (body-entries (o .body))) (modules-file os)
-
 pub design-file : (d : Design) → designOf (fileOf d) ≡ d
-unfolding designOf fileOf
-design-file d = ap (designBy (d .autoidx)) (modules-file (d .modules))
+unfolding designOf fileOf moduleIn
+design-file d =
+    ap (designBy (d .autoidx)) (map-back asFile moduleIn (d .modules) (each-all _ (λ o. ap (object (o .attributes) (o .name)) (body-entries (o .body))) (d .modules)))
 
 -- and its lines are those of the canonical order
 cell-lines : (c : Cell) (n : Name) → cellLines c n ≡ cell-stmt (c .type) n ∷ map lineIn (cellEntries c) ++ end-stmt ∷ []
@@ -482,9 +469,9 @@ pub flatten-file : (d : Design) → flatten d ≡ linesOfFile (fileOf d)
 unfolding flatten objects linesOfFile fileOf linesOfModule
 flatten-file d =
     let m =
-    flatMap-same (λ (o : Object Module). settings (o .attributes) ++ moduleLines (o .body) (o .name)) (λ o. linesOfModule (object (o .attributes) (o .name) (entries (o .body))))
+    flatMap-same (λ (o : Object Module). settings (o .attributes) ++ moduleLines (o .body) (o .name)) (λ o. linesOfModule (asFile o))
     (λ o. ap (λ (l : List Statement). settings (o .attributes) ++ l) (module-lines (o .body) (o .name))) (d .modules) in
-    rw (flatMap-map linesOfModule (λ (o : Object Module). object (o .attributes) (o .name) (entries (o .body)))) (ap (λ (l : List Statement). map autoidx-stmt (Option·toList (d .autoidx)) ++ l) m)
+    rw (flatMap-map linesOfModule asFile) (ap (λ (l : List Statement). map autoidx-stmt (Option·toList (d .autoidx)) ++ l) m)
 
 pub design-flatten : (d : Design) → design (flatten d) ≡ d
 design-flatten d = ap design (flatten-file d) ∙ design-lines (fileOf d) ∙ design-file d

@@ -2,7 +2,7 @@
 -- Assumes nothing.
 use Prim.Native.Nat.{ℕ, _≤_}
 use mathlib.Core.Path.{_≡_, refl, sym, ap, _∙_}
-use mathlib.Core.List.{List, [], _∷_, map, flatMap, reverse, reverseAux, reverseAux-append, Option·toList, map-map}
+use mathlib.Core.List.{List, [], map, flatMap, reverse, reverseAux, reverseAux-append, Option·toList, map-map}
 use mathlib.Core.Option.{Option, none, some}
 use mathlib.Core.Bool.{Bool, true}
 use native.Mathlib.Omega.{arith}
@@ -11,10 +11,10 @@ use Rattle.rules.specs.Bytes.{any, all}
 use Rattle.rules.specs.Tokens.{Name}
 use Rattle.rules.specs.Statements.{Statement, autoidx-stmt, statementsOpen}
 use Rattle.rules.specs.Judgement.{Past, sum, among, space}
-use Rattle.rules.specs.Design.{Object, object, Cell, Module, Design, flatten}
-use Rattle.scanner.specs.Elements.{Each, each-map}
+use Rattle.rules.specs.Design.{Object, Cell, Module, Design, flatten}
+use Rattle.scanner.specs.Elements.{Each, each-map, each-through}
 use Rattle.admitted.specs.Admitted.{admitted, closes}
-use Rattle.order.specs.Nesting.{Entry, File, linesOfModule, linesOfFile, bodyOf, moduleIn, entries, fileOf}
+use Rattle.order.specs.Nesting.{Entry, File, linesOfModule, linesOfFile, bodyOf, moduleIn, asFile, fileOf}
 use Rattle.order.specs.DesignLaws.{flatMap-map, body-entries, flatten-file}
 use Rattle.order.specs.Fine.{FineCell, FineModule, FineDesign}
 use Rattle.order.specs.Tally.{Through, Tally, nameTally, attributeNames}
@@ -42,14 +42,6 @@ autoidx-sees : (i : ℤ) → sees [] (autoidx-stmt i) ≡ true
 unfolding sees all statementsOpen
 autoidx-sees i = refl
 
-abbrev asFile : Object Module → Object (List Entry)
-asFile o = object (o .attributes) (o .name) (entries (o .body))
-
-file-fine : (os : List (Object Module)) → Each FineModule os → Each (λ o. FineModule (moduleIn o)) (map asFile os)
-unfolding moduleIn
-file-fine [] e = tt
-file-fine (o ∷ os) e = (rw (body-entries (o .body)) (e .0), file-fine os (e .1))
-
 map-names : (os : List (Object Module)) → map (λ o. o .name) (map asFile os) ≡ map (λ o. o .name) os
 map-names os = map-map (λ (o : Object (List Entry)). o .name) asFile os
 
@@ -67,8 +59,8 @@ module _ (d : Design) (fine : FineDesign d) where
   file-sum f = sum-reverse f (linesOfFile file) ∙ ap (sum f) (sym (flatten-file d))
 
   modules-fine : Each (λ o. FineModule (moduleIn o)) (file .modules)
-  unfolding fileOf
-  modules-fine = file-fine (d .modules) (fine .modules)
+  unfolding fileOf moduleIn
+  modules-fine = each-through FineModule asFile _ (λ o f. rw (body-entries (o .body)) f) (d .modules) (fine .modules)
 
   signals-seen : Through sees (reverse (linesOfFile file))
   unfolding fileOf

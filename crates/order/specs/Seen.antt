@@ -14,18 +14,18 @@ use Rattle.rules.specs.Tokens.{Name}
 use Rattle.rules.specs.Statements.{Constant, Signal, Bit, digit, bit, Wire, Statement, module-stmt, param-stmt, wire-stmt, memory-stmt, cell-param-stmt, cell-conn-stmt, conn-stmt, end-stmt, aModule, aWire, is, contents, statementsOpen}
 use Rattle.rules.specs.Signals.{Wires}
 use Rattle.rules.specs.Judgement.{Past, sum, wires}
-use Rattle.rules.specs.Design.{Setting, Object, object, Cell, Module}
+use Rattle.rules.specs.Design.{Setting, Object, Cell, Module}
 use Rattle.admitted.specs.Admitted.{fineBit, fineSignal}
 use Rattle.scanner.specs.Laws.{and-true-left, and-true-right}
 use Rattle.scanner.specs.Lists.{flatMap-append}
 use Rattle.scanner.specs.Elements.{all-append, all-implied, all-both, all-right, all-flatMap}
-use Rattle.order.specs.Nesting.{CellEntry, Entry, param-entry, wire-entry, memory-entry, cell-entry, connection-entry, settings, lineIn, linesOf, wiresOf, bodyOf, linesOfModule, cellEntries, entries}
+use Rattle.order.specs.Nesting.{CellEntry, Entry, param-entry, wire-entry, memory-entry, cell-entry, connection-entry, settings, lineIn, linesOf, wiresOf, bodyOf, linesOfModule, cellEntries, entries, asFile}
 use Rattle.order.specs.DesignLaws.{flatMap-map, settings-pass, cell-pass, cellEntry, body-entries}
 use Rattle.order.specs.Fine.{wiresIn, signalsIn}
 use Rattle.order.specs.Tally.{Through, behind-all, through-before, by-wire, wires-none, wires-one, wires-reset}
 use Rattle.order.specs.Apart.{sees}
 use Rattle.order.specs.Sums.{sum-append, sum-map, sum-flatMap, sum-same, fails, all-none, none-all}
-use Rattle.order.specs.BodySums.{cellSum, bodySum, body-sum, sum-zero}
+use Rattle.order.specs.BodySums.{cellSum, bodySum, body-sum, sum-zero, settings-zero}
 use Rattle.order.specs.Walks.{noModule}
 
 -- THE WIRES BEHIND SOME LINES
@@ -139,8 +139,7 @@ signalsBy h s = sum h (contents s .signals)
 module _ (h : Signal → ℕ) where
   by-zero : (at : List Setting) → sum (signalsBy h) (settings at) ≡ 0
   unfolding signalsBy sum statementsOpen
-  by-zero [] = refl
-  by-zero (a ∷ at) = omega (arith, by-zero at)
+  by-zero = settings-zero (signalsBy h) (λ n c. refl)
 
   by-cell : (c : Object Cell) → cellSum (signalsBy h) c ≡ sum h (map (λ k. k .1) (c .body .connections))
   unfolding cellSum signalsBy sum statementsOpen
@@ -259,7 +258,7 @@ module _ (m : Module) where
 
 pub module-sees :
     (o : Object Module) (p : Past) → all (fineSignal (wiresIn (o .body))) (signalsIn (o .body)) ≡ true → Through sees p →
-    Through sees (reverseAux (linesOfModule (object (o .attributes) (o .name) (entries (o .body)))) p)
+    Through sees (reverseAux (linesOfModule (asFile o)) p)
 unfolding linesOfModule mute any statementsOpen
 module-sees o p e h =
     let r = reverseAux (settings (o .attributes)) p in

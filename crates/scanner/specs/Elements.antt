@@ -184,3 +184,8 @@ pub all-same : {A : Type 0} (f g : A → Bool) → ((x : A) → f x ≡ g x) →
 unfolding all
 all-same f g h [] = refl
 all-same f g h (x ∷ xs) = rw (h x, all-same f g h xs)
+
+-- of mapped elements
+pub each-through : {A B : Type 0} (P : A → Type 0) (k : A → B) (R : B → Type 0) → ((x : A) → P x → R (k x)) → (xs : List A) → Each P xs → Each R (map k xs)
+each-through P k R h [] e = tt
+each-through P k R h (x ∷ xs) e = (h x (e .0), each-through P k R h xs (e .1))
