@@ -7,7 +7,7 @@ use mathlib.Core.Bool.{Bool, true, false, not}
 use lib.IntN.{ℤ}
 use borrow.Author.Tests.{not-true}
 use Rattle.rules.specs.Tokens.{Name}
-use Rattle.rules.specs.Statements.{Sort, Constant, Signal, Statement, autoidx-stmt, attr-stmt, module-stmt, param-stmt, wire-stmt, memory-stmt, cell-stmt, cell-param-stmt, cell-conn-stmt, conn-stmt, end-stmt, anAttribute, aModule, aCell, is, contents, statementsOpen}
+use Rattle.rules.specs.Statements.{Sort, Constant, Signal, Wire, Memory, Statement, autoidx-stmt, attr-stmt, module-stmt, param-stmt, wire-stmt, memory-stmt, cell-stmt, cell-param-stmt, cell-conn-stmt, conn-stmt, end-stmt, anAttribute, aModule, aCell, is, contents, statementsOpen}
 use Rattle.rules.specs.Bytes.{all}
 use Rattle.rules.specs.Judgement.{until}
 use Rattle.rules.specs.Design.{Setting, Object, object, Cell, Module, Design, Item, settingIn, items, blocks, objectsIn, parameterIn, portIn, pair, connectionIn, cellParameterIn, each, cellOf, moduleOf, design, flatten, objects, cellLines, moduleLines, designOpen}
@@ -204,44 +204,45 @@ blocks-modules (o ∷ os) =
 
 -- EACH KIND
 module _ {A : Type 0} (f : Item → List A) (g : Entry → List A) where
-  in-module : ((e : Entry) → flatMap f (itemsOf e) ≡ g e) → f (plain end-stmt) ≡ [] → (es : List Entry) → flatMap f (inModule es) ≡ flatMap g es
-  unfolding inModule flatMap
-  in-module h e es =
+  -- by what each form of entry has, and that a cell's lines and ends have none
+  in-module :
+      ((n : Name) (c : Option Constant) → f (plain (param-stmt n c)) ≡ g (param-entry n c)) →
+      ((o : Object Wire) → f (with-settings (o .attributes) (wire-stmt (o .body) (o .name))) ≡ g (wire-entry o)) →
+      ((o : Object Memory) → f (with-settings (o .attributes) (memory-stmt (o .body) (o .name))) ≡ g (memory-entry o)) →
+      ((at : List Setting) (t n : Name) (es : List CellEntry) → f (with-settings at (cell-stmt t n)) ≡ g (cell-entry at t n es)) →
+      ((x y : Signal) → f (plain (conn-stmt x y)) ≡ g (connection-entry x y)) →
+      ((o : Sort) (n : Name) (c : Constant) → f (plain (cell-param-stmt o n c)) ≡ []) →
+      ((n : Name) (x : Signal) → f (plain (cell-conn-stmt n x)) ≡ []) →
+      f (plain end-stmt) ≡ [] → (es : List Entry) →
+      flatMap f (inModule es) ≡ flatMap g es
+  unfolding inModule itemsOf flatMap
+  in-module p w m c k cp ck e es =
+      let h : (e : Entry) → flatMap f (itemsOf e) ≡ g e =
+      elim [
+        | param-entry n v ↦ append-nil _ ∙ p n v
+        | wire-entry o ↦ append-nil _ ∙ w o
+        | memory-entry o ↦ append-nil _ ∙ m o
+        | cell-entry at t n cs ↦ rw (cell-none plain f cp ck e cs) (append-nil _ ∙ c at t n cs)
+        | connection-entry x y ↦ append-nil _ ∙ k x y
+      ] in
       flatMap-append f (flatMap itemsOf es) (plain end-stmt ∷ [])
       ∙ rw (e, append-nil) (flatMap-flatMap f itemsOf es ∙ flatMap-same (λ x. flatMap f (itemsOf x)) g h es)
 
-parameters-in : (e : Entry) → flatMap (λ i. parameterIn (i .statement)) (itemsOf e) ≡ parametersOf e
-unfolding nestingOpen itemsOf designOpen statementsOpen
-parameters-in (param-entry n none) = refl
-parameters-in (param-entry n (some c)) = refl
-parameters-in (wire-entry o) = refl
-parameters-in (memory-entry o) = refl
-parameters-in (cell-entry at t n es) = cell-none plain (λ i. parameterIn (i .statement)) (λ o m c. refl) (λ m x. refl) refl es
-parameters-in (connection-entry x y) = refl
+parameters-in : (es : List Entry) → flatMap (λ i. parameterIn (i .statement)) (inModule es) ≡ flatMap parametersOf es
+unfolding nestingOpen designOpen statementsOpen
+parameters-in = in-module (λ i. parameterIn (i .statement)) parametersOf (λ n. elim [ none ↦ refl | some c ↦ refl ]) (λ o. refl) (λ o. refl) (λ at t n es. refl) (λ x y. refl) (λ o n c. refl) (λ n x. refl) refl
 
-wires-in : (e : Entry) → flatMap (objectsIn (λ c. c .wires)) (itemsOf e) ≡ wiresOf e
-unfolding nestingOpen itemsOf designOpen statementsOpen
-wires-in (param-entry n c) = refl
-wires-in (wire-entry o) = refl
-wires-in (memory-entry o) = refl
-wires-in (cell-entry at t n es) = cell-none plain (objectsIn (λ c. c .wires)) (λ o m c. refl) (λ m x. refl) refl es
-wires-in (connection-entry x y) = refl
+wires-in : (es : List Entry) → flatMap (objectsIn (λ c. c .wires)) (inModule es) ≡ flatMap wiresOf es
+unfolding nestingOpen designOpen statementsOpen
+wires-in = in-module (objectsIn (λ c. c .wires)) wiresOf (λ n c. refl) (λ o. refl) (λ o. refl) (λ at t n es. refl) (λ x y. refl) (λ o n c. refl) (λ n x. refl) refl
 
-memories-in : (e : Entry) → flatMap (objectsIn (λ c. c .memories)) (itemsOf e) ≡ memoriesOf e
-unfolding nestingOpen itemsOf designOpen statementsOpen
-memories-in (param-entry n c) = refl
-memories-in (wire-entry o) = refl
-memories-in (memory-entry o) = refl
-memories-in (cell-entry at t n es) = cell-none plain (objectsIn (λ c. c .memories)) (λ o m c. refl) (λ m x. refl) refl es
-memories-in (connection-entry x y) = refl
+memories-in : (es : List Entry) → flatMap (objectsIn (λ c. c .memories)) (inModule es) ≡ flatMap memoriesOf es
+unfolding nestingOpen designOpen statementsOpen
+memories-in = in-module (objectsIn (λ c. c .memories)) memoriesOf (λ n c. refl) (λ o. refl) (λ o. refl) (λ at t n es. refl) (λ x y. refl) (λ o n c. refl) (λ n x. refl) refl
 
-connections-in : (e : Entry) → flatMap (λ i. connectionIn (i .statement)) (itemsOf e) ≡ connectionsOf e
-unfolding nestingOpen itemsOf designOpen statementsOpen
-connections-in (param-entry n c) = refl
-connections-in (wire-entry o) = refl
-connections-in (memory-entry o) = refl
-connections-in (cell-entry at t n es) = cell-none plain (λ i. connectionIn (i .statement)) (λ o m c. refl) (λ m x. refl) refl es
-connections-in (connection-entry x y) = refl
+connections-in : (es : List Entry) → flatMap (λ i. connectionIn (i .statement)) (inModule es) ≡ flatMap connectionsOf es
+unfolding nestingOpen designOpen statementsOpen
+connections-in = in-module (λ i. connectionIn (i .statement)) connectionsOf (λ n c. refl) (λ o. refl) (λ o. refl) (λ at t n es. refl) (λ x y. refl) (λ o n c. refl) (λ n x. refl) refl
 
 -- CELLS: behind a cell's end, up to the next cell, nothing is a cell's
 unfoldable outside : {A : Type 0} → (Statement → List A) → Entry → Type 0
@@ -263,19 +264,11 @@ module _ {A : Type 0} (f : Statement → List A) (out : (e : Entry) → outside 
 
 outside-parameter : (e : Entry) → outside cellParameterIn e
 unfolding outside designOpen statementsOpen
-outside-parameter (param-entry n c) = refl
-outside-parameter (wire-entry o) = refl
-outside-parameter (memory-entry o) = refl
-outside-parameter (cell-entry at t n es) = tt
-outside-parameter (connection-entry x y) = refl
+outside-parameter = elim [ param-entry n c ↦ refl | wire-entry o ↦ refl | memory-entry o ↦ refl | cell-entry at t n es ↦ tt | connection-entry x y ↦ refl ]
 
 outside-port : (e : Entry) → outside portIn e
 unfolding outside designOpen statementsOpen
-outside-port (param-entry n c) = refl
-outside-port (wire-entry o) = refl
-outside-port (memory-entry o) = refl
-outside-port (cell-entry at t n es) = tt
-outside-port (connection-entry x y) = refl
+outside-port = elim [ param-entry n c ↦ refl | wire-entry o ↦ refl | memory-entry o ↦ refl | cell-entry at t n es ↦ tt | connection-entry x y ↦ refl ]
 
 cell-in-cell : (es : List CellEntry) → all (closed (is aCell)) (inCell plain es) ≡ true
 unfolding statementsOpen
@@ -320,32 +313,16 @@ cells-in (cell-entry at t n cs ∷ es) =
 cells-in (connection-entry x y ∷ es) = cells-in es
 
 -- A MODULE, A FILE
-end-parameter : parameterIn end-stmt ≡ []
-unfolding designOpen statementsOpen
-end-parameter = refl
-
-end-wire : objectsIn (λ c. c .wires) (plain end-stmt) ≡ []
-unfolding designOpen statementsOpen
-end-wire = refl
-
-end-memory : objectsIn (λ c. c .memories) (plain end-stmt) ≡ []
-unfolding designOpen statementsOpen
-end-memory = refl
-
-end-connection : connectionIn end-stmt ≡ []
-unfolding designOpen statementsOpen
-end-connection = refl
-
 module-block : (o : Object (List Entry)) → moduleOf (blockOf o) ≡ moduleIn o
 unfolding moduleOf each moduleIn bodyOf statementsOpen
 module-block o =
     let es = o .body in
     rw (
-      in-module (λ i. parameterIn (i .statement)) parametersOf parameters-in end-parameter es,
-      in-module (objectsIn (λ c. c .wires)) wiresOf wires-in end-wire es,
-      in-module (objectsIn (λ c. c .memories)) memoriesOf memories-in end-memory es,
+      parameters-in es,
+      wires-in es,
+      memories-in es,
       cells-in es,
-      in-module (λ i. connectionIn (i .statement)) connectionsOf connections-in end-connection es,
+      connections-in es,
     )
 
 module-blocks : (os : List (Object (List Entry))) → map moduleOf (map blockOf os) ≡ map moduleIn os
