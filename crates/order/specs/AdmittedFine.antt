@@ -8,17 +8,17 @@ use Rattle.rules.specs.Bytes.{all}
 use Rattle.rules.specs.Tokens.{Name}
 use Rattle.rules.specs.Statements.{Statement, autoidx-stmt, module-stmt, param-stmt, wire-stmt, memory-stmt, cell-stmt, conn-stmt, end-stmt, statementsOpen}
 use Rattle.rules.specs.Judgement.{Past, wires}
-use Rattle.rules.specs.Design.{Setting, Object, design, flatten}
-use Rattle.scanner.specs.Elements.{Each, each-map, each-together, all-flatMap}
+use Rattle.rules.specs.Design.{Setting, Object, object, design, flatten}
+use Rattle.scanner.specs.Elements.{Each, each-map, each-through, each-together, all-each, all-flatMap}
 use Rattle.admitted.specs.Admitted.{admits, admitted, closes}
-use Rattle.order.specs.Nesting.{Entry, param-entry, wire-entry, memory-entry, cell-entry, connection-entry, File, settings, lineIn, linesOf, linesOfModule, linesOfFile, wiresOf, memoriesOf, cellsOf, bodyOf, moduleIn, designOf}
+use Rattle.order.specs.Nesting.{Entry, param-entry, wire-entry, memory-entry, cell-entry, connection-entry, File, settings, lineIn, linesOf, linesOfModule, linesOfFile, wiresOf, memoriesOf, cellBody, cellsOf, bodyOf, moduleIn, designOf}
 use Rattle.order.specs.DesignLaws.{design-lines}
 use Rattle.order.specs.Fine.{Differ, settingNames, wiresIn, FineCell, FineModule, fineAlone, FineDesign}
-use Rattle.order.specs.Tally.{Through, through-before, held-once, held-behind, part-once, notAttribute, nameTally, moduleNames, objectNames, attributeNames, parameterNames, cellParameterNames, cellPortNames, portTally, module-names-lawful, object-names-lawful, attribute-names-lawful, parameter-names-lawful, cell-parameter-names-lawful, cell-port-names-lawful, port-lawful}
+use Rattle.order.specs.Tally.{Through, through-before, held-once, held-behind, notAttribute, nameTally, moduleNames, attributeNames, module-names-lawful, attribute-names-lawful}
 use Rattle.order.specs.Sums.{sum-reverse, all-fewer, sizes-fewer}
-use Rattle.order.specs.BodySums.{body-end, canonical-sum, object-sum, parameter-sum, port-sum, file-names-sum, cell-parameter-sum, cell-port-sum, attribute-sum}
+use Rattle.order.specs.BodySums.{canonical-sum, file-names-sum, attribute-sum}
 use Rattle.order.specs.Apart.{sees, Apart, admits-apart, through-admits, through-each, admitted-apart}
-use Rattle.order.specs.Walks.{Clean, clean-behind, opening-clean, settings-stay, all-true, is-module, is-cell, noModule, body-stays, cell-stays, entry-inside, object-ends, parameter-ends, port-ends, object-end, parameter-end, port-end, cell-parameter-ends, cell-port-ends}
+use Rattle.order.specs.Walks.{EntryDiffers, Clean, clean-behind, opening-clean, settings-stay, noModule, entry-inside, module-once, objects, parameters, port-numbers, cell-once, cell-parameters, cell-ports}
 use Rattle.order.specs.Seen.{body-wires, seen-sound, body-sound}
 use Rattle.order.specs.Parse.{parsed}
 
@@ -73,64 +73,24 @@ settings-differ at l t n =
       t .clean n,
     )
 
-entry-wires : (e : Entry) → Placed (linesOf e) → Each (λ w. Differ (settingNames (w .attributes))) (wiresOf e)
-unfolding linesOf wiresOf
-entry-wires (param-entry n c) t = tt
-entry-wires (wire-entry o) t = (settings-differ (o .attributes) _ t, tt)
-entry-wires (memory-entry o) t = tt
-entry-wires (cell-entry at y n es) t = tt
-entry-wires (connection-entry x y) t = tt
-
-entry-memories : (e : Entry) → Placed (linesOf e) → Each (λ y. Differ (settingNames (y .attributes))) (memoriesOf e)
-unfolding linesOf memoriesOf
-entry-memories (param-entry n c) t = tt
-entry-memories (wire-entry o) t = tt
-entry-memories (memory-entry o) t = (settings-differ (o .attributes) _ t, tt)
-entry-memories (cell-entry at y n es) t = tt
-entry-memories (connection-entry x y) t = tt
-
-entry-cells : (e : Entry) → Placed (linesOf e) → Each FineCell (cellsOf e)
-unfolding linesOf cellsOf
-entry-cells (param-entry n c) t = tt
-entry-cells (wire-entry o) t = tt
-entry-cells (memory-entry o) t = tt
-entry-cells (cell-entry at y n es) t =
+entry-differs : (e : Entry) → Placed (linesOf e) → EntryDiffers e
+unfolding linesOf wiresOf memoriesOf cellsOf
+entry-differs (param-entry n c) t = record { wires = tt; memories = tt; cells = tt }
+entry-differs (wire-entry o) t = record { wires = (settings-differ (o .attributes) _ t, tt); memories = tt; cells = tt }
+entry-differs (memory-entry o) t = record { wires = tt; memories = (settings-differ (o .attributes) _ t, tt); cells = tt }
+entry-differs (cell-entry at y n es) t =
     let r = reverseAux (settings at) (t .past) in
     let l : List Statement = map lineIn es ++ end-stmt ∷ [] in
     let k : Through admits (reverseAux l (cell-stmt y n ∷ r)) = rw reverseAux-append at (t .admits) in
-    let a = includes (cellParameterNames .new) (λ q s a. a .cell-parameter-names) (reverseAux l (cell-stmt y n ∷ r)) k in
-    let b = includes (cellPortNames .new) (λ q s a. a .cell-port-names) (reverseAux l (cell-stmt y n ∷ r)) k in (
-      record {
-        attributes = settings-differ at _ t;
-        parameters =
-            λ i.
-            omega (
-              arith,
-              part-once cellParameterNames cell-parameter-names-lawful (cell-stmt y n) l r (cell-parameter-ends (cell-stmt y n) ∙ is-cell y n) (cell-stays cellParameterNames cell-parameter-ends es) a i,
-              cell-parameter-sum i es,
-            );
-        ports =
-            λ i.
-            omega (
-              arith,
-              part-once cellPortNames cell-port-names-lawful (cell-stmt y n) l r (cell-port-ends (cell-stmt y n) ∙ is-cell y n) (cell-stays cellPortNames cell-port-ends es) b i,
-              cell-port-sum i es,
-            );
-      },
-      tt,
-    )
-entry-cells (connection-entry x y) t = tt
-
--- all entries of a module
-module _ (es : List Entry) (placed : Each (λ e. Placed (linesOf e)) es) where
-  entries-wires : Each (λ w. Differ (settingNames (w .attributes))) (flatMap wiresOf es)
-  entries-wires = each-together _ wiresOf es (each-map _ _ entry-wires es placed)
-
-  entries-memories : Each (λ y. Differ (settingNames (y .attributes))) (flatMap memoriesOf es)
-  entries-memories = each-together _ memoriesOf es (each-map _ _ entry-memories es placed)
-
-  entries-cells : Each FineCell (flatMap cellsOf es)
-  entries-cells = each-together _ cellsOf es (each-map _ _ entry-cells es placed)
+    let lines = reverseAux l (cell-stmt y n ∷ r) in
+    let cell : FineCell (object at n (cellBody y es)) =
+    record {
+      attributes = settings-differ at _ t;
+      parameters = cell-once cell-parameters y n es r (includes _ (λ q s a. a .cell-parameter-names) lines k);
+      ports = cell-once cell-ports y n es r (includes _ (λ q s a. a .cell-port-names) lines k);
+    } in
+    record { wires = tt; memories = tt; cells = (cell, tt) }
+entry-differs (connection-entry x y) t = record { wires = tt; memories = tt; cells = tt }
 
 clean-module : (n : Name) (p : Past) → Clean (module-stmt n ∷ p)
 unfolding statementsOpen
@@ -147,39 +107,15 @@ module-fine o t =
     let whole : Through admits (reverseAux l (m ∷ r)) = rw reverseAux-append at (t .admits) in
     let ended : Through admits (end-stmt ∷ reverseAux (flatMap linesOf es) (m ∷ r)) = rw reverseAux-append at whole in
     let body : Through admits (reverseAux (flatMap linesOf es) (m ∷ r)) = ended .1 in
-    let a = includes (objectNames .new) (λ q s a. a .object-names) (reverseAux l (m ∷ r)) whole in
-    let b = includes (parameterNames .new) (λ q s a. a .parameter-names) (reverseAux l (m ∷ r)) whole in
-    let c = includes (portTally .new) (λ q s a. a .ports) (reverseAux l (m ∷ r)) whole in
-    let placed = all-placed linesOf entry-clean es (m ∷ r) (clean-module (o .name) r) body in
+    let differ = each-map _ EntryDiffers entry-differs es (all-placed linesOf entry-clean es (m ∷ r) (clean-module (o .name) r) body) in
     record {
       attributes = settings-differ (o .attributes) _ t;
-      names =
-          λ i.
-          omega (
-            arith,
-            part-once objectNames object-names-lawful m l r (object-ends m ∙ is-module (o .name)) (body-stays objectNames object-ends es) a i,
-            body-end (objectNames .one i) es (object-end i),
-            object-sum i (bodyOf es),
-          );
-      parameters =
-          λ i.
-          omega (
-            arith,
-            part-once parameterNames parameter-names-lawful m l r (parameter-ends m ∙ is-module (o .name)) (body-stays parameterNames parameter-ends es) b i,
-            body-end (parameterNames .one i) es (parameter-end i),
-            parameter-sum i (bodyOf es),
-          );
-      port-numbers =
-          λ i.
-          omega (
-            arith,
-            part-once portTally port-lawful m l r (port-ends m ∙ is-module (o .name)) (body-stays portTally port-ends es) c i,
-            body-end (portTally .one i) es (port-end i),
-            port-sum i (bodyOf es),
-          );
-      wires = entries-wires es placed;
-      memories = entries-memories es placed;
-      cells = entries-cells es placed;
+      names = module-once objects (o .name) es r (includes _ (λ q s a. a .object-names) (reverseAux l (m ∷ r)) whole);
+      parameters = module-once parameters (o .name) es r (includes _ (λ q s a. a .parameter-names) (reverseAux l (m ∷ r)) whole);
+      port-numbers = module-once port-numbers (o .name) es r (includes _ (λ q s a. a .ports) (reverseAux l (m ∷ r)) whole);
+      wires = each-together _ wiresOf es (each-map EntryDiffers _ (λ e d. d .wires) es differ);
+      memories = each-together _ memoriesOf es (each-map EntryDiffers _ (λ e d. d .memories) es differ);
+      cells = each-together _ cellsOf es (each-map EntryDiffers _ (λ e d. d .cells) es differ);
       signals =
           body-sound (wiresIn (bodyOf es)) es
           (seen-sound (wiresIn (bodyOf es)) (flatMap linesOf es) (m ∷ r) (sym (body-wires (o .name) es r)) (all-flatMap noModule linesOf entry-inside es)
@@ -187,17 +123,13 @@ module-fine o t =
     }
 
 -- THE FILE
-modules-fine : (os : List (Object (List Entry))) → Each (λ o. Placed (linesOfModule o)) os → Each FineModule (map moduleIn os)
-modules-fine [] e = tt
-modules-fine (o ∷ os) e = (module-fine o (e .0), modules-fine os (e .1))
-
 map-names : (os : List (Object (List Entry))) → map (λ o. o .name) (map moduleIn os) ≡ map (λ o. o .name) os
 unfolding moduleIn
 map-names os = map-map (λ o. o .name) moduleIn os
 
 never-ends : (l : List Statement) → all (λ s. not (moduleNames .ends s)) l ≡ true
 unfolding nameTally
-never-ends l = all-true l
+never-ends l = all-each _ (λ s. refl) l
 
 file-through :
     (x : File) → admitted (reverse (linesOfFile x)) ≡ true →
@@ -211,7 +143,7 @@ lines-fine x e =
     let a = admitted-apart (reverse (linesOfFile x)) e in
     let t : Through admits (reverseAux (flatMap linesOfModule (x .modules)) (reverseAux (map autoidx-stmt (Option·toList (x .autoidx))) [])) = file-through x e in
     record {
-      modules = modules-fine (x .modules) (all-placed linesOfModule module-clean (x .modules) _ (opening-clean (x .autoidx)) t);
+      modules = each-through _ moduleIn FineModule module-fine (x .modules) (all-placed linesOfModule module-clean (x .modules) _ (opening-clean (x .autoidx)) t);
       names =
           rw (map-names (x .modules))
           (λ n.

@@ -1,6 +1,6 @@
 -- The tests of a statement after those before it, one by one.
 -- Assumes nothing.
-use Prim.Native.Nat.{ℕ, _-_}
+use Prim.Native.Nat.{_-_}
 use mathlib.Core.Path.{_≡_, refl, ap}
 use mathlib.Core.List.{List, [], _∷_}
 use mathlib.Core.Bool.{Bool, true, false, not, _&&_, _||_}
@@ -9,13 +9,12 @@ use borrow.Author.Tests.{not-true}
 use lib.Dec.{leb, eqb}
 use lib.IntN.{pos, _+ℤ_}
 use Rattle.rules.specs.Bytes.{any, all, same, within, legal}
-use Rattle.rules.specs.Tokens.{Name}
 use Rattle.rules.specs.Numbers.{int32}
 use Rattle.rules.specs.Signals.{Wires}
 use Rattle.rules.specs.Statements.{Statement, Wire, contents, ownName}
 use Rattle.rules.specs.Judgement.{Past, sum, wires, among, Space, namesIn, nameSpaces, portNumbers, takesName, sizes, exceedsSize}
 use Rattle.scanner.specs.Laws.{and-true-left, and-true-right, or-false-left, or-false-right}
-use Rattle.scanner.specs.Elements.{Each}
+use Rattle.scanner.specs.Elements.{Each, all-each, all-implied, all-both}
 use Rattle.admitted.specs.Admitted.{stands, fineConstant, newPorts, fineWire, fineMemory, fineSignal, sameLength, fineParts, admits, admitted}
 use Rattle.admitted.specs.AdmitLaws.{fine-parts, admits-all}
 use Rattle.order.specs.Fine.{fineAlone}
@@ -47,38 +46,26 @@ ownWire w =
     && (eqb (w .width) 0 || int32 (w .offset +ℤ pos (w .width - 1)))
     && all (within 1 1023) (portNumbers w)
 
-all-new : (ns : List ℕ) → all (λ n. not (any {A = Name × Wire} (λ v. any (eqb n) (portNumbers (v .1))) [])) ns ≡ true
-unfolding all any
-all-new [] = refl
-all-new (n ∷ ns) = all-new ns
-
 wire-own : (w : Wire) → fineWire [] w ≡ true → ownWire w ≡ true
 unfolding fineWire ownWire
 wire-own w e = and-true-left (ownWire w) (newPorts [] w) e
 
 own-wire : (w : Wire) → ownWire w ≡ true → fineWire [] w ≡ true
-unfolding fineWire ownWire newPorts
-own-wire w e = rw (e, all-new (portNumbers w))
+unfolding fineWire ownWire newPorts any
+own-wire w e = rw e (all-each _ (λ n. refl) (portNumbers w))
 
 module _ (ws : Wires) where
   own-wires : (vs : List Wire) → all (fineWire ws) vs ≡ true → all (fineWire []) vs ≡ true
-  unfolding all fineWire ownWire
-  own-wires [] e = refl
-  own-wires (w ∷ vs) e =
-      rw (own-wire w (and-true-left (ownWire w) (newPorts ws w) (and-true-left (ownWire w && newPorts ws w) _ e))) (own-wires vs (and-true-right (fineWire ws w) _ e))
+  unfolding fineWire ownWire
+  own-wires = all-implied (fineWire ws) (fineWire []) (λ w e. own-wire w (and-true-left (ownWire w) (newPorts ws w) e))
 
   new-wires : (vs : List Wire) → all (fineWire ws) vs ≡ true → all (newPorts ws) vs ≡ true
-  unfolding all fineWire ownWire
-  new-wires [] e = refl
-  new-wires (w ∷ vs) e =
-      rw (and-true-right (ownWire w) (newPorts ws w) (and-true-left (ownWire w && newPorts ws w) _ e)) (new-wires vs (and-true-right (fineWire ws w) _ e))
+  unfolding fineWire ownWire
+  new-wires = all-implied (fineWire ws) (newPorts ws) (λ w e. and-true-right (ownWire w) (newPorts ws w) e)
 
   both-wires : (vs : List Wire) → all (fineWire []) vs ≡ true → all (newPorts ws) vs ≡ true → all (fineWire ws) vs ≡ true
-  unfolding all fineWire ownWire
-  both-wires [] e f = refl
-  both-wires (w ∷ vs) e f =
-      rw (wire-own w (and-true-left (fineWire [] w) _ e), and-true-left (newPorts ws w) _ f)
-      (both-wires vs (and-true-right (fineWire [] w) _ e) (and-true-right (newPorts ws w) _ f))
+  unfolding fineWire ownWire
+  both-wires = all-both (fineWire []) (newPorts ws) (fineWire ws) (λ w e f. rw (wire-own w e, f))
 
 -- NAMES: a test that fails in each name space
 any-none : {A : Type 0} (f : A → Bool) (xs : List A) → any f xs ≡ false → Each (λ x. f x ≡ false) xs

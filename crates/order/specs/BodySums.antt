@@ -101,28 +101,34 @@ module _ (f : Statement → ℕ) where
   pub canonical-sum : (x : File) → sum f (flatten (designOf x)) ≡ sum f (linesOfFile x)
   canonical-sum x = flatten-sum (designOf x) ∙ sym (file-sum x)
 
--- SUMS THAT LEAVE OUT attributes, what is inside cells, and ends
+-- SUMS THAT LEAVE OUT `autoidx`, attributes, what is inside cells, and ends
 pub sum-zero : {A : Type 0} (f : A → ℕ) → ((x : A) → f x ≡ 0) → (xs : List A) → sum f xs ≡ 0
 unfolding sum
 sum-zero f h [] = refl
 sum-zero f h (x ∷ xs) = omega (arith, h x, sum-zero f h xs)
 
-record Sparse (f : Statement → ℕ) : Type 0 where
-  attribute : (n : Name) (c : Constant) → f (attr-stmt n c) ≡ 0
-  parameter : (o : Sort) (n : Name) (c : Constant) → f (cell-param-stmt o n c) ≡ 0
-  port : (n : Name) (x : Signal) → f (cell-conn-stmt n x) ≡ 0
-  end : f end-stmt ≡ 0
+pub record Sparse (f : Statement → ℕ) : Type 0 where
+  pub autoidx : (i : ℤ) → f (autoidx-stmt i) ≡ 0
+  pub attribute : (n : Name) (c : Constant) → f (attr-stmt n c) ≡ 0
+  pub parameter : (o : Sort) (n : Name) (c : Constant) → f (cell-param-stmt o n c) ≡ 0
+  pub port : (n : Name) (x : Signal) → f (cell-conn-stmt n x) ≡ 0
+  pub end : f end-stmt ≡ 0
+
+pub settings-zero : (f : Statement → ℕ) → ((n : Name) (c : Constant) → f (attr-stmt n c) ≡ 0) → (at : List Setting) → sum f (settings at) ≡ 0
+settings-zero f z at = sum-map f (λ a. attr-stmt (a .0) (a .1)) at ∙ sum-zero _ (λ a. z (a .0) (a .1)) at
 
 module _ (f : Statement → ℕ) (z : Sparse f) where
-  settings-zero : (at : List Setting) → sum f (settings at) ≡ 0
-  settings-zero at = sum-map f (λ a. attr-stmt (a .0) (a .1)) at ∙ sum-zero _ (λ a. z .attribute (a .0) (a .1)) at
+  autoidx-zero : (o : Option ℤ) → sum f (map autoidx-stmt (Option·toList o)) ≡ 0
+  unfolding sum Option·toList
+  autoidx-zero none = refl
+  autoidx-zero (some i) = omega (arith, z .autoidx i)
 
   cell-zero : (c : Object Cell) → cellSum f c ≡ f (cell-stmt (c .body .type) (c .name))
   unfolding cellSum
   cell-zero c =
       let p = sum-zero (λ (p : Sort × Setting). f (cell-param-stmt (p .0) (p .1 .0) (p .1 .1))) (λ p. z .parameter (p .0) (p .1 .0) (p .1 .1)) (c .body .parameters) in
       let k = sum-zero (λ (k : Name × Signal). f (cell-conn-stmt (k .0) (k .1))) (λ k. z .port (k .0) (k .1)) (c .body .connections) in
-      omega (arith, settings-zero (c .attributes), z .end)
+      omega (arith, settings-zero f (z .attribute) (c .attributes), z .end)
 
   -- by the sums of a module's five lists
   sparse-sum :
@@ -138,9 +144,9 @@ module _ (f : Statement → ℕ) (z : Sparse f) where
       omega (
         arith,
         sum-same (λ (w : Object Wire). sum f (settings (w .attributes)) + f (wire-stmt (w .body) (w .name))) (λ w. f (wire-stmt (w .body) (w .name)))
-            (λ w. omega (arith, settings-zero (w .attributes))) (m .wires),
+            (λ w. omega (arith, settings-zero f (z .attribute) (w .attributes))) (m .wires),
         sum-same (λ (y : Object Memory). sum f (settings (y .attributes)) + f (memory-stmt (y .body) (y .name))) (λ y. f (memory-stmt (y .body) (y .name)))
-            (λ y. omega (arith, settings-zero (y .attributes))) (m .memories),
+            (λ y. omega (arith, settings-zero f (z .attribute) (y .attributes))) (m .memories),
         sum-same (cellSum f) (λ c. f (cell-stmt (c .body .type) (c .name))) cell-zero (m .cells),
       )
 
@@ -149,9 +155,9 @@ times-map : {A : Type 0} (n : Name) (g : A → Name) (xs : List A) → times (sa
 unfolding times
 times-map n g xs = sum-map (λ m. cond (same n m) 1 0) g xs
 
-object-sparse : (n : Name) → Sparse (objectNames .one n)
+pub object-sparse : (n : Name) → Sparse (objectNames .one n)
 unfolding nameTally space among any statementsOpen
-object-sparse n = record { attribute = λ m c. refl; parameter = λ o m c. refl; port = λ m x. refl; end = refl }
+object-sparse n = record { autoidx = λ i. refl; attribute = λ m c. refl; parameter = λ o m c. refl; port = λ m x. refl; end = refl }
 
 pub object-sum : (n : Name) (m : Module) → bodySum (objectNames .one n) m ≡ times (same n) (names m)
 unfolding nameTally space among any names statementsOpen
@@ -164,9 +170,9 @@ object-sum n m =
           (sym (times-map n (λ o. o .name) (m .memories))) (sym (times-map n (λ o. o .name) (m .cells))) (sum-zero _ (λ k. refl) (m .connections)),
     )
 
-parameter-sparse : (n : Name) → Sparse (parameterNames .one n)
+pub parameter-sparse : (n : Name) → Sparse (parameterNames .one n)
 unfolding nameTally space among any statementsOpen
-parameter-sparse n = record { attribute = λ m c. refl; parameter = λ o m c. refl; port = λ m x. refl; end = refl }
+parameter-sparse n = record { autoidx = λ i. refl; attribute = λ m c. refl; parameter = λ o m c. refl; port = λ m x. refl; end = refl }
 
 pub parameter-sum : (n : Name) (m : Module) → bodySum (parameterNames .one n) m ≡ times (same n) (map (λ p. p .0) (m .parameters))
 unfolding nameTally space among any statementsOpen
@@ -179,7 +185,7 @@ parameter-sum n m =
 
 module-sparse : (n : Name) → Sparse (moduleNames .one n)
 unfolding nameTally space among any statementsOpen
-module-sparse n = record { attribute = λ m c. refl; parameter = λ o m c. refl; port = λ m x. refl; end = refl }
+module-sparse n = record { autoidx = λ i. refl; attribute = λ m c. refl; parameter = λ o m c. refl; port = λ m x. refl; end = refl }
 
 module-named : (n : Name) (o : Object Module) → moduleSum (moduleNames .one n) o ≡ cond (same n (o .name)) 1 0
 unfolding moduleSum nameTally space among any statementsOpen
@@ -187,15 +193,10 @@ module-named n o =
     let m = o .body in
     omega (
       arith,
-      settings-zero (moduleNames .one n) (module-sparse n) (o .attributes),
+      settings-zero (moduleNames .one n) (module-sparse n .attribute) (o .attributes),
       sparse-sum (moduleNames .one n) (module-sparse n) m (sum-zero _ (λ p. refl) (m .parameters)) (sum-zero _ (λ w. refl) (m .wires))
           (sum-zero _ (λ y. refl) (m .memories)) (sum-zero _ (λ c. refl) (m .cells)) (sum-zero _ (λ k. refl) (m .connections)),
     )
-
-autoidx-zero : (n : Name) (o : Option ℤ) → sum (moduleNames .one n) (map autoidx-stmt (Option·toList o)) ≡ 0
-unfolding nameTally space among any sum Option·toList statementsOpen
-autoidx-zero n none = refl
-autoidx-zero n (some i) = refl
 
 pub file-names-sum : (n : Name) (x : File) → sum (moduleNames .one n) (linesOfFile x) ≡ times (same n) (map (λ o. o .name) (x .modules))
 unfolding designSum designOf moduleIn
@@ -203,15 +204,15 @@ file-names-sum n x =
     omega (
       arith,
       file-sum (moduleNames .one n) x,
-      autoidx-zero n (x .autoidx),
+      autoidx-zero (moduleNames .one n) (module-sparse n) (x .autoidx),
       sum-map (moduleSum (moduleNames .one n)) moduleIn (x .modules),
       sum-same _ _ (λ o. module-named n (moduleIn o)) (x .modules),
       times-map n (λ (o : Object (List Entry)). o .name) (x .modules),
     )
 
-port-sparse : (n : ℕ) → Sparse (portTally .one n)
+pub port-sparse : (n : ℕ) → Sparse (portTally .one n)
 unfolding portTally sum statementsOpen
-port-sparse n = record { attribute = λ m c. refl; parameter = λ o m c. refl; port = λ m x. refl; end = refl }
+port-sparse n = record { autoidx = λ i. refl; attribute = λ m c. refl; parameter = λ o m c. refl; port = λ m x. refl; end = refl }
 
 port-wires :
     (n : ℕ) (ws : List (Object Wire)) → sum (λ w. portTally .one n (wire-stmt (w .body) (w .name))) ws ≡ times (eqb n) (flatMap (λ w. portNumbers (w .body)) ws)

@@ -1,20 +1,20 @@
 -- The design of a file is found kind by kind; so a design is that of its own statements in canonical order.
 -- Assumes nothing.
 use mathlib.Core.Path.{_≡_, refl, sym, ap, ap₂, _∙_}
-use mathlib.Core.List.{List, [], _∷_, _++_, map, flatMap, zip, zipWith, head?, Option·toList, append-assoc, append-nil, map-append, map-map}
+use mathlib.Core.List.{List, [], _∷_, _++_, map, flatMap, zip, zipWith, head?, Option·toList, append-assoc, append-nil, map-append, map-map, map-id, map-congr-left}
 use mathlib.Core.Option.{Option, none, some}
 use mathlib.Core.Bool.{Bool, true, false, not}
 use lib.IntN.{ℤ}
 use borrow.Author.Tests.{not-true}
 use Rattle.rules.specs.Tokens.{Name}
-use Rattle.rules.specs.Statements.{Constant, Signal, Statement, autoidx-stmt, module-stmt, param-stmt, wire-stmt, memory-stmt, cell-stmt, cell-param-stmt, cell-conn-stmt, conn-stmt, end-stmt, anAttribute, aModule, aCell, is, contents, statementsOpen}
+use Rattle.rules.specs.Statements.{Sort, Constant, Signal, Wire, Memory, Statement, autoidx-stmt, attr-stmt, module-stmt, param-stmt, wire-stmt, memory-stmt, cell-stmt, cell-param-stmt, cell-conn-stmt, conn-stmt, end-stmt, anAttribute, aModule, aCell, is, contents, statementsOpen}
 use Rattle.rules.specs.Bytes.{all}
 use Rattle.rules.specs.Judgement.{until}
 use Rattle.rules.specs.Design.{Setting, Object, object, Cell, Module, Design, Item, settingIn, items, blocks, objectsIn, parameterIn, portIn, pair, connectionIn, cellParameterIn, each, cellOf, moduleOf, design, flatten, objects, cellLines, moduleLines, designOpen}
 use Rattle.scanner.specs.Laws.{and-true-left, and-true-right}
 use Rattle.scanner.specs.Lists.{flatMap-append, flatMap-same}
-use Rattle.scanner.specs.Elements.{all-append, all-flatMap}
-use Rattle.order.specs.Nesting.{CellEntry, parameter-entry, port-entry, Entry, param-entry, wire-entry, memory-entry, cell-entry, connection-entry, File, settings, lineIn, linesOf, linesOfModule, linesOfFile, parameterOf, portOf, parametersOf, wiresOf, memoriesOf, cellsOf, connectionsOf, bodyOf, moduleIn, designOf, cellEntries, entries, fileOf, nestingOpen}
+use Rattle.scanner.specs.Elements.{all-append, all-map, all-each, map-back, each-all, all-flatMap}
+use Rattle.order.specs.Nesting.{CellEntry, parameter-entry, port-entry, Entry, param-entry, wire-entry, memory-entry, cell-entry, connection-entry, File, settings, lineIn, linesOf, linesOfModule, linesOfFile, parameterOf, portOf, parametersOf, wiresOf, memoriesOf, cellBody, cellsOf, connectionsOf, bodyOf, moduleIn, designOf, cellEntries, entries, asFile, fileOf, nestingOpen}
 
 -- lists
 module _ {A B : Type 0} (f : A → List B) where
@@ -33,11 +33,45 @@ module _ {A B : Type 0} (f : A → List B) where
   flatMap-none h [] = refl
   flatMap-none h (x ∷ xs) = rw (h x) (flatMap-none h xs)
 
+none-of : {A B : Type 0} (xs : List A) → flatMap {B = B} (λ (x : A). []) xs ≡ []
+none-of xs = flatMap-none (λ x. []) (λ x. refl) xs
+
 -- each element by itself
 pub flatMap-one : {A B : Type 0} (f : A → List B) (g : A → B) → ((x : A) → f x ≡ g x ∷ []) → (xs : List A) → flatMap f xs ≡ map g xs
 unfolding flatMap
 flatMap-one f g h [] = refl
 flatMap-one f g h (x ∷ xs) = rw (h x) (ap (λ (l : List _). g x ∷ l) (flatMap-one f g h xs))
+
+-- ATTRIBUTES AND THE LINES OF A CELL: tests that they pass, and what none of them has
+pub settings-pass : (f : Statement → Bool) → ((n : Name) (c : Constant) → f (attr-stmt n c) ≡ true) → (at : List Setting) → all f (settings at) ≡ true
+settings-pass f h at = all-map f _ at ∙ all-each _ (λ a. h (a .0) (a .1)) at
+
+module _ {A : Type 0} (g : Statement → A) where
+  abbrev inCell : List CellEntry → List A
+  inCell es = map (λ e. g (lineIn e)) es ++ g end-stmt ∷ []
+
+  pub cell-pass :
+      (f : A → Bool) → ((o : Sort) (n : Name) (c : Constant) → f (g (cell-param-stmt o n c)) ≡ true) → ((n : Name) (x : Signal) → f (g (cell-conn-stmt n x)) ≡ true) →
+      f (g end-stmt) ≡ true → (es : List CellEntry) → all f (inCell es) ≡ true
+  unfolding all lineIn
+  cell-pass f p k e [] = rw e
+  cell-pass f p k e (parameter-entry o a ∷ es) = rw (p o (a .0) (a .1)) (cell-pass f p k e es)
+  cell-pass f p k e (port-entry n x ∷ es) = rw (k n x) (cell-pass f p k e es)
+
+  -- each line by itself
+  cell-each :
+      {B : Type 0} (f : A → List B) (h : CellEntry → List B) → ((e : CellEntry) → f (g (lineIn e)) ≡ h e) → f (g end-stmt) ≡ [] → (es : List CellEntry) →
+      flatMap f (inCell es) ≡ flatMap h es
+  unfolding flatMap
+  cell-each f h p e es =
+      flatMap-append f (map (λ e. g (lineIn e)) es) (g end-stmt ∷ [])
+      ∙ rw (e, append-nil) (flatMap-map f (λ e. g (lineIn e)) es ∙ flatMap-same (λ e. f (g (lineIn e))) h p es)
+
+  cell-none :
+      {B : Type 0} (f : A → List B) → ((o : Sort) (n : Name) (c : Constant) → f (g (cell-param-stmt o n c)) ≡ []) → ((n : Name) (x : Signal) → f (g (cell-conn-stmt n x)) ≡ []) →
+      f (g end-stmt) ≡ [] → (es : List CellEntry) → flatMap f (inCell es) ≡ []
+  unfolding lineIn
+  cell-none f p k e es = cell-each f (λ x. []) (elim [ parameter-entry o a ↦ p o (a .0) (a .1) | port-entry n x ↦ k n x ]) e es ∙ none-of es
 
 -- THE ITEMS OF A FILE
 abbrev plain : Statement → Item
@@ -63,7 +97,7 @@ unfoldable itemsOf : Entry → List Item
 itemsOf (param-entry n c) = plain (param-stmt n c) ∷ []
 itemsOf (wire-entry o) = with-settings (o .attributes) (wire-stmt (o .body) (o .name)) ∷ []
 itemsOf (memory-entry o) = with-settings (o .attributes) (memory-stmt (o .body) (o .name)) ∷ []
-itemsOf (cell-entry at t n es) = with-settings at (cell-stmt t n) ∷ map (λ e. plain (lineIn e)) es ++ plain end-stmt ∷ []
+itemsOf (cell-entry at t n es) = with-settings at (cell-stmt t n) ∷ inCell plain es
 itemsOf (connection-entry x y) = plain (conn-stmt x y) ∷ []
 
 items-cell : (es : List CellEntry) (ss : List Statement) → items [] (map lineIn es ++ ss) ≡ map (λ e. plain (lineIn e)) es ++ items [] ss
@@ -139,18 +173,12 @@ module _ (opens : Statement → Bool) where
       rw (not-true (opens (i .statement)) (and-true-left _ _ e)) (ap (λ (l : List Item). i ∷ l) (until-none is′ js (and-true-right (closed i) _ e)))
 
 -- no entry opens a module
-cell-in-module : (es : List CellEntry) → all (closed (is aModule)) (map (λ e. plain (lineIn e)) es) ≡ true
-unfolding all lineIn statementsOpen
-cell-in-module [] = refl
-cell-in-module (parameter-entry o a ∷ es) = cell-in-module es
-cell-in-module (port-entry n x ∷ es) = cell-in-module es
-
 entry-in-module : (e : Entry) → all (closed (is aModule)) (itemsOf e) ≡ true
 unfolding all itemsOf statementsOpen
 entry-in-module (param-entry n c) = refl
 entry-in-module (wire-entry o) = refl
 entry-in-module (memory-entry o) = refl
-entry-in-module (cell-entry at t n es) = all-append _ (map (λ e. plain (lineIn e)) es) _ (cell-in-module es) refl
+entry-in-module (cell-entry at t n es) = cell-pass plain (closed (is aModule)) (λ o m c. refl) (λ m x. refl) refl es
 entry-in-module (connection-entry x y) = refl
 
 all-in-module : (es : List Entry) → all (closed (is aModule)) (inModule es) ≡ true
@@ -176,71 +204,45 @@ blocks-modules (o ∷ os) =
 
 -- EACH KIND
 module _ {A : Type 0} (f : Item → List A) (g : Entry → List A) where
-  in-module : ((e : Entry) → flatMap f (itemsOf e) ≡ g e) → f (plain end-stmt) ≡ [] → (es : List Entry) → flatMap f (inModule es) ≡ flatMap g es
-  unfolding inModule flatMap
-  in-module h e es =
+  -- by what each form of entry has, and that a cell's lines and ends have none
+  in-module :
+      ((n : Name) (c : Option Constant) → f (plain (param-stmt n c)) ≡ g (param-entry n c)) →
+      ((o : Object Wire) → f (with-settings (o .attributes) (wire-stmt (o .body) (o .name))) ≡ g (wire-entry o)) →
+      ((o : Object Memory) → f (with-settings (o .attributes) (memory-stmt (o .body) (o .name))) ≡ g (memory-entry o)) →
+      ((at : List Setting) (t n : Name) (es : List CellEntry) → f (with-settings at (cell-stmt t n)) ≡ g (cell-entry at t n es)) →
+      ((x y : Signal) → f (plain (conn-stmt x y)) ≡ g (connection-entry x y)) →
+      ((o : Sort) (n : Name) (c : Constant) → f (plain (cell-param-stmt o n c)) ≡ []) →
+      ((n : Name) (x : Signal) → f (plain (cell-conn-stmt n x)) ≡ []) →
+      f (plain end-stmt) ≡ [] → (es : List Entry) →
+      flatMap f (inModule es) ≡ flatMap g es
+  unfolding inModule itemsOf flatMap
+  in-module p w m c k cp ck e es =
+      let h : (e : Entry) → flatMap f (itemsOf e) ≡ g e =
+      elim [
+        | param-entry n v ↦ append-nil _ ∙ p n v
+        | wire-entry o ↦ append-nil _ ∙ w o
+        | memory-entry o ↦ append-nil _ ∙ m o
+        | cell-entry at t n cs ↦ rw (cell-none plain f cp ck e cs) (append-nil _ ∙ c at t n cs)
+        | connection-entry x y ↦ append-nil _ ∙ k x y
+      ] in
       flatMap-append f (flatMap itemsOf es) (plain end-stmt ∷ [])
       ∙ rw (e, append-nil) (flatMap-flatMap f itemsOf es ∙ flatMap-same (λ x. flatMap f (itemsOf x)) g h es)
 
-each-append : {A : Type 0} (f : Statement → List A) (is′ js : List Item) → each f (is′ ++ js) ≡ each f is′ ++ each f js
-unfolding each
-each-append f is′ js = flatMap-append (λ i. f (i .statement)) is′ js
+parameters-in : (es : List Entry) → flatMap (λ i. parameterIn (i .statement)) (inModule es) ≡ flatMap parametersOf es
+unfolding nestingOpen designOpen statementsOpen
+parameters-in = in-module (λ i. parameterIn (i .statement)) parametersOf (λ n. elim [ none ↦ refl | some c ↦ refl ]) (λ o. refl) (λ o. refl) (λ at t n es. refl) (λ x y. refl) (λ o n c. refl) (λ n x. refl) refl
 
--- in a cell
-module _ {A : Type 0} (f : Statement → List A) (g : CellEntry → List A) where
-  in-cell : ((e : CellEntry) → f (lineIn e) ≡ g e) → (es : List CellEntry) → each f (map (λ e. plain (lineIn e)) es) ≡ flatMap g es
-  unfolding each
-  in-cell h es = flatMap-map (λ i. f (i .statement)) (λ e. plain (lineIn e)) es ∙ flatMap-same (λ e. f (lineIn e)) g h es
+wires-in : (es : List Entry) → flatMap (objectsIn (λ c. c .wires)) (inModule es) ≡ flatMap wiresOf es
+unfolding nestingOpen designOpen statementsOpen
+wires-in = in-module (objectsIn (λ c. c .wires)) wiresOf (λ n c. refl) (λ o. refl) (λ o. refl) (λ at t n es. refl) (λ x y. refl) (λ o n c. refl) (λ n x. refl) refl
 
-  in-cell-end :
-      ((e : CellEntry) → f (lineIn e) ≡ g e) → f end-stmt ≡ [] → (es : List CellEntry) →
-      each f (map (λ e. plain (lineIn e)) es ++ plain end-stmt ∷ []) ≡ flatMap g es
-  unfolding each flatMap
-  in-cell-end h e es =
-      flatMap-append (λ i. f (i .statement)) (map (λ e. plain (lineIn e)) es) (plain end-stmt ∷ []) ∙ rw (e, append-nil) (in-cell h es)
+memories-in : (es : List Entry) → flatMap (objectsIn (λ c. c .memories)) (inModule es) ≡ flatMap memoriesOf es
+unfolding nestingOpen designOpen statementsOpen
+memories-in = in-module (objectsIn (λ c. c .memories)) memoriesOf (λ n c. refl) (λ o. refl) (λ o. refl) (λ at t n es. refl) (λ x y. refl) (λ o n c. refl) (λ n x. refl) refl
 
-none-in-cell :
-    {A : Type 0} (f : Item → List A) → ((e : CellEntry) → f (plain (lineIn e)) ≡ []) → f (plain end-stmt) ≡ [] → (es : List CellEntry) →
-    flatMap f (map (λ e. plain (lineIn e)) es ++ plain end-stmt ∷ []) ≡ []
-unfolding flatMap
-none-in-cell f h e [] = rw e
-none-in-cell f h e (x ∷ es) = rw (h x) (none-in-cell f h e es)
-
-parameters-in : (e : Entry) → flatMap (λ i. parameterIn (i .statement)) (itemsOf e) ≡ parametersOf e
-unfolding nestingOpen itemsOf designOpen statementsOpen
-parameters-in (param-entry n none) = refl
-parameters-in (param-entry n (some c)) = refl
-parameters-in (wire-entry o) = refl
-parameters-in (memory-entry o) = refl
-parameters-in (cell-entry at t n es) = none-in-cell (λ i. parameterIn (i .statement)) (elim [ parameter-entry o a ↦ refl | port-entry m x ↦ refl ]) refl es
-parameters-in (connection-entry x y) = refl
-
-wires-in : (e : Entry) → flatMap (objectsIn (λ c. c .wires)) (itemsOf e) ≡ wiresOf e
-unfolding nestingOpen itemsOf designOpen statementsOpen
-wires-in (param-entry n none) = refl
-wires-in (param-entry n (some c)) = refl
-wires-in (wire-entry o) = refl
-wires-in (memory-entry o) = refl
-wires-in (cell-entry at t n es) = none-in-cell (objectsIn (λ c. c .wires)) (elim [ parameter-entry o a ↦ refl | port-entry m x ↦ refl ]) refl es
-wires-in (connection-entry x y) = refl
-
-memories-in : (e : Entry) → flatMap (objectsIn (λ c. c .memories)) (itemsOf e) ≡ memoriesOf e
-unfolding nestingOpen itemsOf designOpen statementsOpen
-memories-in (param-entry n none) = refl
-memories-in (param-entry n (some c)) = refl
-memories-in (wire-entry o) = refl
-memories-in (memory-entry o) = refl
-memories-in (cell-entry at t n es) = none-in-cell (objectsIn (λ c. c .memories)) (elim [ parameter-entry o a ↦ refl | port-entry m x ↦ refl ]) refl es
-memories-in (connection-entry x y) = refl
-
-connections-in : (e : Entry) → flatMap (λ i. connectionIn (i .statement)) (itemsOf e) ≡ connectionsOf e
-unfolding nestingOpen itemsOf designOpen statementsOpen
-connections-in (param-entry n none) = refl
-connections-in (param-entry n (some c)) = refl
-connections-in (wire-entry o) = refl
-connections-in (memory-entry o) = refl
-connections-in (cell-entry at t n es) = none-in-cell (λ i. connectionIn (i .statement)) (elim [ parameter-entry o a ↦ refl | port-entry m x ↦ refl ]) refl es
-connections-in (connection-entry x y) = refl
+connections-in : (es : List Entry) → flatMap (λ i. connectionIn (i .statement)) (inModule es) ≡ flatMap connectionsOf es
+unfolding nestingOpen designOpen statementsOpen
+connections-in = in-module (λ i. connectionIn (i .statement)) connectionsOf (λ n c. refl) (λ o. refl) (λ o. refl) (λ at t n es. refl) (λ x y. refl) (λ o n c. refl) (λ n x. refl) refl
 
 -- CELLS: behind a cell's end, up to the next cell, nothing is a cell's
 unfoldable outside : {A : Type 0} → (Statement → List A) → Entry → Type 0
@@ -262,42 +264,32 @@ module _ {A : Type 0} (f : Statement → List A) (out : (e : Entry) → outside 
 
 outside-parameter : (e : Entry) → outside cellParameterIn e
 unfolding outside designOpen statementsOpen
-outside-parameter (param-entry n none) = refl
-outside-parameter (param-entry n (some c)) = refl
-outside-parameter (wire-entry o) = refl
-outside-parameter (memory-entry o) = refl
-outside-parameter (cell-entry at t n es) = tt
-outside-parameter (connection-entry x y) = refl
+outside-parameter = elim [ param-entry n c ↦ refl | wire-entry o ↦ refl | memory-entry o ↦ refl | cell-entry at t n es ↦ tt | connection-entry x y ↦ refl ]
 
 outside-port : (e : Entry) → outside portIn e
 unfolding outside designOpen statementsOpen
-outside-port (param-entry n c) = refl
-outside-port (wire-entry o) = refl
-outside-port (memory-entry o) = refl
-outside-port (cell-entry at t n es) = tt
-outside-port (connection-entry x y) = refl
+outside-port = elim [ param-entry n c ↦ refl | wire-entry o ↦ refl | memory-entry o ↦ refl | cell-entry at t n es ↦ tt | connection-entry x y ↦ refl ]
 
-cell-in-cell : (es : List CellEntry) → all (closed (is aCell)) (map (λ e. plain (lineIn e)) es ++ plain end-stmt ∷ []) ≡ true
-unfolding all lineIn statementsOpen
-cell-in-cell [] = refl
-cell-in-cell (parameter-entry o a ∷ es) = cell-in-cell es
-cell-in-cell (port-entry n x ∷ es) = cell-in-cell es
+cell-in-cell : (es : List CellEntry) → all (closed (is aCell)) (inCell plain es) ≡ true
+unfolding statementsOpen
+cell-in-cell es = cell-pass plain (closed (is aCell)) (λ o n c. refl) (λ n x. refl) refl es
 
 abbrev cellAt : List Setting → Name → Name → List CellEntry → Object Cell
-cellAt at t n cs = object at n (record { type = t; parameters = flatMap parameterOf cs; connections = flatMap portOf cs })
+cellAt at t n cs = object at n (cellBody t cs)
 
 -- what a cell's block has of a kind
 block-has :
     {A : Type 0} (f : Statement → List A) (g : CellEntry → List A) → ((e : CellEntry) → f (lineIn e) ≡ g e) → f end-stmt ≡ [] → ((e : Entry) → outside f e) →
     (cs : List CellEntry) (es : List Entry) →
-    each f ((map (λ e. plain (lineIn e)) cs ++ plain end-stmt ∷ []) ++ until (λ j. is aCell (j .statement)) (inModule es)) ≡ flatMap g cs
+    each f (inCell plain cs ++ until (λ j. is aCell (j .statement)) (inModule es)) ≡ flatMap g cs
+unfolding each
 block-has f g h e out cs es =
-    each-append f (map (λ e. plain (lineIn e)) cs ++ plain end-stmt ∷ []) (until (λ j. is aCell (j .statement)) (inModule es))
-    ∙ rw (none-outside f out e es, append-nil) (in-cell-end f g h e cs)
+    flatMap-append (λ i. f (i .statement)) (inCell plain cs) (until (λ j. is aCell (j .statement)) (inModule es))
+    ∙ rw (none-outside f out e es, append-nil) (cell-each plain (λ i. f (i .statement)) g h e cs)
 
 cell-block :
     (at : List Setting) (t n : Name) (cs : List CellEntry) (es : List Entry) →
-    cellOf (with-settings at (cell-stmt t n), (map (λ e. plain (lineIn e)) cs ++ plain end-stmt ∷ []) ++ until (λ j. is aCell (j .statement)) (inModule es)) ≡ cellAt at t n cs ∷ []
+    cellOf (with-settings at (cell-stmt t n), inCell plain cs ++ until (λ j. is aCell (j .statement)) (inModule es)) ≡ cellAt at t n cs ∷ []
 unfolding lineIn parameterOf portOf cellParameterIn settingIn portIn cellOf pair zip zipWith statementsOpen
 cell-block at t n cs es =
     rw (
@@ -312,7 +304,7 @@ cells-in (param-entry n c ∷ es) = cells-in es
 cells-in (wire-entry o ∷ es) = cells-in es
 cells-in (memory-entry o ∷ es) = cells-in es
 cells-in (cell-entry at t n cs ∷ es) =
-    let inside : List Item = map (λ e. plain (lineIn e)) cs ++ plain end-stmt ∷ [] in
+    let inside : List Item = inCell plain cs in
     let h = cell-in-cell cs in
     let a = append-assoc inside (flatMap itemsOf es) (plain end-stmt ∷ []) in
     let u = until-none (is aCell) inside (flatMap itemsOf es ++ plain end-stmt ∷ []) h in
@@ -321,52 +313,28 @@ cells-in (cell-entry at t n cs ∷ es) =
 cells-in (connection-entry x y ∷ es) = cells-in es
 
 -- A MODULE, A FILE
-end-parameter : parameterIn end-stmt ≡ []
-unfolding designOpen statementsOpen
-end-parameter = refl
-
-end-wire : objectsIn (λ c. c .wires) (plain end-stmt) ≡ []
-unfolding designOpen statementsOpen
-end-wire = refl
-
-end-memory : objectsIn (λ c. c .memories) (plain end-stmt) ≡ []
-unfolding designOpen statementsOpen
-end-memory = refl
-
-end-connection : connectionIn end-stmt ≡ []
-unfolding designOpen statementsOpen
-end-connection = refl
-
 module-block : (o : Object (List Entry)) → moduleOf (blockOf o) ≡ moduleIn o
 unfolding moduleOf each moduleIn bodyOf statementsOpen
 module-block o =
     let es = o .body in
     rw (
-      in-module (λ i. parameterIn (i .statement)) parametersOf parameters-in end-parameter es,
-      in-module (objectsIn (λ c. c .wires)) wiresOf wires-in end-wire es,
-      in-module (objectsIn (λ c. c .memories)) memoriesOf memories-in end-memory es,
+      parameters-in es,
+      wires-in es,
+      memories-in es,
       cells-in es,
-      in-module (λ i. connectionIn (i .statement)) connectionsOf connections-in end-connection es,
+      connections-in es,
     )
 
 module-blocks : (os : List (Object (List Entry))) → map moduleOf (map blockOf os) ≡ map moduleIn os
-module-blocks [] = refl
-module-blocks (o ∷ os) = ap₂ _∷_ (module-block o) (module-blocks os)
+module-blocks os = map-map moduleOf blockOf os ∙ map-congr-left {l = os} (λ o m. module-block o)
 
 -- no module has an `autoidx` line
 abbrev integersIn : List Statement → List ℤ
 integersIn ss = flatMap (λ s. contents s .integers) ss
 
 settings-integers : (at : List Setting) → integersIn (settings at) ≡ []
-unfolding flatMap statementsOpen
-settings-integers [] = refl
-settings-integers (a ∷ at) = settings-integers at
-
-cell-integers : (es : List CellEntry) → integersIn (map lineIn es ++ end-stmt ∷ []) ≡ []
-unfolding flatMap lineIn statementsOpen
-cell-integers [] = refl
-cell-integers (parameter-entry o a ∷ es) = cell-integers es
-cell-integers (port-entry n x ∷ es) = cell-integers es
+unfolding statementsOpen
+settings-integers at = flatMap-map (λ s. contents s .integers) _ at ∙ flatMap-none _ (λ a. refl) at
 
 after-settings : (at : List Setting) (ss : List Statement) → integersIn (settings at ++ ss) ≡ integersIn ss
 after-settings at ss = flatMap-append (λ s. contents s .integers) (settings at) ss ∙ rw (settings-integers at)
@@ -376,7 +344,7 @@ unfolding flatMap linesOf statementsOpen
 entry-integers (param-entry n c) = refl
 entry-integers (wire-entry o) = after-settings (o .attributes) _
 entry-integers (memory-entry o) = after-settings (o .attributes) _
-entry-integers (cell-entry at t n es) = after-settings at _ ∙ cell-integers es
+entry-integers (cell-entry at t n es) = after-settings at _ ∙ cell-none (λ s. s) (λ s. contents s .integers) (λ o m c. refl) (λ m x. refl) refl es
 entry-integers (connection-entry x y) = refl
 
 module-integers : (o : Object (List Entry)) → integersIn (linesOfModule o) ≡ []
@@ -406,15 +374,11 @@ pub design-lines : (f : File) → design (linesOfFile f) ≡ designOf f
 design-lines f = lines-by (f .autoidx) (f .modules)
 
 -- THE CANONICAL ORDER
-alone : {A : Type 0} (xs : List A) → flatMap (λ x. x ∷ []) xs ≡ xs
-unfolding flatMap
-alone [] = refl
-alone (x ∷ xs) = ap (λ (l : List _). x ∷ l) (alone xs)
-
 flatMap-self : {A : Type 0} (f : A → List A) → ((x : A) → f x ≡ x ∷ []) → (xs : List A) → flatMap f xs ≡ xs
-unfolding flatMap
-flatMap-self f h [] = refl
-flatMap-self f h (x ∷ xs) = rw (h x) (ap (λ (l : List _). x ∷ l) (flatMap-self f h xs))
+flatMap-self f h xs = flatMap-one f (λ x. x) h xs ∙ map-id xs
+
+alone : {A : Type 0} (xs : List A) → flatMap (λ x. x ∷ []) xs ≡ xs
+alone xs = flatMap-self (λ x. x ∷ []) (λ x. refl) xs
 
 abbrev pub cellEntry : Object Cell → Entry
 cellEntry c = cell-entry (c .attributes) (c .body .type) (c .name) (cellEntries (c .body))
@@ -429,9 +393,6 @@ module _ {A : Type 0} (f : Entry → List A) (m : Module) where
       ++ flatMap (λ k. f (connection-entry (k .0) (k .1))) (m .connections)
   unfolding entries
   kinds-apart = simp (flatMap-append, flatMap-map)
-
-none-of : {A B : Type 0} (xs : List A) → flatMap {B = B} (λ (x : A). []) xs ≡ []
-none-of xs = flatMap-none (λ x. []) (λ x. refl) xs
 
 parameters-apart : (m : Module) → flatMap parametersOf (entries m) ≡ m .parameters
 unfolding parametersOf
@@ -461,14 +422,10 @@ pub body-entries : (m : Module) → bodyOf (entries m) ≡ m
 unfolding bodyOf
 body-entries m = rw (parameters-apart m, wires-apart m, memories-apart m, cells-apart m, connections-apart m)
 
-modules-file : (os : List (Object Module)) → map moduleIn (map (λ o. object (o .attributes) (o .name) (entries (o .body))) os) ≡ os
-unfolding moduleIn
-modules-file [] = refl
-modules-file (o ∷ os) = ap₂ _∷_ (ap (object (o .attributes) (o .name)) (body-entries (o .body))) (modules-file os)
-
 pub design-file : (d : Design) → designOf (fileOf d) ≡ d
-unfolding designOf fileOf
-design-file d = ap (designBy (d .autoidx)) (modules-file (d .modules))
+unfolding designOf fileOf moduleIn
+design-file d =
+    ap (designBy (d .autoidx)) (map-back asFile moduleIn (d .modules) (each-all _ (λ o. ap (object (o .attributes) (o .name)) (body-entries (o .body))) (d .modules)))
 
 -- and its lines are those of the canonical order
 cell-lines : (c : Cell) (n : Name) → cellLines c n ≡ cell-stmt (c .type) n ∷ map lineIn (cellEntries c) ++ end-stmt ∷ []
@@ -489,9 +446,9 @@ pub flatten-file : (d : Design) → flatten d ≡ linesOfFile (fileOf d)
 unfolding flatten objects linesOfFile fileOf linesOfModule
 flatten-file d =
     let m =
-    flatMap-same (λ (o : Object Module). settings (o .attributes) ++ moduleLines (o .body) (o .name)) (λ o. linesOfModule (object (o .attributes) (o .name) (entries (o .body))))
+    flatMap-same (λ (o : Object Module). settings (o .attributes) ++ moduleLines (o .body) (o .name)) (λ o. linesOfModule (asFile o))
     (λ o. ap (λ (l : List Statement). settings (o .attributes) ++ l) (module-lines (o .body) (o .name))) (d .modules) in
-    rw (flatMap-map linesOfModule (λ (o : Object Module). object (o .attributes) (o .name) (entries (o .body)))) (ap (λ (l : List Statement). map autoidx-stmt (Option·toList (d .autoidx)) ++ l) m)
+    rw (flatMap-map linesOfModule asFile) (ap (λ (l : List Statement). map autoidx-stmt (Option·toList (d .autoidx)) ++ l) m)
 
 pub design-flatten : (d : Design) → design (flatten d) ≡ d
 design-flatten d = ap design (flatten-file d) ∙ design-lines (fileOf d) ∙ design-file d

@@ -73,11 +73,14 @@ memoriesOf (memory-entry o) = o ∷ []
 memoriesOf (cell-entry at t n es) = []
 memoriesOf (connection-entry x y) = []
 
+abbrev pub cellBody : Name → List CellEntry → Cell
+cellBody t es = record { type = t; parameters = flatMap parameterOf es; connections = flatMap portOf es }
+
 unfoldable pub cellsOf : Entry → List (Object Cell)
 cellsOf (param-entry n c) = []
 cellsOf (wire-entry o) = []
 cellsOf (memory-entry o) = []
-cellsOf (cell-entry at t n es) = object at n (record { type = t; parameters = flatMap parameterOf es; connections = flatMap portOf es }) ∷ []
+cellsOf (cell-entry at t n es) = object at n (cellBody t es) ∷ []
 cellsOf (connection-entry x y) = []
 
 unfoldable pub connectionsOf : Entry → List (Signal × Signal)
@@ -115,8 +118,11 @@ entries m =
     ++ map (λ c. cell-entry (c .attributes) (c .body .type) (c .name) (cellEntries (c .body))) (m .cells)
     ++ map (λ k. connection-entry (k .0) (k .1)) (m .connections)
 
+abbrev pub asFile : Object Module → Object (List Entry)
+asFile o = object (o .attributes) (o .name) (entries (o .body))
+
 unfoldable pub fileOf : Design → File
-fileOf d = record { autoidx = d .autoidx; modules = map (λ o. object (o .attributes) (o .name) (entries (o .body))) (d .modules) }
+fileOf d = record { autoidx = d .autoidx; modules = map asFile (d .modules) }
 
 unfoldable pub nestingOpen : Unit {0}
 unfolding lineIn linesOf linesOfModule linesOfFile parameterOf portOf parametersOf wiresOf memoriesOf cellsOf connectionsOf bodyOf moduleIn designOf cellEntries entries fileOf flatMap Option·toList

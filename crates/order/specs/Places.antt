@@ -14,12 +14,12 @@ use Rattle.rules.specs.Shapes.{Scope, top, inModule, inCell}
 use Rattle.rules.specs.Judgement.{Past, outer, scope, context, among}
 use Rattle.rules.specs.Reading.{isTop}
 use Rattle.rules.specs.Design.{Setting, Object}
-use Rattle.scanner.specs.Elements.{Each}
+use Rattle.scanner.specs.Elements.{each-all}
 use Rattle.admitted.specs.Admitted.{kinds, stands, closes}
 use Rattle.admitted.specs.CountLaws.{context-scope}
 use Rattle.order.specs.Nesting.{CellEntry, parameter-entry, port-entry, Entry, param-entry, wire-entry, memory-entry, cell-entry, connection-entry, File, settings, lineIn, linesOf, linesOfModule, linesOfFile}
 use Rattle.order.specs.Tally.{Through}
-use Rattle.order.specs.Walks.{behind-each}
+use Rattle.order.specs.Walks.{behind-each, behind-settings}
 
 -- statements that stand, and the next one's place: its scope, and that no attribute waits
 pub record At (z : Scope) (p : Past) : Type 0 where
@@ -57,13 +57,9 @@ unfolding scope statementsOpen
 scope-attribute n c p = refl
 
 settings-at : (z : Scope) → (z ≡ inCell → ⊥) → (at : List Setting) (p : Past) → At z p → At z (reverseAux (settings at) p)
-settings-at z h [] p a = a
-settings-at z h (b ∷ at) p a =
-    settings-at z h at (attr-stmt (b .0) (b .1) ∷ p)
-    (record {
-      standing = (stands-in z p (attr-stmt (b .0) (b .1)) (a .scope) (attribute-at z h (b .0) (b .1)), a .standing);
-      scope = scope-attribute (b .0) (b .1) p ∙ a .scope;
-    })
+settings-at z h =
+    behind-settings (At z)
+    (λ n c p a. record { standing = (stands-in z p (attr-stmt n c) (a .scope) (attribute-at z h n c), a .standing); scope = scope-attribute n c p ∙ a .scope })
 
 -- a statement that is no attribute, where any may stand or where no attribute waits
 next :
@@ -150,17 +146,13 @@ entry-ready (cell-entry at t n es) p u a =
     rw (reverseAux-append (settings at)) (cell-lines es (cell-stmt t n ∷ reverseAux (settings at) p) (ready-cell t n _ (settings-at inModule in-module at p (a .at))))
 entry-ready (connection-entry x y) p u a = ready-connection x y p a
 
-each-any : {A : Type 0} (xs : List A) → Each (λ x. Unit {0}) xs
-each-any [] = tt
-each-any (x ∷ xs) = (tt, each-any xs)
-
 module-ready : (o : Object (List Entry)) (p : Past) → Unit {0} → Ready top p → Ready top (reverseAux (linesOfModule o) p)
 unfolding linesOfModule
 module-ready o p u a =
     let r = reverseAux (settings (o .attributes)) p in
     let m = module-stmt (o .name) in
     let front = ready-module (o .name) r (settings-at top at-top (o .attributes) p (a .at)) in
-    let body = behind-each linesOf (λ e. Unit {0}) (Ready inModule) entry-ready (o .body) (m ∷ r) (each-any (o .body)) front in
+    let body = behind-each linesOf (λ e. Unit {0}) (Ready inModule) entry-ready (o .body) (m ∷ r) (each-all _ (λ e. tt) (o .body)) front in
     rw (reverseAux-append (settings (o .attributes)), reverseAux-append (flatMap linesOf (o .body))) (ready-end (reverseAux (flatMap linesOf (o .body)) (m ∷ r)) body)
 
 start-ready : Ready top []
@@ -176,7 +168,7 @@ pub file-ready : (x : File) → Ready top (reverse (linesOfFile x))
 unfolding linesOfFile
 file-ready x =
     rw (reverseAux-append (map autoidx-stmt (Option·toList (x .autoidx))))
-    (behind-each linesOfModule (λ o. Unit {0}) (Ready top) module-ready (x .modules) _ (each-any (x .modules)) (autoidx-ready (x .autoidx)))
+    (behind-each linesOfModule (λ o. Unit {0}) (Ready top) module-ready (x .modules) _ (each-all _ (λ o. tt) (x .modules)) (autoidx-ready (x .autoidx)))
 
 pub ready-closes : (p : Past) → Ready top p → closes p ≡ true
 unfolding closes isTop

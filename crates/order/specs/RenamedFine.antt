@@ -19,7 +19,7 @@ use Rattle.rules.specs.Session.{Rename, wireAt, change, renameWire, renamed, no
 use Rattle.admitted.specs.Admitted.{fineBit, fineSignal}
 use Rattle.scanner.specs.Laws.{by-test, same-eq, or-false-left, or-false-right}
 use Rattle.scanner.specs.Lists.{drop-last}
-use Rattle.scanner.specs.Elements.{Each}
+use Rattle.scanner.specs.Elements.{Each, all-same}
 use Rattle.past.specs.Sizes.{sizesBy, sumsOf}
 use Rattle.past.proofs.SizeLaws.{within-past, limits-within, exceeds-sums}
 use Rattle.admitted.specs.Holds.{Allowed, no-renames, one-rename}
@@ -29,7 +29,6 @@ use Rattle.order.specs.DesignLaws.{flatMap-map}
 use Rattle.order.specs.Fine.{times, Differ, wiresIn, signalsIn, portsIn, FineModule, fineAlone, FineDesign}
 use Rattle.order.specs.Tally.{times-none}
 use Rattle.order.specs.Sums.{sum-append, sum-map, fails, all-none, none-all}
-use Rattle.order.specs.Walks.{all-same}
 use Rattle.order.specs.BodySums.{bodySum, moduleSum, designSum, flatten-sum}
 
 -- ONE ELEMENT CHANGED

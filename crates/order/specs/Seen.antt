@@ -14,19 +14,19 @@ use Rattle.rules.specs.Tokens.{Name}
 use Rattle.rules.specs.Statements.{Constant, Signal, Bit, digit, bit, Wire, Statement, module-stmt, param-stmt, wire-stmt, memory-stmt, cell-param-stmt, cell-conn-stmt, conn-stmt, end-stmt, aModule, aWire, is, contents, statementsOpen}
 use Rattle.rules.specs.Signals.{Wires}
 use Rattle.rules.specs.Judgement.{Past, sum, wires}
-use Rattle.rules.specs.Design.{Setting, Object, object, Cell, Module}
+use Rattle.rules.specs.Design.{Setting, Object, Cell, Module}
 use Rattle.admitted.specs.Admitted.{fineBit, fineSignal}
 use Rattle.scanner.specs.Laws.{and-true-left, and-true-right}
 use Rattle.scanner.specs.Lists.{flatMap-append}
-use Rattle.scanner.specs.Elements.{all-append, all-right, all-flatMap}
-use Rattle.order.specs.Nesting.{CellEntry, parameter-entry, port-entry, Entry, param-entry, wire-entry, memory-entry, cell-entry, connection-entry, settings, lineIn, linesOf, wiresOf, bodyOf, linesOfModule, cellEntries, entries}
-use Rattle.order.specs.DesignLaws.{flatMap-map, cellEntry, body-entries}
+use Rattle.scanner.specs.Elements.{all-append, all-implied, all-both, all-right, all-flatMap}
+use Rattle.order.specs.Nesting.{CellEntry, Entry, param-entry, wire-entry, memory-entry, cell-entry, connection-entry, settings, lineIn, linesOf, wiresOf, bodyOf, linesOfModule, cellEntries, entries, asFile}
+use Rattle.order.specs.DesignLaws.{flatMap-map, settings-pass, cell-pass, cellEntry, body-entries}
 use Rattle.order.specs.Fine.{wiresIn, signalsIn}
-use Rattle.order.specs.Tally.{Through, through-before, by-wire, wires-none, wires-one, wires-reset}
+use Rattle.order.specs.Tally.{Through, behind-all, through-before, by-wire, wires-none, wires-one, wires-reset}
 use Rattle.order.specs.Apart.{sees}
 use Rattle.order.specs.Sums.{sum-append, sum-map, sum-flatMap, sum-same, fails, all-none, none-all}
-use Rattle.order.specs.BodySums.{cellSum, bodySum, body-sum, sum-zero}
-use Rattle.order.specs.Walks.{noModule, settings-pass}
+use Rattle.order.specs.BodySums.{cellSum, bodySum, body-sum, sum-zero, settings-zero}
+use Rattle.order.specs.Walks.{noModule}
 
 -- THE WIRES BEHIND SOME LINES
 abbrev pub seen : Object Wire → Name × Wire
@@ -42,19 +42,15 @@ quiet-step s p =
     (λ s q e. wires-none s p (not-true _ (and-true-left (not (is aModule s)) _ e)) q) s
 
 pub wires-still : (l : List Statement) (p : Past) → all quiet l ≡ true → wires (reverseAux l p) ≡ wires p
-unfolding all
-wires-still [] p e = refl
-wires-still (s ∷ l) p e = wires-still l (s ∷ p) (and-true-right (quiet s) _ e) ∙ quiet-step s p (and-true-left (quiet s) _ e)
+wires-still l p e = behind-all (λ q. wires q ≡ wires p) quiet (λ s q k h. quiet-step s q k ∙ h) l p e refl
 
 settings-quiet : (at : List Setting) → all quiet (settings at) ≡ true
 unfolding quiet statementsOpen
 settings-quiet at = settings-pass quiet (λ n c. refl) at
 
 cell-quiet : (es : List CellEntry) → all quiet (map lineIn es ++ end-stmt ∷ []) ≡ true
-unfolding all quiet lineIn statementsOpen
-cell-quiet [] = refl
-cell-quiet (parameter-entry o a ∷ es) = cell-quiet es
-cell-quiet (port-entry n x ∷ es) = cell-quiet es
+unfolding quiet statementsOpen
+cell-quiet es = cell-pass (λ s. s) quiet (λ o n c. refl) (λ n x. refl) refl es
 
 entry-wires : (e : Entry) (p : Past) → wires (reverseAux (linesOf e) p) ≡ reverseAux (map seen (wiresOf e)) (wires p)
 unfolding linesOf wiresOf all quiet statementsOpen
@@ -95,36 +91,24 @@ unfolding fineBit
 bit-more later ws (digit d) e = refl
 bit-more later ws (bit w i) e = rw (reverse-append later ws) (get-more (λ v. ltb i (v .1 .width)) (reverse ws) (reverse later) w e)
 
-bits-more : (later ws : Wires) (bs : Signal) → all (fineBit ws) bs ≡ true → all (fineBit (later ++ ws)) bs ≡ true
-unfolding all
-bits-more later ws [] e = refl
-bits-more later ws (b ∷ bs) e = rw (bit-more later ws b (and-true-left (fineBit ws b) _ e)) (bits-more later ws bs (and-true-right (fineBit ws b) _ e))
-
-signals-more : (later ws : Wires) (xs : List Signal) → all (fineSignal ws) xs ≡ true → all (fineSignal (later ++ ws)) xs ≡ true
-unfolding all fineSignal
-signals-more later ws [] e = refl
-signals-more later ws (x ∷ xs) e =
-    let h = and-true-left (fineSignal ws x) _ e in
-    rw (and-true-left (leb (length x) 2048) _ h, bits-more later ws x (and-true-right (leb (length x) 2048) _ h)) (signals-more later ws xs (and-true-right (fineSignal ws x) _ e))
+signal-more : (later ws : Wires) (x : Signal) → fineSignal ws x ≡ true → fineSignal (later ++ ws) x ≡ true
+unfolding fineSignal
+signal-more later ws x e =
+    rw (and-true-left (leb (length x) 2048) _ e, all-implied (fineBit ws) (fineBit (later ++ ws)) (bit-more later ws) x (and-true-right (leb (length x) 2048) _ e))
 
 -- the wires behind lines of a module are those before them and more
 pub record Grown (ws vs : Wires) : Type 0 where
   pub later : Wires
   pub are : vs ≡ later ++ ws
 
-step-grown : (s : Statement) (p : Past) → noModule s ≡ true → Grown (wires p) (wires (s ∷ p))
-step-grown s p =
-    by-wire (λ s. noModule s ≡ true → Grown (wires p) (wires (s ∷ p)))
-    (λ w n e. record { later = (n, w) ∷ []; are = wires-one w n p })
-    (λ s q e. record { later = []; are = wires-none s p (not-true (is aModule s) e) q }) s
+step-grown : (ws : Wires) (s : Statement) (p : Past) → noModule s ≡ true → Grown ws (wires p) → Grown ws (wires (s ∷ p))
+step-grown ws s p =
+    by-wire (λ s. noModule s ≡ true → Grown ws (wires p) → Grown ws (wires (s ∷ p)))
+    (λ w n e g. record { later = (n, w) ∷ g .later; are = wires-one w n p ∙ ap (λ (vs : Wires). (n, w) ∷ vs) (g .are) })
+    (λ s q e g. record { later = g .later; are = wires-none s p (not-true (is aModule s) e) q ∙ g .are }) s
 
 grown : (l : List Statement) (p : Past) → all noModule l ≡ true → Grown (wires p) (wires (reverseAux l p))
-unfolding all
-grown [] p e = record { later = []; are = refl }
-grown (s ∷ l) p e =
-    let a = step-grown s p (and-true-left (noModule s) _ e) in
-    let b = grown l (s ∷ p) (and-true-right (noModule s) _ e) in
-    record { later = b .later ++ a .later; are = b .are ∙ ap (λ (ws : Wires). b .later ++ ws) (a .are) ∙ sym (append-assoc (b .later) (a .later) (wires p)) }
+grown l p e = behind-all (λ q. Grown (wires p) (wires q)) noModule (step-grown (wires p)) l p e (record { later = []; are = refl })
 
 -- SIGNALS IN THE WIRES ws
 unfoldable pub sound : Wires → Statement → Bool
@@ -136,17 +120,17 @@ unfolding all sees sound
 seen-sound ws [] p q e h = refl
 seen-sound ws (s ∷ l) p q e h =
     let g = grown (s ∷ l) p e in
-    let k = signals-more (g .later) (wires p) (contents s .signals) (through-before sees l (s ∷ p) h .0) in
+    let k = all-implied (fineSignal (wires p)) (fineSignal (g .later ++ wires p)) (signal-more (g .later) (wires p)) (contents s .signals) (through-before sees l (s ∷ p) h .0) in
     let r : all (fineSignal ws) (contents s .signals) ≡ true = rw (q, g .are) k in
     rw r (seen-sound ws l (s ∷ p) q (and-true-right (noModule s) _ e) h)
 
 pub sound-sees :
     (ws : Wires) (l : List Statement) (p : Past) → wires p ≡ ws → all quiet l ≡ true → all (sound ws) l ≡ true → Through sees p → Through sees (reverseAux l p)
-unfolding all sees sound
-sound-sees ws [] p q e k h = h
-sound-sees ws (s ∷ l) p q e k h =
-    sound-sees ws l (s ∷ p) (quiet-step s p (and-true-left (quiet s) _ e) ∙ q) (and-true-right (quiet s) _ e) (and-true-right (sound ws s) _ k)
-    (rw q (and-true-left (sound ws s) _ k), h)
+unfolding sees sound
+sound-sees ws l p q e k h =
+    behind-all (λ p. (wires p ≡ ws) × Through sees p) (λ s. quiet s && sound ws s)
+    (λ s p b a. (quiet-step s p (and-true-left (quiet s) _ b) ∙ a .0, (rw (a .0) (and-true-right (quiet s) _ b), a .1)))
+    l p (all-both quiet (sound ws) _ (λ s a b. rw (a, b)) l e k) (q, h) .1
 
 -- of a module's lines those of its signals
 unfoldable signalsBy : (Signal → ℕ) → Statement → ℕ
@@ -155,8 +139,7 @@ signalsBy h s = sum h (contents s .signals)
 module _ (h : Signal → ℕ) where
   by-zero : (at : List Setting) → sum (signalsBy h) (settings at) ≡ 0
   unfolding signalsBy sum statementsOpen
-  by-zero [] = refl
-  by-zero (a ∷ at) = omega (arith, by-zero at)
+  by-zero = settings-zero (signalsBy h) (λ n c. refl)
 
   by-cell : (c : Object Cell) → cellSum (signalsBy h) c ≡ sum h (map (λ k. k .1) (c .body .connections))
   unfolding cellSum signalsBy sum statementsOpen
@@ -212,9 +195,7 @@ unfolding mute sees
 mute-sees s p e = by-none (fineSignal (wires p)) (contents s .signals) e
 
 mute-through : (l : List Statement) (p : Past) → all mute l ≡ true → Through sees p → Through sees (reverseAux l p)
-unfolding all
-mute-through [] p e h = h
-mute-through (s ∷ l) p e h = mute-through l (s ∷ p) (and-true-right (mute s) _ e) (mute-sees s p (and-true-left (mute s) _ e), h)
+mute-through = behind-all (Through sees) mute (λ s p e h. (mute-sees s p e, h))
 
 settings-mute : (at : List Setting) → all mute (settings at) ≡ true
 unfolding mute any statementsOpen
@@ -277,7 +258,7 @@ module _ (m : Module) where
 
 pub module-sees :
     (o : Object Module) (p : Past) → all (fineSignal (wiresIn (o .body))) (signalsIn (o .body)) ≡ true → Through sees p →
-    Through sees (reverseAux (linesOfModule (object (o .attributes) (o .name) (entries (o .body)))) p)
+    Through sees (reverseAux (linesOfModule (asFile o)) p)
 unfolding linesOfModule mute any statementsOpen
 module-sees o p e h =
     let r = reverseAux (settings (o .attributes)) p in

@@ -14,6 +14,7 @@ use Rattle.rules.specs.Statements.{Wire, Direction, Statement, autoidx-stmt, at
 use Rattle.rules.specs.Signals.{Wires}
 use Rattle.rules.specs.Judgement.{Past, sum, wires, portNumbers, among, Space, space, namesIn, only, until, ofModule, ofCell, ofObject}
 use Rattle.scanner.specs.Laws.{by-test, and-true-left, and-true-right, same-refl, same-eq, or-false-left, or-false-right}
+use Rattle.scanner.specs.Elements.{all-first, all-later}
 use Rattle.scanner.specs.Lists.{zip-none}
 use Rattle.past.specs.Forms.{by-form}
 use Rattle.admitted.specs.Admitted.{newPorts}
@@ -44,14 +45,12 @@ pub through-before : (f : Past → Statement → Bool) (l : List Statement) (p :
 through-before f [] p h = h
 through-before f (s ∷ l) p h = through-before f l (s ∷ p) h .1
 
--- statements that are new wherever they stand
-abbrev pub Neutral : (Past → Statement → Bool) → List Statement → Type 0
-Neutral f [] = Unit {0}
-Neutral f (s ∷ l) = ((p : Past) → f p s ≡ true) × Neutral f l
-
-pub through-neutral : (f : Past → Statement → Bool) (l : List Statement) (p : Past) → Neutral f l → Through f p → Through f (reverseAux l p)
-through-neutral f [] p n h = h
-through-neutral f (s ∷ l) p n h = through-neutral f l (s ∷ p) (n .1) (n .0 p, h)
+-- what each statement that passes a test keeps, all keep
+pub behind-all :
+    (Q : Past → Type 0) (f : Statement → Bool) → ((s : Statement) (p : Past) → f s ≡ true → Q p → Q (s ∷ p)) →
+    (l : List Statement) (p : Past) → all f l ≡ true → Q p → Q (reverseAux l p)
+behind-all Q f h [] p e q = q
+behind-all Q f h (s ∷ l) p e q = behind-all Q f h l (s ∷ p) (all-later f s l e) (h s p (all-first f s l e) q)
 
 module _ {I : Type 0} (t : Tally I) (w : Lawful t) where
   abbrev stays : Statement → Bool

@@ -186,3 +186,20 @@ pub all-of : {A : Type 0} (f : A → Bool) (xs : List A) → Each (λ x. f x ≡
 unfolding all
 all-of f [] h = refl
 all-of f (x ∷ xs) h = all-cons f x xs (h .0) (all-of f xs (h .1))
+
+-- that follows from two tests
+pub all-both : {A : Type 0} (f g h : A → Bool) → ((x : A) → f x ≡ true → g x ≡ true → h x ≡ true) → (xs : List A) → all f xs ≡ true → all g xs ≡ true → all h xs ≡ true
+unfolding all
+all-both f g h k [] a b = refl
+all-both f g h k (x ∷ xs) a b = all-cons h x xs (k x (all-first f x xs a) (all-first g x xs b)) (all-both f g h k xs (all-later f x xs a) (all-later g x xs b))
+
+-- tests that answer the same
+pub all-same : {A : Type 0} (f g : A → Bool) → ((x : A) → f x ≡ g x) → (xs : List A) → all f xs ≡ all g xs
+unfolding all
+all-same f g h [] = refl
+all-same f g h (x ∷ xs) = rw (h x, all-same f g h xs)
+
+-- of mapped elements
+pub each-through : {A B : Type 0} (P : A → Type 0) (k : A → B) (R : B → Type 0) → ((x : A) → P x → R (k x)) → (xs : List A) → Each P xs → Each R (map k xs)
+each-through P k R h [] e = tt
+each-through P k R h (x ∷ xs) e = (h x (e .0), each-through P k R h xs (e .1))
