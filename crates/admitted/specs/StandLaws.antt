@@ -1,89 +1,17 @@
--- What has a shape after the statements so far is of a kind that stands there, and so is what it means.
+-- What a shape means is of its kind; and what a verdict says of its tests.
 -- Assumes nothing.
 use Prim.Native.Nat.{ℕ}
 use mathlib.Core.Path.{_≡_, refl, ap}
 use mathlib.Core.List.{List, [], _∷_}
-use mathlib.Core.Option.{Option, none, some}
 use mathlib.Core.Bool.{Bool, true, false, _||_}
 use lib.Dec.{leb, eqb}
 use Rattle.rules.specs.Bytes.{any, all}
-use Rattle.rules.specs.Tokens.{Token}
-use Rattle.rules.specs.Statements.{Shape, Statement, Kind, Contents, holds, aProcess, code, contents, is, statementsOpen}
-use Rattle.rules.specs.Shapes.{Parse, Form, Scope, top, inModule, inCell, give, after, of₁, of₂, of₃, either, choice, isWord, autoidxForm, attributeForm, topForms, objectForms, bodyForms, cellForms, forms, wholeBy, whole, shape}
+use Rattle.rules.specs.Statements.{Shape, Statement, Kind, Contents, holds, aProcess, code, contents, is}
 use Rattle.rules.specs.Numbers.{wireOf, memoryOf}
 use Rattle.rules.specs.Signals.{Wires, kept, bits}
-use Rattle.rules.specs.Judgement.{Past, context, wires, among, breaksNumber, lacksWire, takesName, breaksWidth, partTooWide, exceedsSize, lowest, Verdict, verdict, meaning, judgeIn, judge}
-use Rattle.scanner.specs.Laws.{by-test}
-use Rattle.scanner.specs.Elements.{all-first, all-later, Each, _then_}
+use Rattle.rules.specs.Judgement.{Past, wires, among, breaksNumber, lacksWire, takesName, breaksWidth, partTooWide, exceedsSize, lowest, Verdict, verdict, meaning, judgeIn, judge}
+use Rattle.scanner.specs.Elements.{all-first, all-later, Each}
 use Rattle.past.specs.Forms.{translated, contents-translated}
-use Rattle.admitted.specs.Admitted.{kinds, stands}
-
--- what a form gives, if anything, passes a test
-data Passes (test : Shape → Bool) : Option (Shape × List Token) → Type 0 where
-  no-shape : Passes test none
-  passes : {sh : Shape} {ts : List Token} → test sh ≡ true → Passes test (some (sh, ts))
-
-abbrev AllPass : (Shape → Bool) → List Form → Type 0
-AllPass test fs = Each (λ f. (ts : List Token) → Passes test (f .1 ts)) fs
-
-module _ {test : Shape → Bool} where
-  after-passes : {A : Type 0} (o : Option (A × List Token)) (f : A → Parse Shape) → ((a : A) (ts : List Token) → Passes test (f a ts)) → Passes test (after o f)
-  unfolding after
-  after-passes none f h = no-shape
-  after-passes (some p) f h = h (p .0) (p .1)
-
-  one-passes : {A : Type 0} (f : A → Shape) (p : Parse A) → ((a : A) → test (f a) ≡ true) → (ts : List Token) → Passes test (of₁ f p ts)
-  unfolding of₁ give
-  one-passes f p h ts = after-passes (p ts) (λ a. give (f a)) (λ a us. passes (h a))
-
-  two-passes : {A B : Type 0} (f : A → B → Shape) (p : Parse A) (q : Parse B) → ((a : A) (b : B) → test (f a b) ≡ true) → (ts : List Token) → Passes test (of₂ f p q ts)
-  unfolding of₂
-  two-passes f p q h ts = after-passes (p ts) (λ a. of₁ (f a) q) (λ a. one-passes (f a) q (h a))
-
-  three-passes :
-      {A B C : Type 0} (f : A → B → C → Shape) (p : Parse A) (q : Parse B) (r : Parse C) → ((a : A) (b : B) (c : C) → test (f a b c) ≡ true) →
-      (ts : List Token) → Passes test (of₃ f p q r ts)
-  unfolding of₃
-  three-passes f p q r h ts = after-passes (p ts) (λ a. of₂ (f a) q r) (λ a. two-passes (f a) q r (h a))
-
-  choice-passes : (fs : List Form) → AllPass test fs → (ts : List Token) → Passes test (choice fs ts)
-  unfolding choice either
-  choice-passes [] hs ts = no-shape
-  choice-passes (f ∷ fs) (h, hs) [] = choice-passes fs hs []
-  choice-passes (f ∷ fs) (h, hs) (t ∷ ts) = by-test (isWord (f .0) t) (λ e. rw e (h ts)) (λ e. rw e (choice-passes fs hs (t ∷ ts)))
-
-  whole-passes : (o : Option (Shape × List Token)) (sh : Shape) → Passes test o → whole o ≡ some sh → test sh ≡ true
-  unfolding whole wholeBy
-  whole-passes none sh no-shape e = cc
-  whole-passes (some (s, [])) sh (passes h) e = let q : s ≡ sh = cc in rw q at h
-  whole-passes (some (s, t ∷ ts)) sh (passes h) e = cc
-
--- each form of a place is of a kind that stands there, or a process
-unfoldable standsAt : List Kind → Shape → Bool
-standsAt ks sh = is aProcess sh || among ks sh
-
-forms-pass : (z : Scope) (first attributed : Bool) → AllPass (standsAt (kinds z first attributed)) (forms z first attributed)
-unfolding kinds forms autoidxForm attributeForm topForms objectForms bodyForms cellForms standsAt among any statementsOpen give
-forms-pass top true attributed = one-passes _ _ (λ i. refl) then two-passes _ _ _ (λ n c. refl) then one-passes _ _ (λ n. refl) then tt
-forms-pass top false attributed = two-passes _ _ _ (λ n c. refl) then one-passes _ _ (λ n. refl) then tt
-forms-pass inModule first true =
-    two-passes _ _ _ (λ n c. refl)
-    then two-passes _ _ _ (λ w n. refl)
-    then two-passes _ _ _ (λ m n. refl)
-    then two-passes _ _ _ (λ t n. refl)
-    then one-passes _ _ (λ n. refl)
-    then tt
-forms-pass inModule first false =
-    two-passes _ _ _ (λ n c. refl)
-    then two-passes _ _ _ (λ x y. refl)
-    then (λ ts. passes refl)
-    then two-passes _ _ _ (λ n c. refl)
-    then two-passes _ _ _ (λ w n. refl)
-    then two-passes _ _ _ (λ m n. refl)
-    then two-passes _ _ _ (λ t n. refl)
-    then one-passes _ _ (λ n. refl)
-    then tt
-forms-pass inCell first attributed = three-passes _ _ _ _ (λ o n c. refl) then two-passes _ _ _ (λ n x. refl) then (λ ts. passes refl) then tt
 
 -- what a shape means is of its kind
 pub meaning-kind : (ws : Wires) (sh : Shape) → contents (meaning ws sh) .kind ≡ contents sh .kind
@@ -93,13 +21,6 @@ meaning-kind ws sh = ap (λ (c : Contents _ _ _ _). c .kind) (contents-translate
 pub meaning-among : (ks : List Kind) (ws : Wires) (sh : Shape) → among ks (meaning ws sh) ≡ among ks sh
 unfolding among is
 meaning-among ks ws sh = ap (λ (k : Kind). any (λ l. eqb (code l) (code k)) ks) (meaning-kind ws sh)
-
-pub shape-stands : (ss : Past) (ts : List Token) (sh : Shape) → shape (context ss) ts ≡ some sh → is aProcess sh ≡ false → stands ss (meaning (wires ss) sh) ≡ true
-unfolding shape standsAt stands
-shape-stands ss ts sh e p =
-    let z = context ss in
-    let h = whole-passes (choice (forms (z .scope) (z .first) (z .attributed)) ts) sh (choice-passes _ (forms-pass (z .scope) (z .first) (z .attributed)) ts) e in
-    rw meaning-among (rw p at h)
 
 -- an accepted verdict: no test holds, and what is accepted is what was given
 pub verdict-is : {A : Type 0} (a b : A) → verdict a (lowest []) ≡ Verdict.accepted b → a ≡ b

@@ -3,7 +3,7 @@
 use Prim.Native.Nat.{ℕ}
 use mathlib.Core.Path.{_≡_, refl, ap, ap₂, _∙_}
 use mathlib.Core.List.{List, [], _∷_}
-use mathlib.Core.Option.{Option, some}
+use mathlib.Core.Option.{Option}
 use mathlib.Core.Bool.{true, false, not, _&&_}
 use lib.Dec.{leb, eqb}
 use borrow.Author.Tests.{not-false}
@@ -16,8 +16,8 @@ use Rattle.rules.specs.Signals.{Wires, kept, width, bits, goodSlice}
 use Rattle.rules.specs.Judgement.{Past, context, wires, among, namesIn, nameSpaces, takesName, newPort, allParts, breaksNumber, equalWidths, breaksWidth, partTooWide, Verdict, meaning, judgeIn, judge}
 use Rattle.rules.specs.Reading.{shaped}
 use Rattle.scanner.specs.Laws.{or-false-right, or-false-left}
-use Rattle.admitted.specs.Admitted.{fineWire, fineMemory, fineParts, admits}
-use Rattle.admitted.specs.StandLaws.{meaning-kind, shape-stands, judge-passed, by-verdict}
+use Rattle.admitted.specs.Admitted.{kinds, stands, fineWire, fineMemory, fineParts, admits}
+use Rattle.admitted.specs.StandLaws.{meaning-kind, meaning-among, judge-passed, by-verdict}
 use Rattle.written.specs.TokenLaws.{fineToken}
 use Rattle.soundness.specs.ShapeLaws.{FineShape, FineShaped, no-shape, fine-shape, shape-fine}
 use Rattle.past.specs.Forms.{translated, contents-translated}
@@ -53,7 +53,7 @@ module _ (ws : Wires) (sh : Shape) where
       }
 
   -- the parts of what it means
-  meaning-fine : FineShape sh → GoodShape ws sh → fineParts ws (meaning ws sh) ≡ true
+  meaning-fine : {ks : List Kind} → FineShape ks sh → GoodShape ws sh → fineParts ws (meaning ws sh) ≡ true
   unfolding fineParts meaning translated holds allParts
   meaning-fine f k =
       rw (contents-translated kept (bits ws) wireOf memoryOf sh)
@@ -81,16 +81,18 @@ module _ (ws : Wires) (sh : Shape) where
       (meaning-kind ws sh) meaning-names
 
 module _ (ss : Past) where
+  abbrev there : List Kind
+  there = kinds (context ss .scope) (context ss .first) (context ss .attributed)
+
   -- what is judged and accepted
-  judge-admits :
-      (ts : List Token) (sh : Shape) → shape (context ss) ts ≡ some sh → FineShape sh → judge ss sh ≡ Verdict.accepted (meaning (wires ss) sh) →
-      admits ss (meaning (wires ss) sh) ≡ true
-  unfolding admits
-  judge-admits ts sh q f e =
+  judge-admits : (sh : Shape) → FineShape there sh → judge ss sh ≡ Verdict.accepted (meaning (wires ss) sh) → admits ss (meaning (wires ss) sh) ≡ true
+  unfolding admits stands
+  judge-admits sh f e =
       let p = judge-passed ss sh _ e in
       let k = good-shape (wires ss) sh (p .numbers) (p .widths) (or-false-left _ _ (p .room)) in
+      let t : among there (meaning (wires ss) sh) ≡ true = rw meaning-among (rw (p .no-process) at (f .stands)) in
       both _ _
-      (both _ _ (both _ _ (shape-stands ss ts sh q (p .no-process)) (meaning-fine (wires ss) sh f k)) (ap not (meaning-takes (wires ss) sh ss ∙ p .new-name)))
+      (both _ _ (both _ _ t (meaning-fine (wires ss) sh f k)) (ap not (meaning-takes (wires ss) sh ss ∙ p .new-name)))
       (ap not (or-false-right (partTooWide (wires ss) sh) _ (p .room)))
 
   -- a line of some shape gives what is admitted, or is refused with a number that is not 0
@@ -98,14 +100,14 @@ module _ (ss : Past) where
     admitted-line : {s : Statement} → admits ss s ≡ true → FineVerdict (Verdict.accepted s)
     refused-line : {n : ℕ} → leb 1 n ≡ true → FineVerdict (Verdict.refused n)
 
-  judge-fine : (ts : List Token) (sh : Shape) → shape (context ss) ts ≡ some sh → FineShape sh → FineVerdict (judge ss sh)
+  judge-fine : (sh : Shape) → FineShape there sh → FineVerdict (judge ss sh)
   unfolding judge judgeIn all
-  judge-fine ts sh q f = by-verdict FineVerdict (meaning (wires ss) sh) _ refl (λ e. admitted-line (judge-admits ts sh q f e)) (λ n h. refused-line h)
+  judge-fine sh f = by-verdict FineVerdict (meaning (wires ss) sh) _ refl (λ e. admitted-line (judge-admits sh f e)) (λ n h. refused-line h)
 
-  by-shape : (ts : List Token) {o : Option Shape} → shape (context ss) ts ≡ o → FineShaped o → FineVerdict (shaped ss o)
+  by-shape : {o : Option Shape} → FineShaped there o → FineVerdict (shaped ss o)
   unfolding shaped
-  by-shape ts q no-shape = refused-line refl
-  by-shape ts q (fine-shape {sh} f) = judge-fine ts sh q f
+  by-shape no-shape = refused-line refl
+  by-shape (fine-shape {sh} f) = judge-fine sh f
 
   pub shaped-fine : (ts : List Token) → all fineToken ts ≡ true → FineVerdict (shaped ss (shape (context ss) ts))
-  shaped-fine ts h = by-shape ts refl (shape-fine (context ss) ts h)
+  shaped-fine ts h = by-shape (shape-fine (context ss) ts h)

@@ -8,13 +8,14 @@ use mathlib.Core.Bool.{false, _&&_, false≢true}
 use lib.Dec.{eqb, eqb·suc-suc}
 use lib.ListN.{getElem?}
 use borrow.Author.Tests.{eqb-true}
+use Rattle.rules.specs.Bytes.{all}
 use Rattle.rules.specs.Statements.{Wire}
 use Rattle.rules.specs.Judgement.{accepted}
 use Rattle.rules.specs.Design.{Object, object, Module, Design}
 use Rattle.scanner.specs.Laws.{by-test, and-true-left, and-true-right}
 use Rattle.rules.specs.Session.{Rename, wiresAt, wireAt, change, renameWire, renamed, now, rename, renameCall, undoCall, call, standing}
+use Rattle.admitted.specs.StandLaws.{by-verdict}
 use Rattle.order.specs.RenamedFine.{map-change, now-more, undo-last, accepted-keeps}
-use Rattle.theorems.specs.StandingLaws.{judged}
 
 -- the design without the names of its wires
 unfoldable pub nameless : Object Wire → Object Wire
@@ -140,9 +141,9 @@ module _ (d : Design) (rs : List Rename) (r : Rename) where
 
 -- it stands until undone: a rename behind it, accepted or refused, leaves it listed where it is
 pub still-listed : (d : Design) (qs : List Rename) (r : Rename) → (ts : List Rename) × (standing qs (call d qs (rename r)) ≡ qs ++ ts)
-unfolding call renameCall standing
+unfolding call renameCall standing all
 still-listed d qs r =
-    judged (λ v. (ts : List Rename) × (standing qs v ≡ qs ++ ts)) (qs ++ r ∷ []) _ (λ e. (r ∷ [], refl)) (λ n. ([], sym (append-nil qs)))
+    by-verdict (λ v. (ts : List Rename) × (standing qs v ≡ qs ++ ts)) (qs ++ r ∷ []) _ refl (λ e. (r ∷ [], refl)) (λ n p. ([], sym (append-nil qs)))
 
 -- AN ACCEPTED UNDO ends the youngest that stands
 pub accepted-undo : (rs : List Rename) (r : Rename) → undoCall (rs ++ r ∷ []) ≡ accepted rs
