@@ -49,13 +49,13 @@ module _ (ss : Past) where
   unfolding outcome
   outcome-fine l = lexed-fine l (tokens-fine (l .text))
 
-  states-fine : {s : Statement} → FineOutcome (states s) → admits ss s ≡ true
-  states-fine (fine-states h) = h
-
   -- a statement more
-  pub states-admitted : (l : Line) (s : Statement) → outcome ss l ≡ states s → admitted ss ≡ true → admitted (s ∷ ss) ≡ true
+  states-fine : {s : Statement} → admitted ss ≡ true → FineOutcome (states s) → admitted (s ∷ ss) ≡ true
   unfolding admitted
-  states-admitted l s e h = both (admitted ss) (admits ss s) h (states-fine (rw e at (outcome-fine l)))
+  states-fine {s} h (fine-states k) = both (admitted ss) (admits ss s) h k
+
+  pub states-admitted : (l : Line) (s : Statement) → outcome ss l ≡ states s → admitted ss ≡ true → admitted (s ∷ ss) ≡ true
+  states-admitted l s e h = states-fine h (rw e at (outcome-fine l))
 
 -- ---- a file
 
@@ -72,9 +72,9 @@ finish-fine size ss h =
     by-cond FineAnswer (isTop (context ss .scope) && not (context ss .attributed)) (λ e. accepted-fine ss h e) (λ e. FineAnswer.fine-refused refl)
 
 next-fine : (more : Past → Answer) (ss : Past) {o : Outcome} → ((ss : Past) → admitted ss ≡ true → FineAnswer (more ss)) → admitted ss ≡ true → FineOutcome ss o → FineAnswer (next more ss o)
-unfolding next admitted
+unfolding next
 next-fine more ss i h fine-skipped = i ss h
-next-fine more ss i h (fine-states {s} k) = i (s ∷ ss) (both (admitted ss) (admits ss s) h k)
+next-fine more ss i h (fine-states {s} k) = i (s ∷ ss) (states-fine ss h (fine-states k))
 next-fine more ss i h (FineOutcome.fine-refused k) = FineAnswer.fine-refused k
 
 lines-fine : (size : ℕ) (ls : List Line) (ss : Past) → admitted ss ≡ true → FineAnswer (readLines size ls ss)

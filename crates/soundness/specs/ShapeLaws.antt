@@ -246,7 +246,7 @@ end-finds [] t = gives refl t
 end-finds (x ∷ xs) t = one-finds Raw RawOption some const (λ c h. all-one fineLiteral c h) const-finds (x ∷ xs) t
 
 module _ (ks : List Kind) where
-  -- the kinds that these forms have are among them
+  -- a kind is one of these
   abbrev Stands : Kind → Type 0
   Stands k = any (λ l. eqb (code l) (code k)) ks ≡ true
 
