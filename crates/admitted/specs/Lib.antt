@@ -2,5 +2,4 @@ pub mod Admitted
 pub mod StandLaws
 pub mod CountLaws
 pub mod AdmitLaws
-pub mod AcceptedLaws
 pub mod Holds

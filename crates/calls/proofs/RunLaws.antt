@@ -14,11 +14,10 @@ use Rattle.rules.specs.Session.{Call}
 use Rattle.rules.specs.Layout.{Memory, layout}
 use Rattle.admitted.specs.Holds.{Holds, no-renames}
 use Rattle.reader.specs.Read.{Result, result, rightLengths, leaves, readInto}
-use Rattle.soundness.specs.ReadLaws.{read-admitted}
+use Rattle.soundness.specs.ReadLaws.{read-admitted, numbered, read-numbered}
 use Rattle.calls.specs.Calls.{sessionOn, session}
 use Rattle.calls.specs.Steps.{Opened, MadeAs}
 use Rattle.calls.proofs.CallLaws.{LengthsKept, lengths-kept}
-use Rattle.calls.proofs.NumberLaws.{numbered, read-numbered}
 
 any-accepted : (b : Bool) (a : Answer) (ss : List Statement) → cond b (refused 2 0) a ≡ accepted ss → a ≡ accepted ss
 any-accepted true a ss e = cc

@@ -3,12 +3,14 @@
 use Prim.Native.Nat.{_≤_}
 use mathlib.Core.Path.{_≡_, refl, sym, ap, _∙_, subst}
 use mathlib.Core.List.{List, [], _∷_, _++_, reverse, reverse-cons, reverse-append, reverse-reverse, append-assoc, append-nil}
-use mathlib.Core.Bool.{Bool, true, false}
 use native.Mathlib.Omega.{arith}
 use lib.ListN.{length, length-append}
-use Rattle.rules.specs.Judgement.{lowest, accepted, verdict}
+use borrow.Author.Tests.{leb-true}
+use Rattle.rules.specs.Bytes.{all}
+use Rattle.rules.specs.Judgement.{accepted}
 use Rattle.rules.specs.Design.{Design}
 use Rattle.rules.specs.Session.{Rename, roomUsed, renameCall, numberOf}
+use Rattle.admitted.specs.StandLaws.{by-verdict}
 use Rattle.admitted.specs.Holds.{Allowed, no-renames, one-rename}
 use Rattle.order.specs.RenamedFine.{accepted-keeps, room-more}
 
@@ -55,22 +57,11 @@ module _ {d : Design} where
   allowed-more rs r a e = one-rename rs r a e refl
 
 -- NO NUMBER where it is accepted, and the other way round
-zero-accepted :
-    (rs : List Rename) (a b c d e : Bool) →
-    numberOf (verdict rs (lowest ((4, a) ∷ (6, b) ∷ (8, c) ∷ (9, d) ∷ (11, e) ∷ []))) ≡ 0 →
-    verdict rs (lowest ((4, a) ∷ (6, b) ∷ (8, c) ∷ (9, d) ∷ (11, e) ∷ [])) ≡ accepted rs
-unfolding numberOf verdict lowest
-zero-accepted rs true b c d e h = absurd (omega arith)
-zero-accepted rs false true c d e h = absurd (omega arith)
-zero-accepted rs false false true d e h = absurd (omega arith)
-zero-accepted rs false false false true e h = absurd (omega arith)
-zero-accepted rs false false false false true h = absurd (omega arith)
-zero-accepted rs false false false false false h = refl
-
 module _ (d : Design) (rs : List Rename) (r : Rename) where
   pub number-accepted : numberOf (renameCall d rs r) ≡ 0 → renameCall d rs r ≡ accepted (rs ++ r ∷ [])
-  unfolding renameCall
-  number-accepted h = zero-accepted (rs ++ r ∷ []) _ _ _ _ _ h
+  unfolding renameCall numberOf all
+  number-accepted h =
+      by-verdict (λ v. numberOf v ≡ 0 → v ≡ accepted (rs ++ r ∷ [])) (rs ++ r ∷ []) _ refl (λ e z. refl) (λ n p z. absurd (omega (arith, leb-true 1 n p))) h
 
   pub accepted-number : renameCall d rs r ≡ accepted (rs ++ r ∷ []) → numberOf (renameCall d rs r) ≡ 0
   unfolding numberOf

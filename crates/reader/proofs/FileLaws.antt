@@ -30,7 +30,7 @@ use Rattle.past.specs.Sizes.{sumsOf}
 use Rattle.past.specs.declared.place.Place.{Place}
 use Rattle.past.specs.declared.sizes.Sizes.{Sizes}
 use Rattle.past.proofs.PlaceLaws.{context-is}
-use Rattle.admitted.specs.AcceptedLaws.{none-accepted}
+use Rattle.admitted.specs.Admitted.{admitted}
 use Rattle.netlist.specs.Laid.{roomsOf}
 use Rattle.netlist.specs.LaidLaws.{rooms-past}
 use Rattle.netlist.specs.UsedLaws.{used-past}
@@ -136,7 +136,7 @@ pub reached-start :
     (f tokens scratch : List ℕ) (p : Place) (u : Sizes) (t : Tables) →
     (length f ≤ 32768) × (length tokens ≡ 131072) × (length scratch ≡ 36864) × (t ≡ tablesOf (memory empty 0)) →
     p ≡ placeOf [] → u ≡ sumsOf [] → Reached f tokens scratch p u t 0
-unfolding roomsOf readAny lines
+unfolding roomsOf readAny lines admitted
 reached-start f tokens scratch p u t h ep eu =
     record {
       inside = zero-le;
@@ -144,7 +144,7 @@ reached-start f tokens scratch p u t h ep eu =
       tokens-long = h .1;
       scratch-long = h .2;
       past = [];
-      done = record { accepted = none-accepted; place-is = sym ep; sums-are = sym eu; tables-are = h .3 };
+      done = record { admits = refl; place-is = sym ep; sums-are = sym eu; tables-are = h .3 };
       rest = refl;
     }
 
@@ -222,8 +222,8 @@ cleared n₀ s₀ b₀ w₀ r₀ z en es eb ew er =
     }
 
 pub zero-sized : (t : Tables) → t ≡ tablesOf (memory empty 0) → Sized t
-unfolding roomsOf
-zero-sized t e = rw e (sized-past [] none-accepted)
+unfolding roomsOf admitted
+zero-sized t e = rw e (sized-past [] refl)
 
 -- tables that keep their lengths
 pub still-sized :

@@ -81,6 +81,35 @@ unfolding line
 line-some f t n e h q =
     let k : length t / 4 - 0 ≡ suc (n - 1) = omega (arith, h) in rows-some f t (n - 1) (rw k at q)
 
+-- ---- the rows are ready for the verdict
+
+module _ (f old new : List ℕ) (l : Line) (x : Lexed) (L : LexedIs f (l .start) (l .end) old new x) (n : ℕ) (e : x ≡ Tokens n)
+    (inside : l .end ≤ length f) (file : length f ≤ 32768) (old-long : length old ≡ 131072) where
+  among : Among f (l .start) (l .end) new (Tokens n)
+  among = subst (Among f (l .start) (l .end) new) e (L .among)
+
+  pub rows-few : 4 * n ≤ 131072
+  rows-few = omega (arith, among .0)
+
+  pub rows-fit : 4 * n ≤ length new
+  rows-fit = omega (arith, rows-few, L .kept)
+
+  pub rows-ready : (s : List ℕ) (count : ℕ) → length s ≡ 36864 → count ≤ 512 → (n ≡ 0 → ⊥) → Ready f (take (4 * n - 0) (drop 0 new)) s count
+  rows-ready s count scratch c first =
+      let q : 4 * n ≡ 4 * n - 0 = omega arith in
+      let k : length (take (4 * n) new) ≡ 4 * n = long f new n rows-fit in
+      subst (λ (m : ℕ). Ready f (take m new) s count) q
+      (record {
+        rows = record {
+          file = file;
+          rows = omega (arith, k, rows-few);
+          here = omega (arith, k, first);
+          closed = closed f new n rows-fit (among .1);
+        };
+        room = omega arith;
+        few = c;
+      })
+
 -- ---- the outcome
 
 not-is : (a b : Bool) → not a ≡ b → a ≡ not b
@@ -104,59 +133,24 @@ module _ (ss : Past) (f old new : List ℕ) (l : Line) (x : Lexed) (L : LexedIs 
   unfolding lexedOf lexed line rowsFrom
   outcome-none n e z = by-lexed (Tokens 0) (e ∙ ap Tokens z)
 
-  module _ (n : ℕ) (e : x ≡ Tokens n) where
-    among : Among f (l .start) (l .end) new (Tokens n)
-    among = subst (Among f (l .start) (l .end) new) e (L .among)
+  module _ (n : ℕ) (e : x ≡ Tokens n) (inside : l .end ≤ length f) (file : length f ≤ 32768) (old-long : length old ≡ 131072) where
+    some-tokens : (n ≡ 0 → ⊥) → outcome ss (lineOf f l) ≡ judged (place (lineOf f l)) (stated ss (l .ended) (line f (take (4 * n) new) 0))
+    unfolding lexedOf lineOf
+    some-tokens h = by-lexed (Tokens n) e ∙ lexed-some ss (lineOf f l) _ (line-some f (take (4 * n) new) n (long f new n (rows-fit f old new l x L n e inside file old-long)) h)
 
-    module _ (inside : l .end ≤ length f) (file : length f ≤ 32768) (old-long : length old ≡ 131072) where
-      few : 4 * n ≤ 131072
-      few = omega (arith, among .0)
+    pub outcome-open : (n ≡ 0 → ⊥) → not (l .ended) ≡ true → outcome ss (lineOf f l) ≡ reading.Outcome.refused 5 (place (lineOf f l))
+    unfolding stated judged
+    outcome-open h k = some-tokens h ∙ ap (λ (b : Bool). judged (place (lineOf f l)) (stated ss b (line f (take (4 * n) new) 0))) (not-is (l .ended) true k)
 
-      fits : 4 * n ≤ length new
-      fits = omega (arith, few, L .kept)
-
-      some-tokens : (n ≡ 0 → ⊥) → outcome ss (lineOf f l) ≡ judged (place (lineOf f l)) (stated ss (l .ended) (line f (take (4 * n) new) 0))
-      unfolding lexedOf lineOf
-      some-tokens h = by-lexed (Tokens n) e ∙ lexed-some ss (lineOf f l) _ (line-some f (take (4 * n) new) n (long f new n fits) h)
-
-      pub outcome-open : (n ≡ 0 → ⊥) → not (l .ended) ≡ true → outcome ss (lineOf f l) ≡ reading.Outcome.refused 5 (place (lineOf f l))
-      unfolding stated judged
-      outcome-open h k = some-tokens h ∙ ap (λ (b : Bool). judged (place (lineOf f l)) (stated ss b (line f (take (4 * n) new) 0))) (not-is (l .ended) true k)
-
-      pub outcome-shaped :
-          (n ≡ 0 → ⊥) → not (l .ended) ≡ false →
-          outcome ss (lineOf f l) ≡ judged (place (lineOf f l)) (shaped ss (shape (context ss) (line f (take (4 * n - 0) (drop 0 new)) 0)))
-      unfolding stated
-      outcome-shaped h k =
-          let q : 4 * n ≡ 4 * n - 0 = omega arith in
-          some-tokens h
-          ∙ ap (λ (b : Bool). judged (place (lineOf f l)) (stated ss b (line f (take (4 * n) new) 0))) (not-is (l .ended) false k)
-          ∙ ap (λ (m : ℕ). judged (place (lineOf f l)) (shaped ss (shape (context ss) (line f (take m new) 0)))) q
-
--- the rows are ready for the verdict
-module _ (f old new : List ℕ) (l : Line) (x : Lexed) (L : LexedIs f (l .start) (l .end) old new x) (n : ℕ) (e : x ≡ Tokens n)
-    (inside : l .end ≤ length f) (file : length f ≤ 32768) (old-long : length old ≡ 131072) where
-  pub rows-few : 4 * n ≤ 131072
-  rows-few = few [] f old new l x L n e inside file old-long
-
-  pub rows-fit : 4 * n ≤ length new
-  rows-fit = fits [] f old new l x L n e inside file old-long
-
-  pub rows-ready : (s : List ℕ) (count : ℕ) → length s ≡ 36864 → count ≤ 512 → (n ≡ 0 → ⊥) → Ready f (take (4 * n - 0) (drop 0 new)) s count
-  rows-ready s count scratch c first =
-      let q : 4 * n ≡ 4 * n - 0 = omega arith in
-      let k : length (take (4 * n) new) ≡ 4 * n = long f new n rows-fit in
-      subst (λ (m : ℕ). Ready f (take m new) s count) q
-      (record {
-        rows = record {
-          file = file;
-          rows = omega (arith, k, rows-few);
-          here = omega (arith, k, first);
-          closed = closed f new n rows-fit (among [] f old new l x L n e .1);
-        };
-        room = omega arith;
-        few = c;
-      })
+    pub outcome-shaped :
+        (n ≡ 0 → ⊥) → not (l .ended) ≡ false →
+        outcome ss (lineOf f l) ≡ judged (place (lineOf f l)) (shaped ss (shape (context ss) (line f (take (4 * n - 0) (drop 0 new)) 0)))
+    unfolding stated
+    outcome-shaped h k =
+        let q : 4 * n ≡ 4 * n - 0 = omega arith in
+        some-tokens h
+        ∙ ap (λ (b : Bool). judged (place (lineOf f l)) (stated ss b (line f (take (4 * n) new) 0))) (not-is (l .ended) false k)
+        ∙ ap (λ (m : ℕ). judged (place (lineOf f l)) (shaped ss (shape (context ss) (line f (take m new) 0)))) q
 
 -- ---- the verdict
 

@@ -2,6 +2,7 @@
 -- Assumes nothing.
 use Prim.Native.Nat.{ℕ, _*_, _≤_, _<_}
 use mathlib.Core.Path.{_≡_, refl, sym, ap, _∙_, subst, ap₂}
+use mathlib.Core.Bool.{true}
 use mathlib.Core.List.{List, _∷_}
 use mathlib.Core.Option.{Option, some}
 use native.Mathlib.Omega.{arith}
@@ -23,7 +24,8 @@ use Rattle.past.specs.declared.place.Place.{Place}
 use Rattle.past.specs.declared.sizes.Sizes.{Sizes}
 use Rattle.past.proofs.PlaceLaws.{bounds}
 use Rattle.past.proofs.SizeLaws.{same-wires}
-use Rattle.admitted.specs.AcceptedLaws.{Accepted, states-accepted, all-offsets, all-within, all-few}
+use Rattle.admitted.specs.Admitted.{admitted}
+use Rattle.admitted.specs.AdmitLaws.{admitted-offsets, admitted-within, admitted-few}
 use Rattle.netlist.specs.Laid.{roomsOf}
 use Rattle.netlist.specs.LaidLaws.{laid-padded, eights-rows}
 use Rattle.netlist.specs.WireLaws.{eights-wires, wires-past}
@@ -40,6 +42,7 @@ use Rattle.netlist.specs.Used.{usedOf, usedBy}
 use Rattle.netlist.specs.UsedLaws.{used-past}
 use Rattle.layout.proofs.PastLaws.{room-past}
 use Rattle.judgement.specs.Judged.{Stands}
+use Rattle.soundness.specs.ReadLaws.{states-admitted}
 use Rattle.reader.specs.Steps.{PlaceFits, States, OutcomeIs, Storable, Done, Goes}
 use Rattle.reader.specs.declared.Outcome.{Outcome}
 use Rattle.reader.specs.declared.Outcome.the-variants as outcomes
@@ -49,43 +52,43 @@ use Rattle.reader.specs.declared.Outcome.the-variants as outcomes
 fits-past : (ss : Past) → Within (sumsOf ss) → PlaceFits (placeOf ss) (sumsOf ss)
 fits-past ss w = record { within = w; bounds = bounds ss; few = omega (arith, same-wires ss, w .wires) }
 
-stands-past : (ss : Past) → Accepted ss → let m = memory (roomsOf ss) 0 in Stands ss (placeOf ss) (sumsOf ss) (m .names) (m .wires) (m .rows)
+stands-past : (ss : Past) → admitted ss ≡ true → let m = memory (roomsOf ss) 0 in Stands ss (placeOf ss) (sumsOf ss) (m .names) (m .wires) (m .rows)
 unfolding memory
 stands-past ss a =
-    record { place-is = refl; sums-are = refl; laid = laid-padded 16384 (8 * 4769) (roomsOf ss); wires-are = wires-past ss 0 (all-offsets a) }
+    record { place-is = refl; sums-are = refl; laid = laid-padded 16384 (8 * 4769) (roomsOf ss); wires-are = wires-past ss 0 (admitted-offsets ss a) }
 
 flat-long : (n k : ℕ) (rs : List (List ℕ)) → Eights rs → length rs ≤ k → n ≡ 8 * k → length (padded n (flat rs)) ≡ n
 flat-long n k rs h l e = length-padded n (flat rs) (omega (arith, length-flat rs h))
 
-pub sized-past : (ss : Past) → Accepted ss → Sized (tablesOf (memory (roomsOf ss) 0))
+pub sized-past : (ss : Past) → admitted ss ≡ true → Sized (tablesOf (memory (roomsOf ss) 0))
 unfolding tablesOf memory used placeOf
 sized-past ss a =
-    let w : Within (sumsOf ss) = all-within a in
+    let w : Within (sumsOf ss) = admitted-within ss a in
     let q : used (roomsOf ss) ≡ usedBy (placeOf ss) (sumsOf ss) = used-past ss in
     record {
       names = length-padded 16384 _ (omega (arith, ap (λ (u : rooms.Used). u .names) q, w .name-bytes));
       strings = length-padded 8192 _ (omega (arith, ap (λ (u : rooms.Used). u .strings) q, w .string-bytes));
       bits = length-padded 16384 _ (omega (arith, ap (λ (u : rooms.Used). u .bits) q, w .value-bits, w .signal-bits));
       wires = flat-long (8 * 512) 512 _ (eights-wires ss) (omega (arith, ap (λ (u : rooms.Used). u .wires) q, same-wires ss, w .wires)) refl;
-      rows = flat-long (8 * 4769) 4769 _ (eights-rows ss) (omega (arith, ap (λ (u : rooms.Used). u .rows) q, all-few a)) refl;
+      rows = flat-long (8 * 4769) 4769 _ (eights-rows ss) (omega (arith, ap (λ (u : rooms.Used). u .rows) q, admitted-few ss a)) refl;
     }
 
 module _ {ss : Past} {p : Place} {u : Sizes} {t : Tables} (d : Done ss p u t) where
   pub done-fits : PlaceFits p u
-  done-fits = rw (← d .place-is, ← d .sums-are) (fits-past ss (all-within (d .accepted)))
+  done-fits = rw (← d .place-is, ← d .sums-are) (fits-past ss (admitted-within ss (d .admits)))
 
   pub done-stands : Stands ss p u (t .names) (t .wires) (t .rows)
   unfolding tablesOf
   done-stands =
       subst (λ (x : Tables). Stands ss p u (x .names) (x .wires) (x .rows)) (sym (d .tables-are))
-      (rw (← d .place-is, ← d .sums-are) (stands-past ss (d .accepted)))
+      (rw (← d .place-is, ← d .sums-are) (stands-past ss (d .admits)))
 
   pub done-sized : Sized t
-  done-sized = rw (d .tables-are) (sized-past ss (d .accepted))
+  done-sized = rw (d .tables-are) (sized-past ss (d .admits))
 
   pub done-rows : p .rows < 4294967295
   unfolding placeOf
-  done-rows = rw (← d .place-is) (omega (arith, all-few (d .accepted)))
+  done-rows = rw (← d .place-is) (omega (arith, admitted-few ss (d .admits)))
 
 -- ---- one statement more
 
@@ -130,7 +133,7 @@ module _ {ss : Past} {p : Place} {u : Sizes} {t : Tables} (d : Done ss p u t) (l
   room v us y e =
       let q : states .statement ≡ y = same-some (statementIn f s r) _ y (states .stated) e in
       rw (used-rooms v us)
-      (room-past ss y (rw (← q, states .sums-are) (storable .2)) (omega (arith, all-few (d .accepted))))
+      (room-past ss y (rw (← q, states .sums-are) (storable .2)) (omega (arith, admitted-few ss (d .admits))))
 
   pub put-storable : (v : Used) → usedOf v ≡ usedBy p u → length s ≡ 36864 → stored.Storable f s r v t
   put-storable v us k =
@@ -143,7 +146,7 @@ module _ {ss : Past} {p : Place} {u : Sizes} {t : Tables} (d : Done ss p u t) (l
       record {
         past = y ∷ ss;
         done = record {
-          accepted = states-accepted ss l y (states .is) (d .accepted);
+          admits = states-admitted ss l y (states .is) (d .admits);
           place-is = after ss y (sym (d .place-is)) (e ∙ ap code (kind-is f s r y (states .stated)));
           sums-are = states .sums-are;
           tables-are =

@@ -1,7 +1,7 @@
 -- What the parts of reading promise: of one line, and of the lines so far.
 use Prim.Native.Nat.{ℕ, _-_, _≤_}
 use mathlib.Core.Path.{_≡_}
-use mathlib.Core.Bool.{not, cond, _&&_}
+use mathlib.Core.Bool.{true, not, cond, _&&_}
 use mathlib.Core.Option.{some}
 use mathlib.Core.List.{List, _∷_}
 use lib.Dec.{eqb}
@@ -19,7 +19,7 @@ use Rattle.past.specs.Place.{placeOf, Bounds}
 use Rattle.past.specs.Sizes.{sumsOf, Within}
 use Rattle.past.specs.declared.place.Place.{Place}
 use Rattle.past.specs.declared.sizes.Sizes.{Sizes}
-use Rattle.admitted.specs.AcceptedLaws.{Accepted}
+use Rattle.admitted.specs.Admitted.{admitted}
 use Rattle.netlist.specs.Laid.{roomsOf}
 use Rattle.syntax.specs.Statements.{lateOf, statementIn, Sound}
 use Rattle.syntax.specs.declared.Statement.{Statement}
@@ -80,9 +80,9 @@ Storable f Skipped = Unit {0}
 Storable f (Stated r u) = Sound f r × (lateOf r ≡ 0) × Within u
 Storable f (Refused n) = Unit {0}
 
--- THE LINES SO FAR. These statements were accepted and lie in the tables; the next line stands behind them
+-- THE LINES SO FAR. These statements are admitted and lie in the tables; the next line stands behind them
 pub record Done (ss : Past) (p : Place) (u : Sizes) (t : Tables) : Type 0 where
-  pub accepted : Accepted ss
+  pub admits : admitted ss ≡ true
   pub place-is : placeOf ss ≡ p
   pub sums-are : sumsOf ss ≡ u
   pub tables-are : t ≡ tablesOf (memory (roomsOf ss) 0)

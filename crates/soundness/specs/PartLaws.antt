@@ -11,14 +11,14 @@ use borrow.Author.Tests.{le-leb}
 use Rattle.rules.specs.Bytes.{all, within}
 use Rattle.rules.specs.Tokens.{Digit, Literal, value, integer, string}
 use Rattle.rules.specs.Statements.{Sig, constant, wire, slice, bundle, Opt, Direction}
-use Rattle.rules.specs.Numbers.{inRange, goodLiteral, goodNumbers, numberOr, ports, portOf, wireOf, memoryOf, once, goodOptions, goodWire, goodMemory}
+use Rattle.rules.specs.Numbers.{inRange, goodLiteral, goodNumbers, numberOr, ports, portOf, wireOf, memoryOf, goodOptions, goodWire, goodMemory}
 use Rattle.rules.specs.Signals.{Wires, kept, valueBits, literalBits, literalWidth, width, bits, goodSlice, parts, partsOf}
 use Rattle.rules.specs.Judgement.{portNumbers, newPort, equalWidths}
 use Rattle.scanner.specs.Laws.{and-true-left, and-true-right, within-high}
-use Rattle.scanner.specs.Elements.{all-left, all-right, all-cons, all-first, all-later}
+use Rattle.scanner.specs.Elements.{all-left, all-right, all-cons, all-first, all-later, each-test}
+use Rattle.past.specs.Offsets.{good-offset, memory-offset}
 use Rattle.literals.proofs.CodeLaws.{literal-long}
 use Rattle.admitted.specs.Admitted.{fineConstant, newPorts, fineWire, fineMemory, fineSignal, sameLength}
-use Rattle.admitted.specs.AcceptedLaws.{number-fits, good-offset}
 use Rattle.written.specs.TokenLaws.{fineLiteral}
 use Rattle.soundness.specs.SignalLaws.{bits-fine, bits-long}
 
@@ -64,31 +64,21 @@ module _ (ws : Wires) (os : List Opt) where
   pub wire-fine : goodWire os && newPort ws os ≡ true → fineWire ws (wireOf os) ≡ true
   unfolding goodWire wireOf portNumbers newPort fineWire newPorts
   wire-fine e =
-      let a : Bool = goodOptions os in
-      let b : Bool = inRange 0 2048 (numberOr (pos 1) "width" os) in
-      let c : Bool = leb (length (ports os)) 1 in
-      let d : Bool = all (λ (p : Direction × ℤ). inRange 1 1023 (p .1)) (ports os) in
       let g : goodWire os ≡ true = and-true-left (goodWire os) (newPort ws os) e in
-      let e₄ : a && b && c && d ≡ true = and-true-left (a && b && c && d) _ g in
-      let e₂ : a && b ≡ true = and-true-left (a && b) c (and-true-left (a && b && c) d e₄) in
+      let h = each-test (goodOptions os) (inRange 0 2048 (numberOr (pos 1) "width" os) ∷ _ ∷ all (λ (p : Direction × ℤ). inRange 1 1023 (p .1)) (ports os) ∷ _ ∷ []) g in
       both _ _
       (both _ _
-      (both _ _
-      (both _ _ (range-high 0 2048 (numberOr (pos 1) "width" os) (and-true-right a b e₂)) (good-offset os g))
-      (and-true-right (a && b && c && d) _ g))
-      (port-within (ports os) (and-true-right (a && b && c) d e₄)))
+      (both _ _ (both _ _ (range-high 0 2048 (numberOr (pos 1) "width" os) (h .1 .0)) (good-offset os g)) (h .1 .1 .1 .1 .0))
+      (port-within (ports os) (h .1 .1 .1 .0)))
       (and-true-right (goodWire os) (newPort ws os) e)
 
 pub memory-fine : (os : List Opt) → goodMemory os ≡ true → fineMemory (memoryOf os) ≡ true
-unfolding goodMemory goodOptions memoryOf fineMemory
+unfolding goodMemory memoryOf fineMemory
 memory-fine os e =
-    let a : Bool = goodOptions os in
-    let b : Bool = inRange 1 2048 (numberOr (pos 1) "width" os) in
-    let c : Bool = inRange 0 2147483647 (numberOr (pos 0) "size" os) in
-    let e₂ : a && b ≡ true = and-true-left (a && b) c e in
+    let h = each-test (goodOptions os) (inRange 1 2048 (numberOr (pos 1) "width" os) ∷ inRange 0 2147483647 (numberOr (pos 0) "size" os) ∷ []) e in
     both _ _
-    (both _ _ (range-within 1 2048 (numberOr (pos 1) "width" os) (and-true-right a b e₂)) (range-high 0 2147483647 (numberOr (pos 0) "size" os) (and-true-right (a && b) c e)))
-    (number-fits "offset" os (and-true-right (once os) _ (and-true-left a b e₂)))
+    (both _ _ (range-within 1 2048 (numberOr (pos 1) "width" os) (h .1 .0)) (range-high 0 2147483647 (numberOr (pos 0) "size" os) (h .1 .1 .0)))
+    (memory-offset os e)
 
 -- ---- signals
 

@@ -1,20 +1,24 @@
--- The shape of fine tokens has legal names, and strings without byte 0 in its attributes and parameters.
+-- The shape of fine tokens has legal names, and strings without byte 0 in its attributes and parameters; and it is of a kind that stands
+-- where it was found, or a process.
 -- Assumes nothing.
 use Prim.Native.Nat.{ℕ, zero, suc}
 use Prim.Native.Char.{Char}
 use Prim.Native.String.{String}
 use mathlib.Core.Path.{_≡_, refl}
-use mathlib.Core.List.{List, [], _∷_, _++_, Option·toList}
+use mathlib.Core.List.{List, [], _∷_, Option·toList}
 use mathlib.Core.Option.{Option, none, some, Option·map}
-use mathlib.Core.Bool.{Bool, true, false, not}
+use mathlib.Core.Bool.{Bool, true, false, not, _||_}
+use lib.Dec.{eqb}
 use lib.IntN.{ℤ}
 use lib.ListN.{length}
-use Rattle.rules.specs.Bytes.{bytes, all, legal}
+use Rattle.rules.specs.Bytes.{bytes, any, all, legal}
 use Rattle.rules.specs.Tokens.{Name, Literal, Token, name, word, literal, mark}
-use Rattle.rules.specs.Statements.{Sig, bundle, Opt, Shape, autoidx-stmt, attr-stmt, module-stmt, param-stmt, wire-stmt, memory-stmt, cell-stmt, cell-param-stmt, cell-conn-stmt, conn-stmt, proc-stmt, end-stmt, contents, holds}
-use Rattle.rules.specs.Shapes.{Parse, Form, Scope, top, inModule, inCell, Context, isWord, isMark, nowhere, give, one, after, of₁, of₂, of₃, either, choice, offers, closedBy, repeat, several, orEnd, isId, isConstant, isInteger, isAtom, id, const, int, atom, low, bounds, sliced, withSlices, sigs, members, signal, sigspec, numbered, flag, wireOptionForms, memoryOptionForms, options, sort, autoidxForm, attributeForm, topForms, objectForms, bodyForms, cellForms, forms, wholeBy, whole, shape}
+use Rattle.rules.specs.Statements.{Sig, bundle, Opt, Shape, autoidx-stmt, attr-stmt, module-stmt, param-stmt, wire-stmt, memory-stmt, cell-stmt, cell-param-stmt, cell-conn-stmt, conn-stmt, proc-stmt, end-stmt, Kind, anAutoidx, anAttribute, aModule, aParameter, aWire, aMemory, aCell, aCellParameter, aCellConnection, aConnection, aProcess, anEnd, code, contents, is, statementsOpen}
+use Rattle.rules.specs.Shapes.{Parse, Scope, top, inModule, inCell, Context, isWord, isMark, nowhere, give, one, after, of₁, of₂, of₃, either, choice, offers, closedBy, repeat, several, orEnd, isId, isConstant, isInteger, isAtom, id, const, int, atom, low, bounds, sliced, withSlices, sigs, members, signal, sigspec, numbered, flag, wireOptionForms, memoryOptionForms, options, sort, autoidxForm, attributeForm, topForms, objectForms, bodyForms, cellForms, forms, wholeBy, whole, shape}
+use Rattle.rules.specs.Judgement.{among}
 use Rattle.scanner.specs.Laws.{by-cond}
-use Rattle.scanner.specs.Elements.{all-cons, all-first, all-later}
+use Rattle.scanner.specs.Elements.{all-cons, all-first, all-later, Each, _then_, each-append}
+use Rattle.admitted.specs.Admitted.{kinds}
 use Rattle.written.specs.TokenLaws.{fineLiteral, fineToken, Fine}
 
 first-fine : (t : Token) (ts : List Token) → Fine (t ∷ ts) → fineToken t ≡ true
@@ -75,15 +79,14 @@ module _ {A B C D : Type 0} (P : A → Type 0) (Q : B → Type 0) (R : C → Typ
   unfolding of₃
   three-finds f p q r h k l m ts t = after-gives P S (λ a. of₂ (f a) q r) (k ts t) (λ a x. two-finds Q R S (f a) q r (h a x) l m)
 
-data AllFind {A : Type 0} (P : A → Type 0) : List (String × Parse A) → Type 0 where
-  no-form : AllFind P []
-  form : {c : String × Parse A} {cs : List (String × Parse A)} → Finds P (c .1) → AllFind P cs → AllFind P (c ∷ cs)
+abbrev AllFind : {A : Type 0} → (A → Type 0) → List (String × Parse A) → Type 0
+AllFind P cs = Each (λ c. Finds P (c .1)) cs
 
 module _ {A : Type 0} (P : A → Type 0) where
-  choice-finds : {cs : List (String × Parse A)} → AllFind P cs → Finds P (choice cs)
+  choice-finds : (cs : List (String × Parse A)) → AllFind P cs → Finds P (choice cs)
   unfolding choice
-  choice-finds no-form ts t = gives-none
-  choice-finds (form {c} {cs} h hs) ts t = either-finds P (isWord (c .0)) (c .1) (choice cs) h (choice-finds hs) ts t
+  choice-finds [] hs ts t = gives-none
+  choice-finds (c ∷ cs) (h, hs) ts t = either-finds P (isWord (c .0)) (c .1) (choice cs) h (choice-finds cs hs) ts t
 
   closed-finds : (c : Char) (p : Parse A) → Finds P p → Finds P (closedBy c p)
   unfolding closedBy
@@ -196,22 +199,26 @@ flag-finds : (w : String) → Finds Any (flag w .1)
 unfolding flag
 flag-finds w = give-finds Any (bytes w, none) tt
 
-options-finds : {os : List (String × Parse Opt)} → AllFind Any os → Finds Any (options os)
+options-finds : (os : List (String × Parse Opt)) → AllFind Any os → Finds Any (options os)
 unfolding options
-options-finds {os} h = several-finds Any (offers os) (choice os) (choice-finds Any h)
+options-finds os h = several-finds Any (offers os) (choice os) (choice-finds Any os h)
 
 wire-finds : Finds Any (options wireOptionForms)
 unfolding wireOptionForms
 wire-finds =
-    options-finds
-    (form (numbered-finds "width")
-    (form (numbered-finds "offset")
-    (form (numbered-finds "input")
-    (form (numbered-finds "output") (form (numbered-finds "inout") (form (flag-finds "upto") (form (flag-finds "signed") no-form)))))))
+    options-finds wireOptionForms
+    (numbered-finds "width"
+    then numbered-finds "offset"
+    then numbered-finds "input"
+    then numbered-finds "output"
+    then numbered-finds "inout"
+    then flag-finds "upto"
+    then flag-finds "signed"
+    then tt)
 
 memory-finds : Finds Any (options memoryOptionForms)
 unfolding memoryOptionForms
-memory-finds = options-finds (form (numbered-finds "width") (form (numbered-finds "size") (form (numbered-finds "offset") no-form)))
+memory-finds = options-finds memoryOptionForms (numbered-finds "width" then numbered-finds "size" then numbered-finds "offset" then tt)
 
 sort-finds : Finds Any sort
 unfolding sort
@@ -220,10 +227,11 @@ sort-finds =
 
 -- ---- statements
 
--- legal names, and strings without byte 0
-pub record FineShape (sh : Shape) : Type 0 where
+-- legal names, strings without byte 0, and one of these kinds or a process
+pub record FineShape (ks : List Kind) (sh : Shape) : Type 0 where
   pub names : all legal (contents sh .names) ≡ true
   pub constants : all fineLiteral (contents sh .constants) ≡ true
+  pub stands : is aProcess sh || among ks sh ≡ true
 
 all-one : {A : Type 0} (f : A → Bool) (x : A) → f x ≡ true → all f (x ∷ []) ≡ true
 unfolding all
@@ -237,78 +245,84 @@ unfolding orEnd Option·toList all
 end-finds [] t = gives refl t
 end-finds (x ∷ xs) t = one-finds Raw RawOption some const (λ c h. all-one fineLiteral c h) const-finds (x ∷ xs) t
 
-module _ (sh : Shape) where
-  named : (n : Name) → contents sh .names ≡ n ∷ [] → contents sh .constants ≡ [] → legal n ≡ true → FineShape sh
-  unfolding all
-  named n e k h = record { names = rw e (all-one legal n h); constants = rw k }
+module _ (ks : List Kind) where
+  -- a kind is one of these
+  abbrev Stands : Kind → Type 0
+  Stands k = any (λ l. eqb (code l) (code k)) ks ≡ true
 
-  set : (n : Name) (c : Literal) → contents sh .names ≡ n ∷ [] → contents sh .constants ≡ c ∷ [] → legal n ≡ true → fineLiteral c ≡ true → FineShape sh
-  set n c e k h l = record { names = rw e (all-one legal n h); constants = rw k (all-one fineLiteral c l) }
+  module _ (sh : Shape) (s : is aProcess sh || among ks sh ≡ true) where
+    named : (n : Name) → contents sh .names ≡ n ∷ [] → contents sh .constants ≡ [] → legal n ≡ true → FineShape ks sh
+    unfolding all
+    named n e k h = record { names = rw e (all-one legal n h); constants = rw k; stands = s }
 
-  bare : contents sh .names ≡ [] → contents sh .constants ≡ [] → FineShape sh
-  unfolding all
-  bare e k = record { names = rw e; constants = rw k }
+    set : (n : Name) (c : Literal) → contents sh .names ≡ n ∷ [] → contents sh .constants ≡ c ∷ [] → legal n ≡ true → fineLiteral c ≡ true → FineShape ks sh
+    set n c e k h l = record { names = rw e (all-one legal n h); constants = rw k (all-one fineLiteral c l); stands = s }
 
-attribute-finds : Finds FineShape (attributeForm .1)
-unfolding attributeForm contents holds
-attribute-finds = two-finds Legal Raw FineShape attr-stmt id const (λ n h c k. set (attr-stmt n c) n c refl refl h k) id-finds const-finds
+    bare : contents sh .names ≡ [] → contents sh .constants ≡ [] → FineShape ks sh
+    unfolding all
+    bare e k = record { names = rw e; constants = rw k; stands = s }
 
-module-finds : Finds FineShape (of₁ module-stmt id)
-unfolding contents holds
-module-finds = one-finds Legal FineShape module-stmt id (λ n h. named (module-stmt n) n refl refl h) id-finds
+  attribute-finds : Stands anAttribute → Finds (FineShape ks) (attributeForm .1)
+  unfolding attributeForm among statementsOpen
+  attribute-finds s = two-finds Legal Raw (FineShape ks) attr-stmt id const (λ n h c k. set (attr-stmt n c) s n c refl refl h k) id-finds const-finds
 
-top-finds : AllFind FineShape topForms
-unfolding topForms
-top-finds = form attribute-finds (form module-finds no-form)
+  autoidx-finds : Stands anAutoidx → Finds (FineShape ks) (autoidxForm .1)
+  unfolding autoidxForm among statementsOpen
+  autoidx-finds s = one-finds Any (FineShape ks) autoidx-stmt int (λ i x. bare (autoidx-stmt i) s refl refl) int-finds
 
-autoidx-finds : Finds FineShape (autoidxForm .1)
-unfolding autoidxForm contents holds
-autoidx-finds = one-finds Any FineShape autoidx-stmt int (λ i x. bare (autoidx-stmt i) refl refl) int-finds
+  top-finds : Stands anAttribute → Stands aModule → AllFind (FineShape ks) topForms
+  unfolding topForms among statementsOpen
+  top-finds a m = attribute-finds a then one-finds Legal (FineShape ks) module-stmt id (λ n h. named (module-stmt n) m n refl refl h) id-finds then tt
 
-object-finds : AllFind FineShape objectForms
-unfolding objectForms contents holds all
-object-finds =
-    form attribute-finds
-    (form (two-finds Any Legal FineShape wire-stmt (options wireOptionForms) id (λ os x n h. named (wire-stmt os n) n refl refl h) wire-finds id-finds)
-    (form (two-finds Any Legal FineShape memory-stmt (options memoryOptionForms) id (λ os x n h. named (memory-stmt os n) n refl refl h) memory-finds id-finds)
-    (form (two-finds Legal Legal FineShape cell-stmt id id (λ t h n k. record { names = all-cons legal t (n ∷ []) h (all-one legal n k); constants = refl }) id-finds id-finds)
-    (form (one-finds Legal FineShape proc-stmt id (λ n h. named (proc-stmt n) n refl refl h) id-finds) no-form))))
+  object-finds : Stands anAttribute → Stands aWire → Stands aMemory → Stands aCell → AllFind (FineShape ks) objectForms
+  unfolding objectForms among statementsOpen all
+  object-finds a w m c =
+      attribute-finds a
+      then two-finds Any Legal (FineShape ks) wire-stmt (options wireOptionForms) id (λ os x n h. named (wire-stmt os n) w n refl refl h) wire-finds id-finds
+      then two-finds Any Legal (FineShape ks) memory-stmt (options memoryOptionForms) id (λ os x n h. named (memory-stmt os n) m n refl refl h) memory-finds id-finds
+      then two-finds Legal Legal (FineShape ks) cell-stmt id id (λ t h n k. record { names = all-cons legal t (n ∷ []) h (all-one legal n k); constants = refl; stands = c }) id-finds id-finds
+      then one-finds Legal (FineShape ks) proc-stmt id (λ n h. named (proc-stmt n) refl n refl refl h) id-finds
+      then tt
 
-body-finds : {fs : List Form} → AllFind FineShape fs → AllFind FineShape (bodyForms ++ fs)
-unfolding bodyForms contents holds
-body-finds h =
-    form (two-finds Legal RawOption FineShape param-stmt id (orEnd const) (λ n h c k. record { names = all-one legal n h; constants = k }) id-finds end-finds)
-    (form (two-finds Any Any FineShape conn-stmt sigspec sigspec (λ s x t y. bare (conn-stmt s t) refl refl) sigspec-finds sigspec-finds)
-    (form (give-finds FineShape end-stmt (bare end-stmt refl refl)) h))
+  body-finds : Stands aParameter → Stands aConnection → Stands anEnd → AllFind (FineShape ks) bodyForms
+  unfolding bodyForms among statementsOpen
+  body-finds p c e =
+      two-finds Legal RawOption (FineShape ks) param-stmt id (orEnd const) (λ n h c k. record { names = all-one legal n h; constants = k; stands = p }) id-finds end-finds
+      then two-finds Any Any (FineShape ks) conn-stmt sigspec sigspec (λ s x t y. bare (conn-stmt s t) c refl refl) sigspec-finds sigspec-finds
+      then give-finds (FineShape ks) end-stmt (bare end-stmt e refl refl)
+      then tt
 
-cell-finds : AllFind FineShape cellForms
-unfolding cellForms contents holds
-cell-finds =
-    form (three-finds Any Legal Raw FineShape cell-param-stmt sort id const (λ o x n h c k. set (cell-param-stmt o n c) n c refl refl h k) sort-finds id-finds const-finds)
-    (form (two-finds Legal Any FineShape cell-conn-stmt id sigspec (λ n h s x. named (cell-conn-stmt n s) n refl refl h) id-finds sigspec-finds)
-    (form (give-finds FineShape end-stmt (bare end-stmt refl refl)) no-form))
+  cell-finds : Stands aCellParameter → Stands aCellConnection → Stands anEnd → AllFind (FineShape ks) cellForms
+  unfolding cellForms among statementsOpen
+  cell-finds p c e =
+      three-finds Any Legal Raw (FineShape ks) cell-param-stmt sort id const (λ o x n h c k. set (cell-param-stmt o n c) p n c refl refl h k) sort-finds id-finds const-finds
+      then two-finds Legal Any (FineShape ks) cell-conn-stmt id sigspec (λ n h s x. named (cell-conn-stmt n s) c n refl refl h) id-finds sigspec-finds
+      then give-finds (FineShape ks) end-stmt (bare end-stmt e refl refl)
+      then tt
 
-forms-find : (z : Scope) (first attributed : Bool) → AllFind FineShape (forms z first attributed)
-unfolding forms
-forms-find top true attributed = form autoidx-finds top-finds
-forms-find top false attributed = top-finds
-forms-find inModule first true = object-finds
-forms-find inModule first false = body-finds object-finds
-forms-find inCell first attributed = cell-finds
+-- the kinds that stand in a place are those of its forms
+forms-find : (z : Scope) (first attributed : Bool) → AllFind (FineShape (kinds z first attributed)) (forms z first attributed)
+unfolding forms kinds any statementsOpen
+forms-find top true attributed = autoidx-finds _ refl then top-finds _ refl refl
+forms-find top false attributed = top-finds _ refl refl
+forms-find inModule first true = object-finds _ refl refl refl refl
+forms-find inModule first false = each-append _ bodyForms objectForms (body-finds _ refl refl refl) (object-finds _ refl refl refl refl)
+forms-find inCell first attributed = cell-finds _ refl refl refl
 
-pub data FineShaped : Option Shape → Type 0 where
-  no-shape : FineShaped none
-  fine-shape : {sh : Shape} → FineShape sh → FineShaped (some sh)
+module _ (ks : List Kind) where
+  pub data FineShaped : Option Shape → Type 0 where
+    no-shape : FineShaped none
+    fine-shape : {sh : Shape} → FineShape ks sh → FineShaped (some sh)
 
-whole-fine : {o : Option (Shape × List Token)} → Gives FineShape o → FineShaped (whole o)
-unfolding whole wholeBy
-whole-fine gives-none = no-shape
-whole-fine (gives {a = sh} {ts} h t) = by-rest ts
-  where
-    by-rest : (ts : List Token) → FineShaped (wholeBy sh ts)
-    by-rest [] = fine-shape h
-    by-rest (t ∷ ts) = no-shape
+  whole-fine : {o : Option (Shape × List Token)} → Gives (FineShape ks) o → FineShaped (whole o)
+  unfolding whole wholeBy
+  whole-fine gives-none = no-shape
+  whole-fine (gives {a = sh} {ts} h t) = by-rest ts
+    where
+      by-rest : (ts : List Token) → FineShaped (wholeBy sh ts)
+      by-rest [] = fine-shape h
+      by-rest (t ∷ ts) = no-shape
 
-pub shape-fine : (c : Context) (ts : List Token) → all fineToken ts ≡ true → FineShaped (shape c ts)
+pub shape-fine : (c : Context) (ts : List Token) → all fineToken ts ≡ true → FineShaped (kinds (c .scope) (c .first) (c .attributed)) (shape c ts)
 unfolding shape Fine
-shape-fine c ts h = whole-fine (choice-finds FineShape (forms-find (c .scope) (c .first) (c .attributed)) ts h)
+shape-fine c ts h = whole-fine _ (choice-finds (FineShape _) _ (forms-find (c .scope) (c .first) (c .attributed)) ts h)

@@ -1,22 +1,20 @@
 -- A wire's and a memory's line, judged by their options.
 -- Assumes nothing.
 use Prim.Native.Nat.{ℕ, _+_, _*_, _≤_, _<_}
-use Prim.Native.String.{String}
 use mathlib.Core.Path.{_≡_, refl}
-use mathlib.Core.List.{List, [], _∷_, Option·toList}
-use mathlib.Core.Option.{Option, none, some, Option·getD, Option·elim}
+use mathlib.Core.List.{List, [], Option·toList}
+use mathlib.Core.Option.{Option, none, some, Option·elim}
 use mathlib.Core.Bool.{Bool, true, false, not, cond, _&&_}
 use native.Mathlib.Omega.{arith}
 use lib.Dec.{eqb}
-use lib.IntN.{ℤ, pos}
-use Rattle.rules.specs.Bytes.{bytes, same, any, all}
+use Rattle.rules.specs.Bytes.{any, all}
 use Rattle.rules.specs.Tokens.{Name}
 use Rattle.rules.specs.Statements.{Opt, Wire, Direction, wire-stmt, memory-stmt}
-use Rattle.rules.specs.Numbers.{int32, numberOr, goodOptions, once, goodWire, goodMemory, wireOf, memoryOf}
+use Rattle.rules.specs.Numbers.{int32, goodWire, goodMemory, wireOf, memoryOf}
 use Rattle.rules.specs.Signals.{Wires, twosComplement}
 use Rattle.rules.specs.Judgement.{portNumbers, newPort}
 use Rattle.rules.specs.Layout.{Used, padded, row, directionCode, flags, wireRow}
-use Rattle.scanner.specs.Laws.{by-cond, and-true-left, and-true-right}
+use Rattle.past.specs.Offsets.{good-offset, memory-offset}
 use Rattle.wires.specs.Rows.{column, wordAt}
 use Rattle.wires.specs.RowLaws.{row-wire, port-small}
 use Rattle.forms.specs.Forms.{nameIn}
@@ -26,25 +24,6 @@ use Rattle.options.proofs.Ports.{code-range}
 use Rattle.syntax.specs.Statements.{wireFrom, memoryFrom, Judged}
 use Rattle.syntax.specs.declared.Statement.the-variants as statement
 use Rattle.syntax.proofs.ShapeLaws.{plainOpen, bad-number, stated, number-back}
-
--- ---- the numbers of good options are within 32 bits
-
-given-fits : (v : Option ℤ) (d : ℤ) → int32 d ≡ true → all int32 (Option·toList v) ≡ true → int32 (Option·getD v d) ≡ true
-unfolding all Option·toList
-given-fits none d h g = h
-given-fits (some z) d h g = and-true-left (int32 z) true g
-
-number-fits : (d : ℤ) (w : String) (os : List Opt) → int32 d ≡ true → all (λ o. all int32 (Option·toList (o .1))) os ≡ true → int32 (numberOr d w os) ≡ true
-unfolding numberOr all
-number-fits d w [] h g = h
-number-fits d w (o ∷ os) h g =
-    by-cond (λ z. int32 z ≡ true) (same (o .0) (bytes w))
-    (λ _. given-fits (o .1) d h (and-true-left _ _ g))
-    (λ _. number-fits d w os h (and-true-right (all int32 (Option·toList (o .1))) _ g))
-
-offset-fits : (os : List Opt) → goodOptions os ≡ true → int32 (numberOr (pos 0) "offset" os) ≡ true
-unfolding goodOptions int32
-offset-fits os g = number-fits (pos 0) "offset" os refl (and-true-right (once os) _ g)
 
 -- ---- a wire from its columns
 
@@ -104,11 +83,7 @@ module _ (ws : Wires) (f s : List ℕ) (os : List Opt) (n : Name) where
   memory-bad h = bad-number ws f s refl (rw h)
 
 wire-means : (os : List Opt) {w t k p : ℕ} → WireGood os w t k p → wireFrom w t k p ≡ wireOf os
-unfolding goodWire wireOf
-wire-means os G =
-    rw (← G .width, ← G .offset, ← G .flags, ← G .port)
-    (wire-back (wireOf os)
-    (offset-fits os (and-true-left (goodOptions os) _ (and-true-left _ _ (and-true-left _ _ (and-true-left _ _ (G .good)))))))
+wire-means os G = rw (← G .width, ← G .offset, ← G .flags, ← G .port) (wire-back (wireOf os) (good-offset os (G .good)))
 
 wire-sound : (os : List Opt) {w t k p : ℕ} → WireGood os w t k p → (k < 16) × (k < 4 → p ≡ 0)
 unfolding flags Option·elim
@@ -126,7 +101,7 @@ module _ (ws : Wires) (f s : List ℕ) (os : List Opt) (n : Span) where
   wire-stated G h = stated ws f s _ refl refl refl refl (rw (G .good, h)) refl refl (wire-sound os G) (rw (wire-means os G))
 
   pub memory-stated : {w z t : ℕ} → MemoryGood os w z t → Judged ws f s (some (memory-stmt os (nameIn f n))) (statement.Memory n w z t)
-  unfolding plainOpen goodMemory memoryOf memoryFrom
+  unfolding plainOpen memoryOf memoryFrom
   memory-stated G =
       stated ws f s _ refl refl refl refl (rw (G .good)) refl refl tt
-      (rw (← G .width, ← G .size, number-back _ _ (offset-fits os (and-true-left (goodOptions os) _ (and-true-left _ _ (G .good)))) (G .offset)))
+      (rw (← G .width, ← G .size, number-back _ _ (memory-offset os (G .good)) (G .offset)))

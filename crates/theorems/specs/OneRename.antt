@@ -7,6 +7,7 @@ use mathlib.Core.Option.{some, Option·map}
 use mathlib.Core.Bool.{false, _&&_}
 use lib.Dec.{eqb}
 use borrow.Author.Tests.{eq-eqb}
+use Rattle.rules.specs.Bytes.{all}
 use Rattle.rules.specs.Statements.{Wire}
 use Rattle.rules.specs.Judgement.{accepted}
 use Rattle.rules.specs.Design.{Object, object, Module, Design}
@@ -14,7 +15,7 @@ use Rattle.rules.specs.Session.{Rename, wireAt, renameWire, renamed, now, renam
 use Rattle.order.specs.RenamedFine.{map-change, undo-last, accepted-keeps}
 use Rattle.designs.specs.Now.{renames, wireNow}
 use Rattle.designs.specs.NowLaws.{wire-now, wire-last}
-use Rattle.theorems.specs.StandingLaws.{judged}
+use Rattle.admitted.specs.StandLaws.{by-verdict}
 
 -- the design without the names of its wires
 unfoldable pub nameless : Object Wire → Object Wire
@@ -81,9 +82,9 @@ module _ (d : Design) (rs : List Rename) (r : Rename) where
 
 -- it stands until undone: a rename behind it, accepted or refused, leaves it listed where it is
 pub still-listed : (d : Design) (qs : List Rename) (r : Rename) → (ts : List Rename) × (standing qs (call d qs (rename r)) ≡ qs ++ ts)
-unfolding call renameCall standing
+unfolding call renameCall standing all
 still-listed d qs r =
-    judged (λ v. (ts : List Rename) × (standing qs v ≡ qs ++ ts)) (qs ++ r ∷ []) _ (λ e. (r ∷ [], refl)) (λ n. ([], sym (append-nil qs)))
+    by-verdict (λ v. (ts : List Rename) × (standing qs v ≡ qs ++ ts)) (qs ++ r ∷ []) _ refl (λ e. (r ∷ [], refl)) (λ n p. ([], sym (append-nil qs)))
 
 -- AN ACCEPTED UNDO ends the youngest that stands
 pub accepted-undo : (rs : List Rename) (r : Rename) → undoCall (rs ++ r ∷ []) ≡ accepted rs
