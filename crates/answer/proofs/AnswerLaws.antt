@@ -22,7 +22,7 @@ use Rattle.text.specs.Written.{Written, written-end}
 use Rattle.reader.specs.Read.{Result, rightLengths, leaves, readInto}
 use Rattle.session.specs.Called.{Called, wrong-lengths, damaged, holding}
 use Rattle.writer.specs.Write.{wrote}
-use Rattle.calls.proofs.OneLaws.{holds-one}
+use Rattle.held.specs.OneLaws.{holds-one}
 use Rattle.calls.proofs.CallLaws.{LengthsKept, lengths-kept}
 use Rattle.calls.proofs.RunLaws.{Accepted, number-read, accepted-holds}
 use Rattle.answer.specs.Printed.{putting, PrintedAs}

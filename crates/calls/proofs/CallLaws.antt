@@ -21,7 +21,7 @@ use Rattle.theorems.specs.StandingLaws.{allowed-session}
 use Rattle.calls.specs.Calls.{callWord, renameAt, callAt, callsFrom, callsIn, answered}
 use Rattle.calls.specs.Steps.{Opened, MadeAs}
 use Rattle.scanner.specs.Laws.{never}
-use Rattle.calls.proofs.OneLaws.{holds-one}
+use Rattle.held.specs.OneLaws.{holds-one}
 
 -- THE ANSWERS
 answered-none : (old : List ℕ) → answered old [] ≡ old

@@ -1,4 +1,3 @@
-pub mod OneLaws
 mod NumberLaws
 pub mod CallLaws
 pub mod RunLaws
