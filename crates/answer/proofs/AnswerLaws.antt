@@ -15,14 +15,14 @@ use Rattle.rules.specs.Design.{design}
 use Rattle.rules.specs.Session.{Rename, now}
 use Rattle.rules.specs.Text.{decimalOnto, decimalText, text, writeText, write, refusal, printed, programBy, program}
 use Rattle.rules.specs.Layout.{Memory}
-use Rattle.scanner.specs.Laws.{by-cond, never}
+use Rattle.scanner.specs.Laws.{by-cond}
 use Rattle.tables.specs.Store.{store}
 use Rattle.netlist.specs.Lengths.{rightSizes}
 use Rattle.text.specs.Written.{Written, written-end}
 use Rattle.reader.specs.Read.{Result, rightLengths, leaves, readInto}
 use Rattle.session.specs.Called.{Called, wrong-lengths, damaged, holding}
 use Rattle.writer.specs.Write.{wrote}
-use Rattle.calls.proofs.OneLaws.{holds-one}
+use Rattle.session.specs.CalledLaws.{called-one}
 use Rattle.calls.proofs.CallLaws.{LengthsKept, lengths-kept}
 use Rattle.calls.proofs.RunLaws.{Accepted, number-read, accepted-holds}
 use Rattle.answer.specs.Printed.{putting, PrintedAs}
@@ -148,11 +148,6 @@ module _ (file : List ℕ) (m : Memory) (x : Result) (e : x ≡ readInto file m)
     says-program a = rw (a .reads, size)
 
     pub answer-held : (new : List ℕ) (r : ℕ) → PrintedAs (x .memory) old new r → _≡_ {A = ℕ × List ℕ} (r, new) (putting old (program file))
-    answer-held new r (wrong-lengths w q) = never (rightLengths (x .memory)) (lengths-kept (x .memory) m k ∙ number-read file m x e z .lengths) w
-    answer-held new r (damaged w d q) =
+    answer-held new r h =
         let a = number-read file m x e z in
-        absurd (d (a .statements) [] (accepted-holds file m x a))
-    answer-held new r (holding ss rs w h q) =
-        let a = number-read file m x e z in
-        let o = holds-one h (accepted-holds file m x a) in
-        q ∙ ap₂ says (o .0) (o .1) ∙ says-program a
+        called-one h (holding (a .statements) [] (lengths-kept (x .memory) m k ∙ a .lengths) (accepted-holds file m x a) refl) ∙ says-program a

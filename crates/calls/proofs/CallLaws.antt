@@ -16,12 +16,12 @@ use Rattle.rules.specs.Session.{Rename, Call, call, numberOf, standing, plainSe
 use Rattle.rules.specs.Layout.{Memory, layout}
 use Rattle.admitted.specs.Holds.{Allowed, Holds}
 use Rattle.reader.specs.Read.{Result, result, rightLengths}
-use Rattle.session.specs.Called.{wrong-lengths, damaged, holding, after, CalledAs}
+use Rattle.session.specs.Called.{holding, after, CalledAs}
+use Rattle.session.specs.CalledLaws.{called-one}
 use Rattle.theorems.specs.StandingLaws.{allowed-session}
 use Rattle.calls.specs.Calls.{callWord, renameAt, callAt, callsFrom, callsIn, answered}
 use Rattle.calls.specs.Steps.{Opened, MadeAs}
-use Rattle.scanner.specs.Laws.{never}
-use Rattle.calls.proofs.OneLaws.{holds-one}
+use Rattle.held.specs.OneLaws.{holds-one}
 
 -- THE ANSWERS
 answered-none : (old : List ℕ) → answered old [] ≡ old
@@ -85,11 +85,7 @@ module _ {m : Memory} {ss : List Statement} {rs : List Rename} (h : Holds m ss r
       }
 
   pub called : rightLengths m ≡ true → (r : Result) → CalledAs m c r → Stepped ss rs c r
-  called l r (wrong-lengths e q) = never (rightLengths m) l e
-  called l r (damaged e d q) = absurd (d ss rs h)
-  called l r (holding qs ps e k q) =
-      let o = holds-one k h in
-      step-is r (q ∙ ap₂ (λ (x : List Statement) (y : List Rename). after m x (call (design x) y c)) (o .0) (o .1))
+  called l r k = step-is r (called-one k (holding ss rs l h refl))
 
 -- TABLES KEEP THEIR LENGTHS
 abbrev pub LengthsKept : Memory → Memory → Type 0

@@ -1,3 +1,2 @@
-pub mod OneLaws
 pub mod CallLaws
 pub mod RunLaws

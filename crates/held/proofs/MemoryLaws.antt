@@ -17,6 +17,7 @@ use Rattle.past.specs.declared.place.Place.{Place}
 use Rattle.past.specs.declared.sizes.Sizes.{Sizes}
 use Rattle.admitted.specs.Holds.{Holds}
 use Rattle.replay.specs.Begins.{Stored, Replays}
+use Rattle.replay.specs.OneLaws.{stored-one}
 use Rattle.replay.specs.declared.Replayed.{Replayed}
 use Rattle.standing.specs.Judged.{Lies}
 use Rattle.held.specs.declared.Held.{Held}
@@ -41,13 +42,13 @@ module _ (m : Memory) where
     no-statements e ss rs h = let f = rw e at r in f (reverse ss) (holds-stored h)
 
     module _ (p : Place) (u : Sizes) (e : o ≡ Replayed.Holding p u) where
-      found : (ss : Past) × Stored (partsOf m) (m .rows) ss × (placeOf ss ≡ p) × (sumsOf ss ≡ u) × ((qs : Past) → Stored (partsOf m) (m .rows) qs → qs ≡ ss)
+      found : (ss : Past) × Stored (partsOf m) (m .rows) ss × (placeOf ss ≡ p) × (sumsOf ss ≡ u)
       unfolding Replays
       found = rw e at r
 
       module _ {ss : List Statement} {rs : List Rename} (h : Holds m ss rs) where
         same-past : reverse ss ≡ found .0
-        same-past = found .4 (reverse ss) (holds-stored h)
+        same-past = stored-one (holds-stored h) (found .1)
 
         same-place : placeOf (reverse ss) ≡ p
         same-place = ap placeOf same-past ∙ found .2

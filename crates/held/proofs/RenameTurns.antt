@@ -22,7 +22,8 @@ use Rattle.admitted.specs.Holds.{Allowed, no-renames}
 use Rattle.netlist.specs.Spans.{Has}
 use Rattle.netlist.specs.Laid.{Laid, Wired}
 use Rattle.scanner.specs.Laws.{never}
-use Rattle.standing.specs.Judged.{Lies, JudgedIs}
+use Rattle.standing.specs.Judged.{Lies, judged}
+use Rattle.standing.specs.JudgedLaws.{judged-is}
 use Rattle.held.specs.declared.Renamed.{Renamed}
 use Rattle.held.specs.Renamed.{isRename, RenameIs, RenamesAre}
 use Rattle.held.specs.AllowedLaws.{allowed-next, allowed-more, number-accepted, accepted-number}
@@ -75,43 +76,48 @@ module _ (names wires rows : List ℕ) (p : Place) (i used : ℕ) where
     unfolding RenameIs
     no-name h ss rs l q k e = omega (arith, next-row l q k x ex .long, next-inside l q k)
 
-    module _ (n : Name) (en : n ≡ slice used (used + x .b) names) (number : ℕ) (j : JudgedIs names wires rows p i used (x .c) (x .d) n number) where
+    module _ (n : Name) (en : n ≡ slice used (used + x .b) names) (number : ℕ) (j : number ≡ judged names wires rows p i used (x .c) (x .d) n) where
       span-is : n ≡ take (x .b) (drop used names)
       span-is = en ∙ slice-span used (x .b) names
+
+      abbrev new : Rename
+      new = record { moduleNumber = x .c; wireNumber = x .d; newName = n }
+
+      number-is : {ss : List Statement} {rs : List Rename} → Lies names wires rows p i used ss rs → numberOf (renameCall (design ss) rs new) ≡ number
+      number-is l = judged-is l new ∙ sym j
 
       pub rename-refused : (number ≡ 0 → ⊥) → RenameIs names wires rows p i used Renamed.Nothing
       unfolding RenameIs Has
       rename-refused h ss rs l q k e =
           let f = next-row l q k x ex in
-          let d : _≡_ {A = Rename} (record { moduleNumber = x .c; wireNumber = x .d; newName = n }) q =
+          let d : new ≡ q =
           rename-eq (x .c) (q .moduleNumber) (x .d) (q .wireNumber) n (q .newName) (f .module-number) (f .wire-number)
           (span-is ∙ ap (λ (y : ℕ). take y (drop used names)) (f .long) ∙ next-name l q k) in
-          h (sym (j ss rs l) ∙ ap (λ (r : Rename). numberOf (renameCall (design ss) rs r)) d ∙ accepted-number (design ss) rs q e)
+          h (sym (number-is l) ∙ ap (λ (r : Rename). numberOf (renameCall (design ss) rs r)) d ∙ accepted-number (design ss) rs q e)
 
       pub rename-next :
           8 * (p .rows + i) + 8 ≤ length rows → isRename x used ≡ true → used + x .b ≤ length names → number ≡ 0 →
           RenameIs names wires rows p i used (Renamed.Used (used + x .b))
       unfolding RenameIs Has
       rename-next long is inside z ss rs l =
-          let r : Rename = record { moduleNumber = x .c; wireNumber = x .d; newName = n } in
           let S : Rooms = rooms ss rs in
-          let e : renameCall (design ss) rs r ≡ accepted (rs ++ r ∷ []) = number-accepted (design ss) rs r (j ss rs l ∙ z) in
+          let e : renameCall (design ss) rs new ≡ accepted (rs ++ new ∷ []) = number-accepted (design ss) rs new (number-is l ∙ z) in
           let m : length n ≡ x .b = ap length span-is ∙ length-take (x .b) (drop used names) ∙ (omega (arith, length-drop used names)) in
           let c : length (S .rows) ≡ p .rows + i = rows-are l in
-          let w : words (rowAt rows (8 * length (S .rows))) ≡ renameRow (length (S .names)) r =
+          let w : words (rowAt rows (8 * length (S .rows))) ≡ renameRow (length (S .names)) new =
           rw (c, l .room, ← ex) (rename-words x used n is m) in
           let t : Has names (length (S .names)) n = rw (l .room, m) (sym span-is) in
-          let k : Laid (putRename S r) names rows = next-laid S (eights-file ss rs) r (l .laid) (rw c long) w t in
-          let f : rooms ss (rs ++ r ∷ []) ≡ putRename S r = file-last ss rs r in (
-            r,
+          let k : Laid (putRename S new) names rows = next-laid S (eights-file ss rs) new (l .laid) (rw c long) w t in
+          let f : rooms ss (rs ++ new ∷ []) ≡ putRename S new = file-last ss rs new in (
+            new,
             record {
               admitted = l .admitted;
               closes = l .closes;
               laid = rw f k;
-              wired = rw f (wired-more S r k (l .wired));
+              wired = rw f (wired-more S new k (l .wired));
               place = l .place;
-              standing = length-append rs (r ∷ []) ∙ ap (λ (y : ℕ). y + 1) (l .standing);
-              room = room-behind S r _ f ∙ ap₂ _+_ (l .room) m;
+              standing = length-append rs (new ∷ []) ∙ ap (λ (y : ℕ). y + 1) (l .standing);
+              room = room-behind S new _ f ∙ ap₂ _+_ (l .room) m;
             },
             e,
           )

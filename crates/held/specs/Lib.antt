@@ -3,3 +3,4 @@ pub mod Held
 pub mod AllowedLaws
 pub mod RenameLaws
 pub mod HeldLaws
+pub mod OneLaws

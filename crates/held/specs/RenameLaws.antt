@@ -20,7 +20,7 @@ use Rattle.scanner.specs.Lists.{none-more}
 use Rattle.netlist.specs.Laid.{roomsOf, Laid}
 use Rattle.netlist.specs.Spans.{Starts, Has, starts-has, starts-long, starts-more}
 use Rattle.netlist.specs.LaidLaws.{laid-renames, eights-rows, length-rows}
-use Rattle.netlist.specs.RoomLaws.{put-renames-last, length-rename-row, rename-rows, eights-renames, rooms-file}
+use Rattle.netlist.specs.RoomLaws.{renames-append, put-renames-last, length-rename-row, rename-rows, eights-renames, rooms-file}
 use Rattle.standing.specs.NowLaws.{last-rename-row, last-rename-name}
 use Rattle.held.specs.Renamed.{isRename}
 
@@ -130,11 +130,6 @@ begins-only {names} {rows} S h (q ∷ qs) (r ∷ rs) b l k =
     let d : Laid (putRenames (putRename S r) qs) names rows = rw e at l in
     let z = begins-only (putRename S r) (eights-renames S (r ∷ []) h) qs rs (omega arith) d k in
     (z .0, ap₂ _∷_ e (z .1))
-
-renames-append : (R : Rooms) (rs more : List Rename) → putRenames R (rs ++ more) ≡ putRenames (putRenames R rs) more
-unfolding putRenames
-renames-append R [] more = refl
-renames-append R (r ∷ rs) more = renames-append (putRename R r) rs more
 
 -- the same of the rooms of a file
 pub file-last : (ss : List Statement) (rs : List Rename) (r : Rename) → rooms ss (rs ++ r ∷ []) ≡ putRename (rooms ss rs) r

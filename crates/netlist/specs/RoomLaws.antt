@@ -13,11 +13,15 @@ use Rattle.tables.specs.Flat.{Eights, eights-none, eights-more, eights-append}
 use Rattle.netlist.specs.Laid.{roomsOf}
 use Rattle.netlist.specs.LaidLaws.{rooms-past}
 
--- one more, their rows, and their names
+-- more behind them, one more, their rows, and their names
+pub renames-append : (R : Rooms) (rs more : List Rename) → putRenames R (rs ++ more) ≡ putRenames (putRenames R rs) more
+unfolding putRenames
+renames-append R [] more = refl
+renames-append R (r ∷ rs) more = renames-append (putRename R r) rs more
+
 pub put-renames-last : (R : Rooms) (rs : List Rename) (r : Rename) → putRenames R (rs ++ r ∷ []) ≡ putRename (putRenames R rs) r
 unfolding putRenames
-put-renames-last R [] r = refl
-put-renames-last R (q ∷ rs) r = put-renames-last (putRename R q) rs r
+put-renames-last R rs r = renames-append R rs (r ∷ [])
 
 pub length-rename-row : (at : ℕ) (r : Rename) → length (renameRow at r) ≡ 8
 unfolding renameRow row padded

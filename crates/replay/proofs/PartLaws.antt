@@ -11,10 +11,8 @@ use lib.Seq.{slice}
 use borrow.Author.Tests.{le-leb, lt-leb, leb-true, leb-false}
 use Rattle.rules.specs.Bytes.{all, within, legal}
 use Rattle.rules.specs.Signals.{Wires}
-use Rattle.admitted.specs.Admitted.{fineBit}
-use Rattle.numbers.specs.Kinds.{bitOf, bitAt}
 use Rattle.scanner.specs.Laws.{by-test, and-true-left, and-true-right, legal-short}
-use Rattle.replay.specs.Parts.{span, whole, nameStands, isDigit, digitsStand, textStands, signalStands}
+use Rattle.replay.specs.Parts.{span, whole, nameStands, partStands, textStands, signalStands}
 use Rattle.replay.proofs.Spans.{whole-none, whole-in, whole-out, whole-long, span-none}
 
 pub positive : (n : ℕ) → (n ≡ 0 → ⊥) → 0 < n
@@ -36,18 +34,6 @@ module _ (t : List ℕ) (at n : ℕ) {b : Bool} (w : b ≡ whole t at n) where
   unfolding nameStands span
   name-in e m q h = rw (← w, e, ← q) h
 
-  pub digits-out : b ≡ false → false ≡ digitsStand t at n
-  unfolding digitsStand
-  digits-out e = rw (← w, e)
-
-  pub digits-wide : b ≡ true → 2048 < n → false ≡ digitsStand t at n
-  unfolding digitsStand
-  digits-wide e h = rw (← w, e, lt-leb n 2048 h)
-
-  pub digits-in : b ≡ true → n ≤ 2048 → {r : Bool} → r ≡ all isDigit (slice at (at + n) t) → r ≡ digitsStand t at n
-  unfolding digitsStand span
-  digits-in e h q = rw (← w, e, le-leb n 2048 h) q
-
   pub text-out : b ≡ false → false ≡ textStands t at n
   unfolding textStands
   text-out e = rw (← w, e)
@@ -56,32 +42,27 @@ module _ (t : List ℕ) (at n : ℕ) {b : Bool} (w : b ≡ whole t at n) where
   unfolding textStands span
   text-in e q = rw (← w, e) q
 
-  module _ (ws : Wires) where
-    pub signal-out : b ≡ false → false ≡ signalStands ws t at n
-    unfolding signalStands
-    signal-out e = rw (← w, e)
+  -- digits and signals
+  module _ (f : ℕ → Bool) where
+    pub part-out : b ≡ false → false ≡ partStands f t at n
+    part-out e = rw (← w, e)
 
-    pub signal-wide : b ≡ true → 2048 < n → false ≡ signalStands ws t at n
-    unfolding signalStands
-    signal-wide e h = rw (← w, e, lt-leb n 2048 h)
+    pub part-wide : b ≡ true → 2048 < n → false ≡ partStands f t at n
+    part-wide e h = rw (← w, e, lt-leb n 2048 h)
 
-    pub signal-in : b ≡ true → n ≤ 2048 → {r : Bool} → r ≡ all (λ c. fineBit ws (bitOf (bitAt c))) (slice at (at + n) t) → r ≡ signalStands ws t at n
-    unfolding signalStands span
-    signal-in e h q = rw (← w, e, le-leb n 2048 h) q
+    pub part-in : b ≡ true → n ≤ 2048 → {r : Bool} → r ≡ all f (slice at (at + n) t) → r ≡ partStands f t at n
+    unfolding span
+    part-in e h q = rw (← w, e, le-leb n 2048 h) q
 
 -- a part of no values stands everywhere
 module _ (t : List ℕ) (at n : ℕ) (e : n ≡ 0) where
-  pub digits-none : true ≡ digitsStand t at n
-  unfolding digitsStand all
-  digits-none = rw (e, whole-none, span-none)
+  pub part-none : (f : ℕ → Bool) → true ≡ partStands f t at n
+  unfolding all
+  part-none f = rw (e, whole-none, span-none)
 
   pub text-none : true ≡ textStands t at n
   unfolding textStands all
   text-none = rw (e, whole-none, span-none)
-
-  pub signal-none : (ws : Wires) → true ≡ signalStands ws t at n
-  unfolding signalStands all
-  signal-none ws = rw (e, whole-none, span-none)
 
 -- names and signals are short, so that a place behind one does not wrap
 pub name-few : (t : List ℕ) (at n : ℕ) → nameStands t at n ≡ true → n ≤ 255

@@ -303,7 +303,7 @@ module _ (t : Tables) (rows : List ℕ) (p : Place) (u : Sizes) where
           turn-counted e (Turn.Next q w) c =
               λ ss at.
               let k = c ss found at (rowed-found ss at) in
-              (found, reached-found ss at e q w (k .0) (k .1) (k .2) (k .3), λ x fr ad. sym (only-found ss at x fr ad))
+              (found, reached-found ss at e q w (k .0) (k .1) (k .2) (k .3))
           turn-counted e Turn.Nothing c =
               λ ss at x fr ad.
               let q = sym (only-found ss at x fr ad) in

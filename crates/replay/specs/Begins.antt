@@ -36,8 +36,8 @@ pub record Stored (t : Tables) (rows : List ℕ) (ss : Past) : Type 0 where
   pub closed : closes ss ≡ true
   pub begins : Begins (roomsOf ss) t rows
 
--- the answer, both ways: there are such statements and no others, with this place and these sums behind them; or there are none
+-- the answer, both ways: there are such statements, with this place and these sums behind them; or there are none. There are no others (OneLaws)
 unfoldable pub Replays : Tables → List ℕ → Replayed → Type 0
 Replays t rows (Replayed.Holding p u) =
-    (ss : Past) × Stored t rows ss × (placeOf ss ≡ p) × (sumsOf ss ≡ u) × ((qs : Past) → Stored t rows qs → qs ≡ ss)
+    (ss : Past) × Stored t rows ss × (placeOf ss ≡ p) × (sumsOf ss ≡ u)
 Replays t rows Replayed.Damaged = (ss : Past) → Stored t rows ss → ⊥

@@ -2,4 +2,5 @@ pub mod Parts
 pub mod Reads
 pub mod Objects
 pub mod Begins
+pub mod OneLaws
 pub mod Turns

@@ -27,12 +27,16 @@ WholeIs long at n r = (t : List ℕ) → length t ≡ long → r ≡ whole t at 
 unfoldable pub nameStands : List ℕ → (at n : ℕ) → Bool
 nameStands names at n = whole names at n && legal (span names at n)
 
+-- at most 2,048 values, each of which passes a test
+abbrev pub partStands : (ℕ → Bool) → List ℕ → (at n : ℕ) → Bool
+partStands f t at n = whole t at n && (leb n 2048 && all f (span t at n))
+
 -- the digits of a value by their codes, which are below 6
 unfoldable pub isDigit : ℕ → Bool
 isDigit c = ltb c 6
 
 unfoldable pub digitsStand : List ℕ → (at n : ℕ) → Bool
-digitsStand bits at n = whole bits at n && (leb n 2048 && all isDigit (span bits at n))
+digitsStand bits at n = partStands isDigit bits at n
 
 unfoldable pub textStands : List ℕ → (at n : ℕ) → Bool
 textStands strings at n = whole strings at n && all (within 1 255) (span strings at n)
@@ -42,7 +46,7 @@ signalOf cs = map (λ c. bitOf (bitAt c)) cs
 
 -- each bit of a signal is a digit's or lies inside its wire, as the rules say it
 unfoldable pub signalStands : Wires → List ℕ → (at n : ℕ) → Bool
-signalStands ws bits at n = whole bits at n && (leb n 2048 && all (λ c. fineBit ws (bitOf (bitAt c))) (span bits at n))
+signalStands ws bits at n = partStands (λ c. fineBit ws (bitOf (bitAt c))) bits at n
 
 -- of the wires of count rows from first on; names don't matter
 abbrev pub BitFits : (wires : List ℕ) → (first count c : ℕ) → Bool → Type 0

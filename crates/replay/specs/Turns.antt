@@ -46,8 +46,7 @@ pub record Reached (t : Tables) (rows : List ℕ) (ss : Past) (p : Place) (u : S
 -- one statement more: the place and the sums behind it; or none can stand there
 unfoldable pub TurnIs : Tables → List ℕ → Place → Sizes → Turn → Type 0
 TurnIs t rows p u (Turn.Next q v) =
-    (ss : Past) → Reached t rows ss p u →
-    (s : Statement) × Reached t rows (s ∷ ss) q v × ((x : Statement) → Fronts (roomsOf (x ∷ ss)) (withRows t rows) → admits ss x ≡ true → x ≡ s)
+    (ss : Past) → Reached t rows ss p u → (s : Statement) × Reached t rows (s ∷ ss) q v
 TurnIs t rows p u Turn.Nothing =
     (ss : Past) → Reached t rows ss p u → (x : Statement) → Fronts (roomsOf (x ∷ ss)) (withRows t rows) → admits ss x ≡ true → ⊥
 

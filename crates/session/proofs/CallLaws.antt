@@ -16,6 +16,8 @@ use Rattle.past.specs.declared.place.Place.{Place}
 use Rattle.admitted.specs.Holds.{Allowed, no-renames, one-rename}
 use Rattle.netlist.specs.Laid.{Laid}
 use Rattle.reader.specs.Read.{result, lent}
+use Rattle.standing.specs.Judged.{judged}
+use Rattle.standing.specs.JudgedLaws.{judged-is}
 use Rattle.standing.specs.RoomLaws.{room-used}
 use Rattle.standing.specs.NowLaws.{last-rename-row}
 use Rattle.held.specs.HeldLaws.{holds-laid}
@@ -24,7 +26,7 @@ use Rattle.session.specs.Called.{Called, holding, wrong-lengths, damaged
 use Rattle.session.specs.Steps.{Holding, NotOpen, wrong-sizes, none-held}
 use Rattle.order.specs.RenamedFine.{undo-last}
 use Rattle.session.proofs.RenameLaws.{Passes, passes, refused-by, layout-rename, layout-undo}
-use Rattle.session.proofs.HoldLaws.{rooms-rows, long, standing, used, rows-before, few-rows}
+use Rattle.session.proofs.HoldLaws.{rooms-rows, long, standing, used, rows-before, few-rows, lies}
 
 -- 1 and 3
 pub not-open :
@@ -49,16 +51,18 @@ module _ (m : Memory) (ss : List Statement) (rs : List Rename) (r : Rename) (row
   undone-memory e en er = rw (en, er, at-row, ← e) (layout-undo ss rs r (eights-file ss rs) room few)
 
 -- RENAME
-module _ {names strings bits wires rows : List ℕ} {renames room : ℕ} {p : Place} (h : Holding (lent names strings bits wires rows renames room) p) (r : Rename) where
-  pub rename-refused :
-      (n : ℕ) → numberOf (renameCall (design (h .statements)) (h .renames) r) ≡ n → (n ≡ 0 → ⊥) →
-      let m = lent names strings bits wires rows renames room in CalledAs m (Call.rename r) (result n 0 m)
-  unfolding after call
-  rename-refused n e z = holding (h .statements) (h .renames) (h .lengths) (h .holds) (rw (refused-by _ n e z))
+module _ {names strings bits wires rows : List ℕ} {renames room : ℕ} {p : Place} (h : Holding (lent names strings bits wires rows renames room) p) (r : Rename)
+    (n : ℕ) (j : n ≡ judged names wires rows p renames room (r .moduleNumber) (r .wireNumber) (r .newName)) where
+  number-is : numberOf (renameCall (design (h .statements)) (h .renames) r) ≡ n
+  number-is = judged-is (lies h) r ∙ sym j
 
-  module _ (z : numberOf (renameCall (design (h .statements)) (h .renames) r) ≡ 0) where
+  pub rename-refused : (n ≡ 0 → ⊥) → let m = lent names strings bits wires rows renames room in CalledAs m (Call.rename r) (result n 0 m)
+  unfolding after call
+  rename-refused z = holding (h .statements) (h .renames) (h .lengths) (h .holds) (rw (refused-by _ n number-is z))
+
+  module _ (z : n ≡ 0) where
     passed : Passes (design (h .statements)) (h .renames) r
-    passed = passes (design (h .statements)) (h .renames) r z
+    passed = passes (design (h .statements)) (h .renames) r (number-is ∙ z)
 
     pub rename-fits : (renames < 64) × (p .rows ≤ 4705) × (room + length (r .newName) ≤ 16384) × (length (r .newName) ≤ 255) × (length names ≡ 16384) × (length rows ≡ 8 * 4769)
     rename-fits =

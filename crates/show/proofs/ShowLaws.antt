@@ -2,7 +2,7 @@
 -- Assumes nothing.
 use Prim.Native.Nat.{ℕ, _+_, _-_, _≤_, _<_}
 use mathlib.Core.Path.{_≡_, refl, sym, ap, ap₂, subst, _∙_}
-use mathlib.Core.List.{List, [], _∷_, _++_, map, reverse, append-nil}
+use mathlib.Core.List.{List, [], _∷_, _++_, map, reverse, reverse-reverse, append-nil}
 use mathlib.Core.Option.{Option, none, some, Option·map, Option·elim}
 use mathlib.Core.Bool.{true, false}
 use native.Mathlib.Omega.{arith}
@@ -35,13 +35,12 @@ use Rattle.reader.specs.Read.{lent}
 use Rattle.netlist.specs.Tables.{Tables, tabled}
 use Rattle.netlist.specs.Fronts.{Fronts}
 use Rattle.netlist.specs.FrontLaws.{fronts-before, fronts-behind}
-use Rattle.standing.specs.TakenLaws.{wire-missing}
 use Rattle.held.specs.HeldLaws.{holds-stored}
 use Rattle.session.specs.Called.{Called, wrong-lengths, damaged, holding, answer}
 use Rattle.session.specs.Steps.{Holding, NotOpen}
 use Rattle.session.proofs.CallLaws.{not-open}
-use Rattle.session.proofs.HoldLaws.{rows-before}
-use Rattle.session.proofs.AskLaws.{file, headed, offsets, wired, all-wires, name-now-is}
+use Rattle.session.proofs.HoldLaws.{rows-before, lies}
+use Rattle.standing.specs.LiesLaws.{headed, offsets, wired, all-wires, name-now-is, missing}
 use Rattle.show.specs.Rows.{wireLine, hdlnameRow, textAt, shownName}
 use Rattle.show.specs.Parts.{shownPart, shownIn, numberOf, bytesIn, InRange, firstByte, ShownAs, ShownAt, LiesAt}
 use Rattle.show.specs.declared.Shown.{Shown}
@@ -78,12 +77,12 @@ module _ {names strings bits wires rows : List ℕ} {renames room : ℕ} {p : Pl
   fronts = holds-stored (h .holds) .begins .fronts
 
   range-is : own ≡ wireRange wires (wiresIn past) m
-  range-is = rw (all-wires h m) eo
+  range-is = rw (all-wires (lies h)) eo
 
   wires-many : length (wiresOf (statementsOf m (reverse past))) ≡ own .count
   wires-many =
       let r = wireRange wires (wiresIn past) m in
-      ap length (sym (pairs-range m past (headed h m) (wired h m) (offsets h m)))
+      ap length (sym (pairs-range m past (headed (lies h)) (wired (lies h)) (offsets (lies h))))
       ∙ length-reverse (wiresFrom names wires (r .first) (r .count))
       ∙ length-wires names wires (r .first) (r .count)
       ∙ ap (λ (x : Range). x .count) (sym range-is)
@@ -94,7 +93,7 @@ module _ {names strings bits wires rows : List ℕ} {renames room : ℕ} {p : Pl
     declared = wire-declared past m w (omega (arith, wires-many))
 
     wire-is : wireAt (design (h .statements)) m w ≡ some (object (settingsBefore (declared .before)) (declared .name) (declared .body))
-    wire-is = ap (λ (ss : List Statement). wireAt (design ss) m w) (sym (file h m)) ∙ declared-wire past m w declared
+    wire-is = ap (λ (ss : List Statement). wireAt (design ss) m w) (sym (reverse-reverse (h .statements))) ∙ declared-wire past m w declared
 
     -- its name as it was read, and as it is now
     name-is : declared .name ≡ nameOf names wires (own .first + w)
@@ -102,12 +101,12 @@ module _ {names strings bits wires rows : List ℕ} {renames room : ℕ} {p : Pl
     name-is =
         let r = wireRange wires (wiresIn past) m in
         name-by (wiresAt (design (reverse past)) m) w _ (nameOf names wires (r .first + w), wireOf wires (r .first + w)) (declared-wire past m w declared)
-        (ap (λ (xs : Wires). getElem? xs w) (sym (design-range m past (headed h m) (wired h m) (offsets h m)))
+        (ap (λ (xs : Wires). getElem? xs w) (sym (design-range m past (headed (lies h)) (wired (lies h)) (offsets (lies h))))
         ∙ wire-numbered names wires (r .first) w (r .count) (rw (← range-is) b))
         ∙ ap (λ (x : Range). nameOf names wires (x .first + w)) (sym range-is)
 
     name-now : table.nameNow names wires rows (p .rows) renames m w (own .first + w) ≡ nameNow (h .renames) m w (declared .name)
-    name-now = sym (name-now-is h m w (own .first + w)) ∙ ap (nameNow (h .renames) m w) (sym name-is)
+    name-now = sym (name-now-is (lies h) m w (own .first + w)) ∙ ap (nameNow (h .renames) m w) (sym name-is)
 
     -- its statement, and the attribute before it
     all-fronts : Fronts (roomsOf (declared .behind ++ wire-stmt (declared .body) (declared .name) ∷ declared .before)) parts
@@ -116,7 +115,7 @@ module _ {names strings bits wires rows : List ℕ} {renames room : ℕ} {p : Pl
     line-is : wireLine rows (p .rows) (own .first + w) ≡ length (declared .before)
     line-is =
         let k : wiresIn (declared .before) ≡ own .first + w =
-        declared-number past m w declared (headed h m) (wired h m) ∙ ap (λ (x : Range). x .first + w) (sym range-is) in
+        declared-number past m w declared (headed (lies h)) (wired (lies h)) ∙ ap (λ (x : Range). x .first + w) (sym range-is) in
         let l : p .rows ≡ length (declared .behind ++ wire-stmt (declared .body) (declared .name) ∷ declared .before) =
         sym (rows-before h) ∙ sym (length-reverse (h .statements)) ∙ ap length (declared .all) in
         ap₂ (wireLine rows) l (sym k) ∙ line-found parts (declared .body) (declared .name) (declared .before) (declared .behind) all-fronts
@@ -156,10 +155,9 @@ module _ {names strings bits wires rows : List ℕ} {renames room : ℕ} {p : Pl
   pub shown-missing : own .count ≤ w → Answered (lent names strings bits wires rows renames room) m w (Shown.Refused 8)
   unfolding answer show Option·elim numberOf bytesIn
   shown-missing b =
-      let e : wireAt (design (reverse past)) m w ≡ none =
-      none-by _ (wire-missing m w past (headed h m) (offsets h m) (wired h m) true (λ (x : Wire). false) (rw (← range-is) b)) in
+      let e : wireAt (design (h .statements)) m w ≡ none = none-by _ (missing (lies h) m w true (λ (x : Wire). false) (rw (← eo) b)) in
       let q : wireAt (now (design (h .statements)) (h .renames)) m w ≡ none =
-      wire-now (design (h .statements)) (h .renames) m w ∙ ap (Option·map (wireNow (h .renames) m w)) (ap (λ (ss : List Statement). wireAt (design ss) m w) (sym (file h m)) ∙ e) in
+      wire-now (design (h .statements)) (h .renames) m w ∙ ap (Option·map (wireNow (h .renames) m w)) e in
       (shown-in h m w (Shown.Refused 8) (sym (none-in b)), (tt, holding (h .statements) (h .renames) (h .lengths) (h .holds) (rw q)))
 
 -- THE MEMORY IS NOT OPEN

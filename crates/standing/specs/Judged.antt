@@ -8,8 +8,7 @@ use lib.ListN.{length}
 use Rattle.rules.specs.Bytes.{same, any, legal}
 use Rattle.rules.specs.Tokens.{Name}
 use Rattle.rules.specs.Statements.{Statement, aMemory, aCell}
-use Rattle.rules.specs.Design.{design}
-use Rattle.rules.specs.Session.{Rename, isPort, renameCall, numberOf}
+use Rattle.rules.specs.Session.{Rename, isPort}
 use Rattle.rules.specs.Layout.{rooms}
 use Rattle.wires.specs.Rows.{wireOf}
 use Rattle.past.specs.Place.{placeOf}
@@ -47,7 +46,7 @@ moduleBy wires p standing m =
       renames = standing;
     }
 
--- the lowest number that applies, 0 if none does
+-- the lowest number that applies, 0 if none does: the rules' number, where statements and renames lie in the tables (JudgedLaws)
 unfoldable pub judged : (names wires rows : List ℕ) → Place → (standing room m w : ℕ) → Name → ℕ
 judged names wires rows p standing room m w n =
     let own = wireRange wires (p .wires) m in
@@ -66,9 +65,3 @@ pub record Lies (names wires rows : List ℕ) (p : Place) (many used : ℕ) (ss 
   pub place : placeOf (reverse ss) ≡ p
   pub standing : length rs ≡ many
   pub room : length (rooms ss rs .names) ≡ used
-
--- the rules answer with r for all statements and renames that lie there
-abbrev pub JudgedIs : (names wires rows : List ℕ) → Place → (standing room m w : ℕ) → Name → ℕ → Type 0
-JudgedIs names wires rows p standing room m w n r =
-    (ss : List Statement) (rs : List Rename) → Lies names wires rows p standing room ss rs →
-    numberOf (renameCall (design ss) rs (record { moduleNumber = m; wireNumber = w; newName = n })) ≡ r

@@ -1,22 +1,36 @@
--- Names now: the last rename row of a wire holds its name.
+-- Names now: the last rename row of a wire holds its name; the names of a module's wires, by the rows of the tables.
 -- Assumes nothing.
-use Prim.Native.Nat.{ℕ, _+_}
-use mathlib.Core.Path.{_≡_, refl, sym, ap, _∙_}
-use mathlib.Core.List.{List, [], _∷_, reverse, reverse-cons, reverse-reverse}
+use Prim.Native.Nat.{ℕ, zero, suc, _+_}
+use mathlib.Core.Path.{_≡_, refl, sym, ap, ap₂, _∙_}
+use mathlib.Core.List.{List, [], _∷_, _++_, map, map-append, reverse, reverse-cons, reverse-reverse}
+use native.Mathlib.Nat.{add-zero}
 use native.Mathlib.Omega.{arith}
 use lib.ListN.{length, length-reverse}
-use Rattle.rules.specs.Session.{Rename}
+use Rattle.rules.specs.Tokens.{Name}
+use Rattle.rules.specs.Statements.{Wire}
+use Rattle.rules.specs.Signals.{Wires}
+use Rattle.rules.specs.Judgement.{Past}
+use Rattle.rules.specs.Design.{design}
+use Rattle.rules.specs.Session.{Rename, wiresAt, now}
 use Rattle.rules.specs.Layout.{Rooms, padded, row, renameRow, putRename, putRenames}
 use Rattle.tables.specs.Flat.{Eights}
-use Rattle.wires.specs.Rows.{nameOf, spanAt}
+use Rattle.wires.specs.Rows.{nameOf, wireOf, wiresFrom, spanAt}
 use Rattle.wires.specs.RowLaws.{RowIs, slice-span}
 use Rattle.netlist.specs.Rows.{nameFrom}
-use Rattle.netlist.specs.Laid.{Laid}
+use Rattle.netlist.specs.Laid.{roomsOf, Laid, Wired}
 use Rattle.netlist.specs.Spans.{Has, starts-has, starts-row}
-use Rattle.netlist.specs.LaidLaws.{laid-rename}
+use Rattle.netlist.specs.LaidLaws.{laid-rename, eights-rows, length-rows}
+use Rattle.past.specs.Place.{wiresIn, placeOf}
+use Rattle.past.specs.Offsets.{Offsets}
+use Rattle.designs.specs.Modules.{statementsOf, wiresOf, Headed}
+use Rattle.designs.specs.DesignLaws.{wire-names-at}
+use Rattle.designs.specs.Ranges.{wireRange}
+use Rattle.designs.specs.WireLaws.{pairs-range}
 use Rattle.designs.specs.Now as designs
-use Rattle.designs.specs.NowLaws.{name-last}
+use Rattle.designs.specs.NowLaws.{numbered-same, names-now, name-last}
 use Rattle.wire_names.specs.Now as rows
+use Rattle.wire_names.specs.declared.Module.{Module}
+use Rattle.standing.specs.Judged.{moduleBy}
 use Rattle.netlist.specs.RoomLaws.{put-renames-last, length-rename-row, rename-rows, eights-renames}
 
 -- what a rename's row holds
@@ -66,3 +80,61 @@ module _ {names t : List ℕ} (wires : List ℕ) (R : Rooms) (h : Eights (R .row
       ap (λ (n : ℕ). rows.nameNow names wires t (length (R .rows)) n m w k) (sym (length-reverse rs))
       ∙ now-back (reverse rs) d
       ∙ ap (λ (qs : List Rename). designs.nameNow qs m w (nameOf names wires k)) e
+
+-- VALUES OF CONSECUTIVE NUMBERS
+abbrev pub up : {A : Type 0} → (ℕ → A) → (many k : ℕ) → List A
+up f zero k = []
+up f (suc l) k = f k ∷ up f l (k + 1)
+
+up-same : {A : Type 0} (f g : ℕ → A) → ((j : ℕ) → f j ≡ g j) → (many k : ℕ) → up f many k ≡ up g many k
+up-same f g h zero k = refl
+up-same f g h (suc l) k = ap₂ _∷_ (h k) (up-same f g h l (k + 1))
+
+pub up-last : {A : Type 0} (f : ℕ → A) (l k : ℕ) → up f (suc l) k ≡ up f l k ++ f (k + l) ∷ []
+up-last f zero k = rw add-zero
+up-last f (suc l) k =
+    let e : k + 1 + l ≡ k + suc l = omega arith in
+    ap (λ (x : List _). f k ∷ x) (up-last f l (k + 1) ∙ ap (λ (i : ℕ). up f l (k + 1) ++ f i ∷ []) e)
+
+numbered-up : {A : Type 0} (f : ℕ → A) (g : ℕ → A → A) (many k : ℕ) → designs.numbered (λ i. g (k + i)) (up f many k) ≡ up (λ j. g j (f j)) many k
+unfolding designs.numbered
+numbered-up f g zero k = refl
+numbered-up f g (suc l) k =
+    ap₂ _∷_ (ap (λ (i : ℕ). g i (f k)) (add-zero k))
+    (numbered-same (λ i. g (k + suc i)) (λ i. g (k + 1 + i)) (λ i x. let e : k + suc i ≡ k + 1 + i = omega arith in rw e) (up f l (k + 1))
+    ∙ numbered-up f g l (k + 1))
+
+names-up : (names wires : List ℕ) (first many : ℕ) → map (λ x. x .0) (reverse (wiresFrom names wires first many)) ≡ up (λ j. nameOf names wires (first + j)) many 0
+unfolding wiresFrom
+names-up names wires first zero = refl
+names-up names wires first (suc j) =
+    let xs : Wires = wiresFrom names wires first j in
+    let x : Name × Wire = (nameOf names wires (first + j), wireOf wires (first + j)) in
+    let z : 0 + j ≡ j = omega arith in
+    ap (map (λ x. x .0)) (reverse-cons x xs)
+    ∙ map-append (λ x. x .0) (reverse xs) (x ∷ [])
+    ∙ ap (λ (l : List Name). l ++ nameOf names wires (first + j) ∷ []) (names-up names wires first j)
+    ∙ ap (λ (i : ℕ). up (λ j. nameOf names wires (first + j)) j 0 ++ nameOf names wires (first + i) ∷ []) (sym z)
+    ∙ sym (up-last (λ j. nameOf names wires (first + j)) j 0)
+
+-- THE NAMES OF A MODULE'S WIRES NOW, in the order of the file
+abbrev pub namesUp : (names wires t : List ℕ) → Module → List Name
+namesUp names wires t x = up (λ j. rows.nameNow names wires t (x .from) (x .renames) (x .number .0) j (x .first + j)) (x .wires) 0
+
+module _ {names wires t : List ℕ} (m : ℕ) (ss : Past) (headed : Headed ss) (o : Offsets ss) (rs : List Rename)
+    (l : Laid (putRenames (roomsOf ss) rs) names t) (k : Wired (roomsOf ss) names wires) where
+  pub numbered-laid : designs.numbered (designs.nameNow rs m) (map (λ x. x .0) (wiresOf (statementsOf m (reverse ss)))) ≡ namesUp names wires t (moduleBy wires (placeOf ss) (length rs) m)
+  unfolding placeOf
+  numbered-laid =
+      let r = wireRange wires (wiresIn ss) m in
+      let own : ℕ → Name = λ j. nameOf names wires (r .first + j) in
+      let f : ℕ → Name → Name = designs.nameNow rs m in
+      let e : length (roomsOf ss .rows) ≡ length ss = length-rows ss in
+      ap (λ (xs : Wires). designs.numbered f (map (λ x. x .0) xs)) (sym (pairs-range m ss headed k o))
+      ∙ ap (designs.numbered f) (names-up names wires (r .first) (r .count))
+      ∙ numbered-same f (λ i. f (0 + i)) (λ i x. let z : 0 + i ≡ i = omega arith in rw z) (up own (r .count) 0)
+      ∙ numbered-up own f (r .count) 0
+      ∙ up-same _ _ (λ j. sym (ap (λ (x : ℕ). rows.nameNow names wires t x (length rs) m j (r .first + j)) (sym e) ∙ name-now-laid wires (roomsOf ss) (eights-rows ss) m j (r .first + j) rs l)) (r .count) 0
+
+  pub names-laid : map (λ o. o .name) (wiresAt (now (design (reverse ss)) rs) m) ≡ namesUp names wires t (moduleBy wires (placeOf ss) (length rs) m)
+  names-laid = names-now (design (reverse ss)) rs m ∙ ap (designs.numbered (designs.nameNow rs m)) (wire-names-at (reverse ss) m) ∙ numbered-laid

@@ -2,12 +2,12 @@
 -- Assumes nothing.
 use Prim.Native.Nat.{ℕ, zero, suc, _+_, _≤_, _<_}
 use mathlib.Core.Path.{_≡_, refl, sym, ap, ap₂, _∙_}
-use mathlib.Core.List.{List, [], _∷_, _++_, map, map-append, reverse, reverse-cons}
+use mathlib.Core.List.{List, [], _∷_, reverse}
 use mathlib.Core.Option.{Option, Option·elim}
 use mathlib.Core.Bool.{Bool, true, false, _||_, or-comm, or-false}
 use native.Mathlib.Omega.{arith}
 use lib.Dec.{eqb}
-use lib.ListN.{length, getElem?, length-map, length-reverse}
+use lib.ListN.{length, getElem?, length-reverse}
 use Rattle.rules.specs.Bytes.{same, any, all}
 use Rattle.rules.specs.Tokens.{Name}
 use Rattle.rules.specs.Statements.{Wire, aMemory, aCell, code}
@@ -17,26 +17,25 @@ use Rattle.rules.specs.Design.{Object, design}
 use Rattle.rules.specs.Session.{Rename, wiresAt, wireAt, now, taken}
 use Rattle.rules.specs.Layout.{putRenames}
 use Rattle.scanner.specs.Lists.{element-none}
-use Rattle.wires.specs.Rows.{nameOf, wireOf, wiresFrom}
+use Rattle.wires.specs.Rows.{wireOf, wiresFrom}
 use Rattle.wires.specs.RowLaws.{length-wires, wire-numbered}
 use Rattle.past.specs.Place.{wiresIn, placeOf}
 use Rattle.past.specs.Offsets.{Offsets}
 use Rattle.netlist.specs.Kinds.{isKind, ofKinds, Tests, hasName, threeKinds}
 use Rattle.netlist.specs.Laid.{roomsOf, Laid, Wired}
-use Rattle.netlist.specs.LaidLaws.{laid-renames, eights-rows, length-rows}
+use Rattle.netlist.specs.LaidLaws.{laid-renames}
 use Rattle.netlist.specs.NameLaws.{ownNames}
-use Rattle.netlist.specs.WireLaws.{wired-renames}
 use Rattle.designs.specs.Modules.{statementsOf, Headed}
 use Rattle.designs.specs.ListLaws.{any-append}
-use Rattle.designs.specs.Now.{numbered, nameNow}
+use Rattle.designs.specs.Now.{nameNow}
 use Rattle.designs.specs.NowLaws.{taken-read-now}
 use Rattle.designs.specs.Ranges.{wireRange}
 use Rattle.designs.specs.RowLaws.{taken-range}
-use Rattle.designs.specs.WireLaws.{pairs-range, design-range}
+use Rattle.designs.specs.WireLaws.{design-range}
 use Rattle.wire_names.specs.Now as rows
 use Rattle.order.specs.RenamedFine.{elim-map}
 use Rattle.standing.specs.Judged.{objectTaken, nameTaken, moduleBy}
-use Rattle.standing.specs.NowLaws.{name-now-laid}
+use Rattle.standing.specs.NowLaws.{up, up-last, numbered-laid}
 
 -- A WIRE BY ITS NUMBER
 module _ {names t : List ℕ} (m w : ℕ) (ss : Past) (headed : Headed ss) (o : Offsets ss) (l : Wired (roomsOf ss) names t) {C : Type 0} (z : C) (g : Wire → C) where
@@ -63,40 +62,20 @@ module _ {names t : List ℕ} (m w : ℕ) (ss : Past) (headed : Headed ss) (o : 
       ∙ ap (λ (x : Option (Name × Wire)). Option·elim x z (λ y. g (y .1)))
       (element-none (reverse xs) w (omega (arith, length-reverse xs, length-wires names t (r .first) (r .count))))
 
--- NAMES BY THEIR NUMBERS, from the last one on
-numbered-last : {A : Type 0} (f : ℕ → A → A) (xs : List A) (x : A) → numbered f (xs ++ x ∷ []) ≡ numbered f xs ++ f (length xs) x ∷ []
-unfolding numbered
-numbered-last f [] x = refl
-numbered-last f (y ∷ xs) x = ap (λ (l : List _). f 0 y ∷ l) (numbered-last (λ i. f (suc i)) xs x)
-
-module _ (names wires t : List ℕ) (from count m first : ℕ) (f : ℕ → Name → Name) (g : Name → Bool)
-    (h : (j k : ℕ) → rows.nameNow names wires t from count m j k ≡ f j (nameOf names wires k)) where
-  abbrev own-names : ℕ → List Name
-  own-names many = map (λ x. x .0) (reverse (wiresFrom names wires first many))
-
-  own-last : (j : ℕ) → own-names (suc j) ≡ own-names j ++ nameOf names wires (first + j) ∷ []
-  unfolding wiresFrom
-  own-last j =
-      let xs : Wires = wiresFrom names wires first j in
-      ap (map (λ x. x .0)) (reverse-cons (nameOf names wires (first + j), wireOf wires (first + j)) xs)
-      ∙ map-append (λ x. x .0) (reverse xs) ((nameOf names wires (first + j), wireOf wires (first + j)) ∷ [])
-
-  own-length : (j : ℕ) → length (own-names j) ≡ j
-  own-length j =
-      let xs : Wires = wiresFrom names wires first j in
-      length-map (reverse xs) (λ x. x .0) ∙ length-reverse xs ∙ length-wires names wires first j
-
-  any-now : (many : ℕ) → any (λ x. g (x .0)) (rows.wiresNow names wires t from count m first many) ≡ any g (numbered f (own-names many))
-  unfolding any rows.wiresNow wiresFrom numbered
-  any-now zero = refl
-  any-now (suc j) =
-      let x : Name = nameOf names wires (first + j) in
-      ap₂ _||_ (ap g (h j (first + j))) (any-now j)
-      ∙ or-comm (g (f j x)) (any g (numbered f (own-names j)))
-      ∙ sym (ap (λ (xs : List Name). any g (numbered f xs)) (own-last j)
-      ∙ ap (any g) (numbered-last f (own-names j) x)
-      ∙ any-append g (numbered f (own-names j)) (f (length (own-names j)) x ∷ [])
-      ∙ ap (λ (b : Bool). any g (numbered f (own-names j)) || b) (or-false (g (f (length (own-names j)) x)) ∙ ap (λ (i : ℕ). g (f i x)) (own-length j)))
+-- WIRES BY THEIR NAMES NOW, from the last one on
+any-now :
+    (names wires t : List ℕ) (from count m first : ℕ) (g : Name → Bool) (many : ℕ) →
+    any (λ x. g (x .0)) (rows.wiresNow names wires t from count m first many) ≡ any g (up (λ j. rows.nameNow names wires t from count m j (first + j)) many 0)
+unfolding any rows.wiresNow
+any-now names wires t from count m first g zero = refl
+any-now names wires t from count m first g (suc j) =
+    let f : ℕ → Name = λ i. rows.nameNow names wires t from count m i (first + i) in
+    let z : 0 + j ≡ j = omega arith in
+    ap (λ (b : Bool). g (f j) || b) (any-now names wires t from count m first g j)
+    ∙ or-comm (g (f j)) (any g (up f j 0))
+    ∙ sym (ap (any g) (up-last f j 0)
+    ∙ any-append g (up f j 0) (f (0 + j) ∷ [])
+    ∙ ap (λ (b : Bool). any g (up f j 0) || b) (or-false (g (f (0 + j))) ∙ ap (λ (i : ℕ). g (f i)) z))
 
 -- MEMORIES AND CELLS
 or-twice : (a b : Bool) → a || (b || b) ≡ a || (b || false)
@@ -114,7 +93,7 @@ two-named = refl
 
 -- THE NAME SPACE NOW
 module _ {names wires t : List ℕ} (m : ℕ) (ss : Past) (headed : Headed ss) (o : Offsets ss) (rs : List Rename)
-    (l : Laid (putRenames (roomsOf ss) rs) names t) (k : Wired (putRenames (roomsOf ss) rs) names wires) (n : Name) where
+    (l : Laid (putRenames (roomsOf ss) rs) names t) (k : Wired (roomsOf ss) names wires) (n : Name) where
   objects-taken : objectTaken names t (length ss) m n ≡ any (same n) (ownNames (aMemory ∷ aCell ∷ []) (statementsOf m (reverse ss)))
   unfolding objectTaken
   objects-taken = taken-range m ss (laid-renames (roomsOf ss) rs l) (aMemory ∷ aCell ∷ []) two-named _ two-kinds n
@@ -123,11 +102,7 @@ module _ {names wires t : List ℕ} (m : ℕ) (ss : Past) (headed : Headed ss) (
   unfolding nameTaken rows.wiresIn placeOf
   taken-laid =
       let r = wireRange wires (wiresIn ss) m in
-      let e : length (roomsOf ss .rows) ≡ length ss = length-rows ss in
-      let h : (j i : ℕ) → rows.nameNow names wires t (length ss) (length rs) m j i ≡ nameNow rs m j (nameOf names wires i) =
-      λ j i. ap (λ (x : ℕ). rows.nameNow names wires t x (length rs) m j i) (sym e) ∙ name-now-laid wires (roomsOf ss) (eights-rows ss) m j i rs l in
       ap₂ _||_
-      (any-now names wires t (length ss) (length rs) m (r .first) (nameNow rs m) (same n) h (r .count)
-      ∙ ap (λ (xs : Wires). any (same n) (numbered (nameNow rs m) (map (λ x. x .0) xs))) (pairs-range m ss headed (wired-renames (roomsOf ss) rs k) o))
+      (any-now names wires t (length ss) (length rs) m (r .first) (same n) (r .count) ∙ ap (any (same n)) (sym (numbered-laid m ss headed o rs l k)))
       objects-taken
       ∙ sym (taken-read-now (reverse ss) rs m n)

@@ -19,7 +19,7 @@ ghost use Rattle.rules.specs.Session.{isPort};
 ghost use Rattle.wires.specs.Rows.{wireOf};
 ghost use Rattle.wire_names.specs.Now.{wiresIn};
 ghost use Rattle.standing.specs.Search.{searchNow, named};
-ghost use Rattle.standing.specs.Judged.{objectTaken, nameTaken, exceedsRoom, JudgedIs};
+ghost use Rattle.standing.specs.Judged.{objectTaken, nameTaken, exceedsRoom, judged};
 
 pub enum Named {
     At(WireNumber),
@@ -114,7 +114,7 @@ pub fn judge_rename(
     w: WireNumber,
     new: &[u8],
 ) -> u32
-    ensures { λ r. ⌜ JudgedIs (now (names .entry)) (now (wires .entry)) (now (rows .entry)) place standing room (m .0) (w .0) (now (new .entry)) r ⌝ }
+    ensures { λ r. ⌜ r ≡ judged (now (names .entry)) (now (wires .entry)) (now (rows .entry)) place standing room (m .0) (w .0) (now (new .entry)) ⌝ }
 {
     if !legal(new) {
         return 4;

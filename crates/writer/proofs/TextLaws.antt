@@ -2,7 +2,7 @@
 -- Assumes nothing.
 use Prim.Native.Nat.{ℕ, _+_, _≤_, _<_}
 use mathlib.Core.Path.{_≡_, sym, ap, ap₂, _∙_}
-use mathlib.Core.List.{List, reverse}
+use mathlib.Core.List.{List}
 use native.Mathlib.Omega.{arith}
 use lib.ListN.{length}
 use borrow.Author.Tests.{lt-ltb, le-ltb}
@@ -11,14 +11,14 @@ use Rattle.rules.specs.Design.{design}
 use Rattle.rules.specs.Session.{now}
 use Rattle.rules.specs.Text.{text, writeText, write, measureText, measure}
 use Rattle.rules.specs.Layout.{Memory}
-use Rattle.past.specs.Place.{wiresIn, placeOf}
 use Rattle.past.specs.declared.place.Place.{Place}
 use Rattle.text.specs.Written.{moved, Written, written-end}
 use Rattle.netlist.specs.Lengths.{sizes-exact}
 use Rattle.reader.specs.Read.{rightLengths}
 use Rattle.session.specs.Called.{Called, holding, answer}
 use Rattle.session.specs.Steps.{Holding}
-use Rattle.session.proofs.HoldLaws.{rows-before, standing}
+use Rattle.standing.specs.LiesLaws.{all-wires}
+use Rattle.session.proofs.HoldLaws.{rows-before, standing, lies}
 use Rattle.netlist.specs.Tables.{tabled}
 use Rattle.design_text.specs.Rows.{textRows}
 use Rattle.design_text.specs.declared.Counts.{Counts}
@@ -70,14 +70,10 @@ module _ {m : Memory} {p : Place} (h : Holding m p) where
   unfolding rightLengths
   bits-few = omega (arith, sizes-exact (length (m .names)) (length (m .strings)) (length (m .bits)) (length (m .wires)) (length (m .rows)) (h .lengths) .2)
 
-  wires-are : p .wires ≡ wiresIn (reverse (h .statements))
-  unfolding placeOf
-  wires-are = sym (ap (λ (x : Place). x .wires) (h .place))
-
   module _ (C : Counts) (e : C ≡ record { statements = p .rows; wires = p .wires; renames = m .renames }) where
     text-is : textRows (tabled (m .names) (m .strings) (m .bits) (m .wires) (m .rows)) C ≡ text (now (design (h .statements)) (h .renames))
     text-is =
-        text-held m (h .statements) (h .renames) C (h .holds) (ap (λ (x : Counts). x .statements) e ∙ sym (rows-before h)) (ap (λ (x : Counts). x .wires) e ∙ wires-are)
+        text-held m (h .statements) (h .renames) C (h .holds) (ap (λ (x : Counts). x .statements) e ∙ sym (rows-before h)) (ap (λ (x : Counts). x .wires) e ∙ sym (all-wires (lies h)))
         (ap (λ (x : Counts). x .renames) e ∙ sym (standing h))
 
     pub measured :

@@ -7,7 +7,6 @@ use borrow.Author.Tests.{le-leb, lt-leb, not-false}
 use Rattle.standing.specs.Judged.{judged}
 use denote.Ref.{now}
 use Rattle.scanner.specs.Laws.{legal-short}
-use Rattle.standing.specs.JudgedLaws.{judged-is}
 use Rattle.standing.proofs.judge_rename.Statement.{statement}
 use Rattle.standing.proofs.judge_rename.Tie as tie
 
@@ -16,15 +15,14 @@ legal-requires c κs = search needs
 
 returns : tie.Need-returns
 unfolding judged
-returns c ss rs l = judged-is _ _ _ _ _ _ _ _ _ ss rs l ∙ rw (← c .before .legal .ensures, c .if1 .taken)
+returns c = rw (← c .before .legal .ensures, c .if1 .taken)
 
 module-wires-requires : tie.Need-module-wires-requires
 module-wires-requires c κs = search needs
 
 returns-2 : tie.Need-returns-2
 unfolding judged
-returns-2 c ss rs l =
-    judged-is _ _ _ _ _ _ _ _ _ ss rs l ∙ rw (← c .before .before .before .before .legal .ensures, c .before .before .before .if1 .left, ← c .before .before .module-wires .ensures, le-leb (c .before .before .module-wires .result .count) (c .before .before .before .before .before .before .before .before .before .args .w .0) (omega arith))
+returns-2 c = rw (← c .before .before .before .before .legal .ensures, c .before .before .before .if1 .left, ← c .before .before .module-wires .ensures, le-leb (c .before .before .module-wires .result .count) (c .before .before .before .before .before .before .before .before .before .args .w .0) (omega arith))
 
 cast-is-port : tie.Need-cast-is-port
 cast-is-port c = search needs
@@ -40,33 +38,25 @@ is-port-requires c κs = search needs
 
 returns-3 : tie.Need-returns-3
 unfolding judged
-returns-3 c ss rs l =
-    judged-is _ _ _ _ _ _ _ _ _ ss rs l
-    ∙ rw (← c .before .before .before .before .before .before .before .legal .ensures, c .before .before .before .before .before .before .if1 .left, ← c .before .before .before .before .before .module-wires .ensures, lt-leb (c .before .before .before .before .before .module-wires .result .count) (c .before .before .before .before .before .before .before .before .before .before .before .before .args .w .0) (omega arith), ← c .before .is-port .ensures, c .if3 .taken)
+returns-3 c = rw (← c .before .before .before .before .before .before .before .legal .ensures, c .before .before .before .before .before .before .if1 .left, ← c .before .before .before .before .before .module-wires .ensures, lt-leb (c .before .before .before .before .before .module-wires .result .count) (c .before .before .before .before .before .before .before .before .before .before .before .before .args .w .0) (omega arith), ← c .before .is-port .ensures, c .if3 .taken)
 
 is-taken-requires : tie.Need-is-taken-requires
 is-taken-requires c κs = search needs
 
 returns-4 : tie.Need-returns-4
 unfolding judged
-returns-4 c ss rs l =
-    judged-is _ _ _ _ _ _ _ _ _ ss rs l
-    ∙ rw (← c .before .before .before .before .before .before .before .before .before .legal .ensures, c .before .before .before .before .before .before .before .before .if1 .left, ← c .before .before .before .before .before .before .before .module-wires .ensures, lt-leb (c .before .before .before .before .before .before .before .module-wires .result .count) (c .before .before .before .before .before .before .before .before .before .before .before .before .before .before .args .w .0) (omega arith), ← c .before .before .before .is-port .ensures, c .before .before .if3 .left, ← c .before .is-taken .ensures, c .if4 .taken)
+returns-4 c = rw (← c .before .before .before .before .before .before .before .before .before .legal .ensures, c .before .before .before .before .before .before .before .before .if1 .left, ← c .before .before .before .before .before .before .before .module-wires .ensures, lt-leb (c .before .before .before .before .before .before .before .module-wires .result .count) (c .before .before .before .before .before .before .before .before .before .before .before .before .before .before .args .w .0) (omega arith), ← c .before .before .before .is-port .ensures, c .before .before .if3 .left, ← c .before .is-taken .ensures, c .if4 .taken)
 
 exceeds-room-requires : tie.Need-exceeds-room-requires
 exceeds-room-requires c κs = legal-short (now (c .before .before .before .before .before .before .before .before .before .before .before .before .before .before .args .new)) (sym (c .before .before .before .before .before .before .before .before .before .legal .ensures) ∙ not-false _ (c .before .before .before .before .before .before .before .before .if1 .left))
 
 returns-5 : tie.Need-returns-5
 unfolding judged
-returns-5 c ss rs l =
-    judged-is _ _ _ _ _ _ _ _ _ ss rs l
-    ∙ rw (← c .before .before .before .before .before .before .before .before .before .before .before .legal .ensures, c .before .before .before .before .before .before .before .before .before .before .if1 .left, ← c .before .before .before .before .before .before .before .before .before .module-wires .ensures, lt-leb (c .before .before .before .before .before .before .before .before .before .module-wires .result .count) (c .before .before .before .before .before .before .before .before .before .before .before .before .before .before .before .before .args .w .0) (omega arith), ← c .before .before .before .before .before .is-port .ensures, c .before .before .before .before .if3 .left, ← c .before .before .before .is-taken .ensures, c .before .before .if4 .left, ← c .before .exceeds-room .ensures, c .if5 .taken)
+returns-5 c = rw (← c .before .before .before .before .before .before .before .before .before .before .before .legal .ensures, c .before .before .before .before .before .before .before .before .before .before .if1 .left, ← c .before .before .before .before .before .before .before .before .before .module-wires .ensures, lt-leb (c .before .before .before .before .before .before .before .before .before .module-wires .result .count) (c .before .before .before .before .before .before .before .before .before .before .before .before .before .before .before .before .args .w .0) (omega arith), ← c .before .before .before .before .before .is-port .ensures, c .before .before .before .before .if3 .left, ← c .before .before .before .is-taken .ensures, c .before .before .if4 .left, ← c .before .exceeds-room .ensures, c .if5 .taken)
 
 returns-6 : tie.Need-returns-6
 unfolding judged
-returns-6 c ss rs l =
-    judged-is _ _ _ _ _ _ _ _ _ ss rs l
-    ∙ rw (← c .before .before .before .before .before .before .before .before .before .before .before .legal .ensures, c .before .before .before .before .before .before .before .before .before .before .if1 .left, ← c .before .before .before .before .before .before .before .before .before .module-wires .ensures, lt-leb (c .before .before .before .before .before .before .before .before .before .module-wires .result .count) (c .before .before .before .before .before .before .before .before .before .before .before .before .before .before .before .before .args .w .0) (omega arith), ← c .before .before .before .before .before .is-port .ensures, c .before .before .before .before .if3 .left, ← c .before .before .before .is-taken .ensures, c .before .before .if4 .left, ← c .before .exceeds-room .ensures, c .if5 .left)
+returns-6 c = rw (← c .before .before .before .before .before .before .before .before .before .before .before .legal .ensures, c .before .before .before .before .before .before .before .before .before .before .if1 .left, ← c .before .before .before .before .before .before .before .before .before .module-wires .ensures, lt-leb (c .before .before .before .before .before .before .before .before .before .module-wires .result .count) (c .before .before .before .before .before .before .before .before .before .before .before .before .before .before .before .before .args .w .0) (omega arith), ← c .before .before .before .before .before .is-port .ensures, c .before .before .before .before .if3 .left, ← c .before .before .before .is-taken .ensures, c .before .before .if4 .left, ← c .before .exceeds-room .ensures, c .if5 .left)
 
 pub judge-rename-spec : {M : Type 1} → statement M
 judge-rename-spec =

@@ -5,7 +5,8 @@ use mathlib.Core.Path.{refl, sym, _∙_}
 use native.Mathlib.Omega.{arith}
 use borrow.Author.Tests.{not-true, not-false}
 use Rattle.replay.proofs.Spans.{whole-inside}
-use Rattle.replay.proofs.PartLaws.{digits-out, digits-wide, digits-in, digits-none}
+use Rattle.replay.specs.Parts.{isDigit, digitsStand}
+use Rattle.replay.proofs.PartLaws.{part-out, part-wide, part-in, part-none}
 use borrow.Author.Needs.{needs}
 use Rattle.replay.proofs.parts.digits_stand.Statement.{statement}
 use Rattle.replay.proofs.parts.digits_stand.Tie as tie
@@ -14,13 +15,16 @@ is-whole-requires : tie.Need-is-whole-requires
 is-whole-requires c κs = search needs
 
 returns : tie.Need-returns
-returns c = digits-out _ _ _ (c .before .is-whole .ensures _ refl) (not-true _ (c .if1 .taken))
+unfolding digitsStand
+returns c = part-out _ _ _ (c .before .is-whole .ensures _ refl) isDigit (not-true _ (c .if1 .taken))
 
 returns-2 : tie.Need-returns-2
-returns-2 c = digits-wide _ _ _ (c .before .before .is-whole .ensures _ refl) (not-false _ (c .before .if1 .left)) (c .if2 .taken)
+unfolding digitsStand
+returns-2 c = part-wide _ _ _ (c .before .before .is-whole .ensures _ refl) isDigit (not-false _ (c .before .if1 .left)) (c .if2 .taken)
 
 returns-3 : tie.Need-returns-3
-returns-3 c = digits-none _ _ _ (c .if3 .taken)
+unfolding digitsStand
+returns-3 c = part-none _ _ _ (c .if3 .taken) isDigit
 
 add-all-digits : tie.Need-add-all-digits
 add-all-digits c = search needs
@@ -29,7 +33,8 @@ all-digits-requires : tie.Need-all-digits-requires
 all-digits-requires c κs = whole-inside (now (c .before .before .before .before .before .args .bits)) (c .before .before .before .before .before .args .at) (c .before .before .before .before .before .args .size) (sym (c .before .before .before .is-whole .ensures (now (c .before .before .before .before .before .args .bits)) refl) ∙ not-false _ (c .before .before .if1 .left)) (omega arith)
 
 returns-4 : tie.Need-returns-4
-returns-4 c = digits-in _ _ _ (c .before .before .before .before .is-whole .ensures _ refl) (not-false _ (c .before .before .before .if1 .left)) (c .before .before .if2 .left) (c .all-digits .ensures)
+unfolding digitsStand
+returns-4 c = part-in _ _ _ (c .before .before .before .before .is-whole .ensures _ refl) isDigit (not-false _ (c .before .before .before .if1 .left)) (c .before .before .if2 .left) (c .all-digits .ensures)
 
 pub digits-stand-spec : {M : Type 1} → statement M
 digits-stand-spec =

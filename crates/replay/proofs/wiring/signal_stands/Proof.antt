@@ -5,7 +5,8 @@ use mathlib.Core.Path.{refl, sym, _∙_}
 use native.Mathlib.Omega.{arith}
 use borrow.Author.Tests.{not-true, not-false}
 use Rattle.replay.proofs.Spans.{whole-inside}
-use Rattle.replay.proofs.PartLaws.{signal-out, signal-wide, signal-in, signal-none}
+use Rattle.replay.specs.Parts.{signalStands}
+use Rattle.replay.proofs.PartLaws.{part-out, part-wide, part-in, part-none}
 use borrow.Author.Needs.{needs}
 use Rattle.replay.proofs.wiring.signal_stands.Statement.{statement}
 use Rattle.replay.proofs.wiring.signal_stands.Tie as tie
@@ -14,13 +15,16 @@ is-whole-requires : tie.Need-is-whole-requires
 is-whole-requires c κs = search needs
 
 returns : tie.Need-returns
-returns c names = signal-out _ _ _ (c .before .is-whole .ensures _ refl) _ (not-true _ (c .if1 .taken))
+unfolding signalStands
+returns c names = part-out _ _ _ (c .before .is-whole .ensures _ refl) _ (not-true _ (c .if1 .taken))
 
 returns-2 : tie.Need-returns-2
-returns-2 c names = signal-wide _ _ _ (c .before .before .is-whole .ensures _ refl) _ (not-false _ (c .before .if1 .left)) (c .if2 .taken)
+unfolding signalStands
+returns-2 c names = part-wide _ _ _ (c .before .before .is-whole .ensures _ refl) _ (not-false _ (c .before .if1 .left)) (c .if2 .taken)
 
 returns-3 : tie.Need-returns-3
-returns-3 c names = signal-none _ _ _ (c .if3 .taken) _
+unfolding signalStands
+returns-3 c names = part-none _ _ _ (c .if3 .taken) _
 
 add-all-fit : tie.Need-add-all-fit
 add-all-fit c = search needs
@@ -29,7 +33,8 @@ all-fit-requires : tie.Need-all-fit-requires
 all-fit-requires c κs = whole-inside (now (c .before .before .before .before .before .before .args .bits)) (c .before .before .before .before .before .before .args .at) (c .before .before .before .before .before .before .args .size) (sym (c .before .before .before .is-whole .ensures (now (c .before .before .before .before .before .before .args .bits)) refl) ∙ not-false _ (c .before .before .if1 .left)) (omega arith)
 
 returns-4 : tie.Need-returns-4
-returns-4 c names = signal-in _ _ _ (c .before .before .before .before .is-whole .ensures _ refl) _ (not-false _ (c .before .before .before .if1 .left)) (c .before .before .if2 .left) (c .all-fit .ensures names)
+unfolding signalStands
+returns-4 c names = part-in _ _ _ (c .before .before .before .before .is-whole .ensures _ refl) _ (not-false _ (c .before .before .before .if1 .left)) (c .before .before .if2 .left) (c .all-fit .ensures names)
 
 pub signal-stands-spec : {M : Type 1} → statement M
 signal-stands-spec =

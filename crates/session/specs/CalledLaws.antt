@@ -1,0 +1,26 @@
+-- A call's contract settles its answer, for all memory.
+-- Assumes nothing.
+use Prim.Native.Nat.{ℕ}
+use mathlib.Core.Path.{_≡_, sym, ap₂, _∙_}
+use mathlib.Core.List.{List}
+use Rattle.rules.specs.Statements.{Statement}
+use Rattle.rules.specs.Session.{Rename}
+use Rattle.rules.specs.Layout.{Memory}
+use Rattle.scanner.specs.Laws.{never}
+use Rattle.reader.specs.Read.{rightLengths}
+use Rattle.held.specs.OneLaws.{holds-one}
+use Rattle.session.specs.Called.{Called, wrong-lengths, damaged, holding}
+
+-- two answers that it allows of the same memory are equal
+pub called-one :
+    {A : Type 0} {m : Memory} {refuse : ℕ → A} {says : List Statement → List Rename → A} {a b : A} →
+    Called m refuse says a → Called m refuse says b → a ≡ b
+called-one (wrong-lengths e p) (wrong-lengths f q) = p ∙ sym q
+called-one {m = m} (wrong-lengths e p) (damaged f d q) = never (rightLengths m) f e
+called-one {m = m} (wrong-lengths e p) (holding ss rs f h q) = never (rightLengths m) f e
+called-one {m = m} (damaged e d p) (wrong-lengths f q) = never (rightLengths m) e f
+called-one (damaged e d p) (damaged f c q) = p ∙ sym q
+called-one (damaged e d p) (holding ss rs f h q) = absurd (d ss rs h)
+called-one {m = m} (holding ss rs e h p) (wrong-lengths f q) = never (rightLengths m) e f
+called-one (holding ss rs e h p) (damaged f d q) = absurd (d ss rs h)
+called-one {says = says} (holding ss rs e h p) (holding qs ps f g q) = let o = holds-one h g in p ∙ ap₂ says (o .0) (o .1) ∙ sym q

@@ -1,0 +1,70 @@
+-- What statements and renames that lie in the tables have: their design's wires and names now, by the rows.
+-- Assumes nothing.
+use Prim.Native.Nat.{ℕ, _+_, _≤_, _<_}
+use mathlib.Core.Path.{_≡_, sym, ap, _∙_}
+use mathlib.Core.List.{List, map, reverse, reverse-reverse}
+use mathlib.Core.Option.{Option·elim}
+use lib.ListN.{length}
+use Rattle.rules.specs.Statements.{Statement, Wire}
+use Rattle.rules.specs.Design.{design}
+use Rattle.rules.specs.Session.{Rename, wiresAt, wireAt, now}
+use Rattle.rules.specs.Layout.{putRenames}
+use Rattle.wires.specs.Rows.{nameOf, wireOf}
+use Rattle.past.specs.Place.{wiresIn, placeOf}
+use Rattle.past.specs.Offsets.{Offsets}
+use Rattle.past.specs.declared.place.Place.{Place}
+use Rattle.admitted.specs.AdmitLaws.{admitted-standing, admitted-offsets}
+use Rattle.netlist.specs.Laid.{roomsOf, Laid, Wired}
+use Rattle.netlist.specs.LaidLaws.{length-rows, eights-rows}
+use Rattle.netlist.specs.WireLaws.{wired-renames}
+use Rattle.netlist.specs.RoomLaws.{rooms-file}
+use Rattle.designs.specs.Modules.{Headed}
+use Rattle.designs.specs.HeadLaws.{standing-headed}
+use Rattle.designs.specs.Ranges.{wireRange}
+use Rattle.designs.specs.Now.{nameNow}
+use Rattle.wire_names.specs.Now as rows
+use Rattle.standing.specs.Judged.{moduleBy, Lies}
+use Rattle.standing.specs.NowLaws.{namesUp, name-now-laid, names-laid}
+use Rattle.standing.specs.TakenLaws.{wire-there, wire-missing}
+
+module _ {names wires t : List ℕ} {p : Place} {standing room : ℕ} {ss : List Statement} {rs : List Rename} (l : Lies names wires t p standing room ss rs) where
+  pub headed : Headed (reverse ss)
+  headed = standing-headed (admitted-standing (reverse ss) (l .admitted))
+
+  pub offsets : Offsets (reverse ss)
+  offsets = admitted-offsets (reverse ss) (l .admitted)
+
+  pub laid : Laid (putRenames (roomsOf (reverse ss)) rs) names t
+  laid = rw rooms-file at (l .laid)
+
+  pub wired : Wired (roomsOf (reverse ss)) names wires
+  wired = wired-renames (roomsOf (reverse ss)) rs (rw rooms-file at (l .wired))
+
+  pub all-wires : wiresIn (reverse ss) ≡ p .wires
+  unfolding placeOf
+  all-wires = ap (λ (x : Place). x .wires) (l .place)
+
+  module _ (m : ℕ) where
+    pub name-now-is : (j k : ℕ) → nameNow rs m j (nameOf names wires k) ≡ rows.nameNow names wires t (p .rows) standing m j k
+    unfolding placeOf
+    name-now-is j k =
+        let e : length (roomsOf (reverse ss) .rows) ≡ p .rows = length-rows (reverse ss) ∙ ap (λ (x : Place). x .rows) (l .place) in
+        sym (rw (← e, ← l .standing) (name-now-laid wires (roomsOf (reverse ss)) (eights-rows (reverse ss)) m j k rs laid))
+
+    pub names-are : map (λ o. o .name) (wiresAt (now (design ss) rs) m) ≡ namesUp names wires t (moduleBy wires p standing m)
+    names-are =
+        ap (λ (qs : List Statement). map (λ o. o .name) (wiresAt (now (design qs) rs) m)) (sym (reverse-reverse ss))
+        ∙ rw (← l .place, ← l .standing) (names-laid m (reverse ss) headed offsets rs laid wired)
+
+    -- a wire by its number
+    module _ (w : ℕ) {C : Type 0} (z : C) (g : Wire → C) where
+      pub there : w < wireRange wires (p .wires) m .count → Option·elim (wireAt (design ss) m w) z (λ o. g (o .body)) ≡ g (wireOf wires (wireRange wires (p .wires) m .first + w))
+      there h =
+          ap (λ (qs : List Statement). Option·elim (wireAt (design qs) m w) z (λ o. g (o .body))) (sym (reverse-reverse ss))
+          ∙ wire-there m w (reverse ss) headed offsets wired z g (rw all-wires h)
+          ∙ ap (λ (i : ℕ). g (wireOf wires (wireRange wires i m .first + w))) all-wires
+
+      pub missing : wireRange wires (p .wires) m .count ≤ w → Option·elim (wireAt (design ss) m w) z (λ o. g (o .body)) ≡ z
+      missing h =
+          ap (λ (qs : List Statement). Option·elim (wireAt (design qs) m w) z (λ o. g (o .body))) (sym (reverse-reverse ss))
+          ∙ wire-missing m w (reverse ss) headed offsets wired z g (rw all-wires h)
