@@ -180,22 +180,9 @@ pub record Judged (ws : Wires) (f s : List ℕ) (o : Option Shape) (r : Statemen
   pub means : numberOf r ≡ none → lateOf r ≡ 0 → statementIn f s r ≡ some (meaning ws sh)
 
 -- an answer about a line: it has no shape, or it is judged
-abbrev pub Says : Wires → (f s : List ℕ) → Option Shape → Statement → Type 0
-Says ws f s o (Autoidx w) = Judged ws f s o (Autoidx w)
-Says ws f s o (Attribute n c) = Judged ws f s o (Attribute n c)
-Says ws f s o (Module n) = Judged ws f s o (Module n)
-Says ws f s o (Parameter n c) = Judged ws f s o (Parameter n c)
-Says ws f s o (WireOf n w t k p) = Judged ws f s o (WireOf n w t k p)
-Says ws f s o (MemoryOf n w z t) = Judged ws f s o (MemoryOf n w z t)
-Says ws f s o (Cell k n) = Judged ws f s o (Cell k n)
-Says ws f s o (CellParameter x n c) = Judged ws f s o (CellParameter x n c)
-Says ws f s o (CellConnection n w l) = Judged ws f s o (CellConnection n w l)
-Says ws f s o (Connection a b l) = Judged ws f s o (Connection a b l)
-Says ws f s o End = Judged ws f s o End
-Says ws f s o NoShape = o ≡ none
-Says ws f s o Process = Judged ws f s o Process
-Says ws f s o BadNumber = Judged ws f s o BadNumber
-Says ws f s o MissingWire = Judged ws f s o MissingWire
+pub data Says (ws : Wires) (f s : List ℕ) (o : Option Shape) : Statement → Type 0 where
+  no-shape : o ≡ none → Says ws f s o NoShape
+  judged : {r : Statement} → Judged ws f s o r → Says ws f s o r
 
 -- a line without signals: whatever the wires and the scratch table are; a wire's line
 abbrev pub PlainIs : List ℕ → Option Shape → Statement → Type 0
