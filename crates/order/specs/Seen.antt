@@ -22,11 +22,13 @@ use Rattle.scanner.specs.Elements.{all-append, all-right, all-flatMap}
 use Rattle.order.specs.Nesting.{CellEntry, parameter-entry, port-entry, Entry, param-entry, wire-entry, memory-entry, cell-entry, connection-entry, settings, lineIn, linesOf, wiresOf, bodyOf, linesOfModule, cellEntries, entries}
 use Rattle.order.specs.DesignLaws.{flatMap-map, cellEntry, body-entries}
 use Rattle.order.specs.Fine.{wiresIn, signalsIn}
-use Rattle.order.specs.Tally.{Through, through-before, by-wire, wires-none, wires-one, wires-reset}
+use Rattle.order.specs.Tally.{Through, through-before}
 use Rattle.order.specs.Apart.{sees}
 use Rattle.order.specs.Sums.{sum-append, sum-map, sum-flatMap, sum-same, fails, all-none, none-all}
 use Rattle.order.specs.BodySums.{cellSum, bodySum, body-sum, sum-zero}
 use Rattle.order.specs.Walks.{noModule, settings-pass}
+use Rattle.past.specs.Forms.{by-wire}
+use Rattle.past.proofs.PlaceLaws.{wires-none, wires-one, wires-reset}
 
 -- THE WIRES BEHIND SOME LINES
 abbrev pub seen : Object Wire → Name × Wire
@@ -39,7 +41,7 @@ quiet-step : (s : Statement) (p : Past) → quiet s ≡ true → wires (s ∷ p)
 unfolding quiet statementsOpen
 quiet-step s p =
     by-wire (λ s. quiet s ≡ true → wires (s ∷ p) ≡ wires p) (λ w n e. cc)
-    (λ s q e. wires-none s p (not-true _ (and-true-left (not (is aModule s)) _ e)) q) s
+    (λ s o q e. wires-none s p (not-true _ (and-true-left (not (is aModule s)) _ e)) q) s
 
 pub wires-still : (l : List Statement) (p : Past) → all quiet l ≡ true → wires (reverseAux l p) ≡ wires p
 unfolding all
@@ -116,7 +118,7 @@ step-grown : (s : Statement) (p : Past) → noModule s ≡ true → Grown (wires
 step-grown s p =
     by-wire (λ s. noModule s ≡ true → Grown (wires p) (wires (s ∷ p)))
     (λ w n e. record { later = (n, w) ∷ []; are = wires-one w n p })
-    (λ s q e. record { later = []; are = wires-none s p (not-true (is aModule s) e) q }) s
+    (λ s o q e. record { later = []; are = wires-none s p (not-true (is aModule s) e) q }) s
 
 grown : (l : List Statement) (p : Past) → all noModule l ≡ true → Grown (wires p) (wires (reverseAux l p))
 unfolding all
