@@ -12,7 +12,7 @@ use borrow.Author.Tests.{eqb-true}
 use Rattle.rules.specs.Bytes.{all, bytes}
 use Rattle.rules.specs.Tokens.{Name}
 use Rattle.rules.specs.Numbers.{int32}
-use Rattle.rules.specs.Statements.{Statement, Wire, autoidx-stmt, attr-stmt, module-stmt, param-stmt, wire-stmt, memory-stmt, cell-stmt, cell-param-stmt, cell-conn-stmt, conn-stmt, proc-stmt, end-stmt, anAutoidx, anAttribute, aModule, aWire, code, contents, is, statementsOpen}
+use Rattle.rules.specs.Statements.{Statement, Wire, wire-stmt, end-stmt, anAutoidx, anAttribute, aModule, aWire, code, contents, is, statementsOpen, Kind}
 use Rattle.rules.specs.Shapes.{Scope}
 use Rattle.rules.specs.Signals.{Wires}
 use Rattle.rules.specs.Judgement.{Past, until, count, ofModule, wires}
@@ -50,10 +50,11 @@ use Rattle.module_text.specs.Passes.{named, wiresNow, wiresDown, linesOf, first
 use Rattle.module_text.specs.WireLaws.{wires-down}
 use Rattle.module_text.specs.StandLaws.{Follows, one-follows, follows, follows-until, autoidx-first}
 use Rattle.design_text.specs.declared.Counts.{Counts}
-use Rattle.design_text.specs.Rows.{nextRow, waitingFrom, rowLine, lineIf, kindRows, bodyRows, moduleAt, moduleIf, moduleRows, textRows}
+use Rattle.design_text.specs.Rows.{nextRow, rowLine, lineIf, kindRows, bodyRows, moduleAt, moduleIf, moduleRows, textRows}
 use Rattle.design_text.proofs.NowLaws.{fronts-past, name-is, wires-are}
-use Rattle.design_text.proofs.Passes.{Rowed, no-rows, one-row, rowed-more, Kinded, no-kinds, one-kind, next-until, more-behind, all-more, row-line, attribute-rows, body-rows}
-use Rattle.design_text.proofs.Named.{named-code, named-other, nowed, length-nowed, body-nowed, attribute-only}
+use Rattle.design_text.proofs.Passes.{waits, passes, Rowed, no-rows, one-row, rowed-more, Kinded, no-kinds, one-kind, next-until, more-behind, all-more, row-line, attribute-rows, body-rows}
+use Rattle.design_text.proofs.Named.{named-code, named-other, nowed, length-nowed, body-nowed}
+use Rattle.past.specs.Forms.{by-form, is-other}
 
 -- ---- how many wires
 
@@ -63,19 +64,6 @@ wires-onto xs base = sum-behind _ xs base
 
 -- ---- the rows of a statement
 
--- lines that name no wire
-module-only : (s : Statement) → is aModule s ≡ true → is aWire s ≡ false
-unfolding is code
-module-only s h = rw (← eqb-true 3 (code (contents s .kind)) h)
-
-attribute-no-module : (s : Statement) → is anAttribute s ≡ true → is aModule s ≡ false
-unfolding is code
-attribute-no-module s h = rw (← eqb-true 2 (code (contents s .kind)) h)
-
-autoidx-only : (s : Statement) → is anAutoidx s ≡ true → is aWire s ≡ false
-unfolding is code
-autoidx-only s h = rw (← eqb-true 1 (code (contents s .kind)) h)
-
 autoidx-kind : {t : Tables} (s : Statement) → Fronts (roomsOf (s ∷ [])) t → eqb (kindAt (t .rows) 0) 1 ≡ is anAutoidx s
 unfolding is code
 autoidx-kind s k = rw (fronts-kind s [] k) (eqb-sym (code (contents s .kind)) 1)
@@ -83,39 +71,22 @@ autoidx-kind s k = rw (fronts-kind s [] k) (eqb-sym (code (contents s .kind)) 1)
 -- of a kind whose lines have no signal
 plain-kinds : (s : Statement) → leb (code (contents s .kind)) 8 ≡ true → contents s .signals ≡ []
 unfolding statementsOpen
-plain-kinds (autoidx-stmt i) h = refl
-plain-kinds (attr-stmt n c) h = refl
-plain-kinds (module-stmt n) h = refl
-plain-kinds (param-stmt n c) h = refl
-plain-kinds (wire-stmt w n) h = refl
-plain-kinds (memory-stmt m n) h = refl
-plain-kinds (cell-stmt y n) h = refl
-plain-kinds (cell-param-stmt o n c) h = refl
-plain-kinds (cell-conn-stmt n x) h = absurd (false≢true h)
-plain-kinds (conn-stmt x y) h = absurd (false≢true h)
-plain-kinds (proc-stmt n) h = refl
-plain-kinds end-stmt h = refl
+plain-kinds =
+    by-form (λ s. leb (code (contents s .kind)) 8 ≡ true → contents s .signals ≡ []) (λ i h. refl) (λ n c h. refl) (λ n h. refl) (λ n c h. refl) (λ w n h. refl)
+    (λ m n h. refl) (λ t n h. refl) (λ o n c h. refl) (λ n x h. absurd (false≢true h)) (λ x y h. absurd (false≢true h)) (λ n h. refl) (λ h. refl)
+
+plain-of : (k : Kind) (s : Statement) → leb (code k) 8 ≡ true → is k s ≡ true → contents s .signals ≡ []
+unfolding is
+plain-of k s b h = plain-kinds s (rw (← eqb-true (code k) (code (contents s .kind)) h) b)
 
 plain-at : (l : ℕ) (ws : Wires) (s : Statement) → contents s .signals ≡ [] → lineOf l ws s ≡ lineOf l [] s
 unfolding plainLine
 plain-at l ws s e = plain-line l ws s e
 
-module-plain : (s : Statement) → is aModule s ≡ true → contents s .signals ≡ []
-unfolding is code
-module-plain s h = plain-kinds s (rw (← eqb-true 3 (code (contents s .kind)) h))
-
-attribute-plain : (s : Statement) → is anAttribute s ≡ true → contents s .signals ≡ []
-unfolding is code
-attribute-plain s h = plain-kinds s (rw (← eqb-true 2 (code (contents s .kind)) h))
-
-autoidx-plain : (s : Statement) → is anAutoidx s ≡ true → contents s .signals ≡ []
-unfolding is code
-autoidx-plain s h = plain-kinds s (rw (← eqb-true 1 (code (contents s .kind)) h))
-
 lines-plain : (l : ℕ) (ws : Wires) (at : List Statement) → all (is anAttribute) at ≡ true → linesOf l ws at ≡ linesOf l [] at
-unfolding linesOf flatMap all
+unfolding linesOf flatMap all code
 lines-plain l ws [] h = refl
-lines-plain l ws (s ∷ at) h = ap₂ _++_ (plain-at l ws s (attribute-plain s (and-true-left (is anAttribute s) _ h))) (lines-plain l ws at (and-true-right (is anAttribute s) _ h))
+lines-plain l ws (s ∷ at) h = ap₂ _++_ (plain-at l ws s (plain-of anAttribute s refl (and-true-left (is anAttribute s) _ h))) (lines-plain l ws at (and-true-right (is anAttribute s) _ h))
 
 end-top : bytes "end\n" ≡ lineOf 0 [] end-stmt
 unfolding lineOf textOpen statementsOpen
@@ -285,8 +256,8 @@ module _
         rw j (let z : nextRow (t .rows) 3 (suc (length ps)) (length qs) ≡ suc (length ps) + length own = next-until (t .rows) aModule 3 refl (kinded qs (s ∷ ps) c) in omega arith) in
         let d : length ps - first ≡ length at = omega arith in
         let st : statementNow (t .names) (t .strings) (t .bits) (t .wires) (t .rows) m (length ps) ≡ some s =
-        plain-row m s ps (fronts-past qs (s ∷ ps) c) (admitted-past qs (s ∷ ps) a) (module-only s line-is) in
-        let l : rowLine t m 0 (length ps) ≡ lineOf 0 [] s = row-line t m 0 (length ps) s st ∙ plain-at 0 (line.wiresIn (t .names) (t .wires) (t .rows) m) s (module-plain s line-is) in
+        plain-row m s ps (fronts-past qs (s ∷ ps) c) (admitted-past qs (s ∷ ps) a) (is-other aModule aWire s refl line-is) in
+        let l : rowLine t m 0 (length ps) ≡ lineOf 0 [] s = row-line t m 0 (length ps) s st ∙ plain-at 0 (line.wiresIn (t .names) (t .wires) (t .rows) m) s (plain-of aModule s refl line-is) in
         let at-is : kindRows t m 2 0 first (length ps - first) ≡ linesOf 0 [] at = attribute-rows t m 0 (length ps - first) d ea r ∙ lines-plain 0 (line.wiresIn (t .names) (t .wires) (t .rows) m) at ea in
         let bd : bodyRows t m (length ps + 1) (nextRow (t .rows) 3 (length ps + 1) (length qs) - (length ps + 1)) ≡ bodyLines rs n (wiresNow rs n own) own =
         rw (y, j) (ap (bodyRows t m (suc (length ps))) (sym (length-nowed rs n 0 own)) ∙ body-rows t m own-rowed ∙ body-nowed rs n (line.wiresIn (t .names) (t .wires) (t .rows) m) own (follows-until (is aModule) fo) ∙ ap (λ (ws : Wires). bodyLines rs n ws own) seen-is) in
@@ -303,20 +274,12 @@ module _
       rw (fronts-kind s ps k, eqb-sym (code (contents s .kind)) 3)
       (by-test (eqb 3 (code (contents s .kind))) (λ x. rw x (omega (arith, module-counts s ps x))) (λ x. rw x (omega (arith, other-counts s ps x))))
 
-  waits : (s : Statement) (ps : Past) (first : ℕ) → Fronts (roomsOf (s ∷ ps)) t → is anAttribute s ≡ true → waitingFrom (kindAt (t .rows) (length ps)) first (length ps) ≡ first
-  unfolding waitingFrom is code
-  waits s ps first k h = rw (fronts-kind s ps k, ← eqb-true 2 (code (contents s .kind)) h)
-
-  passes : (s : Statement) (ps : Past) (first : ℕ) → Fronts (roomsOf (s ∷ ps)) t → is anAttribute s ≡ false → waitingFrom (kindAt (t .rows) (length ps)) first (length ps) ≡ suc (length ps)
-  unfolding waitingFrom is code
-  passes s ps first k h = rw (fronts-kind s ps k, eqb-sym (code (contents s .kind)) 2, h) (omega arith)
-
   -- ALL MODULES
   modules-rows :
       (qs : List Statement) (ps : Past) (n first : ℕ) (at : List Statement) {p : Scope} {f : Bool} → Follows p f qs → reverseAux qs ps ≡ F → n ≡ moduleCount ps →
       length ps ≡ first + length at → all (is anAttribute) at ≡ true → ((m : Module) → Rowed t m first at) →
       moduleRows t C n first (length ps) (length qs) ≡ objectLines aModule (printModule rs) n at qs
-  unfolding moduleRows objectLines all
+  unfolding moduleRows objectLines all code
   modules-rows [] ps n first at fo i h el ea r = refl
   modules-rows (s ∷ qs) ps n first at (one-follows g q fo) i h el ea r =
       let c : Fronts (roomsOf (reverseAux qs (s ∷ ps))) t = rw i F-fronts in
@@ -325,25 +288,25 @@ module _
       let n′ : n + cond (eqb (kindAt (t .rows) (length ps)) 3) 1 0 ≡ moduleCount (s ∷ ps) = more-modules s ps n k h in
       by-test (is anAttribute s)
       (λ w.
-      let o : is aModule s ≡ false = attribute-no-module s w in
+      let o : is aModule s ≡ false = is-other anAttribute aModule s refl w in
       let same : n ≡ moduleCount (s ∷ ps) = h ∙ sym (other-counts s ps o) in
-      rw (module-not s ps n first (length qs) k o, waits s ps first k w, n′, ← same, w)
+      rw (module-not s ps n first (length qs) k o, waits _ first (length ps) s (fronts-kind s ps k) w, n′, ← same, w)
       (modules-rows qs (s ∷ ps) n first (at ++ s ∷ []) fo i same (more-behind (length ps) first at s el) (all-more (is anAttribute) at s ea w)
-      (λ m. rowed-more s (length ps) el (r m) (plain-row m s ps k (admitted-past qs (s ∷ ps) a) (attribute-only s w)) (fronts-kind s ps k))))
+      (λ m. rowed-more s (length ps) el (r m) (plain-row m s ps k (admitted-past qs (s ∷ ps) a) (is-other anAttribute aWire s refl w)) (fronts-kind s ps k))))
       (λ w. by-test (is aModule s)
       (λ z.
       let next : n + 1 ≡ moduleCount (s ∷ ps) = omega (arith, module-counts s ps z) in
-      rw (passes s ps first k w, n′, ← next, w, z)
+      rw (passes _ first (length ps) s (fronts-kind s ps k) w, n′, ← next, w, z)
       (ap₂ _++_ (module-rows s ps qs n i h z first at fo el ea (r (moduleAt (t .wires) C n)))
       (modules-rows qs (s ∷ ps) (n + 1) (suc (length ps)) [] fo i next (omega arith) refl (λ m. no-rows))))
       (λ z.
       let same : n ≡ moduleCount (s ∷ ps) = h ∙ sym (other-counts s ps z) in
-      rw (module-not s ps n first (length qs) k z, passes s ps first k w, n′, ← same, w, z)
+      rw (module-not s ps n first (length qs) k z, passes _ first (length ps) s (fronts-kind s ps k) w, n′, ← same, w, z)
       (modules-rows qs (s ∷ ps) n (suc (length ps)) [] fo i same (omega arith) refl (λ m. no-rows))))
 
   -- the `autoidx` line
   autoidx-rows : (ss : List Statement) {p : Scope} {f : Bool} → Follows p f ss → reverse ss ≡ F → kindRows t (moduleAt (t .wires) C 0) 1 0 0 (cond (eqb (length ss) 0) 0 1) ≡ firstLine anAutoidx ss
-  unfolding kindRows lineIf firstLine
+  unfolding kindRows lineIf firstLine code
   autoidx-rows [] fo i = refl
   autoidx-rows (s ∷ ss) fo i =
       let c : Fronts (roomsOf (reverseAux ss (s ∷ []))) t = rw i F-fronts in
@@ -355,7 +318,7 @@ module _
       first-autoidx s k a =
           rw (append-nil, autoidx-kind s k)
           (by-test (is anAutoidx s)
-          (λ h. rw h (row-line t (moduleAt (t .wires) C 0) 0 0 s (plain-row (moduleAt (t .wires) C 0) s [] k a (autoidx-only s h)) ∙ plain-at 0 _ s (autoidx-plain s h)))
+          (λ h. rw h (row-line t (moduleAt (t .wires) C 0) 0 0 s (plain-row (moduleAt (t .wires) C 0) s [] k a (is-other anAutoidx aWire s refl h)) ∙ plain-at 0 _ s (plain-of anAutoidx s refl h)))
           (λ h. rw h))
 
   -- THE TEXT

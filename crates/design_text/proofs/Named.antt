@@ -3,18 +3,17 @@
 use Prim.Native.Nat.{ℕ, suc, _+_}
 use mathlib.Core.Path.{_≡_, refl, sym, ap, ap₂}
 use mathlib.Core.List.{List, [], _∷_, _++_}
-use mathlib.Core.Bool.{Bool, true, false, cond, false≢true}
+use mathlib.Core.Bool.{Bool, false, cond, false≢true}
 use lib.Dec.{eqb}
 use lib.ListN.{length}
-use borrow.Author.Tests.{eqb-true}
 use Rattle.rules.specs.Tokens.{Name}
-use Rattle.rules.specs.Statements.{Statement, autoidx-stmt, attr-stmt, module-stmt, param-stmt, wire-stmt, memory-stmt, cell-stmt, cell-param-stmt, cell-conn-stmt, conn-stmt, proc-stmt, end-stmt, Kind, anAttribute, aParameter, aWire, aMemory, aCell, aCellParameter, aCellConnection, aConnection, anEnd, code, contents, is, statementsOpen}
+use Rattle.rules.specs.Statements.{Statement, Kind, anAttribute, aParameter, aWire, aMemory, aCell, aCellParameter, aCellConnection, aConnection, anEnd, code, contents, is, statementsOpen}
 use Rattle.rules.specs.Shapes.{Scope}
 use Rattle.rules.specs.Signals.{Wires}
 use Rattle.rules.specs.Judgement.{until}
 use Rattle.rules.specs.Session.{Rename}
 use Rattle.scanner.specs.Laws.{by-test}
-use Rattle.past.specs.Forms.{by-form}
+use Rattle.past.specs.Forms.{by-form, is-other}
 use Rattle.designs.specs.Now.{nameNow}
 use Rattle.module_text.specs.Passes.{named, kindLines, Print, objectLines, printWire, printMemory, cellBlock, printToEnd, bodyLines}
 use Rattle.module_text.specs.StandLaws.{Follows, cells-end}
@@ -34,30 +33,9 @@ module _ (f : Name → Name) where
 
   pub named-other : (s : Statement) → is aWire s ≡ false → named f s ≡ s
   unfolding named statementsOpen
-  named-other (autoidx-stmt i) h = refl
-  named-other (attr-stmt x c) h = refl
-  named-other (module-stmt x) h = refl
-  named-other (param-stmt x c) h = refl
-  named-other (wire-stmt w x) h = absurd (false≢true (sym h))
-  named-other (memory-stmt m x) h = refl
-  named-other (cell-stmt t x) h = refl
-  named-other (cell-param-stmt o x c) h = refl
-  named-other (cell-conn-stmt x g) h = refl
-  named-other (conn-stmt g h′) h = refl
-  named-other (proc-stmt x) h = refl
-  named-other end-stmt h = refl
-
-wire-only : (K : Kind) → eqb (code K) 5 ≡ false → (s : Statement) → is aWire s ≡ true → is K s ≡ false
-unfolding is code
-wire-only K o s h = rw (← eqb-true 5 (code (contents s .kind)) h) o
-
-attribute-not : eqb (code anAttribute) 5 ≡ false
-unfolding code
-attribute-not = refl
-
-pub attribute-only : (s : Statement) → is anAttribute s ≡ true → is aWire s ≡ false
-unfolding is code
-attribute-only s h = rw (← eqb-true 2 (code (contents s .kind)) h)
+  named-other =
+      by-form (λ s. is aWire s ≡ false → named f s ≡ s) (λ i h. refl) (λ n c h. refl) (λ n h. refl) (λ n c h. refl) (λ w n h. absurd (false≢true (sym h))) (λ m n h. refl)
+      (λ t n h. refl) (λ o n c h. refl) (λ n x h. refl) (λ x y h. refl) (λ n h. refl) (λ h. refl)
 
 -- statements of module m, the next wire's number being n, with names now
 module _ (rs : List Rename) (m : ℕ) where
@@ -79,24 +57,24 @@ module _ (rs : List Rename) (m : ℕ) where
       (λ h. rw (named-is (nameNow rs m n) K s, h) (ap (λ (l : List Statement). named (nameNow rs m n) s ∷ l) (until-nowed K (cond (is aWire s) (n + 1) n) ss)))
 
   -- passes that are not of wires
-  module _ (K : Kind) (o : eqb (code K) 5 ≡ false) where
+  module _ (K : Kind) (o : eqb (code K) (code aWire) ≡ false) where
     kinds-nowed : (l : ℕ) (ws : Wires) (n : ℕ) (ss : List Statement) → kindLines K l ws (nowed n ss) ≡ kindLines K l ws ss
     unfolding nowed kindLines
     kinds-nowed l ws n [] = refl
     kinds-nowed l ws n (s ∷ ss) =
         by-test (is aWire s)
-        (λ h. rw (named-is (nameNow rs m n) K s, wire-only K o s h) (kinds-nowed l ws _ ss))
+        (λ h. rw (named-is (nameNow rs m n) K s, is-other aWire K s o h) (kinds-nowed l ws _ ss))
         (λ h. rw (named-other (nameNow rs m n) s h, kinds-nowed l ws (cond (is aWire s) (n + 1) n) ss))
 
     objects-nowed :
         (print : Print) → ((w n : ℕ) (at : List Statement) (s : Statement) (more : List Statement) → print w at s (nowed n more) ≡ print w at s more) →
         (w n : ℕ) (at ss : List Statement) → objectLines K print w at (nowed n ss) ≡ objectLines K print w at ss
-    unfolding nowed objectLines
+    unfolding nowed objectLines code
     objects-nowed print p w n at [] = refl
     objects-nowed print p w n at (s ∷ ss) =
         by-test (is aWire s)
         (λ h.
-        rw (named-is (nameNow rs m n) anAttribute s, named-is (nameNow rs m n) K s, wire-only K o s h, wire-only anAttribute attribute-not s h) (objects-nowed print p w _ [] ss))
+        rw (named-is (nameNow rs m n) anAttribute s, named-is (nameNow rs m n) K s, is-other aWire K s o h, is-other aWire anAttribute s refl h) (objects-nowed print p w _ [] ss))
         (λ h.
         let k : ℕ = cond (is aWire s) (n + 1) n in
         rw (named-other (nameNow rs m n) s h)
@@ -112,13 +90,13 @@ module _ (rs : List Rename) (m : ℕ) where
   one-wire ws n at s qs ss = refl
 
   wires-nowed : (ws : Wires) (n : ℕ) (at ss : List Statement) → objectLines aWire (printMemory ws) n at (nowed n ss) ≡ objectLines aWire (printWire rs m ws) n at ss
-  unfolding nowed objectLines
+  unfolding nowed objectLines code
   wires-nowed ws n at [] = refl
   wires-nowed ws n at (s ∷ ss) =
       rw (named-is (nameNow rs m n) anAttribute s, named-is (nameNow rs m n) aWire s)
       (by-test (is anAttribute s)
       (λ a.
-      let h : is aWire s ≡ false = attribute-only s a in
+      let h : is aWire s ≡ false = is-other anAttribute aWire s refl a in
       rw (a, h, named-other (nameNow rs m n) s h) (wires-nowed ws n (at ++ s ∷ []) ss))
       (λ a. by-test (is aWire s)
       (λ b. rw (a, b) (ap₂ _++_ (one-wire ws n at s (nowed (n + 1) ss) ss) (wires-nowed ws (n + 1) [] ss)))

@@ -16,6 +16,7 @@ use Rattle.rules.specs.Judgement.{until}
 use Rattle.rules.specs.Text.{textOpen}
 use Rattle.scanner.specs.Laws.{by-test, and-true-left, and-true-right, eqb-sym}
 use Rattle.scanner.specs.Elements.{all-append}
+use Rattle.past.specs.Forms.{is-other}
 use Rattle.netlist.specs.Rows.{kindAt}
 use Rattle.wire_names.specs.Now.{wiresIn}
 use Rattle.wire_names.specs.declared.Module.{Module}
@@ -32,6 +33,16 @@ all-more f xs x h e = all-append f xs (x ∷ []) h (rw e)
 
 pub more-behind : (k first : ℕ) (at : List Statement) (s : Statement) → k ≡ first + length at → suc k ≡ first + length (at ++ s ∷ [])
 more-behind k first at s e = omega (arith, length-append at (s ∷ []))
+
+-- attributes wait for their object; behind any other row none does
+module _ (kind first k : ℕ) (s : Statement) (q : kind ≡ code (contents s .kind)) where
+  pub waits : is anAttribute s ≡ true → waitingFrom kind first k ≡ first
+  unfolding waitingFrom is code
+  waits h = rw (q, ← eqb-true 2 (code (contents s .kind)) h)
+
+  pub passes : is anAttribute s ≡ false → waitingFrom kind first k ≡ suc k
+  unfolding waitingFrom is code
+  passes h = rw (q, eqb-sym (code (contents s .kind)) 2, h) (omega arith)
 
 -- the rows from k on hold these statements, wires by their names now
 pub data Rowed (t : Tables) (m : Module) : ℕ → List Statement → Type 0 where
@@ -123,7 +134,7 @@ module _ (t : Tables) (m : Module) where
   line-rows n k at s more e = rw (row-line 1 k s e)
 
   -- OBJECTS OF A KIND, each with the attributes right before it
-  module _ (K : Kind) (kind : ℕ) (ek : code K ≡ kind) (other : eqb kind 2 ≡ false) (print : Print)
+  module _ (K : Kind) (kind : ℕ) (ek : code K ≡ kind) (other : eqb (code K) (code anAttribute) ≡ false) (print : Print)
       (prints :
       (n k : ℕ) (at : List Statement) (s : Statement) (more : List Statement) → statementNow (t .names) (t .strings) (t .bits) (t .wires) (t .rows) m k ≡ some s →
       Rowed t m (suc k) more → linesOf 1 seen at ++ cond (eqb kind 7) (cellRows t m k (length more)) (rowLine t m 1 k) ≡ print n at s more) where
@@ -138,18 +149,6 @@ module _ (t : Tables) (m : Module) where
         let z : eqb (kindAt (t .rows) k) kind ≡ true = rw (q, ← ek) (eqb-sym (code (contents s .kind)) (code K) ∙ h) in
         rw z
 
-    attribute-other : (s : Statement) → is anAttribute s ≡ true → is K s ≡ false
-    unfolding is code
-    attribute-other s h = rw (← eqb-true 2 (code (contents s .kind)) h, ek) other
-
-    waits : (first k : ℕ) (s : Statement) → kindAt (t .rows) k ≡ code (contents s .kind) → is anAttribute s ≡ true → waitingFrom (kindAt (t .rows) k) first k ≡ first
-    unfolding waitingFrom is code
-    waits first k s q h = rw (q, ← eqb-true 2 (code (contents s .kind)) h)
-
-    passes : (first k : ℕ) (s : Statement) → kindAt (t .rows) k ≡ code (contents s .kind) → is anAttribute s ≡ false → waitingFrom (kindAt (t .rows) k) first k ≡ suc k
-    unfolding waitingFrom is code
-    passes first k s q h = rw (q, eqb-sym (code (contents s .kind)) 2, h) (omega arith)
-
     pub object-rows :
         (n first k : ℕ) (at : List Statement) {ss : List Statement} → k ≡ first + length at → all (is anAttribute) at ≡ true → Rowed t m first at → Rowed t m k ss →
         objectRows t m kind first k (length ss) ≡ objectLines K print n at ss
@@ -157,16 +156,16 @@ module _ (t : Tables) (m : Module) where
     object-rows n first k at e h a no-rows = refl
     object-rows n first k at e h a (one-row {s = s} {ss} x q r) =
         by-test (is anAttribute s)
-        (λ w. rw (object-not first k (length ss) s q (attribute-other s w), waits first k s q w, w)
+        (λ w. rw (object-not first k (length ss) s q (is-other anAttribute K s other w), waits _ first k s q w, w)
         (object-rows n first (suc k) (at ++ s ∷ []) (more-behind k first at s e) (all-more (is anAttribute) at s h w) (rowed-more s k e a x q) r))
         (λ w. by-test (is K s)
-        (λ z. rw (passes first k s q w, w, z)
+        (λ z. rw (passes _ first k s q w, w, z)
         (ap₂ _++_
         (object-here first k (length ss) s q z
         ∙ ap (λ (l : List ℕ). l ++ cond (eqb kind 7) (cellRows t m k (length ss)) (rowLine t m 1 k)) (attribute-rows 1 (k - first) (omega arith) h a)
         ∙ prints n k at s ss x r)
         (object-rows (n + 1) (suc k) (suc k) [] (omega arith) refl no-rows r)))
-        (λ z. rw (object-not first k (length ss) s q z, passes first k s q w, w, z) (object-rows n (suc k) (suc k) [] (omega arith) refl no-rows r)))
+        (λ z. rw (object-not first k (length ss) s q z, passes _ first k s q w, w, z) (object-rows n (suc k) (suc k) [] (omega arith) refl no-rows r)))
 
   -- WHAT STANDS IN A MODULE
   pub body-rows :

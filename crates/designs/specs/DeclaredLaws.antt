@@ -2,24 +2,23 @@
 -- Assumes nothing.
 use Prim.Native.Nat.{ℕ, suc, _+_, _≤_, _<_}
 use mathlib.Core.Path.{_≡_, refl, sym, ap, _∙_}
-use mathlib.Core.List.{List, [], _∷_, _++_, flatMap, zip, zipWith, reverse, reverse-append, reverse-cons, append-assoc}
+use mathlib.Core.List.{List, [], _∷_, _++_, flatMap, reverse, reverse-append, reverse-cons, append-assoc}
 use mathlib.Core.Option.{some}
-use mathlib.Core.Bool.{true, false}
 use native.Mathlib.Omega.{arith}
 use lib.Dec.{ltb}
 use lib.ListN.{length, length-reverse}
 use borrow.Author.Tests.{ltb-true, ltb-false}
 use Rattle.rules.specs.Tokens.{Name}
-use Rattle.rules.specs.Statements.{Statement, Wire, wire-stmt, aModule, contents, is, statementsOpen}
-use Rattle.rules.specs.Judgement.{Past, until, ofModule, wires}
+use Rattle.rules.specs.Statements.{Statement, Wire, wire-stmt, aModule, is, statementsOpen}
+use Rattle.rules.specs.Judgement.{Past, ofModule, wires}
 use Rattle.rules.specs.Design.{object, design}
 use Rattle.rules.specs.Session.{wireAt}
 use Rattle.scanner.specs.Laws.{by-test}
 use Rattle.past.specs.Place.{wiresIn, placeOf}
-use Rattle.past.proofs.PlaceLaws.{length-all-wires}
+use Rattle.past.proofs.PlaceLaws.{length-all-wires, wires-none, wires-one, wires-reset}
 use Rattle.netlist.specs.Laid.{roomsOf, Wired}
 use Rattle.designs.specs.Modules.{statementsOf, wiresOf, moduleCount, upTo, Headed}
-use Rattle.designs.specs.PastLaws.{other-counts, module-first, module-more, none-counts, module-past, no-module, up-to-split, up-to-count}
+use Rattle.designs.specs.PastLaws.{other-counts, none-counts, module-past, no-module, up-to-split, up-to-count}
 use Rattle.designs.specs.AttributeLaws.{settingsBefore, wire-in-file}
 use Rattle.designs.specs.WireLaws.{Adds, a-wire, no-wire, adds, wires-back, range-number}
 use Rattle.designs.specs.Ranges.{wireRange}
@@ -48,18 +47,6 @@ declared-more xs ss m w d =
     }
 
 -- in the module that stands open
-no-wires : (s : Statement) (ss : Past) → is aModule s ≡ true → length (wires (s ∷ ss)) ≡ 0
-unfolding wires flatMap
-no-wires s ss e = rw (module-first s ss e)
-
-same-wires : (s : Statement) (ss : Past) → is aModule s ≡ false → zip (contents s .names) (contents s .wires) ≡ [] → wires (s ∷ ss) ≡ wires ss
-unfolding wires flatMap
-same-wires s ss e h = rw (module-more s ss e, h)
-
-one-wire : (b : Wire) (n : Name) (ss : Past) → length (wires (wire-stmt b n ∷ ss)) ≡ suc (length (wires ss))
-unfolding wires flatMap ofModule until zip zipWith statementsOpen
-one-wire b n ss = refl
-
 wire-counts : (b : Wire) (n : Name) (ss : Past) → moduleCount (wire-stmt b n ∷ ss) ≡ moduleCount ss
 unfolding statementsOpen
 wire-counts b n ss = other-counts (wire-stmt b n) ss refl
@@ -73,13 +60,14 @@ module _ (m w : ℕ) where
       by-test (ltb w (length (wires ss)))
       (λ q. declared-more (wire-stmt b n ∷ []) ss m w (earlier c (ltb-true w (length (wires ss)) q)))
       (λ q.
-      let k : length (wires ss) ≡ w = omega (arith, ltb-false w (length (wires ss)) q, one-wire b n ss) in
+      let l : length (wires (wire-stmt b n ∷ ss)) ≡ suc (length (wires ss)) = ap length (wires-one b n ss) in
+      let k : length (wires ss) ≡ w = omega (arith, ltb-false w (length (wires ss)) q) in
       record { before = ss; behind = []; body = b; name = n; all = refl; module-is = c; number-is = k })
   declared-step s ss earlier (no-wire y z) e h =
       by-test (is aModule s)
-      (λ q. absurd (omega (arith, no-wires s ss q)))
+      (λ q. absurd (let k : length (wires (s ∷ ss)) ≡ 0 = ap length (wires-reset s ss q) in omega arith))
       (λ q.
-      let k : length (wires (s ∷ ss)) ≡ length (wires ss) = ap length (same-wires s ss q z) in
+      let k : length (wires (s ∷ ss)) ≡ length (wires ss) = ap length (wires-none s ss q z) in
       declared-more (s ∷ []) ss m w (earlier (sym (other-counts s ss q) ∙ e) (omega arith)))
 
   declared-open : (ss : Past) → moduleCount ss ≡ suc m → w < length (wires ss) → Declared ss m w

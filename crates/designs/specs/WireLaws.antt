@@ -15,7 +15,7 @@ use Rattle.rules.specs.Judgement.{Past, sum, among, count, ofModule, wires}
 use Rattle.rules.specs.Design.{design}
 use Rattle.rules.specs.Session.{wiresAt}
 use Rattle.rules.specs.Layout.{used, padded, row, wireRow}
-use Rattle.past.specs.Forms.{by-form}
+use Rattle.past.specs.Forms.{by-form, by-wire}
 use Rattle.wires.specs.Rows.{column, wiresFrom}
 use Rattle.scanner.specs.Laws.{by-test}
 use Rattle.past.specs.Place.{wiresIn, placeOf}
@@ -46,13 +46,10 @@ module _ {names t : List ℕ} where
 -- WHAT A STATEMENT ADDS to the wires
 pub data Adds : Statement → Type 0 where
   a-wire : (w : Wire) (n : Name) → Adds (wire-stmt w n)
-  no-wire : {s : Statement} → is aWire s ≡ false → zip (contents s .names) (contents s .wires) ≡ [] → Adds s
+  no-wire : {s : Statement} → is aWire s ≡ false → contents s .wires ≡ [] → Adds s
 
 pub adds : (s : Statement) → Adds s
-unfolding zip zipWith statementsOpen
-adds =
-    by-form Adds (λ i. no-wire refl refl) (λ n c. no-wire refl refl) (λ n. no-wire refl refl) (λ n c. no-wire refl refl) a-wire (λ m n. no-wire refl refl)
-    (λ t n. no-wire refl refl) (λ o n c. no-wire refl refl) (λ n x. no-wire refl refl) (λ x y. no-wire refl refl) (λ n. no-wire refl refl) (no-wire refl refl)
+adds = by-wire Adds a-wire (λ s. no-wire)
 
 wire-alone : (s : Statement) → Adds s → is aWire s ≡ true → is aModule s ≡ false
 unfolding statementsOpen

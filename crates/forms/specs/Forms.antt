@@ -61,24 +61,28 @@ unfoldable pub ended : Option Shape → List rules.Token → Option Shape
 ended none ts = none
 ended (some s) ts = wholeBy s ts
 
--- a form's constant is that of one of the rows, and its sort one of three
+-- what holds of a parameter's constant, if it has one; of a form's constant, and its sort is one of three
+abbrev pub ValueHolds : (Constant → Type 0) → Literal → Type 0
+ValueHolds P (literal.Read c) = P c
+ValueHolds P literal.Nothing = Unit {0}
+
+abbrev pub FormHolds : (Constant → Type 0) → Form → Type 0
+FormHolds P (Autoidx z) = Unit {0}
+FormHolds P (Attribute n c) = P c
+FormHolds P (Module n) = Unit {0}
+FormHolds P (Parameter n c) = ValueHolds P c
+FormHolds P (Cell k n) = Unit {0}
+FormHolds P (CellParameter s n c) = (s ≤ 2) × P c
+FormHolds P (Process n) = Unit {0}
+FormHolds P End = Unit {0}
+FormHolds P NoShape = Unit {0}
+
+-- a constant of one of the rows
 abbrev pub InRows : List ℕ → Constant → Type 0
 InRows t c = (i : ℕ) × (tokenAt t i ≡ Constantly c)
 
-abbrev pub ValueFrom : List ℕ → Literal → Type 0
-ValueFrom t (literal.Read c) = InRows t c
-ValueFrom t literal.Nothing = Unit {0}
-
 abbrev pub FormFrom : List ℕ → Form → Type 0
-FormFrom t (Autoidx z) = Unit {0}
-FormFrom t (Attribute n c) = InRows t c
-FormFrom t (Module n) = Unit {0}
-FormFrom t (Parameter n c) = ValueFrom t c
-FormFrom t (Cell k n) = Unit {0}
-FormFrom t (CellParameter s n c) = (s ≤ 2) × InRows t c
-FormFrom t (Process n) = Unit {0}
-FormFrom t End = Unit {0}
-FormFrom t NoShape = Unit {0}
+FormFrom t r = FormHolds (InRows t) r
 
 abbrev pub KindFrom : List ℕ → Kind → Type 0
 KindFrom t (kind.Form r) = FormFrom t r

@@ -16,9 +16,8 @@ use Rattle.rules.specs.Reading.{shaped}
 use Rattle.tokens.specs.Rows.{line}
 use Rattle.wires.specs.Rows.{wiresFrom}
 use Rattle.forms.specs.Forms.{nameIn}
-use Rattle.syntax.specs.Statements.{numberOf, lateOf, late, Sound, Judged, Says, StatementIs}
+use Rattle.syntax.specs.Statements.{numberOf, lateOf, late, Sound, Judged, Says, no-shape, judged, StatementIs}
 use Rattle.syntax.specs.declared.Statement.{Statement}
-use Rattle.syntax.specs.declared.Statement.the-variants.{Autoidx, Attribute, Module, Parameter, Wire, Memory, Cell, CellParameter, CellConnection, Connection, End, NoShape, Process, BadNumber, MissingWire}
 use Rattle.syntax.proofs.Verdicts.{behind, judged-early, judged-late, says-judged, says-sound}
 use Rattle.past.specs.Sizes.{sumsOf, plusOf, exceeds}
 use Rattle.past.specs.declared.place.Place.{Place}
@@ -34,21 +33,8 @@ use Rattle.judgement.proofs.PartLaws.{tells, no-number, no-late}
 -- a refusal of 5 to 8
 refused-early : (ss : Past) (f s : List ℕ) (o : Option Shape) (a : Statement) (n : ℕ) → Says (wires ss) f s o a → numberOf a ≡ some n → shaped ss o ≡ Verdict.refused n
 unfolding shaped numberOf
-refused-early ss f s o (Autoidx w) n j e = judged-early ss f s j n e
-refused-early ss f s o (Attribute m c) n j e = judged-early ss f s j n e
-refused-early ss f s o (Module m) n j e = judged-early ss f s j n e
-refused-early ss f s o (Parameter m c) n j e = judged-early ss f s j n e
-refused-early ss f s o (Wire m w t k p) n j e = judged-early ss f s j n e
-refused-early ss f s o (Memory m w z t) n j e = judged-early ss f s j n e
-refused-early ss f s o (Cell k m) n j e = judged-early ss f s j n e
-refused-early ss f s o (CellParameter x m c) n j e = judged-early ss f s j n e
-refused-early ss f s o (CellConnection m w l) n j e = judged-early ss f s j n e
-refused-early ss f s o (Connection l r k) n j e = judged-early ss f s j n e
-refused-early ss f s o End n j e = judged-early ss f s j n e
-refused-early ss f s o NoShape n j e = let q : 5 ≡ n = cc in rw (j, q)
-refused-early ss f s o Process n j e = judged-early ss f s j n e
-refused-early ss f s o BadNumber n j e = judged-early ss f s j n e
-refused-early ss f s o MissingWire n j e = judged-early ss f s j n e
+refused-early ss f s o a n (no-shape h) e = let q : 5 ≡ n = cc in rw (h, q)
+refused-early ss f s o a n (judged j) e = judged-early ss f s j n e
 
 -- ---- the tests behind them, by their answers
 

@@ -3,7 +3,7 @@
 use Prim.Native.Nat.{ℕ, _+_, _*_, _≤_, _<_}
 use mathlib.Core.Path.{_≡_, refl, sym, ap, _∙_}
 use mathlib.Core.List.{List, [], _∷_, map, Option·toList}
-use mathlib.Core.Option.{Option, none, some, Option·elim, Option·map, Option·some-injective, Option·none-ne-some}
+use mathlib.Core.Option.{Option, none, some, Option·elim, Option·map}
 use native.Mathlib.Omega.{arith}
 use types.Run.{OneOf, miss}
 use denote.Enum.Declared.{tagOf}
@@ -42,7 +42,7 @@ use Rattle.layout.proofs.PutLaws.{name-put}
 
 -- what is put for the statement that the answer stands for
 puts-is : (f s : List ℕ) (r : Statement) (u : Used) (t t′ : Tables) (y : rules.Statement) → statementIn f s r ≡ some y → Puts (usedOf u) y t t′ → PutIs f s r u t t′
-puts-is f s r u t t′ y e p x q = rw (← Option·some-injective y x (sym e ∙ q)) p
+puts-is f s r u t t′ y e p = rw e p
 
 -- ---- a wire and a sort by their numbers
 
@@ -217,10 +217,10 @@ module _ (f s : List ℕ) (u : Used) (names bits wires rows : List ℕ) where
   refusal-put (CellConnection n w l) o = absurd (miss (1 ∷ 2 ∷ 3 ∷ 7 ∷ 11 ∷ 12 ∷ 13 ∷ 14 ∷ []) 8 tt o)
   refusal-put (Connection a b l) o = absurd (miss (1 ∷ 2 ∷ 3 ∷ 7 ∷ 11 ∷ 12 ∷ 13 ∷ 14 ∷ []) 9 tt o)
   refusal-put End o = absurd (miss (1 ∷ 2 ∷ 3 ∷ 7 ∷ 11 ∷ 12 ∷ 13 ∷ 14 ∷ []) 10 tt o)
-  refusal-put NoShape o = λ k strings x q. absurd (Option·none-ne-some x q)
-  refusal-put Process o = λ k strings x q. absurd (Option·none-ne-some x q)
-  refusal-put BadNumber o = λ k strings x q. absurd (Option·none-ne-some x q)
-  refusal-put MissingWire o = λ k strings x q. absurd (Option·none-ne-some x q)
+  refusal-put NoShape o = λ k strings. refl
+  refusal-put Process o = λ k strings. refl
+  refusal-put BadNumber o = λ k strings. refl
+  refusal-put MissingWire o = λ k strings. refl
 
 pub plain-rest : (r : Statement) → OneOf (0 ∷ 4 ∷ 5 ∷ 6 ∷ 8 ∷ 9 ∷ 10 ∷ 11 ∷ 12 ∷ 13 ∷ 14 ∷ []) (tagOf the-type r) → Plain r
 plain-rest (Autoidx w) o = tt

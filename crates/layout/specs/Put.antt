@@ -21,9 +21,8 @@ use Rattle.netlist.specs.declared.used.Used.{Used}
 use Rattle.tokens.specs.Rows.{literalIn}
 use Rattle.tokens.specs.declared.Constant.{Constant}
 use Rattle.tokens.specs.declared.Literal.{Literal}
-use Rattle.tokens.specs.declared.Literal.the-variants as literal
 use Rattle.literals.specs.Codes.{Whole}
-use Rattle.forms.specs.Forms.{valueIn}
+use Rattle.forms.specs.Forms.{valueIn, ValueHolds}
 
 -- each table with one statement more
 module _ (u : layout.Used) (s : Statement) (t : List ℕ) where
@@ -105,8 +104,7 @@ pub record ConstantFits (f : List ℕ) (c : Constant) (u : Used) (strings bits :
   pub bits-fit : Fits (u .bits) (length (digitsOf (constantIn f c))) bits
 
 abbrev pub OptionalFits : List ℕ → Literal → Used → List ℕ → List ℕ → Type 0
-OptionalFits f (literal.Read c) u strings bits = ConstantFits f c u strings bits
-OptionalFits f literal.Nothing u strings bits = Unit {0}
+OptionalFits f c u strings bits = ValueHolds (λ k. ConstantFits f k u strings bits) c
 
 -- the numbers of a wire
 pub record WireHas (width offset flags′ port : ℕ) (w : Wire) : Type 0 where

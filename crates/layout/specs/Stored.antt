@@ -2,7 +2,7 @@
 use Prim.Native.Nat.{ℕ, _*_, _≤_}
 use mathlib.Core.Path.{_≡_}
 use mathlib.Core.List.{List, [], _∷_, Option·toList}
-use mathlib.Core.Option.{some}
+use mathlib.Core.Option.{Option, none, some}
 use lib.ListN.{length}
 use Rattle.rules.specs.Statements as rules
 use Rattle.rules.specs.Statements.{contents}
@@ -37,9 +37,13 @@ pub record Storable (f s : List ℕ) (r : Statement) (u : Used) (t : Tables) : T
   pub sized : Sized t
   pub scratch : 36864 ≤ length s
 
--- the tables with the statement that the answer stands for
+-- the tables with the statement that the answer stands for; as they were, where it stands for none
+abbrev pub PutsAny : rooms.Used → Option rules.Statement → (t t′ : Tables) → Type 0
+PutsAny u (some x) t t′ = Puts u x t t′
+PutsAny u none t t′ = t′ ≡ t
+
 abbrev pub PutIs : (f s : List ℕ) → Statement → Used → (t t′ : Tables) → Type 0
-PutIs f s r u t t′ = (x : rules.Statement) → statementIn f s r ≡ some x → Puts (usedOf u) x t t′
+PutIs f s r u t t′ = PutsAny (usedOf u) (statementIn f s r) t t′
 
 -- an answer of a kind, a name, a constant if it has one, and a sort's column, over a file and the scratch table
 pub record ValuedHas (f s : List ℕ) (r : Statement) (kind : ℕ) (n : Span) (c : Literal) (sort : ℕ) : Type 0 where

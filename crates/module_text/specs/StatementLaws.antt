@@ -1,29 +1,24 @@
 -- What a module and a cell of a design hold is the statements of a kind behind their lines.
 -- Assumes nothing.
 use mathlib.Core.Path.{_≡_, refl}
-use mathlib.Core.Bool.{true, false, cond}
+use mathlib.Core.Bool.{false, cond}
 use mathlib.Core.Option.{Option, none, some}
 use mathlib.Core.List.{List, [], _∷_, _++_, map, map-append, flatMap, head?, Option·toList}
 use lib.Dec.{eqb}
-use borrow.Author.Tests.{eqb-true}
-use Rattle.rules.specs.Statements.{Constant, Statement, param-stmt, cell-param-stmt, cell-conn-stmt, conn-stmt, Kind, code, contents, anAttribute, aParameter, aCellParameter, aCellConnection, aConnection, is, statementsOpen}
+use Rattle.rules.specs.Statements.{Constant, Statement, param-stmt, cell-param-stmt, cell-conn-stmt, conn-stmt, Kind, code, anAttribute, aParameter, aCellParameter, aCellConnection, aConnection, is, statementsOpen}
 use Rattle.rules.specs.Judgement.{only}
 use Rattle.rules.specs.Design.{Setting, settingIn, items, parameterIn, portIn, connectionIn, cellParameterIn, each, designOpen}
 use Rattle.scanner.specs.Laws.{by-test}
-use Rattle.past.specs.Forms.{by-form}
+use Rattle.past.specs.Forms.{by-form, is-other}
 
 -- WHAT THE STATEMENTS OF A KIND GIVE TO ITEMS is these statements, if each that is given is again the statement that gives it
 module _ {A : Type 0} (k : Kind) (given : Statement → List A) (again : A → Statement) (other : eqb (code k) (code anAttribute) ≡ false) (same : (s : Statement) → map again (given s) ≡ cond (is k s) (s ∷ []) []) where
-  no-attribute : (s : Statement) → is anAttribute s ≡ true → is k s ≡ false
-  unfolding is code
-  no-attribute s e = rw (← eqb-true 2 (code (contents s .kind)) e) other
-
   of-kind : (at : List Setting) (ss : List Statement) → map again (each given (items at ss)) ≡ only (is k) ss
   unfolding each items flatMap only
   of-kind at [] = refl
   of-kind at (s ∷ ss) =
       by-test (is anAttribute s)
-      (λ e. rw (e, no-attribute s e) (of-kind (at ++ settingIn s) ss))
+      (λ e. rw (e, is-other anAttribute k s other e) (of-kind (at ++ settingIn s) ss))
       (λ e. rw (e, map-append, same s, of-kind [] ss) (by-test (is k s) (λ t. rw t) (λ t. rw t)))
 
 -- A MODULE'S PARAMETERS AND CONNECTIONS, A CELL'S PARAMETERS AND CONNECTIONS, by the items of any statements

@@ -5,10 +5,10 @@ use mathlib.Core.Path.{_≡_, refl, sym, ap, ap₂, _∙_}
 use mathlib.Core.List.{List, [], _∷_, flatMap, zip, zipWith, append-nil}
 use mathlib.Core.Bool.{true}
 use native.Mathlib.Omega.{arith}
-use lib.ListN.{length, take, drop, length-append, length-map}
+use lib.ListN.{length, take, drop}
 use Rattle.rules.specs.Bytes.{all}
 use Rattle.rules.specs.Tokens.{Name}
-use Rattle.rules.specs.Statements.{Statement, Wire, autoidx-stmt, attr-stmt, module-stmt, param-stmt, wire-stmt, memory-stmt, cell-stmt, cell-param-stmt, cell-conn-stmt, conn-stmt, proc-stmt, end-stmt, contents, statementsOpen}
+use Rattle.rules.specs.Statements.{Statement, Wire, wire-stmt, contents, statementsOpen}
 use Rattle.rules.specs.Numbers.{int32}
 use Rattle.rules.specs.Signals.{Wires}
 use Rattle.rules.specs.Judgement.{Past, wires}
@@ -16,25 +16,29 @@ use Rattle.rules.specs.Session.{Rename}
 use Rattle.rules.specs.Layout.{Rooms, padded, used, nameBytes, wireRow, wireRows, put, putRename, putRenames, memory}
 use Rattle.tables.specs.Flat.{flat, Eights, eights-none, eights-append, eights-map, flat-append}
 use Rattle.scanner.specs.Laws.{and-true-left}
+use Rattle.scanner.specs.Lists.{zip-none}
 use Rattle.wires.specs.Rows.{nameOf, wireOf, wiresFrom}
 use Rattle.wires.specs.RowLaws.{length-wire-row, RowIs, row-wire, row-name}
+use Rattle.past.specs.Forms.{by-wire}
 use Rattle.past.specs.Place.{placeOf}
-use Rattle.past.specs.Offsets.{Offsets, more-offsets}
+use Rattle.past.specs.Offsets.{fitsOffset, Offsets, more-offsets}
 use Rattle.past.proofs.PlaceLaws.{bounds, length-all-wires, wires-last}
 use Rattle.netlist.specs.Laid.{roomsOf, Wired}
+use Rattle.netlist.specs.UsedLaws.{used-wires}
 use Rattle.netlist.specs.Spans.{Has, starts-first, starts-has, starts-padded, starts-row}
 
 -- the wires that statements declare, in their order
 abbrev pub wiresOf : List Statement → Wires
 wiresOf ss = flatMap (λ s. zip (contents s .names) (contents s .wires)) ss
 
+no-wires : (s : Statement) (ss : List Statement) → contents s .wires ≡ [] → wiresOf (s ∷ ss) ≡ wiresOf ss
+unfolding flatMap
+no-wires s ss e = rw (e, zip-none (contents s .names))
+
 -- a row for each wire, of eight columns
-pub length-wire-rows : (ss : Past) → length (roomsOf ss .wires) ≡ length (wiresOf ss)
-unfolding roomsOf put wireRows flatMap
-length-wire-rows [] = refl
-length-wire-rows (s ∷ ss) =
-    let e : length (roomsOf ss .wires) ≡ length (wiresOf ss) = length-wire-rows ss in
-    simp (length-append, length-map) (omega arith)
+length-wire-rows : (ss : Past) → length (roomsOf ss .wires) ≡ length (wiresOf ss)
+unfolding placeOf
+length-wire-rows ss = used-wires ss ∙ sym (length-all-wires ss)
 
 pub eights-wires : (ss : Past) → Eights (roomsOf ss .wires)
 unfolding roomsOf put wireRows
@@ -88,22 +92,15 @@ module _ (names t : List ℕ) where
   wires-all : (ss : Past) → Offsets ss → Wired (roomsOf ss) names t → wiresFrom names t 0 (length (wiresOf ss)) ≡ wiresOf ss
   unfolding roomsOf wiresFrom flatMap zip zipWith all statementsOpen
   wires-all [] o l = refl
-  wires-all (wire-stmt w n ∷ ss) (more-offsets h o) l =
+  wires-all (s ∷ ss) (more-offsets h o) l =
       let k : ℕ = length (wiresOf ss) in
       let z : 0 + k ≡ k = omega arith in
-      ap₂ _∷_ (last-wire (roomsOf ss) w n l (0 + k) (eights-wires ss) (z ∙ sym (length-wire-rows ss)) (and-true-left _ true h))
-      (wires-all ss o (wired-put (roomsOf ss) (wire-stmt w n) l))
-  wires-all (autoidx-stmt i ∷ ss) (more-offsets h o) l = wires-all ss o (wired-put (roomsOf ss) (autoidx-stmt i) l)
-  wires-all (attr-stmt n c ∷ ss) (more-offsets h o) l = wires-all ss o (wired-put (roomsOf ss) (attr-stmt n c) l)
-  wires-all (module-stmt n ∷ ss) (more-offsets h o) l = wires-all ss o (wired-put (roomsOf ss) (module-stmt n) l)
-  wires-all (param-stmt n c ∷ ss) (more-offsets h o) l = wires-all ss o (wired-put (roomsOf ss) (param-stmt n c) l)
-  wires-all (memory-stmt m n ∷ ss) (more-offsets h o) l = wires-all ss o (wired-put (roomsOf ss) (memory-stmt m n) l)
-  wires-all (cell-stmt y n ∷ ss) (more-offsets h o) l = wires-all ss o (wired-put (roomsOf ss) (cell-stmt y n) l)
-  wires-all (cell-param-stmt r n c ∷ ss) (more-offsets h o) l = wires-all ss o (wired-put (roomsOf ss) (cell-param-stmt r n c) l)
-  wires-all (cell-conn-stmt n x ∷ ss) (more-offsets h o) l = wires-all ss o (wired-put (roomsOf ss) (cell-conn-stmt n x) l)
-  wires-all (conn-stmt x y ∷ ss) (more-offsets h o) l = wires-all ss o (wired-put (roomsOf ss) (conn-stmt x y) l)
-  wires-all (proc-stmt n ∷ ss) (more-offsets h o) l = wires-all ss o (wired-put (roomsOf ss) (proc-stmt n) l)
-  wires-all (end-stmt ∷ ss) (more-offsets h o) l = wires-all ss o (wired-put (roomsOf ss) end-stmt l)
+      by-wire
+      (λ x. fitsOffset x ≡ true → Wired (roomsOf (x ∷ ss)) names t → wiresFrom names t 0 (length (wiresOf (x ∷ ss))) ≡ wiresOf (x ∷ ss))
+      (λ w n g q.
+      ap₂ _∷_ (last-wire (roomsOf ss) w n q (0 + k) (eights-wires ss) (z ∙ sym (length-wire-rows ss)) (and-true-left _ true g))
+      (wires-all ss o (wired-put (roomsOf ss) (wire-stmt w n) q)))
+      (λ x _ e g q. rw (no-wires x ss e) (wires-all ss o (wired-put (roomsOf ss) x q))) s h l
 
   -- the last ones of all
   wires-from : (first count : ℕ) → wiresFrom names t first count ≡ take count (wiresFrom names t 0 (first + count))

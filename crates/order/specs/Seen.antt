@@ -22,11 +22,13 @@ use Rattle.scanner.specs.Elements.{all-append, all-implied, all-both, all-right
 use Rattle.order.specs.Nesting.{CellEntry, Entry, param-entry, wire-entry, memory-entry, cell-entry, connection-entry, settings, lineIn, linesOf, wiresOf, bodyOf, linesOfModule, cellEntries, entries, asFile}
 use Rattle.order.specs.DesignLaws.{flatMap-map, settings-pass, cell-pass, cellEntry, body-entries}
 use Rattle.order.specs.Fine.{wiresIn, signalsIn}
-use Rattle.order.specs.Tally.{Through, behind-all, through-before, by-wire, wires-none, wires-one, wires-reset}
+use Rattle.order.specs.Tally.{Through, behind-all, through-before}
 use Rattle.order.specs.Apart.{sees}
 use Rattle.order.specs.Sums.{sum-append, sum-map, sum-flatMap, sum-same, fails, all-none, none-all}
 use Rattle.order.specs.BodySums.{cellSum, bodySum, body-sum, sum-zero, settings-zero}
 use Rattle.order.specs.Walks.{noModule}
+use Rattle.past.specs.Forms.{by-wire}
+use Rattle.past.proofs.PlaceLaws.{wires-none, wires-one, wires-reset}
 
 -- THE WIRES BEHIND SOME LINES
 abbrev pub seen : Object Wire → Name × Wire
@@ -39,7 +41,7 @@ quiet-step : (s : Statement) (p : Past) → quiet s ≡ true → wires (s ∷ p)
 unfolding quiet statementsOpen
 quiet-step s p =
     by-wire (λ s. quiet s ≡ true → wires (s ∷ p) ≡ wires p) (λ w n e. cc)
-    (λ s q e. wires-none s p (not-true _ (and-true-left (not (is aModule s)) _ e)) q) s
+    (λ s o q e. wires-none s p (not-true _ (and-true-left (not (is aModule s)) _ e)) q) s
 
 pub wires-still : (l : List Statement) (p : Past) → all quiet l ≡ true → wires (reverseAux l p) ≡ wires p
 wires-still l p e = behind-all (λ q. wires q ≡ wires p) quiet (λ s q k h. quiet-step s q k ∙ h) l p e refl
@@ -105,7 +107,7 @@ step-grown : (ws : Wires) (s : Statement) (p : Past) → noModule s ≡ true →
 step-grown ws s p =
     by-wire (λ s. noModule s ≡ true → Grown ws (wires p) → Grown ws (wires (s ∷ p)))
     (λ w n e g. record { later = (n, w) ∷ g .later; are = wires-one w n p ∙ ap (λ (vs : Wires). (n, w) ∷ vs) (g .are) })
-    (λ s q e g. record { later = g .later; are = wires-none s p (not-true (is aModule s) e) q ∙ g .are }) s
+    (λ s o q e g. record { later = g .later; are = wires-none s p (not-true (is aModule s) e) q ∙ g .are }) s
 
 grown : (l : List Statement) (p : Past) → all noModule l ≡ true → Grown (wires p) (wires (reverseAux l p))
 grown l p e = behind-all (λ q. Grown (wires p) (wires q)) noModule (step-grown (wires p)) l p e (record { later = []; are = refl })

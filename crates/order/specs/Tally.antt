@@ -2,7 +2,7 @@
 -- Assumes nothing.
 use Prim.Native.Nat.{ℕ, _+_, _≤_}
 use mathlib.Core.Path.{_≡_, refl}
-use mathlib.Core.List.{List, [], _∷_, map, flatMap, zip, zipWith, reverseAux, Option·toList}
+use mathlib.Core.List.{List, [], _∷_, map, flatMap, reverseAux, Option·toList}
 use mathlib.Core.Option.{Option, none, some}
 use mathlib.Core.Bool.{Bool, true, false, not, cond, _&&_}
 use native.Mathlib.Omega.{arith}
@@ -10,13 +10,13 @@ use borrow.Author.Tests.{not-true, eqb-true, eq-eqb}
 use lib.Dec.{eqb}
 use Rattle.rules.specs.Bytes.{same, any, all}
 use Rattle.rules.specs.Tokens.{Name}
-use Rattle.rules.specs.Statements.{Wire, Direction, Statement, autoidx-stmt, attr-stmt, module-stmt, param-stmt, wire-stmt, memory-stmt, cell-stmt, cell-param-stmt, cell-conn-stmt, conn-stmt, proc-stmt, end-stmt, statementsOpen, Kind, anAttribute, aModule, aParameter, aWire, aMemory, aCell, aCellParameter, aCellConnection, code, contents, is, ownName}
+use Rattle.rules.specs.Statements.{Wire, Direction, Statement, statementsOpen, Kind, anAttribute, aModule, aParameter, aWire, aMemory, aCell, aCellParameter, aCellConnection, code, contents, is, ownName}
 use Rattle.rules.specs.Signals.{Wires}
 use Rattle.rules.specs.Judgement.{Past, sum, wires, portNumbers, among, Space, space, namesIn, only, until, ofModule, ofCell, ofObject}
 use Rattle.scanner.specs.Laws.{by-test, and-true-left, and-true-right, same-refl, same-eq, or-false-left, or-false-right}
 use Rattle.scanner.specs.Elements.{all-first, all-later}
-use Rattle.scanner.specs.Lists.{zip-none}
-use Rattle.past.specs.Forms.{by-form}
+use Rattle.past.proofs.PlaceLaws.{wires-none, wires-one, wires-reset}
+use Rattle.past.specs.Forms.{by-wire}
 use Rattle.admitted.specs.Admitted.{newPorts}
 use Rattle.order.specs.Fine.{times}
 
@@ -256,33 +256,13 @@ port-new (some (d, k)) w ws q h =
     let y : 1 + 0 + portCount k ws ≤ 1 = rw (eq-eqb k k refl) at z in
     rw (q, port-none k ws (omega arith))
 
--- a statement declares a wire, or none
-pub by-wire : (P : Statement → Type 0) → ((w : Wire) (n : Name) → P (wire-stmt w n)) → ((s : Statement) → contents s .wires ≡ [] → P s) → (s : Statement) → P s
-unfolding statementsOpen
-by-wire P f g =
-    by-form P (λ i. g (autoidx-stmt i) refl) (λ n c. g (attr-stmt n c) refl) (λ n. g (module-stmt n) refl) (λ n c. g (param-stmt n c) refl) f (λ m n. g (memory-stmt m n) refl)
-    (λ t n. g (cell-stmt t n) refl) (λ o n c. g (cell-param-stmt o n c) refl) (λ n x. g (cell-conn-stmt n x) refl) (λ x y. g (conn-stmt x y) refl) (λ n. g (proc-stmt n) refl) (g end-stmt refl)
-
--- the wires behind a statement
-pub wires-none : (s : Statement) (p : Past) → is aModule s ≡ false → contents s .wires ≡ [] → wires (s ∷ p) ≡ wires p
-unfolding wires ofModule until flatMap
-wires-none s p e q = rw (e, q, zip-none (contents s .names))
-
-pub wires-one : (w : Wire) (n : Name) (p : Past) → wires (wire-stmt w n ∷ p) ≡ (n, w) ∷ wires p
-unfolding wires ofModule until flatMap zip zipWith statementsOpen
-wires-one w n p = refl
-
-pub wires-reset : (s : Statement) (p : Past) → is aModule s ≡ true → wires (s ∷ p) ≡ []
-unfolding wires ofModule until flatMap
-wires-reset s p e = rw e
-
 pub wires-empty : wires [] ≡ []
 unfolding wires ofModule until flatMap
 wires-empty = refl
 
 module-wires : (s : Statement) → is aModule s ≡ true → contents s .wires ≡ []
 unfolding statementsOpen
-module-wires = by-wire (λ s. is aModule s ≡ true → contents s .wires ≡ []) (λ w n e. cc) (λ s q e. q)
+module-wires = by-wire (λ s. is aModule s ≡ true → contents s .wires ≡ []) (λ w n e. cc) (λ s o q e. q)
 
 pub port-lawful : Lawful portTally
 unfolding portTally sum all statementsOpen
@@ -293,17 +273,17 @@ port-lawful =
           λ n s p e.
           by-wire (λ s. is aModule s ≡ false → portCount n (wires (s ∷ p)) ≡ sum (λ w. times (eqb n) (portNumbers w)) (contents s .wires) + portCount n (wires p))
           (λ w m h. rw (wires-one w m p) (omega arith))
-          (λ s q h. rw (wires-none s p h q, q) (omega arith)) s e;
+          (λ s o q h. rw (wires-none s p h q, q) (omega arith)) s e;
       reset = λ n s p e. rw (wires-reset s p e);
       opens = λ s p e. rw (module-wires s e);
       fits =
           λ s p e h n.
           by-wire (λ s. all (newPorts (wires p)) (contents s .wires) ≡ true → sum (λ w. times (eqb n) (portNumbers w)) (contents s .wires) + portCount n (wires p) ≤ 1)
           (λ w m a. let k = port-fits (w .port) w (wires p) refl (and-true-left _ true a) n (h n) in omega arith)
-          (λ s q a. rw q (omega (arith, h n))) s e;
+          (λ s o q a. rw q (omega (arith, h n))) s e;
       fresh =
           λ s p.
           by-wire (λ s. ((n : ℕ) → sum (λ w. times (eqb n) (portNumbers w)) (contents s .wires) + portCount n (wires p) ≤ 1) → all (newPorts (wires p)) (contents s .wires) ≡ true)
           (λ w m h. rw (port-new (w .port) w (wires p) refl (λ n. omega (arith, h n))))
-          (λ s q h. rw q) s;
+          (λ s o q h. rw q) s;
     }

@@ -1,5 +1,5 @@
 -- Laws of the place behind a past: it is carried on by one statement; its fields tell the context of the next line and how many wires the
--- module has.
+-- module has. The wires behind one statement more.
 -- Assumes nothing.
 use Prim.Native.Nat.{ℕ, _+_, _-_, _≤_}
 use mathlib.Core.Path.{_≡_, refl, ap, sym, ap₂, _∙_}
@@ -9,13 +9,15 @@ use native.Mathlib.Omega.{arith}
 use lib.ListN.{length, take, length-append}
 use lib.Seq.{take-append-add}
 use Rattle.rules.specs.Bytes.{any}
-use Rattle.rules.specs.Statements.{Statement, anAttribute, aModule, aWire, aCell, anEnd, code, contents, is, statementsOpen}
+use Rattle.rules.specs.Tokens.{Name}
+use Rattle.rules.specs.Statements.{Statement, anAttribute, aModule, aWire, aCell, anEnd, code, contents, is, statementsOpen, Wire, wire-stmt}
 use Rattle.rules.specs.Shapes.{Scope, top, inModule, inCell}
 use Rattle.rules.specs.Judgement.{Past, until, sum, outer, scope, context, ofModule, ofCell, ofObject, wires, among, count}
 use Rattle.past.specs.Forms.{by-form}
 use Rattle.past.specs.Place.{scopeCode, scopeOf, wiresIn, placeOf, contextOf, Bounds, scopeAfter, placeAfter, AfterIs}
 use Rattle.past.specs.declared.place.Place.{Place}
 use Rattle.scanner.specs.Laws.{by-test}
+use Rattle.scanner.specs.Lists.{zip-none}
 use Rattle.past.proofs.KindLaws.{is-code, count-one, count-le}
 
 -- A measure of lists to which each element adds its own: over the last elements, and over those before them
@@ -87,6 +89,19 @@ unfolding placeOf contextOf context scope scopeOf scopeCode
 context-is [] = refl
 context-is (s ∷ ss) =
     λ i. record { scope = scope-back (scope (s ∷ ss)) i; first = false; attributed = is anAttribute s }
+
+-- the wires behind a statement
+pub wires-none : (s : Statement) (p : Past) → is aModule s ≡ false → contents s .wires ≡ [] → wires (s ∷ p) ≡ wires p
+unfolding wires ofModule until flatMap
+wires-none s p e q = rw (e, q, zip-none (contents s .names))
+
+pub wires-one : (w : Wire) (n : Name) (p : Past) → wires (wire-stmt w n ∷ p) ≡ (n, w) ∷ wires p
+unfolding wires ofModule until flatMap zip zipWith statementsOpen
+wires-one w n p = refl
+
+pub wires-reset : (s : Statement) (p : Past) → is aModule s ≡ true → wires (s ∷ p) ≡ []
+unfolding wires ofModule until flatMap
+wires-reset s p e = rw e
 
 -- how many wires the module has
 pub wire-count : (s : Statement) → length (zip (contents s .names) (contents s .wires)) ≡ count (aWire ∷ []) s

@@ -1,11 +1,15 @@
--- What holds of each form of a statement holds of every statement; what stands in a translated one.
+-- What holds of each form of a statement holds of every statement; a statement declares a wire or none, and is of one kind; what stands in a
+-- translated one.
 -- Assumes nothing.
 use mathlib.Core.Path.{_≡_, refl}
-use mathlib.Core.List.{map, Option·toList}
+use mathlib.Core.List.{[], map, Option·toList}
+use mathlib.Core.Bool.{true, false}
 use mathlib.Core.Option.{Option, none, some}
+use lib.Dec.{eqb}
 use lib.IntN.{ℤ}
+use borrow.Author.Tests.{eqb-true}
 use Rattle.rules.specs.Tokens.{Name}
-use Rattle.rules.specs.Statements.{Stmt, Sort, Contents, holds, contents, translate, autoidx-stmt, attr-stmt, module-stmt, param-stmt, wire-stmt, memory-stmt, cell-stmt, cell-param-stmt, cell-conn-stmt, conn-stmt, proc-stmt, end-stmt}
+use Rattle.rules.specs.Statements.{Stmt, Sort, Contents, holds, contents, translate, autoidx-stmt, attr-stmt, module-stmt, param-stmt, wire-stmt, memory-stmt, cell-stmt, cell-param-stmt, cell-conn-stmt, conn-stmt, proc-stmt, end-stmt, Statement, Kind, aWire, code, is, statementsOpen}
 
 pub by-form :
     {C S W M : Type 0} (P : Stmt C S W M → Type 0) →
@@ -25,6 +29,21 @@ by-form P f₁ f₂ f₃ f₄ f₅ f₆ f₇ f₈ f₉ f₁₀ f₁₁ f₁₂ (
 by-form P f₁ f₂ f₃ f₄ f₅ f₆ f₇ f₈ f₉ f₁₀ f₁₁ f₁₂ (conn-stmt x y) = f₁₀ x y
 by-form P f₁ f₂ f₃ f₄ f₅ f₆ f₇ f₈ f₉ f₁₀ f₁₁ f₁₂ (proc-stmt n) = f₁₁ n
 by-form P f₁ f₂ f₃ f₄ f₅ f₆ f₇ f₈ f₉ f₁₀ f₁₁ f₁₂ end-stmt = f₁₂
+
+-- a statement declares a wire, or none
+pub by-wire :
+    {C S W M : Type 0} (P : Stmt C S W M → Type 0) → ((w : W) (n : Name) → P (wire-stmt w n)) →
+    ((s : Stmt C S W M) → is aWire s ≡ false → contents s .wires ≡ [] → P s) → (s : Stmt C S W M) → P s
+unfolding statementsOpen
+by-wire P f g =
+    by-form P (λ i. g (autoidx-stmt i) refl refl) (λ n c. g (attr-stmt n c) refl refl) (λ n. g (module-stmt n) refl refl) (λ n c. g (param-stmt n c) refl refl) f
+    (λ m n. g (memory-stmt m n) refl refl) (λ t n. g (cell-stmt t n) refl refl) (λ o n c. g (cell-param-stmt o n c) refl refl) (λ n x. g (cell-conn-stmt n x) refl refl)
+    (λ x y. g (conn-stmt x y) refl refl) (λ n. g (proc-stmt n) refl refl) (g end-stmt refl refl)
+
+-- one of a kind is of no other
+pub is-other : (j k : Kind) (s : Statement) → eqb (code k) (code j) ≡ false → is j s ≡ true → is k s ≡ false
+unfolding is
+is-other j k s o h = rw (← eqb-true (code j) (code (contents s .kind)) h) o
 
 -- what a translated statement holds
 module _ {C S W M C′ S′ W′ M′ : Type 0} (f : C → C′) (g : S → S′) (h : W → W′) (k : M → M′) where

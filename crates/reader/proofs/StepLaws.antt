@@ -151,7 +151,7 @@ module _ {ss : Past} {p : Place} {u : Sizes} {t : Tables} (d : Done ss p u t) (l
           sums-are = states .sums-are;
           tables-are =
               tables-put (roomsOf ss) y 0 (usedOf v) t t′ (d .tables-are) (used-rooms v us) (record { wires = eights-wires ss; rows = eights-rows ss })
-              (room v us y (states .stated)) (put y (states .stated));
+              (room v us y (states .stated)) (rw (states .stated) at put);
         };
         goes = λ m. ap (next m ss) (states .is);
       }

@@ -19,7 +19,7 @@ use Rattle.signals.specs.Faults.{faults, fault, merge, mild}
 use Rattle.signals.specs.Held.{Held}
 use Rattle.signals.specs.declared.Bits.{Bits}
 use Rattle.signals.proofs.FaultLaws.{faults-append, merge-none, merge-zero, mild-merge, late-merge}
-use Rattle.syntax.specs.Statements.{numberOf, lateOf, early, late, statementIn, kindIn, namesIn, Says, faulted}
+use Rattle.syntax.specs.Statements.{numberOf, lateOf, early, late, statementIn, kindIn, namesIn, Judged, Says, judged, faulted}
 use Rattle.syntax.specs.declared.Statement.{Statement}
 use Rattle.syntax.specs.declared.Statement.the-variants as statement
 use Rattle.syntax.proofs.ShapeLaws.{refused}
@@ -65,11 +65,11 @@ module _ (ws : Wires) (sh : Shape) (p : is aProcess sh ≡ false) (q : breaksNum
       (equalWidths ws (contents sh .signals)) h
 
 module _ (ws : Wires) (f s : List ℕ) (sh : Shape) where
-  by-fault : (n : ℕ) (r : Statement) → early ws sh ≡ earlyOf n → (earlyOf n ≡ none → Says ws f s (some sh) r) → Says ws f s (some sh) (faulted n r)
+  by-fault : (n : ℕ) (r : Statement) → early ws sh ≡ earlyOf n → (earlyOf n ≡ none → Judged ws f s (some sh) r) → Says ws f s (some sh) (faulted n r)
   unfolding earlyOf faulted numberOf
   by-fault n r e k =
-      by-cond (λ x. Says ws f s (some sh) x) (eqb n 7) (λ h. refused ws f s statement.BadNumber 7 refl tt (e ∙ rw h))
-      (λ h. by-cond (λ x. Says ws f s (some sh) x) (eqb n 8) (λ g. refused ws f s statement.MissingWire 8 refl tt (e ∙ rw (h, g))) (λ g. k (rw (h, g))))
+      by-cond (λ x. Says ws f s (some sh) x) (eqb n 7) (λ h. judged (refused ws f s statement.BadNumber 7 refl tt (e ∙ rw h)))
+      (λ h. by-cond (λ x. Says ws f s (some sh) x) (eqb n 8) (λ g. judged (refused ws f s statement.MissingWire 8 refl tt (e ∙ rw (h, g)))) (λ g. judged (k (rw (h, g)))))
 
 -- ---- the parts of one signal and of two
 

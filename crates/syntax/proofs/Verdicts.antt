@@ -12,7 +12,7 @@ use Rattle.rules.specs.Statements.{Shape}
 use Rattle.rules.specs.Signals.{Wires}
 use Rattle.rules.specs.Judgement.{Past, wires, Verdict, verdict, lowest, meaning, takesName, exceedsSize, judgeIn, judge}
 use Rattle.rules.specs.Reading.{shaped}
-use Rattle.syntax.specs.Statements.{numberOf, lateOf, early, late, Sound, Judged, Says}
+use Rattle.syntax.specs.Statements.{numberOf, lateOf, early, late, Sound, Judged, Says, no-shape, judged}
 use Rattle.syntax.specs.declared.Statement.{Statement}
 use Rattle.syntax.specs.declared.Statement.the-variants as statement
 
@@ -63,35 +63,9 @@ module _ (ss : Past) (f s : List ℕ) {o : Option Shape} {r : Statement} (J : Ju
 module _ (ws : Wires) (f s : List ℕ) (o : Option Shape) where
   pub says-judged : (r : Statement) → numberOf r ≡ none → Says ws f s o r → Judged ws f s o r
   unfolding numberOf
-  says-judged (statement.Autoidx w) e h = h
-  says-judged (statement.Attribute n c) e h = h
-  says-judged (statement.Module n) e h = h
-  says-judged (statement.Parameter n c) e h = h
-  says-judged (statement.Wire n w t k p) e h = h
-  says-judged (statement.Memory n w z t) e h = h
-  says-judged (statement.Cell k n) e h = h
-  says-judged (statement.CellParameter x n c) e h = h
-  says-judged (statement.CellConnection n w l) e h = h
-  says-judged (statement.Connection a b l) e h = h
-  says-judged statement.End e h = h
-  says-judged statement.NoShape e h = let z : _≡_ {A = ℕ} 0 1 = cc in absurd (omega arith)
-  says-judged statement.Process e h = h
-  says-judged statement.BadNumber e h = h
-  says-judged statement.MissingWire e h = h
+  says-judged r e (no-shape h) = let z : _≡_ {A = ℕ} 0 1 = cc in absurd (omega arith)
+  says-judged r e (judged j) = j
 
   pub says-sound : (r : Statement) → Says ws f s o r → Sound f r
-  says-sound (statement.Autoidx w) h = h .sound
-  says-sound (statement.Attribute n c) h = h .sound
-  says-sound (statement.Module n) h = h .sound
-  says-sound (statement.Parameter n c) h = h .sound
-  says-sound (statement.Wire n w t k p) h = h .sound
-  says-sound (statement.Memory n w z t) h = h .sound
-  says-sound (statement.Cell k n) h = h .sound
-  says-sound (statement.CellParameter x n c) h = h .sound
-  says-sound (statement.CellConnection n w l) h = h .sound
-  says-sound (statement.Connection a b l) h = h .sound
-  says-sound statement.End h = h .sound
-  says-sound statement.NoShape h = tt
-  says-sound statement.Process h = h .sound
-  says-sound statement.BadNumber h = h .sound
-  says-sound statement.MissingWire h = h .sound
+  says-sound r (no-shape h) = tt
+  says-sound r (judged j) = j .sound

@@ -21,12 +21,10 @@ use Rattle.past.specs.declared.place.Place.{Place}
 use Rattle.tokens.specs.Rows.{literalIn, line}
 use Rattle.tokens.specs.declared.Constant.{Constant}
 use Rattle.tokens.specs.declared.Literal.{Literal}
-use Rattle.tokens.specs.declared.Literal.the-variants as literal
 use Rattle.literals.specs.Codes.{Whole}
 use Rattle.wires.specs.Rows.{wireOf, wiresFrom}
-use Rattle.forms.specs.Forms.{nameIn, valueIn, formOf, kindOf}
+use Rattle.forms.specs.Forms.{nameIn, valueIn, formOf, kindOf, ValueHolds, FormHolds}
 use Rattle.forms.specs.declared.Form.{Form}
-use Rattle.forms.specs.declared.Form.the-variants as form
 use Rattle.forms.specs.declared.Kind.the-variants as kind
 use Rattle.signals.specs.Held.{Held}
 use Rattle.signals.specs.Reads.{Readable}
@@ -147,8 +145,7 @@ pub record GoodConstant (f : List ℕ) (c : Constant) : Type 0 where
   pub whole : Whole f c
 
 abbrev pub GoodOptional : List ℕ → Literal → Type 0
-GoodOptional f (literal.Read c) = GoodConstant f c
-GoodOptional f literal.Nothing = Unit {0}
+GoodOptional f c = ValueHolds (GoodConstant f) c
 
 abbrev pub Sound : List ℕ → Statement → Type 0
 Sound f (Autoidx w) = Unit {0}
@@ -180,42 +177,17 @@ pub record Judged (ws : Wires) (f s : List ℕ) (o : Option Shape) (r : Statemen
   pub means : numberOf r ≡ none → lateOf r ≡ 0 → statementIn f s r ≡ some (meaning ws sh)
 
 -- an answer about a line: it has no shape, or it is judged
-abbrev pub Says : Wires → (f s : List ℕ) → Option Shape → Statement → Type 0
-Says ws f s o (Autoidx w) = Judged ws f s o (Autoidx w)
-Says ws f s o (Attribute n c) = Judged ws f s o (Attribute n c)
-Says ws f s o (Module n) = Judged ws f s o (Module n)
-Says ws f s o (Parameter n c) = Judged ws f s o (Parameter n c)
-Says ws f s o (WireOf n w t k p) = Judged ws f s o (WireOf n w t k p)
-Says ws f s o (MemoryOf n w z t) = Judged ws f s o (MemoryOf n w z t)
-Says ws f s o (Cell k n) = Judged ws f s o (Cell k n)
-Says ws f s o (CellParameter x n c) = Judged ws f s o (CellParameter x n c)
-Says ws f s o (CellConnection n w l) = Judged ws f s o (CellConnection n w l)
-Says ws f s o (Connection a b l) = Judged ws f s o (Connection a b l)
-Says ws f s o End = Judged ws f s o End
-Says ws f s o NoShape = o ≡ none
-Says ws f s o Process = Judged ws f s o Process
-Says ws f s o BadNumber = Judged ws f s o BadNumber
-Says ws f s o MissingWire = Judged ws f s o MissingWire
+pub data Says (ws : Wires) (f s : List ℕ) (o : Option Shape) : Statement → Type 0 where
+  no-shape : o ≡ none → Says ws f s o NoShape
+  judged : {r : Statement} → Judged ws f s o r → Says ws f s o r
 
 -- a line without signals: whatever the wires and the scratch table are; a wire's line
 abbrev pub PlainIs : List ℕ → Option Shape → Statement → Type 0
 PlainIs f o r = (ws : Wires) (s : List ℕ) → Says ws f s o r
 
--- a form's constant, if it is a string, has its end; its sort is one of three
-abbrev pub WholeValue : List ℕ → Literal → Type 0
-WholeValue f (literal.Read c) = Whole f c
-WholeValue f literal.Nothing = Unit {0}
-
+-- a form's constant, if it is a string, has its end
 abbrev pub WholeForm : List ℕ → Form → Type 0
-WholeForm f (form.Autoidx z) = Unit {0}
-WholeForm f (form.Attribute n c) = Whole f c
-WholeForm f (form.Module n) = Unit {0}
-WholeForm f (form.Parameter n c) = WholeValue f c
-WholeForm f (form.Cell k n) = Unit {0}
-WholeForm f (form.CellParameter s n c) = (s ≤ 2) × Whole f c
-WholeForm f (form.Process n) = Unit {0}
-WholeForm f form.End = Unit {0}
-WholeForm f form.NoShape = Unit {0}
+WholeForm f x = FormHolds (Whole f) x
 
 abbrev pub FormIs : List ℕ → Form → Statement → Type 0
 FormIs f x r = WholeForm f x → PlainIs f (formOf f x) r

@@ -9,6 +9,7 @@ use Rattle.syntax.proofs.Lines.{no-name, no-signal, named-read, readabl
 use borrow.Author.Needs.{needs}
 use Rattle.syntax.proofs.cell_connection_statement.Statement.{statement}
 use Rattle.syntax.proofs.cell_connection_statement.Tie as tie
+use Rattle.syntax.specs.Statements.{no-shape}
 
 id-at-requires : tie.Need-id-at-requires
 id-at-requires c κs = search needs
@@ -21,7 +22,7 @@ enum-told c = search needs
 
 returns : tie.Need-returns
 unfolding idGives
-returns c = no-name _ _ (rw (c .enum-told .given .1) at (c .before .before .id-at .ensures (c .before .before .before .before .before .before .before .before .args .f .now)))
+returns c = no-shape (no-name _ _ (rw (c .enum-told .given .1) at (c .before .before .id-at .ensures (c .before .before .before .before .before .before .before .before .args .f .now))))
 
 signal-requires : tie.Need-signal-requires
 signal-requires c κs =
@@ -39,7 +40,7 @@ same-length c = search needs
 returns-2 : tie.Need-returns-2
 unfolding idGives
 returns-2 c =
-    no-signal _ _ _ (rw (c .before .before .before .before .before .before .before .start .given .1) at (c .before .before .before .before .before .before .before .before .before .id-at .ensures (c .before .before .before .before .before .before .before .before .before .before .before .before .before .before .before .args .f .now))) (rw (c .enum-told2 .given .1) at (c .before .before .before .before .signal .ensures .read))
+    no-shape (no-signal _ _ _ (rw (c .before .before .before .before .before .before .before .start .given .1) at (c .before .before .before .before .before .before .before .before .before .id-at .ensures (c .before .before .before .before .before .before .before .before .before .before .before .before .before .before .before .args .f .now))) (rw (c .enum-told2 .given .1) at (c .before .before .before .before .signal .ensures .read)))
 
 same-length-2 : tie.Need-same-length-2
 same-length-2 c = search needs
@@ -48,7 +49,7 @@ returns-3 : tie.Need-returns-3
 unfolding idGives
 returns-3 c =
     let a = rw (c .before .before .next .given .1) at (c .before .before .before .before .before .before .signal .ensures .read) in
-    named-read _ _ _ (rw (c .before .before .before .before .before .before .before .before .before .start .given .1) at (c .before .before .before .before .before .before .before .before .before .before .before .id-at .ensures (c .before .before .before .before .before .before .before .before .before .before .before .before .before .before .before .before .before .args .f .now))) _ _ (a .3 .is) ∙ rows-left _ _ _ _ (c .if1 .taken)
+    no-shape (named-read _ _ _ (rw (c .before .before .before .before .before .before .before .before .before .start .given .1) at (c .before .before .before .before .before .before .before .before .before .before .before .id-at .ensures (c .before .before .before .before .before .before .before .before .before .before .before .before .before .before .before .before .before .args .f .now))) _ _ (a .3 .is) ∙ rows-left _ _ _ _ (c .if1 .taken))
 
 refused-requires : tie.Need-refused-requires
 refused-requires c κs = search needs

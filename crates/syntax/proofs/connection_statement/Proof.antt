@@ -7,6 +7,7 @@ use Rattle.syntax.proofs.Lines.{no-left, no-right, both-read, readable-
 use borrow.Author.Needs.{needs}
 use Rattle.syntax.proofs.connection_statement.Statement.{statement}
 use Rattle.syntax.proofs.connection_statement.Tie as tie
+use Rattle.syntax.specs.Statements.{no-shape}
 
 signal-requires : tie.Need-signal-requires
 signal-requires c κs = search needs
@@ -21,7 +22,7 @@ same-length : tie.Need-same-length
 same-length c = search needs
 
 returns : tie.Need-returns
-returns c = no-left _ _ (rw (c .enum-told .given .1) at (c .before .before .before .before .signal .ensures .read))
+returns c = no-shape (no-left _ _ (rw (c .enum-told .given .1) at (c .before .before .before .before .signal .ensures .read)))
 
 signal-requires-2 : tie.Need-signal-requires-2
 signal-requires-2 c κs =
@@ -40,7 +41,7 @@ same-length-2 c = search needs
 returns-2 : tie.Need-returns-2
 returns-2 c =
     let a = rw (c .before .before .before .before .before .before .before .next .given .1) at (c .before .before .before .before .before .before .before .before .before .before .before .signal .ensures .read) in
-    no-right _ _ _ _ (a .3 .is) (rw (c .enum-told2 .given .1) at (c .before .before .before .before .signal2 .ensures .read))
+    no-shape (no-right _ _ _ _ (a .3 .is) (rw (c .enum-told2 .given .1) at (c .before .before .before .before .signal2 .ensures .read)))
 
 same-length-3 : tie.Need-same-length-3
 same-length-3 c = search needs
@@ -49,7 +50,7 @@ returns-3 : tie.Need-returns-3
 returns-3 c =
     let a = rw (c .before .before .before .before .before .before .before .before .before .next .given .1) at (c .before .before .before .before .before .before .before .before .before .before .before .before .before .signal .ensures .read) in
     let b = rw (c .before .before .end .given .1) at (c .before .before .before .before .before .before .signal2 .ensures .read) in
-    both-read _ _ _ _ (a .3 .is) _ _ (b .3 .is) ∙ rows-left _ _ _ _ (c .if1 .taken)
+    no-shape (both-read _ _ _ _ (a .3 .is) _ _ (b .3 .is) ∙ rows-left _ _ _ _ (c .if1 .taken))
 
 connected-requires : tie.Need-connected-requires
 connected-requires c κs = search needs

@@ -5,6 +5,7 @@ use Rattle.syntax.proofs.Objects.{port-free, port-new, wire-bad, port-b
 use borrow.Author.Needs.{needs}
 use Rattle.syntax.proofs.wire_statement.Statement.{statement}
 use Rattle.syntax.proofs.wire_statement.Tie as tie
+use Rattle.syntax.specs.Statements.{no-shape, judged}
 
 wire-line-requires : tie.Need-wire-line-requires
 wire-line-requires c κs = search needs
@@ -17,7 +18,7 @@ enum-told c = search needs
 
 returns : tie.Need-returns
 unfolding kindOf nameIn
-returns c names s = rw (c .enum-told .given .1) at (c .before .before .wire-line .ensures (c .before .before .before .before .before .before .args .f .now))
+returns c names s = no-shape (rw (c .enum-told .given .1) at (c .before .before .wire-line .ensures (c .before .before .before .before .before .before .args .f .now)))
 
 wire-rules-requires : tie.Need-wire-rules-requires
 wire-rules-requires c κs = search needs
@@ -32,7 +33,7 @@ returns-2 : tie.Need-returns-2
 unfolding kindOf nameIn
 returns-2 c names s =
     let g = rw (c .before .before .before .before .options .given .1) at (c .before .before .before .before .before .before .wire-line .ensures (c .before .before .before .before .before .before .before .before .before .before .args .f .now)) in
-    rw (g .1) (wire-bad _ _ s (g .0) _ (rw (c .enum-told2 .given .1) at (c .before .before .wire-rules .ensures (g .0) (g .2))))
+    rw (g .1) (judged (wire-bad _ _ s (g .0) _ (rw (c .enum-told2 .given .1) at (c .before .before .wire-rules .ensures (g .0) (g .2)))))
 
 port-taken-requires : tie.Need-port-taken-requires
 port-taken-requires c κs = search needs
@@ -42,21 +43,21 @@ unfolding kindOf nameIn
 returns-3 c names s =
     let g = rw (c .before .before .before .before .before .before .before .before .options .given .1) at (c .before .before .before .before .before .before .before .before .before .before .wire-line .ensures (c .before .before .before .before .before .before .before .before .before .before .before .before .before .before .args .f .now)) in
     let w = rw (c .before .before .before .before .width .given .1) at (c .before .before .before .before .before .before .wire-rules .ensures (g .0) (g .2)) in
-    rw (g .1) (port-bad _ _ s (g .0) _ (w .good) (port-new _ (g .0) w (c .before .before .if1 .taken) ∙ rw (← c .before .port-taken .ensures names, c .if2 .taken)))
+    rw (g .1) (judged (port-bad _ _ s (g .0) _ (w .good) (port-new _ (g .0) w (c .before .before .if1 .taken) ∙ rw (← c .before .port-taken .ensures names, c .if2 .taken))))
 
 returns-4 : tie.Need-returns-4
 unfolding kindOf nameIn
 returns-4 c names s =
     let g = rw (c .before .before .before .before .before .before .before .before .options .given .1) at (c .before .before .before .before .before .before .before .before .before .before .wire-line .ensures (c .before .before .before .before .before .before .before .before .before .before .before .before .before .before .args .f .now)) in
     let w = rw (c .before .before .before .before .width .given .1) at (c .before .before .before .before .before .before .wire-rules .ensures (g .0) (g .2)) in
-    rw (g .1) (wire-stated _ _ s (g .0) _ w (port-new _ (g .0) w (c .before .before .if1 .taken) ∙ rw (← c .before .port-taken .ensures names, c .if2 .left)))
+    rw (g .1) (judged (wire-stated _ _ s (g .0) _ w (port-new _ (g .0) w (c .before .before .if1 .taken) ∙ rw (← c .before .port-taken .ensures names, c .if2 .left))))
 
 returns-5 : tie.Need-returns-5
 unfolding kindOf nameIn
 returns-5 c names s =
     let g = rw (c .before .before .before .before .before .before .options .given .1) at (c .before .before .before .before .before .before .before .before .wire-line .ensures (c .before .before .before .before .before .before .before .before .before .before .before .before .args .f .now)) in
     let w = rw (c .before .before .width .given .1) at (c .before .before .before .before .wire-rules .ensures (g .0) (g .2)) in
-    rw (g .1) (wire-stated _ _ s (g .0) _ w (port-free _ (g .0) w (c .if1 .left)))
+    rw (g .1) (judged (wire-stated _ _ s (g .0) _ w (port-free _ (g .0) w (c .if1 .left))))
 
 pub wire-statement-spec : {M : Type 1} → statement M
 wire-statement-spec =
