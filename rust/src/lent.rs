@@ -57,6 +57,29 @@ pub unsafe fn part_mut<'a, T>(start: *mut T, length: usize) -> Option<&'a mut [T
 /// A table as C lends it: where it starts, and its length.
 pub type Raw<T> = (*mut T, usize);
 
+/// A call on the tables and the card, then what the call takes of its own.
+macro_rules! change {
+    ($call:ident, $lent:expr $(, $more:expr)*) => {
+        // SAFETY: each pointer comes with its length, no two overlap, and the call asks nothing of its caller.
+        unsafe {
+            sys::$call(
+                $lent.names.as_mut_ptr(),
+                $lent.names.len(),
+                $lent.strings.as_ptr(),
+                $lent.strings.len(),
+                $lent.bits.as_ptr(),
+                $lent.bits.len(),
+                $lent.wires.as_ptr(),
+                $lent.wires.len(),
+                $lent.rows.as_mut_ptr(),
+                $lent.rows.len(),
+                $lent.card
+                $(, $more)*
+            )
+        }
+    };
+}
+
 impl<'a> Lent<'a> {
     /// Memory that C lends: none where a pointer is null or not aligned, or a length is not the table's exact one.
     ///
@@ -119,46 +142,19 @@ impl<'a> Lent<'a> {
 
     /// Renames a wire. A refusal changes nothing.
     pub fn rename(&mut self, module: u32, wire: u32, name: &[u8]) -> Answer {
-        // SAFETY: as in `read`.
-        unsafe {
-            sys::skytassel_rename(
-                self.names.as_mut_ptr(),
-                self.names.len(),
-                self.strings.as_ptr(),
-                self.strings.len(),
-                self.bits.as_ptr(),
-                self.bits.len(),
-                self.wires.as_ptr(),
-                self.wires.len(),
-                self.rows.as_mut_ptr(),
-                self.rows.len(),
-                self.card,
-                module,
-                wire,
-                name.as_ptr(),
-                name.len(),
-            )
-        }
+        change!(
+            skytassel_rename,
+            self,
+            module,
+            wire,
+            name.as_ptr(),
+            name.len()
+        )
     }
 
     /// Takes the youngest rename off.
     pub fn undo(&mut self) -> Answer {
-        // SAFETY: as in `read`.
-        unsafe {
-            sys::skytassel_undo(
-                self.names.as_mut_ptr(),
-                self.names.len(),
-                self.strings.as_ptr(),
-                self.strings.len(),
-                self.bits.as_ptr(),
-                self.bits.len(),
-                self.wires.as_ptr(),
-                self.wires.len(),
-                self.rows.as_mut_ptr(),
-                self.rows.len(),
-                self.card,
-            )
-        }
+        change!(skytassel_undo, self)
     }
 }
 

@@ -35,6 +35,17 @@ impl Tables {
         }
     }
 
+    /// One of the five tables at another length, of the one that it had.
+    pub fn resize(&mut self, table: usize, length: impl Fn(usize) -> usize) {
+        match table {
+            0 => self.names.resize(length(NAMES), 0),
+            1 => self.strings.resize(length(STRINGS), 0),
+            2 => self.bits.resize(length(BITS), 0),
+            3 => self.wires.resize(length(WIRES), 0),
+            _ => self.rows.resize(length(ROWS), 0),
+        }
+    }
+
     pub fn lent<'a>(&'a mut self, card: &'a mut Card) -> Lent<'a> {
         Lent {
             names: &mut self.names,

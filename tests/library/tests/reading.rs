@@ -96,13 +96,7 @@ fn wrong_lengths_touch_nothing() {
                 1 => length + 1,
                 _ => 0,
             };
-            match wrong % 5 {
-                0 => tables.names.resize(lengthen(tables.names.len()), 0),
-                1 => tables.strings.resize(lengthen(tables.strings.len()), 0),
-                2 => tables.bits.resize(lengthen(tables.bits.len()), 0),
-                3 => tables.wires.resize(lengthen(tables.wires.len()), 0),
-                _ => tables.rows.resize(lengthen(tables.rows.len()), 0),
-            }
+            tables.resize(wrong % 5, lengthen);
             tables.fill(&mut random);
             let mut card = any_card(&mut random);
             let different = difference(file, &mut tables, &mut card);

@@ -292,14 +292,7 @@ fn wrong_lengths_touch_nothing() {
     for wrong in 0..10 {
         let (mut tables, mut card) = (both.tables.clone(), both.card);
         let more = wrong / 5;
-        let length = |length: usize| length + 2 * more - 1;
-        match wrong % 5 {
-            0 => tables.names.resize(length(tables.names.len()), 0),
-            1 => tables.strings.resize(length(tables.strings.len()), 0),
-            2 => tables.bits.resize(length(tables.bits.len()), 0),
-            3 => tables.wires.resize(length(tables.wires.len()), 0),
-            _ => tables.rows.resize(length(tables.rows.len()), 0),
-        }
+        tables.resize(wrong % 5, |length| length + 2 * more - 1);
         assert!(!right_lengths(&tables));
         let before = tables.clone();
         assert_eq!(rename(&mut tables, &mut card, 0, 0, b"\\b"), answer(1));

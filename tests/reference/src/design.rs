@@ -150,40 +150,29 @@ impl Module {
     }
 
     fn name_bytes(&self) -> usize {
-        let parameters: usize = self
-            .parameters
-            .iter()
-            .map(|parameter| parameter.name.len())
-            .sum();
-        let wires: usize = self
-            .wires
-            .iter()
-            .map(|wire| attribute_bytes(&wire.attributes) + wire.object.name.len())
-            .sum();
-        let memories: usize = (self.memories.iter())
-            .map(|memory| attribute_bytes(&memory.attributes) + memory.object.name.len())
-            .sum();
-        let cells: usize = self
-            .cells
-            .iter()
-            .map(|cell| attribute_bytes(&cell.attributes) + cell.object.name_bytes())
-            .sum();
-        self.name.len() + parameters + wires + memories + cells
+        self.name.len()
+            + total(&self.parameters, |parameter| parameter.name.len())
+            + total(&self.wires, |wire| {
+                attribute_bytes(&wire.attributes) + wire.object.name.len()
+            })
+            + total(&self.memories, |memory| {
+                attribute_bytes(&memory.attributes) + memory.object.name.len()
+            })
+            + total(&self.cells, |cell| {
+                attribute_bytes(&cell.attributes) + cell.object.name_bytes()
+            })
     }
 }
 
 impl Cell {
     fn name_bytes(&self) -> usize {
-        let parameters: usize = self
-            .parameters
-            .iter()
-            .map(|parameter| parameter.name.len())
-            .sum();
-        let ports: usize = self
-            .connections
-            .iter()
-            .map(|connection| connection.port.len())
-            .sum();
-        self.kind.len() + self.name.len() + parameters + ports
+        self.kind.len()
+            + self.name.len()
+            + total(&self.parameters, |parameter| parameter.name.len())
+            + total(&self.connections, |connection| connection.port.len())
     }
+}
+
+fn total<T>(items: &[T], bytes: impl Fn(&T) -> usize) -> usize {
+    items.iter().map(bytes).sum()
 }
