@@ -9,13 +9,13 @@ use lib.Dec.{eqb, leb, ltb}
 use borrow.Author.Tests.{eq-eqb, ne-eqb, lt-ltb, le-ltb, leb-true, leb-false, ltb-true, ltb-false}
 use Rattle.rules.specs.Bytes.{any}
 use Rattle.rules.specs.Tokens.{Name}
-use Rattle.rules.specs.Statements.{Statement, Wire, wire-stmt, aModule, aWire, contents, is, statementsOpen}
+use Rattle.rules.specs.Statements.{Statement, Wire, wire-stmt, aModule, aWire, code, contents, is, statementsOpen}
 use Rattle.rules.specs.Signals.{Wires}
 use Rattle.rules.specs.Judgement.{Past, sum, among, count, ofModule, wires}
 use Rattle.rules.specs.Design.{design}
 use Rattle.rules.specs.Session.{wiresAt}
 use Rattle.rules.specs.Layout.{used, padded, row, wireRow}
-use Rattle.past.specs.Forms.{by-form, by-wire}
+use Rattle.past.specs.Forms.{by-form, by-wire, is-other}
 use Rattle.wires.specs.Rows.{column, wiresFrom}
 use Rattle.scanner.specs.Laws.{by-test}
 use Rattle.past.specs.Place.{wiresIn, placeOf}
@@ -51,11 +51,6 @@ pub data Adds : Statement → Type 0 where
 pub adds : (s : Statement) → Adds s
 adds = by-wire Adds a-wire (λ s. no-wire)
 
-wire-alone : (s : Statement) → Adds s → is aWire s ≡ true → is aModule s ≡ false
-unfolding statementsOpen
-wire-alone s (a-wire w n) e = refl
-wire-alone s (no-wire h z) e = cc
-
 pub wires-more : (s : Statement) (ss : Past) → wiresIn (s ∷ ss) ≡ wiresIn ss + cond (is aWire s) 1 0
 unfolding wiresIn sum count among any
 wires-more s ss = by-test (is aWire s) (λ e. rw e (omega arith)) (λ e. rw e (omega arith))
@@ -76,9 +71,10 @@ module _ {names t : List ℕ} (f : ℕ → Bool) where
   where-same :
       (s : Statement) (ss : Past) → Wired (roomsOf (s ∷ ss)) names t → (is aWire s ≡ true → is aModule s ≡ false → f (moduleCount ss - 1) ≡ false) →
       rowsWhere f t (wiresIn (s ∷ ss)) ≡ rowsWhere f t (wiresIn ss)
+  unfolding code
   where-same s ss l h =
       by-test (is aWire s)
-      (λ e. where-step s ss (adds s) l ∙ rw (e, h e (wire-alone s (adds s) e)) (omega arith))
+      (λ e. where-step s ss (adds s) l ∙ rw (e, h e (is-other aWire aModule s refl e)) (omega arith))
       (λ e. where-step s ss (adds s) l ∙ rw e (omega arith))
 
   -- a wire that passes it adds one, as it adds a wire

@@ -1,7 +1,7 @@
 -- Where a line ends, and what its first word announces.
 -- Assumes nothing.
 use mathlib.Core.Path.{_≡_, refl, sym, _∙_}
-use mathlib.Core.Bool.{Bool, true, false, cond}
+use mathlib.Core.Bool.{Bool, true, false, cond, false≢true}
 use mathlib.Core.List.{List, [], _∷_}
 use mathlib.Core.Option.{Option, none, some}
 use Prim.Native.Nat.{ℕ, _+_, _/_, _<_, _≤_}
@@ -25,7 +25,7 @@ use Rattle.tokens.specs.declared.Id.{Id}
 use Rattle.tokens.specs.declared.Id.the-variants as id
 use Rattle.tokens.specs.declared.Slot.{Slot}
 use Rattle.tokens.specs.declared.Slot.the-variants as slot
-use Rattle.tokens.proofs.TokenLaws.{front-token, present, line-end, line-more}
+use Rattle.tokens.proofs.TokenLaws.{front-token, present, line-end, line-there, line-more}
 use Rattle.tokens.proofs.Words.{word-is}
 use Rattle.forms.specs.Words.{starts, WordIs, announced, numbered}
 use Rattle.forms.specs.Forms.{ended}
@@ -35,12 +35,7 @@ use Rattle.forms.specs.Forms.{ended}
 -- a row stands where its token gave something
 given-below : {A : Type 0} (g : rules.Token → Option A) (f t : List ℕ) (i : ℕ) (x : A × List rules.Token) → one g (line f t i) ≡ some x → i < length t / 4
 unfolding one
-given-below g f t i x e =
-    by-test (ltb i (length t / 4)) (ltb-true i (length t / 4))
-    (λ b.
-    let q : one g (line f t i) ≡ none = rw (line-end f t i (ltb-false i (length t / 4) b)) in
-    let z : _≡_ {A = ℕ} 0 1 = cc in
-    absurd (omega arith))
+given-below g f t i x e = line-there f t i (λ b. let q : one g (line f t i) ≡ none = rw b in let z : _≡_ {A = ℕ} 0 1 = cc in omega arith)
 
 pub id-below : (t : List ℕ) (i a b : ℕ) (r : Id) → IdIs t i r → r ≡ id.Span a b → i < length t / 4
 unfolding shapes.id idGives
@@ -88,11 +83,7 @@ pub word-below : (w : String) (t : List ℕ) (i c : ℕ) → WordIs t i c → ru
 unfolding starts
 word-below w t i c h k e =
     let s : starts w (line [] t i) ≡ true = h [] w k ∙ eq-eqb c _ e in
-    by-test (ltb i (length t / 4)) (ltb-true i (length t / 4))
-    (λ b.
-    let q : starts w (line [] t i) ≡ false = rw (line-end [] t i (ltb-false i (length t / 4) b)) in
-    let z : _≡_ {A = ℕ} 0 1 = cc in
-    absurd (omega arith))
+    line-there [] t i (λ b. let q : starts w (line [] t i) ≡ false = rw b in false≢true (sym q ∙ s))
 
 either-starts : {A : Type 0} (w : String) (p q : Parse A) (ts : List rules.Token) → either (isWord w) p q ts ≡ cond (starts w ts) (p (drop 1 ts)) (q ts)
 unfolding either starts

@@ -2,7 +2,7 @@
 -- Assumes nothing.
 use mathlib.Core.Path.{_≡_, refl, sym, ap, ap₂, _∙_}
 use mathlib.Core.Bool.{Bool, true, false}
-use mathlib.Core.List.{List, [], _∷_, _++_, map, map-append, flatMap, reverse, reverse-cons, reverse-append, reverse-reverse}
+use mathlib.Core.List.{List, [], _∷_, _++_, map, map-append, flatMap, reverse, reverse-cons, reverse-append, reverse-reverse, map-map}
 use Prim.Native.Nat.{ℕ, _+_, _-_, _*_, _/_, _%_, _^_, _≤_, _<_}
 use native.Mathlib.Numerals.{add-one}
 use native.Mathlib.Omega.{arith}
@@ -166,10 +166,6 @@ module _ (f : List ℕ) (a b e : ℕ) (ds : List ℕ) (width : ℕ) (part : ds �
       unfolding literalIn
       read-literal = rw (← read-width, ← digits)
 
-map-twice : (bs : List ℕ) → map digitCode (map digit bs) ≡ map (λ b. digitCode (digit b)) bs
-map-twice [] = refl
-map-twice (b ∷ bs) = ap (λ (l : List ℕ). digitCode (digit b) ∷ l) (map-twice bs)
-
 -- zeros up to the width, and the digits as they stand
 pub value-codes : (w : ℕ) (bs : List ℕ) → codes (value w (map digit bs)) ≡ filledCodes (w - length bs) bs
 unfolding literalBits valueBits fill filledCodes digitCode
@@ -180,7 +176,7 @@ value-codes w bs =
     ap reverse (map-reverse digitCode (z ++ ds))
     ∙ reverse-reverse (map digitCode (z ++ ds))
     ∙ map-append digitCode z ds
-    ∙ ap₂ (λ (x y : List ℕ). x ++ y) (map-replicate digitCode (w - length ds) S0 ∙ ap (λ (n : ℕ). replicate n 0) e) (map-twice bs)
+    ∙ ap₂ (λ (x y : List ℕ). x ++ y) (map-replicate digitCode (w - length ds) S0 ∙ ap (λ (n : ℕ). replicate n 0) e) (map-map digitCode digit bs)
 
 -- ---- strings
 

@@ -11,6 +11,7 @@ use Rattle.rules.specs.Bytes.{same, any, all}
 use Rattle.rules.specs.Statements.{Kind, anAutoidx, anAttribute, aModule, aParameter, aWire, aMemory, aCell, aCellParameter, aCellConnection, aConnection, aProcess, anEnd, Stmt, code, contents, is, ownName}
 use Rattle.rules.specs.Judgement.{Past, only, ofModule, ofCell, ofObject, among, Space, space, namesIn, nameSpaces, takesName}
 use Rattle.scanner.specs.Laws.{by-test}
+use Rattle.scanner.specs.Elements.{Each, each-map}
 use Rattle.past.proofs.PlaceLaws.{until-take}
 use Rattle.netlist.specs.Rows.{namesBetween}
 use Rattle.netlist.specs.Kinds.{isKind, ofKinds, hasName, oneKind, threeKinds}
@@ -50,18 +51,10 @@ module _ (f : Past → Past) (ss : Past) (from count : ℕ) (part-is : f ss ≡ 
 
 -- ---- the six spaces
 
-data Every {A : Type 0} (P : A → Type 0) : List A → Type 0 where
-  every-none : Every P []
-  every-more : {x : A} {xs : List A} → P x → Every P xs → Every P (x ∷ xs)
-
-any-every : {A : Type 0} (f g : A → Bool) (xs : List A) → Every (λ x. f x ≡ g x) xs → any f xs ≡ any g xs
+any-each : {A : Type 0} (f g : A → Bool) (xs : List A) → Each (λ x. f x ≡ g x) xs → any f xs ≡ any g xs
 unfolding any
-any-every f g [] every-none = refl
-any-every f g (x ∷ xs) (every-more e h) = ap₂ _||_ e (any-every f g xs h)
-
-every-map : {A : Type 0} {P Q : A → Type 0} (xs : List A) → ((x : A) → P x → Q x) → Every P xs → Every Q xs
-every-map [] f every-none = every-none
-every-map (x ∷ xs) f (every-more p h) = every-more (f x p) (every-map xs f h)
+any-each f g [] h = refl
+any-each f g (x ∷ xs) h = ap₂ _||_ (h .0) (any-each f g xs (h .1))
 
 -- a space's part of the past, by where it starts and how much it is
 abbrev InRows : Kind → Past → Space → Type 0
@@ -70,23 +63,23 @@ InRows k ss z = Ranged z ss (isKind (kindsOf k)) (length ss - length (z .part ss
 last-ends : (qs ss : Past) → qs ≡ take (length qs) ss → length ss - length qs + length qs ≡ length ss
 last-ends qs ss e = omega (arith, ap length e, length-take (length qs) ss)
 
-one-space : (k : Kind) (K : Kinds) (ss : Past) (z : Space) → kindsOf k ≡ K → Ranged z ss (isKind K) (length ss - length (z .part ss)) (length (z .part ss)) → Every (InRows k ss) (z ∷ [])
-one-space k K ss z e r = let q : InRows k ss z = rw e r in every-more q every-none
+one-space : (k : Kind) (K : Kinds) (ss : Past) (z : Space) → kindsOf k ≡ K → Ranged z ss (isKind K) (length ss - length (z .part ss)) (length (z .part ss)) → Each (InRows k ss) (z ∷ [])
+one-space k K ss z e r = let q : InRows k ss z = rw e r in (q, tt)
 
-one-in-rows : (f : Past → Past) (ss : Past) → f ss ≡ take (length (f ss)) ss → (k : Kind) → kindsOf k ≡ oneKind k → hasName (code k) ≡ true → Every (InRows k ss) (space (k ∷ []) f ∷ [])
+one-in-rows : (f : Past → Past) (ss : Past) → f ss ≡ take (length (f ss)) ss → (k : Kind) → kindsOf k ≡ oneKind k → hasName (code k) ≡ true → Each (InRows k ss) (space (k ∷ []) f ∷ [])
 unfolding space
 one-in-rows f ss e k q h = one-space k (oneKind k) ss (space (k ∷ []) f) q (ranged-one f ss _ _ e (last-ends (f ss) ss e) k h)
 
-three-in-rows : (k : Kind) (ss : Past) → kindsOf k ≡ threeKinds aWire aMemory aCell → Every (InRows k ss) (space (aWire ∷ aMemory ∷ aCell ∷ []) ofModule ∷ [])
+three-in-rows : (k : Kind) (ss : Past) → kindsOf k ≡ threeKinds aWire aMemory aCell → Each (InRows k ss) (space (aWire ∷ aMemory ∷ aCell ∷ []) ofModule ∷ [])
 unfolding space ofModule hasName ofKinds any code
 three-in-rows k ss q =
     let e : ofModule ss ≡ take (length (ofModule ss)) ss = until-take _ ss in
     one-space k (threeKinds aWire aMemory aCell) ss (space (aWire ∷ aMemory ∷ aCell ∷ []) ofModule) q
     (ranged-three ofModule ss _ _ e (last-ends (ofModule ss) ss e) aWire aMemory aCell refl)
 
-spaces-in-rows : (k : Kind) (ss : Past) → Every (InRows k ss) (spacesOf k)
+spaces-in-rows : (k : Kind) (ss : Past) → Each (InRows k ss) (spacesOf k)
 unfolding spacesOf nameSpaces space only ofKinds any code kindsOf hasName ofModule ofCell ofObject
-spaces-in-rows anAutoidx ss = every-none
+spaces-in-rows anAutoidx ss = tt
 spaces-in-rows anAttribute ss = one-in-rows ofObject ss (until-take _ ss) anAttribute refl refl
 spaces-in-rows aModule ss = one-in-rows (λ qs. qs) ss (sym (take-length ss)) aModule refl refl
 spaces-in-rows aParameter ss = one-in-rows ofModule ss (until-take _ ss) aParameter refl refl
@@ -95,9 +88,9 @@ spaces-in-rows aMemory ss = three-in-rows aMemory ss refl
 spaces-in-rows aCell ss = three-in-rows aCell ss refl
 spaces-in-rows aCellParameter ss = one-in-rows ofCell ss (until-take _ ss) aCellParameter refl refl
 spaces-in-rows aCellConnection ss = one-in-rows ofCell ss (until-take _ ss) aCellConnection refl refl
-spaces-in-rows aConnection ss = every-none
-spaces-in-rows aProcess ss = every-none
-spaces-in-rows anEnd ss = every-none
+spaces-in-rows aConnection ss = tt
+spaces-in-rows aProcess ss = tt
+spaces-in-rows anEnd ss = tt
 
 -- a name is taken just where a search finds it in the rows of its kind's space
 pub takes-in-rows :
@@ -106,5 +99,5 @@ pub takes-in-rows :
     ≡ any (λ z. any (same (ownName (contents sh .names))) (namesBetween names rows (isKind (kindsOf (contents sh .kind))) (length ss - length (z .part ss)) (length (z .part ss)))) (spacesOf (contents sh .kind))
 takes-in-rows ss sh l =
     takes-in-spaces ss sh
-    ∙ any-every _ _ (spacesOf (contents sh .kind))
-    (every-map (spacesOf (contents sh .kind)) (λ z r. ap (any (same (ownName (contents sh .names)))) (space-names z ss l r)) (spaces-in-rows (contents sh .kind) ss))
+    ∙ any-each _ _ (spacesOf (contents sh .kind))
+    (each-map (InRows (contents sh .kind) ss) _ (λ z r. ap (any (same (ownName (contents sh .names)))) (space-names z ss l r)) (spacesOf (contents sh .kind)) (spaces-in-rows (contents sh .kind) ss))

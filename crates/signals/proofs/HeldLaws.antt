@@ -2,7 +2,7 @@
 -- Assumes nothing.
 use mathlib.Core.Path.{_≡_, refl, sym, ap, _∙_}
 use mathlib.Core.Bool.{Bool, true, false}
-use mathlib.Core.List.{List, [], _∷_, map, reverse}
+use mathlib.Core.List.{List, [], _∷_, reverse, map-map}
 use mathlib.Core.Option.{Option, some, Option·elim, Option·getD}
 use Prim.Native.Nat.{ℕ, suc, _+_, _<_, _≤_}
 use native.Mathlib.Omega.{arith}
@@ -10,11 +10,11 @@ use lib.ListN.{length, take}
 use lib.Seq.{slice}
 use borrow.Author.Tests.{lt-ltb, le-ltb}
 use Rattle.rules.specs.Bytes.{same}
-use Rattle.rules.specs.Tokens.{Name, Digit, Literal}
+use Rattle.rules.specs.Tokens.{Name, Literal}
 use Rattle.rules.specs.Statements.{Sig, constant, wire, Wire, digit}
 use Rattle.rules.specs.Signals.{Wires, find, wireBits, literalBits, literalWidth, width, bits, declaredWire, goodSlice, parts}
 use Rattle.rules.specs.Numbers.{goodLiteral, goodNumbers}
-use Rattle.rules.specs.Layout.{digitCode, bitCode}
+use Rattle.rules.specs.Layout.{bitCode}
 use Rattle.tables.specs.Store.{store, length-store, store-slice, store-take}
 use Rattle.scanner.specs.Laws.{by-cond}
 use Rattle.numbers.specs.declared.kinds.WireNumber.{WireNumber}
@@ -131,19 +131,14 @@ module _ (ws : Wires) (n : Name) where
 
 -- ---- a constant
 
-digit-codes : (xs : List Digit) → map bitCode (map digit xs) ≡ map digitCode xs
-unfolding bitCode
-digit-codes [] = refl
-digit-codes (x ∷ xs) = ap (λ (y : List ℕ). digitCode x ∷ y) (digit-codes xs)
-
 module _ (ws : Wires) (l : Literal) where
   pub constant-bad : goodLiteral l ≡ false → fault ws (constant l) ≡ 7
   unfolding fault parts goodNumbers
   constant-bad e = own-number ws (constant l) e
 
   constant-codes : codes (bits ws (constant l)) ≡ literal.codes l
-  unfolding codes bits
-  constant-codes = ap reverse (digit-codes (literalBits l))
+  unfolding codes bits bitCode
+  constant-codes = ap reverse (map-map bitCode digit (literalBits l))
 
   module _ (w : ℕ) (e : goodLiteral l ≡ true) (q : w ≡ literalWidth l) where
     pub constant-width : width ws (constant l) ≡ w

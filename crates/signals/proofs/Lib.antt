@@ -1,5 +1,5 @@
 pub mod FaultLaws
-mod Lists
+pub mod Lists
 mod HeldLaws
 mod Parses
 mod CutLaws

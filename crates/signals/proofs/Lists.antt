@@ -6,7 +6,7 @@ use Prim.Native.Nat.{ℕ, zero, suc, _+_, _-_, _<_, _≤_}
 use native.Mathlib.Nat.{add-zero}
 use native.Mathlib.Omega.{arith}
 use lib.ListN.{length, take, drop, getD, set, length-drop, length-reverse, length-map, take-append-drop}
-use lib.Seq.{slice, length-take-le, length-slice, take-take, take-at, drop-at, drop-drop, take-add, getD-take, getD-drop}
+use lib.Seq.{slice, length-take-le, length-slice, take-take, take-at, drop-at, drop-drop, getD-take, getD-drop}
 use Rattle.rules.specs.Statements.{bit, Signal}
 use Rattle.rules.specs.Signals.{wireBits}
 use Rattle.rules.specs.Layout.{bitCode}
@@ -18,18 +18,11 @@ use Rattle.signals.specs.Held.{codes}
 -- ---- parts
 
 -- a part of what is kept
-pub slice-kept : (l l′ : List ℕ) (n a b : ℕ) → take n l′ ≡ take n l → b ≤ n → slice a b l′ ≡ slice a b l
-slice-kept l l′ n a b e h = ap (drop a) (sym (take-take b n l′ h) ∙ ap (take b) e ∙ take-take b n l h)
-
 pub take-kept : (l l′ : List ℕ) (n m : ℕ) → take n l′ ≡ take n l → m ≤ n → take m l′ ≡ take m l
 take-kept l l′ n m e h = sym (take-take m n l′ h) ∙ ap (take m) e ∙ take-take m n l h
 
--- two parts behind one another
-pub slice-join : (l : List ℕ) (a m n : ℕ) → slice a (a + m) l ++ slice (a + m) (a + m + n) l ≡ slice a (a + (m + n)) l
-slice-join l a m n =
-    ap₂ _++_ (slice-span a m l) (slice-span (a + m) n l ∙ ap (take n) (sym (drop-drop m a l)))
-    ∙ sym (take-add m n (drop a l))
-    ∙ sym (slice-span a (m + n) l)
+pub slice-kept : (l l′ : List ℕ) (n a b : ℕ) → take n l′ ≡ take n l → b ≤ n → slice a b l′ ≡ slice a b l
+slice-kept l l′ n a b e h = ap (drop a) (take-kept l l′ n b e h)
 
 -- a part of a part
 pub slice-within : (l : List ℕ) (o w x n : ℕ) → x + n ≤ w → slice (o + x) (o + x + n) l ≡ take n (drop x (slice o (o + w) l))

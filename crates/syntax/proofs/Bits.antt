@@ -1,15 +1,14 @@
 -- The bits of a signal whose parts are at most 2,048 wide are those of their codes.
 -- Assumes nothing.
 use Prim.Native.Nat.{ℕ, zero, suc, _+_, _≤_}
-use mathlib.Core.Path.{_≡_, refl, sym, ap, ap₂, _∙_}
-use mathlib.Core.List.{List, [], _∷_, _++_, map, reverse-reverse}
+use mathlib.Core.Path.{_≡_, refl, sym, _∙_}
+use mathlib.Core.List.{List, [], _∷_, map, reverse-reverse}
 use mathlib.Core.Option.{Option, none, some, Option·getD, Option·elim}
 use mathlib.Core.Bool.{Bool, true, false, not, _&&_}
 use native.Mathlib.Omega.{arith}
 use lib.Dec.{leb}
 use lib.IntN.{natAbs}
 use lib.ListN.{take, drop}
-use lib.Seq.{take-take}
 use borrow.Author.Tests.{leb-true}
 use Rattle.rules.specs.Bytes.{all}
 use Rattle.rules.specs.Tokens.{Digit}
@@ -19,27 +18,19 @@ use Rattle.rules.specs.Signals.{Wires, find, lower, span, literalBits, wireBits
 use Rattle.rules.specs.Judgement.{lowest}
 use Rattle.rules.specs.Layout.{bitCode}
 use Rattle.scanner.specs.Laws.{and-true-left, and-true-right}
-use Rattle.scanner.specs.Elements.{all-split}
+use Rattle.scanner.specs.Elements.{all-split, Each, each-append, map-back}
 use Rattle.numbers.specs.Kinds.{bitOf, bitAt}
 use Rattle.numbers.specs.KindLaws.{Within, bit-back}
 use Rattle.signals.specs.Faults.{faults, fault}
 use Rattle.signals.specs.Held.{codes, Held}
 use Rattle.signals.specs.declared.Bits.{Bits}
+use Rattle.signals.proofs.Lists.{slice-kept}
 use Rattle.syntax.specs.Statements.{signalIn}
 
 -- ---- bits that their codes give back
 
 abbrev Coded : Signal → Type 0
-Coded [] = Unit {0}
-Coded (b ∷ bs) = (bitOf (bitAt (bitCode b)) ≡ b) × Coded bs
-
-coded-back : (xs : Signal) → Coded xs → map (λ c. bitOf (bitAt c)) (map bitCode xs) ≡ xs
-coded-back [] h = refl
-coded-back (x ∷ xs) h = ap₂ _∷_ (h .0) (coded-back xs (h .1))
-
-coded-append : (xs ys : Signal) → Coded xs → Coded ys → Coded (xs ++ ys)
-coded-append [] ys h k = k
-coded-append (x ∷ xs) ys h k = (h .0, coded-append xs ys (h .1) k)
+Coded bs = Each (λ b. bitOf (bitAt (bitCode b)) ≡ b) bs
 
 coded-take : (n : ℕ) (xs : Signal) → Coded xs → Coded (take n xs)
 coded-take zero xs h = tt
@@ -86,7 +77,7 @@ module _ (ws : Wires) where
     coded-of nothing h = tt
     coded-of (s below ss) h =
         let e : all narrow (parts s) && all narrow (partsOf ss) ≡ true = sym (all-split narrow (parts s) (partsOf ss)) ∙ h in
-        coded-append (bits ws s) (bitsOf ws ss) (coded s (and-true-left _ _ e)) (coded-of ss (and-true-right (all narrow (parts s)) _ e))
+        each-append _ (bits ws s) (bitsOf ws ss) (coded s (and-true-left _ _ e)) (coded-of ss (and-true-right (all narrow (parts s)) _ e))
 
   -- where no rule is broken all parts are narrow
   last-holds : (a b c d : Bool) → Option·getD (lowest ((7, a) ∷ (8, b) ∷ (10, c) ∷ (11, not d) ∷ [])) 0 ≡ 0 → d ≡ true
@@ -100,7 +91,7 @@ module _ (ws : Wires) where
   pub signal-back : (a : Sig) (o : ℕ) (s : List ℕ) (b : Bits) → Held ws a o s b → b .fault ≡ 0 → signalIn s o (b .width) ≡ bits ws a
   unfolding signalIn codes fault faults narrow
   signal-back a o s b H z =
-      rw (H .coded z, reverse-reverse) (coded-back (bits ws a) (coded a (last-holds _ _ _ _ (H .refused ∙ z))))
+      rw (H .coded z, reverse-reverse) (map-back bitCode (λ c. bitOf (bitAt c)) (bits ws a) (coded a (last-holds _ _ _ _ (H .refused ∙ z))))
 
 -- a signal stays where the table is kept up to its end
 pub held-kept : (ws : Wires) (a : Sig) (o n : ℕ) (s s′ : List ℕ) (b : Bits) → o + 2048 ≤ n → take n s′ ≡ take n s → Held ws a o s b → Held ws a o s′ b
@@ -109,7 +100,5 @@ held-kept ws a o n s s′ b h e H =
       refused = H .refused;
       wide = H .wide;
       small = H .small;
-      coded = λ z.
-          let l : o + b .width ≤ n = omega (arith, H .small z) in
-          ap (drop o) (sym (take-take (o + b .width) n s′ l) ∙ ap (take (o + b .width)) e ∙ take-take (o + b .width) n s l) ∙ H .coded z;
+      coded = λ z. slice-kept s s′ n o (o + b .width) e (omega (arith, H .small z)) ∙ H .coded z;
     }

@@ -2,7 +2,7 @@
 -- Assumes nothing.
 use mathlib.Core.Path.{_≡_, refl, sym, ap, _∙_}
 use mathlib.Core.Bool.{Bool, true, false, cond}
-use mathlib.Core.List.{List, [], _∷_, _++_, map, flatMap, reverse, reverse-cons, map-append, append-assoc, append-nil}
+use mathlib.Core.List.{List, [], _∷_, _++_, map, flatMap, reverse, reverse-cons, map-append}
 use Prim.Native.Nat.{ℕ, zero, suc, _+_, _/_, _%_, _≤_, _<_}
 use native.Mathlib.Numerals.{add-one}
 use native.Mathlib.Omega.{arith}
@@ -12,6 +12,7 @@ use lib.ListN.{length, take, drop, getD, set, replicate, length-set, replicate-a
 use lib.Seq.{take-suc, drop-cons}
 use Rattle.rules.specs.Text.{decimalOnto, decimalText, digitByte, escaped}
 use Rattle.rules.specs.Tokens.{Digit}
+use Rattle.scanner.specs.Lists.{flatMap-snoc}
 use Rattle.numbers.specs.Kinds.{digitOf}
 use Rattle.tables.specs.Store.{store}
 use Rattle.text.specs.Written.{Written, moved}
@@ -72,12 +73,7 @@ pub bytes-more : (s : List ℕ) (i : ℕ) → i < length s → take i s ++ getD 
 bytes-more s i h = sym (rw add-one (take-suc s i 0 h))
 
 pub escaped-more : (s : List ℕ) (i : ℕ) → i < length s → flatMap escaped (take i s) ++ escaped (getD s i 0) ≡ flatMap escaped (take (i + 1) s)
-unfolding flatMap
-escaped-more s i h = sym (ap (flatMap escaped) (sym (bytes-more s i h)) ∙ joined (take i s))
-  where
-    joined : (xs : List ℕ) → flatMap escaped (xs ++ getD s i 0 ∷ []) ≡ flatMap escaped xs ++ escaped (getD s i 0)
-    joined [] = append-nil (escaped (getD s i 0))
-    joined (x ∷ xs) = ap (λ (l : List ℕ). escaped x ++ l) (joined xs) ∙ sym (append-assoc (escaped x) (flatMap escaped xs) (escaped (getD s i 0)))
+escaped-more s i h = sym (ap (flatMap escaped) (sym (bytes-more s i h)) ∙ flatMap-snoc escaped (take i s) (getD s i 0))
 
 -- the digits from i on, the highest first: one more below them is one more at the end
 pub digits-more : (s : List ℕ) (i j b : ℕ) → j < length s → i ≡ j + 1 → b ≡ digitByte (digitOf (getD s j 0)) → map digitByte (reverse (map digitOf (drop i s))) ++ b ∷ [] ≡ map digitByte (reverse (map digitOf (drop j s)))
