@@ -1,5 +1,5 @@
 pub mod Admitted
-pub mod StandLaws
+pub mod JudgeLaws
 pub mod CountLaws
 pub mod AdmitLaws
 pub mod Holds

@@ -10,7 +10,7 @@ use Rattle.rules.specs.Bytes.{all}
 use Rattle.rules.specs.Judgement.{accepted}
 use Rattle.rules.specs.Design.{Design}
 use Rattle.rules.specs.Session.{Rename, roomUsed, renameCall, numberOf}
-use Rattle.admitted.specs.StandLaws.{by-verdict}
+use Rattle.admitted.specs.JudgeLaws.{by-verdict}
 use Rattle.admitted.specs.Holds.{Allowed, no-renames, one-rename}
 use Rattle.order.specs.RenamedFine.{accepted-keeps, room-more}
 

@@ -4,7 +4,7 @@ use Prim.Native.Nat.{ℕ, zero, suc, _+_, _≤_, _<_}
 use mathlib.Core.Path.{_≡_, refl, sym, ap, _∙_}
 use mathlib.Core.List.{List, [], _∷_, _++_, map, flatMap, reverse-reverse}
 use mathlib.Core.Option.{Option, none, some, Option·elim}
-use mathlib.Core.Bool.{Bool, true, false, not, cond, _&&_, _||_, false≢true}
+use mathlib.Core.Bool.{Bool, true, false, cond, _&&_, false≢true}
 use native.Mathlib.Nat.{le-trans}
 use native.Mathlib.Omega.{arith}
 use borrow.Author.Tests.{not-false, leb-false, ltb-false}
@@ -23,7 +23,7 @@ use Rattle.scanner.specs.Elements.{Each, all-same}
 use Rattle.past.specs.Sizes.{sizesBy, sumsOf}
 use Rattle.past.proofs.SizeLaws.{within-past, limits-within, exceeds-sums}
 use Rattle.admitted.specs.Holds.{Allowed, no-renames, one-rename}
-use Rattle.admitted.specs.StandLaws.{verdict-is, next-test}
+use Rattle.admitted.specs.JudgeLaws.{no-tests}
 use Rattle.order.specs.Nesting.{settings}
 use Rattle.order.specs.DesignLaws.{flatMap-map}
 use Rattle.order.specs.Fine.{times, Differ, wiresIn, signalsIn, portsIn, FineModule, fineAlone, FineDesign}
@@ -277,19 +277,15 @@ is-there (some a) e = (a, refl)
 pub accepted-keeps : (d : Design) (rs qs : List Rename) (r : Rename) → renameCall d rs r ≡ Verdict.accepted qs → Kept d rs qs r
 unfolding renameCall
 accepted-keeps d rs qs r e =
-    let a : List Rename = rs ++ r ∷ [] in
-    let e₄ = next-test a qs 4 (not (legal (r .newName))) _ e in
-    let e₆ = next-test a qs 6 _ _ (e₄ .1) in
-    let e₈ = next-test a qs 8 (Option·elim (wireAt d (r .moduleNumber) (r .wireNumber)) true (λ w. false)) _ (e₆ .1) in
-    let e₉ = next-test a qs 9 (taken (now d rs) (r .moduleNumber) (r .newName)) _ (e₈ .1) in
-    let e₁₁ = next-test a qs 11 (leb 64 (length rs) || ltb 16384 (roomUsed d rs + length (r .newName))) [] (e₉ .1) in
+    let h = no-tests (rs ++ r ∷ []) qs _ e in
+    let full = h .1 .1 .1 .1 .1 .0 in
     record {
-      legal = not-false (legal (r .newName)) (e₄ .0);
-      there = is-there (wireAt d (r .moduleNumber) (r .wireNumber)) (e₈ .0);
-      free = e₉ .0;
-      few = leb-false 64 (length rs) (or-false-left (leb 64 (length rs)) _ (e₁₁ .0));
-      room = ltb-false 16384 (roomUsed d rs + length (r .newName)) (or-false-right (leb 64 (length rs)) _ (e₁₁ .0));
-      listed = verdict-is a qs (e₁₁ .1);
+      legal = not-false (legal (r .newName)) (h .1 .0);
+      there = is-there (wireAt d (r .moduleNumber) (r .wireNumber)) (h .1 .1 .1 .0);
+      free = h .1 .1 .1 .1 .0;
+      few = leb-false 64 (length rs) (or-false-left (leb 64 (length rs)) _ full);
+      room = ltb-false 16384 (roomUsed d rs + length (r .newName)) (or-false-right (leb 64 (length rs)) _ full);
+      listed = h .0;
     }
 
 module _ (d : Design) (rs : List Rename) (r : Rename) where

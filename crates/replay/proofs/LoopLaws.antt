@@ -11,8 +11,8 @@ use Rattle.rules.specs.Bytes.{within}
 use Rattle.rules.specs.Statements.{Statement}
 use Rattle.rules.specs.Judgement.{Past}
 use Rattle.admitted.specs.Admitted.{admits, admitted, closes}
-use Rattle.admitted.specs.AdmitLaws.{admitted-few, admitted-within}
-use Rattle.scanner.specs.Laws.{and-true-right, never}
+use Rattle.admitted.specs.AdmitLaws.{admits-last, admitted-few, admitted-within}
+use Rattle.scanner.specs.Laws.{never}
 use Rattle.wires.specs.Rows.{wordAt}
 use Rattle.netlist.specs.Laid.{roomsOf}
 use Rattle.netlist.specs.LaidLaws.{length-rows}
@@ -45,10 +45,6 @@ done-start t rows p u ep eu =
         sums = sym eu;
       };
     }
-
-last-admits : (x : Statement) (ss : Past) → admitted (x ∷ ss) ≡ true → admits ss x ≡ true
-unfolding admitted
-last-admits x ss h = and-true-right (admitted ss) _ h
 
 -- ---- the turns of the loop
 
@@ -99,7 +95,7 @@ module _ (t : Tables) (rows : List ℕ) (p : Place) (u : Sizes) (d : Done t rows
         let f = rw eo at n in
         ⊎-elim
         (λ q. never (isStatement k) e (sym kind-is ∙ ap (λ (l : Past). isStatement (wordAt rows (8 * length (roomsOf l .rows)))) (sym q) ∙ h .begins .ends))
-        (λ q. f ss (d .reached) (q .1) (q .3) (last-admits (q .1) ss (q .4)))
+        (λ q. f ss (d .reached) (q .1) (q .3) (admits-last (q .1) ss (q .4)))
         (stored-next qs ss h (d .reached .admits) (d .reached .fronts))
 
     module _ (e : isStatement k ≡ true) (o : Turn) (q : Place) (v : Sizes) (n : TurnIs t rows p u o) (eo : o ≡ Turn.Next q v) where

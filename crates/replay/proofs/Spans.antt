@@ -1,16 +1,16 @@
 -- Spans of a table: how long they are, tests of all their values, and what a table has from a place on.
 -- Assumes nothing.
 use Prim.Native.Nat.{ℕ, zero, suc, min, _+_, _-_, _≤_, _<_}
-use mathlib.Core.Path.{_≡_, refl, sym, ap, ap₂, _∙_}
+use mathlib.Core.Path.{_≡_, refl, sym, ap, _∙_}
 use mathlib.Core.List.{List, [], _∷_, _++_}
 use mathlib.Core.Bool.{Bool, true, false}
 use native.Mathlib.Numerals.{add-one}
 use native.Mathlib.Omega.{arith}
 use lib.ListN.{length, getD, take, drop, length-take, length-drop, drop-of-length-le}
-use lib.Seq.{slice, slice-cons, take-add, drop-drop}
+use lib.Seq.{slice, slice-cons}
 use borrow.Author.Tests.{eq-eqb, ne-eqb, eqb-true}
 use Rattle.rules.specs.Bytes.{all}
-use Rattle.wires.specs.RowLaws.{slice-span}
+use Rattle.wires.specs.RowLaws.{slice-span, slice-join}
 use Rattle.replay.specs.Parts.{span, whole}
 use Rattle.netlist.specs.Spans.{Has}
 
@@ -88,7 +88,5 @@ module _ (t : List ℕ) (at : ℕ) where
 
   -- two spans, one behind the other
   pub spans : (m n : ℕ) → span t at m ++ span t (at + m) n ≡ span t at (m + n)
-  spans m n =
-      ap₂ (λ (x y : List ℕ). x ++ y) (span-is t at m) (span-is t (at + m) n ∙ ap (take n) (sym (drop-drop m at t)))
-      ∙ sym (take-add m n (drop at t))
-      ∙ sym (span-is t at (m + n))
+  unfolding span
+  spans m n = slice-join t at m n

@@ -17,7 +17,7 @@ use Rattle.rules.specs.Judgement.{Past, context, wires, among, namesIn, nameSpa
 use Rattle.rules.specs.Reading.{shaped}
 use Rattle.scanner.specs.Laws.{or-false-right, or-false-left}
 use Rattle.admitted.specs.Admitted.{kinds, stands, fineWire, fineMemory, fineParts, admits}
-use Rattle.admitted.specs.StandLaws.{meaning-kind, meaning-among, judge-passed, by-verdict}
+use Rattle.admitted.specs.JudgeLaws.{meaning-kind, meaning-among, judge-passed, by-verdict}
 use Rattle.written.specs.TokenLaws.{fineToken}
 use Rattle.soundness.specs.ShapeLaws.{FineShape, FineShaped, no-shape, fine-shape, shape-fine}
 use Rattle.past.specs.Forms.{translated, contents-translated}

@@ -15,7 +15,7 @@ use Rattle.rules.specs.Session.{Rename, wireAt, renameWire, renamed, now, renam
 use Rattle.order.specs.RenamedFine.{map-change, undo-last, accepted-keeps}
 use Rattle.designs.specs.Now.{renames, wireNow}
 use Rattle.designs.specs.NowLaws.{wire-now, wire-last}
-use Rattle.admitted.specs.StandLaws.{by-verdict}
+use Rattle.admitted.specs.JudgeLaws.{by-verdict}
 
 -- the design without the names of its wires
 unfoldable pub nameless : Object Wire → Object Wire

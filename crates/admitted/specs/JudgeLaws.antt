@@ -3,7 +3,7 @@
 use Prim.Native.Nat.{ℕ}
 use mathlib.Core.Path.{_≡_, refl, ap}
 use mathlib.Core.List.{List, [], _∷_}
-use mathlib.Core.Bool.{Bool, true, false, _||_}
+use mathlib.Core.Bool.{Bool, true, false, _||_, true≢false}
 use lib.Dec.{leb, eqb}
 use Rattle.rules.specs.Bytes.{any, all}
 use Rattle.rules.specs.Statements.{Shape, Statement, Kind, Contents, holds, aProcess, code, contents, is}
@@ -22,21 +22,12 @@ pub meaning-among : (ks : List Kind) (ws : Wires) (sh : Shape) → among ks (mea
 unfolding among is
 meaning-among ks ws sh = ap (λ (k : Kind). any (λ l. eqb (code l) (code k)) ks) (meaning-kind ws sh)
 
--- an accepted verdict: no test holds, and what is accepted is what was given
-pub verdict-is : {A : Type 0} (a b : A) → verdict a (lowest []) ≡ Verdict.accepted b → a ≡ b
+-- an accepted verdict: what is accepted is what was given, and no test holds
+pub no-tests : {A : Type 0} (a b : A) (ts : List (ℕ × Bool)) → verdict a (lowest ts) ≡ Verdict.accepted b → (a ≡ b) × Each (λ t. t .1 ≡ false) ts
 unfolding lowest verdict
-verdict-is a b e = cc
-
-pub next-test :
-    {A : Type 0} (a b : A) (n : ℕ) (t : Bool) (ts : List (ℕ × Bool)) → verdict a (lowest ((n, t) ∷ ts)) ≡ Verdict.accepted b →
-    (t ≡ false) × (verdict a (lowest ts) ≡ Verdict.accepted b)
-unfolding lowest verdict
-next-test a b n true ts e = (cc, cc)
-next-test a b n false ts e = (refl, e)
-
-no-tests : {A : Type 0} (a b : A) (ts : List (ℕ × Bool)) → verdict a (lowest ts) ≡ Verdict.accepted b → Each (λ t. t .1 ≡ false) ts
-no-tests a b [] e = tt
-no-tests a b ((n, t) ∷ ts) e = let h = next-test a b n t ts e in (h .0, no-tests a b ts (h .1))
+no-tests a b [] e = (cc, tt)
+no-tests a b ((n, true) ∷ ts) e = absurd (true≢false cc)
+no-tests a b ((n, false) ∷ ts) e = let h = no-tests a b ts e in (h .0, (refl, h .1))
 
 -- a verdict accepts what it is given, or refuses with a number that is not 0
 pub by-verdict :
@@ -59,7 +50,7 @@ pub record Passed (ss : Past) (sh : Shape) : Type 0 where
 pub judge-passed : (ss : Past) (sh : Shape) (s : Statement) → judge ss sh ≡ Verdict.accepted s → Passed ss sh
 unfolding judge judgeIn
 judge-passed ss sh s e =
-    let h = no-tests (meaning (wires ss) sh) s _ e in
+    let h = no-tests (meaning (wires ss) sh) s _ e .1 in
     record {
       no-process = h .0;
       numbers = h .1 .0;
