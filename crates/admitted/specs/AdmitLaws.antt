@@ -20,48 +20,47 @@ use Rattle.scanner.specs.Elements.{all-append, all-implied, test-at}
 use Rattle.past.specs.Sizes.{sumsOf, Within}
 use Rattle.past.specs.Offsets.{fitsOffset, Offsets, no-offsets, more-offsets}
 use Rattle.past.proofs.SizeLaws.{within-past, within-none}
-use Rattle.admitted.specs.Admitted.{stands, fineConstant, newPorts, fineWire, fineMemory, fineSignal, sameLength, fineParts, admits, admitted}
+use Rattle.admitted.specs.Admitted.{stands, fineConstant, ownWire, newPorts, fineMemory, fineSignal, sameLength, fineAlone, fineParts, admits, admitted}
 use Rattle.admitted.specs.CountLaws.{Standing, none-stand, one-stands, rows-few}
 
--- a fine wire
-pub record FineWire (ws : Wires) (w : Wire) : Type 0 where
+-- a wire's own tests
+pub record OwnWire (w : Wire) : Type 0 where
   pub narrow : leb (w .width) 2048 ≡ true
   pub offset : int32 (w .offset) ≡ true
   pub last-bit : (eqb (w .width) 0 || int32 (w .offset +ℤ pos (w .width - 1))) ≡ true
   pub port : all (within 1 1023) (portNumbers w) ≡ true
-  pub new : newPorts ws w ≡ true
 
-pub fine-wire : (ws : Wires) (w : Wire) → fineWire ws w ≡ true → FineWire ws w
-unfolding fineWire
-fine-wire ws w e =
+pub own-wire : (w : Wire) → ownWire w ≡ true → OwnWire w
+unfolding ownWire
+own-wire w e =
     let h =
-    test-at (leb (w .width) 2048)
-    (int32 (w .offset) ∷ (eqb (w .width) 0 || int32 (w .offset +ℤ pos (w .width - 1))) ∷ all (within 1 1023) (portNumbers w) ∷ newPorts ws w ∷ []) e in
-    record { narrow = h 0; offset = h 1; last-bit = h 2; port = h 3; new = h 4 }
+    test-at (leb (w .width) 2048) (int32 (w .offset) ∷ (eqb (w .width) 0 || int32 (w .offset +ℤ pos (w .width - 1))) ∷ all (within 1 1023) (portNumbers w) ∷ []) e in
+    record { narrow = h 0; offset = h 1; last-bit = h 2; port = h 3 }
 
 -- the parts, one by one
 pub record FineParts (ws : Wires) (s : Statement) : Type 0 where
   pub names : all legal (contents s .names) ≡ true
   pub integers : all int32 (contents s .integers) ≡ true
   pub constants : all fineConstant (contents s .constants) ≡ true
-  pub wires : all (fineWire ws) (contents s .wires) ≡ true
+  pub wires : all ownWire (contents s .wires) ≡ true
   pub memories : all fineMemory (contents s .memories) ≡ true
-  pub signals : all (fineSignal ws) (contents s .signals) ≡ true
   pub same-length : sameLength (contents s .signals) ≡ true
+  pub ports : all (newPorts ws) (contents s .wires) ≡ true
+  pub signals : all (fineSignal ws) (contents s .signals) ≡ true
 
 pub fine-parts : (ws : Wires) (s : Statement) → fineParts ws s ≡ true → FineParts ws s
-unfolding fineParts
+unfolding fineAlone fineParts
 fine-parts ws s e =
     let c = contents s in
     let h =
     test-at (all legal (c .names))
-    (all int32 (c .integers) ∷ all fineConstant (c .constants) ∷ all (fineWire ws) (c .wires) ∷ all fineMemory (c .memories) ∷ all (fineSignal ws) (c .signals) ∷ sameLength (c .signals) ∷ [])
+    (all int32 (c .integers) ∷ all fineConstant (c .constants) ∷ all ownWire (c .wires) ∷ all fineMemory (c .memories) ∷ sameLength (c .signals) ∷ all (newPorts ws) (c .wires) ∷ all (fineSignal ws) (c .signals) ∷ [])
     e in
-    record { names = h 0; integers = h 1; constants = h 2; wires = h 3; memories = h 4; signals = h 5; same-length = h 6 }
+    record { names = h 0; integers = h 1; constants = h 2; wires = h 3; memories = h 4; same-length = h 5; ports = h 6; signals = h 7 }
 
 -- offsets fit
 pub fine-fits : (ws : Wires) (s : Statement) → fineParts ws s ≡ true → fitsOffset s ≡ true
-fine-fits ws s e = all-implied (fineWire ws) (λ w. int32 (w .offset)) (λ w h. fine-wire ws w h .offset) (contents s .wires) (fine-parts ws s e .wires)
+fine-fits ws s e = all-implied ownWire (λ w. int32 (w .offset)) (λ w h. own-wire w h .offset) (contents s .wires) (fine-parts ws s e .wires)
 
 -- what an admitted statement keeps
 pub record Admits (ss : Past) (s : Statement) : Type 0 where

@@ -31,16 +31,18 @@ fineConstant (integer i) = int32 i
 fineConstant (string s) = all (within 1 255) s
 
 -- Wire: width 0 to 2,048, at most one port number from 1 to 1,023, no two alike in a module; offset + width - 1 is at most 2,147,483,647
-unfoldable pub newPorts : Wires → Wire → Bool
-newPorts ws w = all (λ n. not (any (λ v. any (eqb n) (portNumbers (v .1))) ws)) (portNumbers w)
-
-unfoldable pub fineWire : Wires → Wire → Bool
-fineWire ws w =
+unfoldable pub ownWire : Wire → Bool
+ownWire w =
     leb (w .width) 2048
     && int32 (w .offset)
     && (eqb (w .width) 0 || int32 (w .offset +ℤ pos (w .width - 1)))
     && all (within 1 1023) (portNumbers w)
-    && newPorts ws w
+
+unfoldable pub newPorts : Wires → Wire → Bool
+newPorts ws w = all (λ n. not (any (λ v. any (eqb n) (portNumbers (v .1))) ws)) (portNumbers w)
+
+unfoldable pub fineWire : Wires → Wire → Bool
+fineWire ws w = ownWire w && newPorts ws w
 
 -- Memory: width 1 to 2,048, size 0 or more
 unfoldable pub fineMemory : Memory → Bool
@@ -61,15 +63,18 @@ sameLength (s ∷ []) = true
 sameLength (s ∷ t ∷ ss) = eqb (length s) (length t)
 
 -- the parts of a statement keep the rules on their own, whatever else there is
-unfoldable pub fineParts : Wires → Statement → Bool
-fineParts ws s =
+unfoldable pub fineAlone : Statement → Bool
+fineAlone s =
     all legal (contents s .names)
     && all int32 (contents s .integers)
     && all fineConstant (contents s .constants)
-    && all (fineWire ws) (contents s .wires)
+    && all ownWire (contents s .wires)
     && all fineMemory (contents s .memories)
-    && all (fineSignal ws) (contents s .signals)
     && sameLength (contents s .signals)
+
+-- and with the wires ws before it: its port numbers are not theirs, its signals lie in them
+unfoldable pub fineParts : Wires → Statement → Bool
+fineParts ws s = fineAlone s && all (newPorts ws) (contents s .wires) && all (fineSignal ws) (contents s .signals)
 
 unfoldable pub admits : Past → Statement → Bool
 admits ss s = stands ss s && fineParts (wires ss) s && not (takesName ss s) && not (exceedsSize (s ∷ ss))
@@ -83,5 +88,5 @@ unfoldable pub closes : Past → Bool
 closes ss = isTop (context ss .scope) && not (context ss .attributed)
 
 unfoldable pub admittedOpen : Unit {0}
-unfolding kinds stands fineConstant newPorts fineWire fineMemory fineBit fineSignal sameLength fineParts admits admitted closes
+unfolding kinds stands fineConstant ownWire newPorts fineWire fineMemory fineBit fineSignal sameLength fineAlone fineParts admits admitted closes
 admittedOpen = tt

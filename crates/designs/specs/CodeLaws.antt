@@ -19,8 +19,8 @@ use Rattle.scanner.specs.Laws.{and-true-right}
 use Rattle.scanner.specs.Elements.{all-reverse, all-element, all-implied, all-zip-second, each-all, each-of, map-back}
 use Rattle.numbers.specs.Kinds.{digitOf, bitOf, bitAt}
 use Rattle.numbers.specs.KindLaws.{Within, digit-back, bit-back}
-use Rattle.admitted.specs.Admitted.{fineWire, fineBit, fineSignal, admitted}
-use Rattle.admitted.specs.AdmitLaws.{fine-wire, admitted-wires}
+use Rattle.admitted.specs.Admitted.{ownWire, fineBit, fineSignal, admitted}
+use Rattle.admitted.specs.AdmitLaws.{own-wire, admitted-wires}
 
 pub digits-back : (ds : List Digit) → map digitOf (map digitCode ds) ≡ ds
 digits-back ds = map-back digitCode digitOf ds (each-all _ digit-back ds)
@@ -34,7 +34,7 @@ pub narrow-past : (ss : Past) → admitted ss ≡ true → narrow (wires ss) ≡
 unfolding narrow
 narrow-past ss h =
     let f : Wire → Bool = λ w. leb (w .width) 2048 in
-    admitted-wires (λ v. f (v .1)) (λ ws s p. all-zip-second f (contents s .names) (contents s .wires) (all-implied (fineWire ws) f (λ w e. fine-wire ws w e .narrow) (contents s .wires) (p .wires))) ss h
+    admitted-wires (λ v. f (v .1)) (λ ws s p. all-zip-second f (contents s .names) (contents s .wires) (all-implied ownWire f (λ w e. own-wire w e .narrow) (contents s .wires) (p .wires))) ss h
 
 -- ---- bits inside such wires
 

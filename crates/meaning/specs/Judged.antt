@@ -1,7 +1,7 @@
 -- A written statement that may stand is accepted, as that statement.
 -- Assumes nothing.
 use Prim.Native.Nat.{ℕ}
-use mathlib.Core.Path.{_≡_, refl, ap}
+use mathlib.Core.Path.{_≡_, refl, ap, _∙_}
 use mathlib.Core.List.{List, [], _∷_, map, flatMap}
 use mathlib.Core.Option.{none, some}
 use mathlib.Core.Bool.{Bool, true, false, _&&_}
@@ -17,8 +17,8 @@ use Rattle.rules.specs.Signals.{Wires, literalBits, kept, width, bits, declared
 use Rattle.rules.specs.Judgement.{Past, context, wires, among, newPort, allParts, breaksNumber, lacksWire, takesName, equalWidths, breaksWidth, partTooWide, lowest, Verdict, verdict, meaning, judgeIn, judge}
 use Rattle.rules.specs.Reading.{shaped}
 use Rattle.rules.specs.Text.{sig, literalOf, wireOptions, memoryOptions, written, shapeTokens}
-use Rattle.admitted.specs.Admitted.{stands, fineConstant, fineWire, fineMemory, fineSignal, sameLength, admits, admitted}
-use Rattle.scanner.specs.Elements.{all-append, all-first, all-later, all-implied, all-through, test-at}
+use Rattle.admitted.specs.Admitted.{stands, fineConstant, ownWire, newPorts, fineMemory, fineSignal, sameLength, admits, admitted}
+use Rattle.scanner.specs.Elements.{all-append, all-first, all-later, all-implied, all-map, all-through, all-both, test-at}
 use Rattle.admitted.specs.AdmitLaws.{FineParts, fine-parts, Admits, admits-all}
 use Rattle.past.specs.Forms.{translated, contents-translated}
 use Rattle.admitted.specs.CountLaws.{never-process}
@@ -114,7 +114,7 @@ module _ (ws : Wires) (sound : Sound ws) where
           contents-written ws s,
           f .integers,
           all-through fineConstant literalOf goodLiteral (contents s .constants) literal-good (f .constants),
-          all-through (fineWire ws) wireOptions (λ os. goodWire os && newPort ws os) (contents s .wires) (wire-fine ws) (f .wires),
+          all-map (λ os. goodWire os && newPort ws os) wireOptions (contents s .wires) ∙ all-both ownWire (newPorts ws) _ (wire-fine ws) (contents s .wires) (f .wires) (f .ports),
           all-through fineMemory memoryOptions goodMemory (contents s .memories) memory-fine (f .memories),
         )
 

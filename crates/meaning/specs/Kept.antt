@@ -11,7 +11,7 @@ use Rattle.rules.specs.Statements.{Constant, Signal, Wire, Memory, Statement, w
 use Rattle.rules.specs.Signals.{Wires, find}
 use Rattle.rules.specs.Judgement.{Past, until, only, ofModule, wires, among, space, namesIn, nameSpaces, takesName}
 use Rattle.past.specs.Forms.{by-form}
-use Rattle.admitted.specs.Admitted.{fineWire, admitted}
+use Rattle.admitted.specs.Admitted.{ownWire, admitted}
 use Rattle.scanner.specs.Laws.{same-sym, or-false-left, or-false-right}
 use Rattle.scanner.specs.Elements.{all-first}
 use Rattle.admitted.specs.AdmitLaws.{FineParts, fine-parts, Admits, admitted-before, admitted-last}
@@ -40,7 +40,7 @@ wire-new ss w n h = not-found n (ofModule ss) (or-false-left (any (same n) (ownN
 
 wire-narrow : (ws : Wires) (w : Wire) (n : Name) → FineParts ws (wire-stmt w n) → w .width ≤ 2048
 unfolding statementsOpen
-wire-narrow ws w n f = wire-width ws w (all-first (fineWire ws) w [] (f .wires))
+wire-narrow ws w n f = wire-width w (all-first ownWire w [] (f .wires))
 
 sound-more : (ss : Past) (s : Statement) → Admits ss s → Sound (wires ss) → Sound (wires (s ∷ ss))
 unfolding wires ofModule until flatMap zip statementsOpen

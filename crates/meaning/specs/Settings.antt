@@ -16,8 +16,8 @@ use Rattle.rules.specs.Numbers.{int32, inRange, has, numberOr, ports, portOf, w
 use Rattle.rules.specs.Signals.{Wires}
 use Rattle.rules.specs.Judgement.{portNumbers, newPort}
 use Rattle.rules.specs.Text.{setting, unless, directionWord, portOptions, wireOptions, memoryOptions}
-use Rattle.admitted.specs.Admitted.{newPorts, fineWire, fineMemory}
-use Rattle.admitted.specs.AdmitLaws.{FineWire, fine-wire}
+use Rattle.admitted.specs.Admitted.{ownWire, newPorts, fineMemory}
+use Rattle.admitted.specs.AdmitLaws.{OwnWire, own-wire}
 use Rattle.scanner.specs.Laws.{by-test, within-yes, within-low, within-high}
 use Rattle.scanner.specs.Elements.{all-first, test-at, all-of}
 use Rattle.meaning.specs.Options.{wire-each, memory-each}
@@ -150,26 +150,23 @@ wire-int32 w h k p =
     (λ q e. setting-int32 (pos (q .1)) (number-int32 (q .1) (omega (arith, within-high 1 1023 (q .1) (all-first (within 1 1023) (q .1) [] (rw e at p))))))
     no-number (setting-int32 (w .offset) k) (setting-int32 (pos (w .width)) (number-int32 (w .width) (omega arith))))
 
-pub wire-width : (ws : Wires) (w : Wire) → fineWire ws w ≡ true → w .width ≤ 2048
-wire-width ws w h = leb-true (w .width) 2048 (fine-wire ws w h .narrow)
+pub wire-width : (w : Wire) → ownWire w ≡ true → w .width ≤ 2048
+wire-width w h = leb-true (w .width) 2048 (own-wire w h .narrow)
 
 in-range : (lo hi n : ℕ) → lo ≤ n → n ≤ hi → inRange lo hi (pos n) ≡ true
 unfolding inRange
 in-range lo hi n h k = within-yes lo hi n h k
 
-wire-good : (ws : Wires) (w : Wire) → fineWire ws w ≡ true → goodWire (wireOptions w) ≡ true
+wire-good : (w : Wire) → ownWire w ≡ true → goodWire (wireOptions w) ≡ true
 unfolding goodWire goodOptions portNumbers
-wire-good ws w h =
+wire-good w h =
     let p : Says (wireOptions w) (w .width) (w .offset) (w .upto) (w .port) (w .signed) = wire-says w in
-    let q : FineWire ws w = fine-wire ws w h in
-    rw (wire-back w, p .once-each, wire-int32 w (wire-width ws w h) (q .offset) (q .port), p .width, p .port, one-port (w .port), port-range (w .port) (q .port), in-range 0 2048 (w .width) (omega arith) (wire-width ws w h)) (q .last-bit)
+    let q : OwnWire w = own-wire w h in
+    rw (wire-back w, p .once-each, wire-int32 w (wire-width w h) (q .offset) (q .port), p .width, p .port, one-port (w .port), port-range (w .port) (q .port), in-range 0 2048 (w .width) (omega arith) (wire-width w h)) (q .last-bit)
 
-wire-new : (ws : Wires) (w : Wire) → fineWire ws w ≡ true → newPort ws (wireOptions w) ≡ true
+pub wire-fine : (ws : Wires) (w : Wire) → ownWire w ≡ true → newPorts ws w ≡ true → goodWire (wireOptions w) && newPort ws (wireOptions w) ≡ true
 unfolding newPort newPorts
-wire-new ws w h = rw (wire-back w) (fine-wire ws w h .new)
-
-pub wire-fine : (ws : Wires) (w : Wire) → fineWire ws w ≡ true → goodWire (wireOptions w) && newPort ws (wireOptions w) ≡ true
-wire-fine ws w h = rw (wire-good ws w h) (wire-new ws w h)
+wire-fine ws w h n = rw (wire-good w h, wire-back w) n
 
 -- ---- a memory, from its last option on: width, size, offset
 

@@ -1,23 +1,17 @@
 -- The tests of a statement after those before it, one by one.
 -- Assumes nothing.
-use Prim.Native.Nat.{_-_}
 use mathlib.Core.Path.{_≡_, refl, ap}
 use mathlib.Core.List.{List, [], _∷_}
-use mathlib.Core.Bool.{Bool, true, false, not, _&&_, _||_}
+use mathlib.Core.Bool.{Bool, true, false, not, _&&_}
 use native.Mathlib.Omega.{arith}
 use borrow.Author.Tests.{not-true}
-use lib.Dec.{leb, eqb}
-use lib.IntN.{pos, _+ℤ_}
-use Rattle.rules.specs.Bytes.{any, all, same, within, legal}
-use Rattle.rules.specs.Numbers.{int32}
-use Rattle.rules.specs.Signals.{Wires}
-use Rattle.rules.specs.Statements.{Statement, Wire, contents, ownName}
-use Rattle.rules.specs.Judgement.{Past, sum, wires, among, Space, namesIn, nameSpaces, portNumbers, takesName, sizes, exceedsSize}
+use Rattle.rules.specs.Bytes.{any, all, same}
+use Rattle.rules.specs.Statements.{Statement, contents, ownName}
+use Rattle.rules.specs.Judgement.{Past, sum, wires, among, Space, namesIn, nameSpaces, takesName, sizes, exceedsSize}
 use Rattle.scanner.specs.Laws.{and-true-left, and-true-right, or-false-left, or-false-right}
-use Rattle.scanner.specs.Elements.{Each, all-each, all-implied, all-both}
-use Rattle.admitted.specs.Admitted.{stands, fineConstant, newPorts, fineWire, fineMemory, fineSignal, sameLength, fineParts, admits, admitted}
-use Rattle.admitted.specs.AdmitLaws.{fine-parts, admits-all}
-use Rattle.order.specs.Fine.{fineAlone}
+use Rattle.scanner.specs.Elements.{Each, test-at}
+use Rattle.admitted.specs.Admitted.{stands, fineSignal, fineAlone, fineParts, admits, admitted}
+use Rattle.admitted.specs.AdmitLaws.{admits-all}
 use Rattle.order.specs.Tally.{Through, nameTally, moduleNames, objectNames, attributeNames, parameterNames, cellParameterNames, cellPortNames, portTally}
 use Rattle.order.specs.Sums.{sizes-fewer}
 
@@ -38,35 +32,6 @@ pub record Apart (p : Past) (s : Statement) : Type 0 where
   pub cell-port-names : cellPortNames .new p s ≡ true
   pub room : exceedsSize (s ∷ p) ≡ false
 
--- a wire's own rules, and its port number
-ownWire : Wire → Bool
-ownWire w =
-    leb (w .width) 2048
-    && int32 (w .offset)
-    && (eqb (w .width) 0 || int32 (w .offset +ℤ pos (w .width - 1)))
-    && all (within 1 1023) (portNumbers w)
-
-wire-own : (w : Wire) → fineWire [] w ≡ true → ownWire w ≡ true
-unfolding fineWire ownWire
-wire-own w e = and-true-left (ownWire w) (newPorts [] w) e
-
-own-wire : (w : Wire) → ownWire w ≡ true → fineWire [] w ≡ true
-unfolding fineWire ownWire newPorts any
-own-wire w e = rw e (all-each _ (λ n. refl) (portNumbers w))
-
-module _ (ws : Wires) where
-  own-wires : (vs : List Wire) → all (fineWire ws) vs ≡ true → all (fineWire []) vs ≡ true
-  unfolding fineWire ownWire
-  own-wires = all-implied (fineWire ws) (fineWire []) (λ w e. own-wire w (and-true-left (ownWire w) (newPorts ws w) e))
-
-  new-wires : (vs : List Wire) → all (fineWire ws) vs ≡ true → all (newPorts ws) vs ≡ true
-  unfolding fineWire ownWire
-  new-wires = all-implied (fineWire ws) (newPorts ws) (λ w e. and-true-right (ownWire w) (newPorts ws w) e)
-
-  both-wires : (vs : List Wire) → all (fineWire []) vs ≡ true → all (newPorts ws) vs ≡ true → all (fineWire ws) vs ≡ true
-  unfolding fineWire ownWire
-  both-wires = all-both (fineWire []) (newPorts ws) (fineWire ws) (λ w e f. rw (wire-own w e, f))
-
 -- NAMES: a test that fails in each name space
 any-none : {A : Type 0} (f : A → Bool) (xs : List A) → any f xs ≡ false → Each (λ x. f x ≡ false) xs
 unfolding any
@@ -83,16 +48,16 @@ module _ (p : Past) (s : Statement) where
   takesIn z = among (z .kinds) s && any (same (ownName (contents s .names))) (namesIn z p)
 
   pub admits-apart : admits p s ≡ true → Apart p s
-  unfolding fineAlone portTally sees nameTally takesName nameSpaces
+  unfolding fineParts portTally sees nameTally takesName nameSpaces
   admits-apart e =
       let a = admits-all p s e in
-      let f = fine-parts (wires p) s (a .parts) in
+      let h = test-at (fineAlone s) (portTally .new p s ∷ sees p s ∷ []) (a .parts) in
       let n : Each (λ z. takesIn z ≡ false) nameSpaces = any-none takesIn nameSpaces (a .new-name) in
       record {
         standing = a .standing;
-        alone = rw (f .names, f .integers, f .constants, own-wires (wires p) (contents s .wires) (f .wires), f .memories, f .same-length);
-        ports = new-wires (wires p) (contents s .wires) (f .wires);
-        signals = f .signals;
+        alone = h 0;
+        ports = h 1;
+        signals = h 2;
         module-names = ap not (n .0);
         object-names = ap not (n .1 .0);
         attribute-names = ap not (n .1 .1 .0);
@@ -103,18 +68,8 @@ module _ (p : Past) (s : Statement) where
       }
 
   pub apart-admits : Apart p s → admits p s ≡ true
-  unfolding admits fineParts fineAlone portTally sees nameTally takesName nameSpaces
+  unfolding admits fineParts portTally sees nameTally takesName nameSpaces
   apart-admits a =
-      let names : Bool = all legal (contents s .names) in
-      let integers : Bool = all int32 (contents s .integers) in
-      let constants : Bool = all fineConstant (contents s .constants) in
-      let own : Bool = all (fineWire []) (contents s .wires) in
-      let memories : Bool = all fineMemory (contents s .memories) in
-      let widths : Bool = sameLength (contents s .signals) in
-      let e₅ = and-true-left (names && integers && constants && own && memories) widths (a .alone) in
-      let e₄ = and-true-left (names && integers && constants && own) memories e₅ in
-      let e₃ = and-true-left (names && integers && constants) own e₄ in
-      let e₂ = and-true-left (names && integers) constants e₃ in
       let n : any takesIn nameSpaces ≡ false =
       none-any takesIn nameSpaces (
         not-true _ (a .module-names),
@@ -128,13 +83,9 @@ module _ (p : Past) (s : Statement) where
       ) in
       rw (
         a .standing,
-        and-true-left names integers e₂,
-        and-true-right names integers e₂,
-        and-true-right (names && integers) constants e₃,
-        both-wires (wires p) (contents s .wires) (and-true-right (names && integers && constants) own e₄) (a .ports),
-        and-true-right (names && integers && constants && own) memories e₅,
+        a .alone,
+        a .ports,
         a .signals,
-        and-true-right (names && integers && constants && own && memories) widths (a .alone),
         n,
         a .room,
       )

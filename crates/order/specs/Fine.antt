@@ -2,18 +2,17 @@
 use Prim.Native.Nat.{ℕ, _≤_}
 use mathlib.Core.Path.{_≡_}
 use mathlib.Core.List.{List, [], _∷_, _++_, map, flatMap, reverse}
-use mathlib.Core.Bool.{Bool, true, false, cond, _&&_}
+use mathlib.Core.Bool.{Bool, true, false, cond}
 use lib.Dec.{eqb}
-use Rattle.rules.specs.Bytes.{same, all, legal}
+use Rattle.rules.specs.Bytes.{same, all}
 use Rattle.rules.specs.Tokens.{Name}
-use Rattle.rules.specs.Statements.{Signal, Statement, contents}
-use Rattle.rules.specs.Numbers.{int32}
+use Rattle.rules.specs.Statements.{Signal}
 use Rattle.rules.specs.Signals.{Wires}
 use Rattle.rules.specs.Judgement.{sum, portNumbers, exceedsSize}
 use Rattle.rules.specs.Design.{Setting, Object, Cell, Module, Design, flatten}
 use Rattle.rules.specs.Session.{names}
 use Rattle.scanner.specs.Elements.{Each}
-use Rattle.admitted.specs.Admitted.{fineConstant, fineWire, fineMemory, fineSignal, sameLength}
+use Rattle.admitted.specs.Admitted.{fineSignal, fineAlone}
 
 -- how many pass a test
 unfoldable pub times : {A : Type 0} → (A → Bool) → List A → ℕ
@@ -55,17 +54,7 @@ pub record FineModule (o : Object Module) : Type 0 where
   pub cells : Each FineCell (o .body .cells)
   pub signals : all (fineSignal (wiresIn (o .body))) (signalsIn (o .body)) ≡ true
 
--- what a statement's names, numbers and constants keep by themselves; both sides of a connection have equal width
-unfoldable pub fineAlone : Statement → Bool
-fineAlone s =
-    all legal (contents s .names)
-    && all int32 (contents s .integers)
-    && all fineConstant (contents s .constants)
-    && all (fineWire []) (contents s .wires)
-    && all fineMemory (contents s .memories)
-    && sameLength (contents s .signals)
-
--- Module names differ; no size is exceeded
+-- Module names differ; the parts of each statement keep the rules on their own; no size is exceeded
 pub record FineDesign (d : Design) : Type 0 where
   pub modules : Each FineModule (d .modules)
   pub names : Differ (map (λ o. o .name) (d .modules))

@@ -16,7 +16,7 @@ use Rattle.rules.specs.Statements.{Signal, Bit, digit, bit, Wire, Statement, Ki
 use Rattle.rules.specs.Judgement.{sum, among, count, signalSize, valueSize, stringSize, nameSize, exceedsSize, Verdict, accepted, portNumbers}
 use Rattle.rules.specs.Design.{Object, object, Module, Design, flatten}
 use Rattle.rules.specs.Session.{Rename, wireAt, change, renameWire, renamed, now, roomUsed, names, taken, renameCall, undoCall}
-use Rattle.admitted.specs.Admitted.{fineBit, fineSignal}
+use Rattle.admitted.specs.Admitted.{fineBit, fineSignal, fineAlone}
 use Rattle.scanner.specs.Laws.{by-test, same-eq, or-false-left, or-false-right}
 use Rattle.scanner.specs.Lists.{drop-last}
 use Rattle.scanner.specs.Elements.{Each, all-same}
@@ -26,7 +26,7 @@ use Rattle.admitted.specs.Holds.{Allowed, no-renames, one-rename}
 use Rattle.admitted.specs.JudgeLaws.{no-tests}
 use Rattle.order.specs.Nesting.{settings}
 use Rattle.order.specs.DesignLaws.{flatMap-map}
-use Rattle.order.specs.Fine.{times, Differ, wiresIn, signalsIn, portsIn, FineModule, fineAlone, FineDesign}
+use Rattle.order.specs.Fine.{times, Differ, wiresIn, signalsIn, portsIn, FineModule, FineDesign}
 use Rattle.order.specs.Tally.{times-none}
 use Rattle.order.specs.Sums.{sum-append, sum-map, fails, all-none, none-all}
 use Rattle.order.specs.BodySums.{bodySum, moduleSum, designSum, flatten-sum}

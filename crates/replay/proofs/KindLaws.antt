@@ -15,7 +15,7 @@ use Rattle.rules.specs.Statements.{Sort, plain, signed, real, Statement, Consta
 use Rattle.rules.specs.Signals.{Wires}
 use Rattle.rules.specs.Judgement.{sum, signalSize, valueSize, stringSize, nameSize}
 use Rattle.rules.specs.Layout.{Used, padded, row, nameBytes, stringBytes, bitCodes, wireRows, constantColumns, sortCode, columns, statementRow}
-use Rattle.admitted.specs.Admitted.{fineMemory, sameLength, fineParts}
+use Rattle.admitted.specs.Admitted.{fineMemory, sameLength, fineAlone, fineParts}
 use Rattle.tables.specs.Row.{words}
 use Rattle.tables.specs.declared.Row.{Row}
 use Rattle.numbers.specs.SignedLaws.{word-signed, signed-int32}
@@ -33,7 +33,7 @@ use Rattle.replay.proofs.ReadLaws.{settled, name-legal, name-long, name
 
 module _ (u : Used) (r x : Row) (f : Found) (ef : f ≡ cond (same (words r) (words x)) (Found.Statement 0 0 0 0) Found.Nothing) where
   pub tells-autoidx : words x ≡ row (1 ∷ r .a ∷ []) → r .a < 4294967296 → TellsAutoidx u r f
-  unfolding statementRow columns code contents holds fineParts all sameLength nameBytes stringBytes bitCodes wireRows flatMap zip zipWith signalSize valueSize stringSize nameSize sum
+  unfolding statementRow columns code contents holds fineAlone fineParts all sameLength nameBytes stringBytes bitCodes wireRows flatMap zip zipWith signalSize valueSize stringSize nameSize sum
   tells-autoidx ex h t ws =
       settled t ws r x (ex ∙ ap (λ (n : ℕ). row (1 ∷ n ∷ [])) (sym (word-signed (r .a) h)))
       (record {
@@ -47,7 +47,7 @@ module _ (u : Used) (r x : Row) (f : Found) (ef : f ≡ cond (same (words r) (wo
       f ef
 
   pub tells-end : words x ≡ row (12 ∷ []) → TellsEnd u r f
-  unfolding statementRow columns code contents holds fineParts all sameLength nameBytes stringBytes bitCodes wireRows flatMap zip zipWith signalSize valueSize stringSize nameSize sum
+  unfolding statementRow columns code contents holds fineAlone fineParts all sameLength nameBytes stringBytes bitCodes wireRows flatMap zip zipWith signalSize valueSize stringSize nameSize sum
   tells-end ex t ws =
       settled t ws r x ex
       (record {
@@ -63,7 +63,7 @@ module _ (u : Used) (r x : Row) (f : Found) (ef : f ≡ cond (same (words r) (wo
 -- ---- a memory
 
 memory-fine : (ws : Wires) (m : Memory) (n : Name) → fineParts ws (memory-stmt m n) ≡ legal n && fineMemory m
-unfolding fineParts contents holds all sameLength
+unfolding fineAlone fineParts contents holds all sameLength
 memory-fine ws m n = simp and-true
 
 module _ (names : List ℕ) (u : Used) (r : Row) where
@@ -109,7 +109,7 @@ module _ (names : List ℕ) (u : Used) (r : Row) where
 -- ---- a cell
 
 cell-fine : (ws : Wires) (m n : Name) → fineParts ws (cell-stmt m n) ≡ legal m && legal n
-unfolding fineParts contents holds all sameLength
+unfolding fineAlone fineParts contents holds all sameLength
 cell-fine ws m n = simp and-true
 
 module _ (names : List ℕ) (u : Used) (r : Row) where

@@ -12,7 +12,7 @@ use Rattle.rules.specs.Statements.{Sort, Statement, Constant, digitsOf, bytesOf
 use Rattle.rules.specs.Signals.{Wires}
 use Rattle.rules.specs.Judgement.{sum, signalSize, valueSize, stringSize, nameSize}
 use Rattle.rules.specs.Layout.{Used, padded, row, nameBytes, stringBytes, bitCodes, wireRows, constantColumns, statementRow}
-use Rattle.admitted.specs.Admitted.{fineConstant, sameLength, fineParts}
+use Rattle.admitted.specs.Admitted.{fineConstant, sameLength, fineAlone, fineParts}
 use Rattle.tables.specs.Row.{words}
 use Rattle.tables.specs.declared.Row.{Row}
 use Rattle.scanner.specs.Laws.{by-test, same-refl, same-eq, and-true-left, and-true-right, never}
@@ -52,14 +52,14 @@ name-not names at n h e l = never (whole names at n && legal (span names at n)) 
 
 module _ (names : List ℕ) (u : Used) (r : Row) (kind : ℕ) where
   pub named-not : nameStands names (u .names) (r .b) ≡ false → TellsNamed names u r kind Found.Nothing
-  unfolding Tells fineParts all holds sameLength words row padded
+  unfolding Tells fineAlone fineParts all holds sameLength words row padded
   named-not h strings bits wires ws s k e q d =
       name-not names (u .names) (r .b) h (ap (λ (l : List ℕ). getD l 2 0) (d .row ∙ q)) (simp (e, and-true) at (d .fine))
 
   pub named-settled :
       nameStands names (u .names) (r .b) ≡ true → (x : Row) → words x ≡ row (kind ∷ u .names ∷ r .b ∷ []) → (f : Found) →
       f ≡ cond (same (words r) (words x)) (Found.Statement 0 0 0 (r .b)) Found.Nothing → TellsNamed names u r kind f
-  unfolding fineParts all holds nameBytes stringBytes bitCodes wireRows flatMap zip zipWith sameLength signalSize valueSize stringSize nameSize sum
+  unfolding fineAlone fineParts all holds nameBytes stringBytes bitCodes wireRows flatMap zip zipWith sameLength signalSize valueSize stringSize nameSize sum
   named-settled h x ex f ef strings bits wires ws s k e q =
       let l : r .b ≡ length (span names (u .names) (r .b)) = name-long names (u .names) (r .b) h in
       settled (tabled names strings bits wires) ws r x (ex ∙ ap (λ (n : ℕ). row (kind ∷ u .names ∷ n ∷ [])) l ∙ sym q)
@@ -78,7 +78,7 @@ module _ (names : List ℕ) (u : Used) (r : Row) (kind : ℕ) where
 module _ (names strings bits : List ℕ) (u : Used) (r : Row) (kind sort : ℕ) where
   module _ (wires : List ℕ) (ws : Wires) (s : Statement) (k : Kind) (os : List Sort) (n : Name) (c : Constant) (e : contents s ≡ holds k (n ∷ []) (c ∷ []) [] [] [] [] os) where
     valued-fine : fineParts ws s ≡ legal n && fineConstant c
-    unfolding fineParts all holds sameLength
+    unfolding fineAlone fineParts all holds sameLength
     valued-fine = rw e (simp and-true)
 
     read-constant : statementRow u s ≡ row (kind ∷ u .names ∷ length n ∷ constantColumns u c ++ sort ∷ []) → Reads (tabled names strings bits wires) u ws r s → ReadsConstant strings bits u (r .c) (r .d) (r .e) c

@@ -16,7 +16,7 @@ use Rattle.rules.specs.Signals.{Wires}
 use Rattle.rules.specs.Numbers.{int32}
 use Rattle.rules.specs.Judgement.{portNumbers}
 use Rattle.scanner.specs.Lists.{element-none}
-use Rattle.admitted.specs.Admitted.{fineBit, newPorts, fineWire}
+use Rattle.admitted.specs.Admitted.{fineBit, ownWire, newPorts, fineWire}
 use Rattle.numbers.specs.Kinds.{bitOf, bitAt}
 use Rattle.numbers.specs.Signed.{signedOf}
 use Rattle.numbers.specs.SignedLaws.{signed-int32}
@@ -60,16 +60,16 @@ one-port (suc (suc (suc (suc d)))) n h k = absurd (omega arith)
 
 module _ (ws : Wires) (wires : List ℕ) (k width : ℕ) (ew : width ≡ getD wires (8 * k + 3) 0) where
   pub wire-wide : 2048 < width → false ≡ fineWire ws (wireOf wires k)
-  unfolding fineWire wireOf column wordAt
+  unfolding ownWire fineWire wireOf column wordAt
   wire-wide h = rw (← ew, lt-leb width 2048 h)
 
   module _ (h : width ≤ 2048) (offset : ℕ) (eo : offset ≡ getD wires (8 * k + 4) 0) {b : Bool} (eb : b ≡ eqb width 0 || int32 (signedOf offset +ℤ pos (width - 1))) where
     pub wire-far : b ≡ false → false ≡ fineWire ws (wireOf wires k)
-    unfolding fineWire wireOf column wordAt
+    unfolding ownWire fineWire wireOf column wordAt
     wire-far q = rw (← ew, ← eo, le-leb width 2048 h, signed-int32, ← eb, q)
 
     wire-by : b ≡ true → fineWire ws (wireOf wires k) ≡ all (within 1 1023) (portNumbers (wireOf wires k)) && newPorts ws (wireOf wires k)
-    unfolding fineWire wireOf column wordAt
+    unfolding ownWire fineWire wireOf column wordAt
     wire-by q = rw (← ew, ← eo, le-leb width 2048 h, signed-int32, ← eb, q)
 
     module _ (q : b ≡ true) (d : ℕ) (ed : d ≡ getD wires (8 * k + 5) 0 / 4) where

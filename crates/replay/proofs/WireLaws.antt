@@ -4,7 +4,7 @@ use Prim.Native.Nat.{ℕ, _+_, _-_, _*_, _/_, _≤_, _<_}
 use mathlib.Core.Path.{_≡_, refl, sym, ap, ap₂, _∙_}
 use mathlib.Core.List.{List, [], _∷_, flatMap, zip, zipWith, append-nil}
 use mathlib.Core.Option.{Option·elim}
-use mathlib.Core.Bool.{Bool, true, false, cond, _&&_, _||_, and-true}
+use mathlib.Core.Bool.{Bool, true, false, cond, _&&_, _||_, and-true, and-assoc}
 use native.Mathlib.Omega.{arith}
 use lib.Dec.{eqb, leb}
 use lib.ListN.{length, take, drop, getD, length-take, length-drop}
@@ -15,12 +15,13 @@ use Rattle.rules.specs.Statements.{Statement, Wire, Signal, contents, holds, co
 use Rattle.rules.specs.Signals.{Wires, twosComplement}
 use Rattle.rules.specs.Judgement.{sum, signalSize, valueSize, stringSize, nameSize}
 use Rattle.rules.specs.Layout.{Used, padded, row, nameBytes, stringBytes, bitCodes, flags, wireRow, wireRows, columns, statementRow}
-use Rattle.admitted.specs.Admitted.{fineWire, fineSignal, sameLength, fineParts}
+use Rattle.admitted.specs.Admitted.{fineWire, fineSignal, sameLength, fineAlone, fineParts}
 use Rattle.tables.specs.Row.{words, rowAt, words-rowAt}
 use Rattle.tables.specs.declared.Row.{Row}
 use Rattle.numbers.specs.Signed.{signedOf}
 use Rattle.numbers.specs.SignedLaws.{word-signed}
 use Rattle.scanner.specs.Laws.{by-test, same-refl, same-eq, and-true-left, and-true-right, never}
+use Rattle.scanner.specs.Elements.{test-at}
 use Rattle.wires.specs.Rows.{wordAt, column, portOf, wireOf, wiresFrom}
 use Rattle.wires.specs.RowLaws.{length-wire-row, port-small, flags-back, port-number-back}
 use Rattle.replay.specs.Parts.{span, nameStands, signalOf, signalStands}
@@ -45,7 +46,7 @@ module _ (ws : Wires) (bits : List ℕ) (at n : ℕ) where
 -- ---- a connection of a cell
 
 port-fine : (ws : Wires) (n : Name) (x : Signal) → fineParts ws (cell-conn-stmt n x) ≡ legal n && fineSignal ws x
-unfolding fineParts contents holds all sameLength
+unfolding fineAlone fineParts contents holds all sameLength
 port-fine ws n x = simp and-true
 
 module _ (names bits wires : List ℕ) (u : Used) (first : ℕ) (r : Row) where
@@ -89,9 +90,9 @@ module _ (names bits wires : List ℕ) (u : Used) (first : ℕ) (r : Row) where
 
 -- ---- a connection of a module
 
-connection-fine : (ws : Wires) (x y : Signal) → fineParts ws (conn-stmt x y) ≡ fineSignal ws x && fineSignal ws y && eqb (length x) (length y)
-unfolding fineParts contents holds all sameLength
-connection-fine ws x y = simp and-true
+connection-fine : (ws : Wires) (x y : Signal) → fineParts ws (conn-stmt x y) ≡ eqb (length x) (length y) && fineSignal ws x && fineSignal ws y
+unfolding fineAlone fineParts contents holds all sameLength
+connection-fine ws x y = simp (and-true, and-assoc)
 
 module _ (bits wires : List ℕ) (u : Used) (first : ℕ) (r : Row) where
   module _ (names : List ℕ) where
@@ -100,26 +101,23 @@ module _ (bits wires : List ℕ) (u : Used) (first : ℕ) (r : Row) where
 
     connection-facts :
         {strings : List ℕ} → Reads (tabled names strings bits wires) u inside r (conn-stmt (signalOf (span bits (u .bits) (r .b))) (signalOf (span bits (u .bits + r .b) (r .d)))) →
-        fineSignal inside (signalOf (span bits (u .bits) (r .b))) && fineSignal inside (signalOf (span bits (u .bits + r .b) (r .d))) && eqb (length (signalOf (span bits (u .bits) (r .b)))) (length (signalOf (span bits (u .bits + r .b) (r .d)))) ≡ true
-    connection-facts d = sym (connection-fine inside _ _) ∙ d .fine
+        (i : ℕ) → getD (eqb (length (signalOf (span bits (u .bits) (r .b)))) (length (signalOf (span bits (u .bits + r .b) (r .d)))) ∷ fineSignal inside (signalOf (span bits (u .bits) (r .b))) ∷ fineSignal inside (signalOf (span bits (u .bits + r .b) (r .d))) ∷ []) i true ≡ true
+    connection-facts d = test-at _ (_ ∷ _ ∷ []) (sym (connection-fine inside _ _) ∙ d .fine)
 
   pub connection-left : ((names : List ℕ) → signalStands (inside names) bits (u .bits) (r .b) ≡ false) → TellsConnection bits wires u first r Found.Nothing
   unfolding Tells statementRow columns code contents holds words row padded
   connection-left h names strings d =
-      signal-not (inside names) bits (u .bits) (r .b) (h names) (ap (λ (l : List ℕ). getD l 2 0) (d .row)) (and-true-left _ _ (and-true-left _ _ (connection-facts names d)))
+      signal-not (inside names) bits (u .bits) (r .b) (h names) (ap (λ (l : List ℕ). getD l 2 0) (d .row)) (connection-facts names d 1)
 
   pub connection-right : ((names : List ℕ) → signalStands (inside names) bits (u .bits + r .b) (r .d) ≡ false) → TellsConnection bits wires u first r Found.Nothing
   unfolding Tells statementRow columns code contents holds words row padded
   connection-right h names strings d =
-      signal-not (inside names) bits (u .bits + r .b) (r .d) (h names) (ap (λ (l : List ℕ). getD l 4 0) (d .row))
-      (and-true-right (fineSignal (inside names) (signalOf (span bits (u .bits) (r .b)))) _ (and-true-left _ _ (connection-facts names d)))
+      signal-not (inside names) bits (u .bits + r .b) (r .d) (h names) (ap (λ (l : List ℕ). getD l 4 0) (d .row)) (connection-facts names d 2)
 
   pub connection-widths : (r .b ≡ r .d → ⊥) → TellsConnection bits wires u first r Found.Nothing
   unfolding Tells statementRow columns code contents holds words row padded
   connection-widths h names strings d =
-      h (ap (λ (l : List ℕ). getD l 2 0) (d .row)
-      ∙ eqb-true _ _ (and-true-right (fineSignal (inside names) (signalOf (span bits (u .bits) (r .b))) && fineSignal (inside names) (signalOf (span bits (u .bits + r .b) (r .d)))) _ (connection-facts names d))
-      ∙ sym (ap (λ (l : List ℕ). getD l 4 0) (d .row)))
+      h (ap (λ (l : List ℕ). getD l 2 0) (d .row) ∙ eqb-true _ _ (connection-facts names d 0) ∙ sym (ap (λ (l : List ℕ). getD l 4 0) (d .row)))
 
   pub connection-settled :
       ((names : List ℕ) → signalStands (inside names) bits (u .bits) (r .b) ≡ true) → ((names : List ℕ) → signalStands (inside names) bits (u .bits + r .b) (r .d) ≡ true) → r .b ≡ r .d →
@@ -138,15 +136,15 @@ module _ (bits wires : List ℕ) (u : Used) (first : ℕ) (r : Row) where
         wires-has = has-none wires (8 * u .wires);
       })
       (connection-fine (inside names) (signalOf (span bits (u .bits) (r .b))) (signalOf (span bits (u .bits + r .b) (r .d)))
-      ∙ rw (signal-good (inside names) bits (u .bits) (r .b) (h names), signal-good (inside names) bits (u .bits + r .b) (r .d) (k names), ← l, ← m) (eq-eqb (r .b) (r .d) e))
+      ∙ rw (signal-good (inside names) bits (u .bits) (r .b) (h names), signal-good (inside names) bits (u .bits + r .b) (r .d) (k names), ← l, ← m, eq-eqb (r .b) (r .d) e))
       (record { signals = omega arith; values = refl; strings = refl; names = refl })
       f ef
 
 -- ---- a wire
 
 wire-fine : (ws : Wires) (w : Wire) (n : Name) → fineParts ws (wire-stmt w n) ≡ legal n && fineWire ws w
-unfolding fineParts contents holds all sameLength
-wire-fine ws w n = simp and-true
+unfolding fineWire fineAlone fineParts contents holds all sameLength
+wire-fine ws w n = simp (and-true, and-assoc)
 
 module _ (names wires : List ℕ) (u : Used) (first : ℕ) (r : Row) where
   abbrev before : Wires

@@ -4,19 +4,19 @@ use Prim.Native.Nat.{ℕ}
 use mathlib.Core.Path.{_≡_, refl, ap, ap₂, _∙_}
 use mathlib.Core.List.{List, [], _∷_}
 use mathlib.Core.Option.{Option}
-use mathlib.Core.Bool.{true, false, not, _&&_}
+use mathlib.Core.Bool.{Bool, true, false, not, _&&_}
 use lib.Dec.{leb, eqb}
 use borrow.Author.Tests.{not-false}
 use Rattle.rules.specs.Bytes.{same, any, all}
 use Rattle.rules.specs.Tokens.{Name, Token}
-use Rattle.rules.specs.Statements.{Shape, Statement, Kind, code, holds, contents, is, ownName}
+use Rattle.rules.specs.Statements.{Opt, Shape, Statement, Kind, code, holds, contents, is, ownName}
 use Rattle.rules.specs.Shapes.{shape}
 use Rattle.rules.specs.Numbers.{int32, goodLiteral, goodNumbers, goodWire, goodMemory, wireOf, memoryOf}
 use Rattle.rules.specs.Signals.{Wires, kept, width, bits, goodSlice}
 use Rattle.rules.specs.Judgement.{Past, context, wires, among, namesIn, nameSpaces, takesName, newPort, allParts, breaksNumber, equalWidths, breaksWidth, partTooWide, Verdict, meaning, judgeIn, judge}
 use Rattle.rules.specs.Reading.{shaped}
-use Rattle.scanner.specs.Laws.{or-false-right, or-false-left}
-use Rattle.admitted.specs.Admitted.{kinds, stands, fineWire, fineMemory, fineParts, admits}
+use Rattle.scanner.specs.Laws.{and-true-left, and-true-right, or-false-right, or-false-left}
+use Rattle.admitted.specs.Admitted.{kinds, stands, ownWire, newPorts, fineMemory, fineAlone, fineParts, admits}
 use Rattle.admitted.specs.JudgeLaws.{meaning-kind, meaning-among, judge-passed, by-verdict}
 use Rattle.written.specs.TokenLaws.{fineToken}
 use Rattle.soundness.specs.ShapeLaws.{FineShape, FineShaped, no-shape, fine-shape, shape-fine}
@@ -54,20 +54,20 @@ module _ (ws : Wires) (sh : Shape) where
 
   -- the parts of what it means
   meaning-fine : {ks : List Kind} → FineShape ks sh → GoodShape ws sh → fineParts ws (meaning ws sh) ≡ true
-  unfolding fineParts meaning translated holds allParts
+  unfolding newPort newPorts fineAlone fineParts meaning translated holds allParts
   meaning-fine f k =
-      rw (contents-translated kept (bits ws) wireOf memoryOf sh)
-      (both _ _
-      (both _ _
-      (both _ _
-      (both _ _
-      (both _ _
-      (both _ _ (f .names) (k .integers))
-      (constants-fine (contents sh .constants) (k .constants) (f .constants)))
-      (all-through (λ os. goodWire os && newPort ws os) wireOf (fineWire ws) (contents sh .wires) (wire-fine ws) (k .wires)))
-      (all-through goodMemory memoryOf fineMemory (contents sh .memories) memory-fine (k .memories)))
-      (signals-fine ws (contents sh .signals) (k .numbers) (k .slices) (k .narrow)))
-      (equal-lengths ws (contents sh .signals) (k .numbers) (k .slices) (k .equal)))
+      let fits : List Opt → Bool = λ os. goodWire os && newPort ws os in
+      rw (
+        contents-translated kept (bits ws) wireOf memoryOf sh,
+        f .names,
+        k .integers,
+        constants-fine (contents sh .constants) (k .constants) (f .constants),
+        all-through fits wireOf ownWire (contents sh .wires) (λ os e. wire-fine os (and-true-left (goodWire os) _ e)) (k .wires),
+        all-through goodMemory memoryOf fineMemory (contents sh .memories) memory-fine (k .memories),
+        equal-lengths ws (contents sh .signals) (k .numbers) (k .slices) (k .equal),
+        all-through fits wireOf (newPorts ws) (contents sh .wires) (λ os e. and-true-right (goodWire os) _ e) (k .wires),
+        signals-fine ws (contents sh .signals) (k .numbers) (k .slices) (k .narrow),
+      )
 
   meaning-names : contents (meaning ws sh) .names ≡ contents sh .names
   unfolding meaning translated holds

@@ -13,12 +13,12 @@ use Rattle.rules.specs.Tokens.{Digit, Literal, value, integer, string}
 use Rattle.rules.specs.Statements.{Sig, constant, wire, slice, bundle, Opt, Direction}
 use Rattle.rules.specs.Numbers.{inRange, goodLiteral, goodNumbers, numberOr, ports, portOf, wireOf, memoryOf, goodOptions, goodWire, goodMemory}
 use Rattle.rules.specs.Signals.{Wires, kept, valueBits, literalBits, literalWidth, width, bits, goodSlice, parts, partsOf}
-use Rattle.rules.specs.Judgement.{portNumbers, newPort, equalWidths}
-use Rattle.scanner.specs.Laws.{and-true-left, and-true-right, within-high}
+use Rattle.rules.specs.Judgement.{portNumbers, equalWidths}
+use Rattle.scanner.specs.Laws.{and-true-left, within-high}
 use Rattle.scanner.specs.Elements.{all-left, all-right, all-cons, all-first, all-later, each-test}
 use Rattle.past.specs.Offsets.{good-offset, memory-offset}
 use Rattle.literals.proofs.CodeLaws.{literal-long}
-use Rattle.admitted.specs.Admitted.{fineConstant, newPorts, fineWire, fineMemory, fineSignal, sameLength}
+use Rattle.admitted.specs.Admitted.{fineConstant, ownWire, fineMemory, fineSignal, sameLength}
 use Rattle.written.specs.TokenLaws.{fineLiteral}
 use Rattle.soundness.specs.SignalLaws.{bits-fine, bits-long}
 
@@ -60,17 +60,12 @@ unfolding portOf Option·toList all
 port-within [] e = refl
 port-within (p ∷ ps) e = both _ true (range-within 1 1023 (p .1) (all-first (λ (p : Direction × ℤ). inRange 1 1023 (p .1)) p ps e)) refl
 
-module _ (ws : Wires) (os : List Opt) where
-  pub wire-fine : goodWire os && newPort ws os ≡ true → fineWire ws (wireOf os) ≡ true
-  unfolding goodWire wireOf portNumbers newPort fineWire newPorts
-  wire-fine e =
-      let g : goodWire os ≡ true = and-true-left (goodWire os) (newPort ws os) e in
-      let h = each-test (goodOptions os) (inRange 0 2048 (numberOr (pos 1) "width" os) ∷ _ ∷ all (λ (p : Direction × ℤ). inRange 1 1023 (p .1)) (ports os) ∷ _ ∷ []) g in
-      both _ _
-      (both _ _
-      (both _ _ (both _ _ (range-high 0 2048 (numberOr (pos 1) "width" os) (h .1 .0)) (good-offset os g)) (h .1 .1 .1 .1 .0))
-      (port-within (ports os) (h .1 .1 .1 .0)))
-      (and-true-right (goodWire os) (newPort ws os) e)
+pub wire-fine : (os : List Opt) → goodWire os ≡ true → ownWire (wireOf os) ≡ true
+unfolding goodWire wireOf portNumbers ownWire
+wire-fine os g =
+    let h = each-test (goodOptions os) (inRange 0 2048 (numberOr (pos 1) "width" os) ∷ _ ∷ all (λ (p : Direction × ℤ). inRange 1 1023 (p .1)) (ports os) ∷ _ ∷ []) g in
+    both _ _ (both _ _ (both _ _ (range-high 0 2048 (numberOr (pos 1) "width" os) (h .1 .0)) (good-offset os g)) (h .1 .1 .1 .1 .0))
+    (port-within (ports os) (h .1 .1 .1 .0))
 
 pub memory-fine : (os : List Opt) → goodMemory os ≡ true → fineMemory (memoryOf os) ≡ true
 unfolding goodMemory memoryOf fineMemory
