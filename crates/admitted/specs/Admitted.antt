@@ -86,7 +86,3 @@ admitted (s ∷ ss) = let r = admits ss s in admitted ss && r
 
 unfoldable pub closes : Past → Bool
 closes ss = isTop (context ss .scope) && not (context ss .attributed)
-
-unfoldable pub admittedOpen : Unit {0}
-unfolding kinds stands fineConstant ownWire newPorts fineWire fineMemory fineBit fineSignal sameLength fineAlone fineParts admits admitted closes
-admittedOpen = tt
