@@ -308,10 +308,11 @@ fn put_wire(
     ensures { λ _. ⌜ WirePut u (nameIn (now (f .entry)) name) width offset flags port (now (names .entry)) (now (names .exit)) (now (wires .entry)) (now (wires .exit)) (now (rows .entry)) (now (rows .exit)) ⌝ }
 {
     let size = put_named(f, name, u, names, rows, WIRE, u.wires, 0, 0, 0);
+    let module = last_module(u);
     put_columns(
         wires,
         u.wires,
-        last_module(u),
+        module,
         u.names,
         size,
         width,
