@@ -3,6 +3,7 @@ use forms::Span;
 use literals::literal_width;
 use literals::put_literal;
 use netlist::used::Used;
+use netlist::used::last_module;
 use numbers::signed::word_of;
 use scanner::decimals::decimal;
 use scanner::parts::part;
@@ -18,7 +19,7 @@ use tokens::Literal;
 ghost use mathlib.Core.Path.{_≡_};
 ghost use mathlib.Core.Bool.{true};
 ghost use mathlib.Core.List.{[], _∷_, map};
-ghost use Prim.Native.Nat.{_+_, _-_, _*_, _≤_};
+ghost use Prim.Native.Nat.{_+_, _*_, _≤_};
 ghost use lib.ListN.{length, drop};
 ghost use Rattle.rules.specs.Statements.{digitsOf, bytesOf, cell-stmt, cell-conn-stmt, conn-stmt};
 ghost use Rattle.rules.specs.Numbers.{int32, goodLiteral};
@@ -288,16 +289,6 @@ pub fn put_valued(
     let _ = put_named(f, name, u, names, rows, kind, k.kind, k.a, k.b, sort);
 }
 
-// The number of the last of so many modules; 0 if there is none.
-fn last_module(modules: u32) -> u32
-    ensures { λ r. ⌜ r ≡ modules - 1 ⌝ }
-{
-    if modules == 0 {
-        return 0;
-    }
-    modules - 1
-}
-
 // The offset's word is in two's complement; the flags are those of a wire's row.
 fn put_wire(
     f: &[u8],
@@ -317,10 +308,11 @@ fn put_wire(
     ensures { λ _. ⌜ WirePut u (nameIn (now (f .entry)) name) width offset flags port (now (names .entry)) (now (names .exit)) (now (wires .entry)) (now (wires .exit)) (now (rows .entry)) (now (rows .exit)) ⌝ }
 {
     let size = put_named(f, name, u, names, rows, WIRE, u.wires, 0, 0, 0);
+    let module = last_module(u);
     put_columns(
         wires,
         u.wires,
-        last_module(u.modules),
+        module,
         u.names,
         size,
         width,

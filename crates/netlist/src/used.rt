@@ -2,6 +2,7 @@
 use past::place::Place;
 use past::sizes::Sizes;
 ghost use mathlib.Core.Path.{_≡_};
+ghost use Prim.Native.Nat.{_-_};
 ghost use Rattle.past.specs.Sizes.{Within};
 ghost use Rattle.netlist.specs.Used.{usedOf, usedBy};
 
@@ -28,4 +29,14 @@ pub fn used_from(place: Place, sums: Sizes) -> Used
         rows: place.rows,
         modules: place.modules,
     }
+}
+
+// The number of the last module; 0 if there is none.
+pub fn last_module(u: Used) -> u32
+    ensures { λ r. ⌜ r ≡ u .modules - 1 ⌝ }
+{
+    if u.modules == 0 {
+        return 0;
+    }
+    u.modules - 1
 }

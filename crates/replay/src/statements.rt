@@ -5,6 +5,7 @@ use crate::parts::text_stands;
 use crate::wiring::signal_stands;
 use crate::wiring::wire_fits;
 use netlist::used::Used;
+use netlist::used::last_module;
 use tables::Row;
 use tables::get_row;
 ghost use mathlib.Core.Path.{_≡_};
@@ -359,16 +360,6 @@ fn port_number_stands(flags: u32, number: u32) -> bool
     number == 0
 }
 
-// The number of the last of so many modules.
-fn last_number(count: u32) -> u32
-    ensures { λ r. ⌜ r ≡ count - 1 ⌝ }
-{
-    if count == 0 {
-        return 0;
-    }
-    count - 1
-}
-
 fn wire_row_stands(wires: &[u32], u: Used, size: u32) -> bool
     ensures { λ r. ⌜ WireRowStands (now (wires .entry)) (usedOf u) size r ⌝ }
 {
@@ -384,7 +375,7 @@ fn wire_row_stands(wires: &[u32], u: Used, size: u32) -> bool
         return false;
     }
     let x = Row {
-        kind: last_number(u.modules),
+        kind: last_module(u),
         a: u.names,
         b: size,
         c: q.c,

@@ -33,15 +33,15 @@ port-number-stands-requires c κs = search needs
 returns-3 : tie.Need-returns-3
 returns-3 c = wire-number _ _ _ (c .before .before .before .before .before .if1 .left) _ (c .before .before .before .before .get-row .ensures) (sym (c .before .port-number-stands .ensures) ∙ not-true _ (c .if3 .taken))
 
-last-number-requires : tie.Need-last-number-requires
-last-number-requires c κs = search needs
+last-module-requires : tie.Need-last-module-requires
+last-module-requires c κs = search needs
 
 same-row-requires : tie.Need-same-row-requires
 same-row-requires c κs = search needs
 
 returns-4 : tie.Need-returns-4
 unfolding words
-returns-4 c = wire-row-settled _ _ _ (c .before .before .before .before .before .before .before .if1 .left) _ (c .before .before .before .before .before .before .get-row .ensures) (c .before .before .before .before .if2 .left) (sym (c .before .before .before .port-number-stands .ensures) ∙ not-false _ (c .before .before .if3 .left)) (omega arith) _ (rw (c .before .last-number .ensures)) _ (c .same-row .ensures)
+returns-4 c = wire-row-settled _ _ _ (c .before .before .before .before .before .before .before .if1 .left) _ (c .before .before .before .before .before .before .get-row .ensures) (c .before .before .before .before .if2 .left) (sym (c .before .before .before .port-number-stands .ensures) ∙ not-false _ (c .before .before .if3 .left)) (omega arith) _ (rw (c .before .last-module .ensures)) _ (c .same-row .ensures)
 
 pub wire-row-stands-spec : {M : Type 1} → statement M
 wire-row-stands-spec =
@@ -55,6 +55,6 @@ wire-row-stands-spec =
     returns-2
     port-number-stands-requires
     returns-3
-    last-number-requires
+    last-module-requires
     same-row-requires
     returns-4)
