@@ -3,9 +3,10 @@
 -- Assumes nothing.
 use Prim.Native.Nat.{ℕ, _+_, _-_, _≤_}
 use mathlib.Core.Path.{_≡_, refl, ap, sym, ap₂, _∙_}
-use mathlib.Core.Bool.{Bool, true, false, not, cond}
+use mathlib.Core.Bool.{Bool, true, false, not, cond, _&&_}
 use mathlib.Core.List.{List, [], _∷_, _++_, flatMap, zip, zipWith}
 use native.Mathlib.Omega.{arith}
+use lib.Dec.{eqb}
 use lib.ListN.{length, take, length-append}
 use lib.Seq.{take-append-add}
 use Rattle.rules.specs.Bytes.{any}
@@ -13,8 +14,9 @@ use Rattle.rules.specs.Tokens.{Name}
 use Rattle.rules.specs.Statements.{Statement, anAttribute, aModule, aWire, aCell, anEnd, code, contents, is, statementsOpen, Wire, wire-stmt}
 use Rattle.rules.specs.Shapes.{Scope, top, inModule, inCell}
 use Rattle.rules.specs.Judgement.{Past, until, sum, outer, scope, context, ofModule, ofCell, ofObject, wires, among, count}
+use Rattle.rules.specs.Reading.{isTop}
 use Rattle.past.specs.Forms.{by-form}
-use Rattle.past.specs.Place.{scopeCode, scopeOf, wiresIn, placeOf, contextOf, Bounds, scopeAfter, placeAfter, AfterIs}
+use Rattle.past.specs.Place.{scopeCode, scopeOf, wiresIn, placeOf, contextOf, closesAt, Bounds, scopeAfter, placeAfter, AfterIs}
 use Rattle.past.specs.declared.place.Place.{Place}
 use Rattle.scanner.specs.Laws.{by-test}
 use Rattle.scanner.specs.Lists.{zip-none}
@@ -89,6 +91,15 @@ unfolding placeOf contextOf context scope scopeOf scopeCode
 context-is [] = refl
 context-is (s ∷ ss) =
     λ i. record { scope = scope-back (scope (s ∷ ss)) i; first = false; attributed = is anAttribute s }
+
+-- a file ends there by the scope's number
+top-scope : (n : ℕ) → isTop (scopeOf n) ≡ eqb n 0
+unfolding isTop scopeOf
+top-scope n = by-test (eqb n 0) (λ e. rw e) (λ e. by-test (eqb n 1) (λ h. rw (e, h)) (λ h. rw (e, h)))
+
+pub closes-place : (ss : Past) → isTop (context ss .scope) && not (context ss .attributed) ≡ closesAt (placeOf ss)
+unfolding contextOf closesAt
+closes-place ss = rw (context-is ss, top-scope)
 
 -- the wires behind a statement
 pub wires-none : (s : Statement) (p : Past) → is aModule s ≡ false → contents s .wires ≡ [] → wires (s ∷ p) ≡ wires p

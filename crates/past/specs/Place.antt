@@ -1,7 +1,7 @@
 -- Where a line stands, field by field from what the rules say of the past; and the same carried on by one statement.
 use Prim.Native.Nat.{ℕ, _+_, _-_, _≤_}
 use mathlib.Core.Path.{_≡_}
-use mathlib.Core.Bool.{cond, false}
+use mathlib.Core.Bool.{Bool, false, cond, not, _&&_}
 use mathlib.Core.List.{[], _∷_}
 use lib.Dec.{eqb}
 use lib.ListN.{length}
@@ -42,6 +42,10 @@ placeOf ss =
 -- the context that the rules give a line at a place
 unfoldable pub contextOf : Place → Context
 contextOf p = record { scope = scopeOf (p .scope); first = p .first; attributed = p .attributed }
+
+-- whether a file may end at a place
+unfoldable pub closesAt : Place → Bool
+closesAt p = eqb (p .scope) 0 && not (p .attributed)
 
 -- no field is above the statements so far
 pub record Bounds (p : Place) : Type 0 where

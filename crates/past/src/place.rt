@@ -3,7 +3,7 @@ ghost use mathlib.Core.Path.{_≡_};
 ghost use mathlib.Core.Bool.{cond};
 ghost use mathlib.Core.List.{[]};
 ghost use Prim.Native.Nat.{_<_};
-ghost use Rattle.past.specs.Place.{placeOf, scopeAfter, placeAfter, Bounds};
+ghost use Rattle.past.specs.Place.{placeOf, closesAt, scopeAfter, placeAfter, Bounds};
 
 pub struct Place {
     // 0: outside of modules, 1: in a module, 2: in a cell.
@@ -38,6 +38,16 @@ pub fn start() -> Place
         wires_from: 0,
         modules: 0,
     }
+}
+
+// A file may end here.
+pub fn is_closed(p: Place) -> bool
+    ensures { λ r. ⌜ r ≡ closesAt p ⌝ }
+{
+    if p.scope != 0 {
+        return false;
+    }
+    !p.attributed
 }
 
 fn pick(test: bool, a: u32, b: u32) -> u32

@@ -2,18 +2,18 @@
 -- Assumes nothing.
 use Prim.Native.Nat.{ℕ, zero-le, _-_, _*_, _≤_, _<_}
 use mathlib.Core.Path.{_≡_, refl, sym, ap, _∙_, subst}
-use mathlib.Core.Bool.{Bool, true, false, not, cond, _&&_}
+use mathlib.Core.Bool.{Bool, true, false, cond}
 use mathlib.Core.List.{List, [], reverse, flatMap}
 use native.Mathlib.Omega.{arith}
-use lib.Dec.{ltb, eqb}
+use lib.Dec.{ltb}
 use lib.ListN.{length, take, drop, drop-of-length-le, replicate}
 use lib.Seq.{length-take-le}
 use borrow.Author.Tests.{ltb-false, lt-ltb, le-ltb}
 use Rattle.rules.specs.Lines as rules
 use Rattle.rules.specs.Lines.{linesFrom, lines, place}
-use Rattle.rules.specs.Judgement.{Past, context}
+use Rattle.rules.specs.Judgement.{Past}
 use Rattle.rules.specs.Reading as reading
-use Rattle.rules.specs.Reading.{outcome, isTop, finish, next, readLines, readAny, read}
+use Rattle.rules.specs.Reading.{outcome, finish, next, readLines, readAny, read}
 use Rattle.rules.specs.Layout.{Rooms, empty, putAll, putRenames, rooms, used, memory, layout}
 use Rattle.rules.specs.Layout as layouts
 use Rattle.tables.specs.Padded.{padded-nil}
@@ -25,11 +25,11 @@ use Rattle.scanner.specs.declared.lines.Line.{Line}
 use Rattle.scanner.proofs.ClassLaws.{class-blank}
 use Rattle.scanner.proofs.RunLaws.{endOf-low, endOf-high}
 use Rattle.scanner.proofs.LineLaws.{lines-from, line-low, line-high, line-next, last-line}
-use Rattle.past.specs.Place.{placeOf, scopeOf, contextOf}
+use Rattle.past.specs.Place.{placeOf, closesAt}
 use Rattle.past.specs.Sizes.{sumsOf}
 use Rattle.past.specs.declared.place.Place.{Place}
 use Rattle.past.specs.declared.sizes.Sizes.{Sizes}
-use Rattle.past.proofs.PlaceLaws.{context-is}
+use Rattle.past.proofs.PlaceLaws.{closes-place}
 use Rattle.admitted.specs.Admitted.{admitted}
 use Rattle.netlist.specs.Laid.{roomsOf}
 use Rattle.netlist.specs.LaidLaws.{rooms-past}
@@ -176,27 +176,18 @@ module _ {f tokens scratch : List ℕ} {p : Place} {u : Sizes} {t : Tables} {at 
         let q : readAny f ≡ reading.refused n (place (lineOf f l)) = r .rest ∙ lines-stop f at l is (length f) n (r .past) o in
         subst (λ (g : reading.Answer). Landed g t′ a) (sym q) (ea ∙ ap (refusalOf f l) e)
 
-  -- it is left at the file's end
-  top-scope : (n : ℕ) → isTop (scopeOf n) ≡ eqb n 0
-  unfolding isTop scopeOf
-  top-scope n = by-test (eqb n 0) (λ e. rw e) (λ e. by-test (eqb n 1) (λ h. rw (e, h)) (λ h. rw (e, h)))
-
-  ends : isTop (context (r .past) .scope) && not (context (r .past) .attributed) ≡ eqb (p .scope) 0 && not (p .attributed)
-  unfolding contextOf
-  ends = rw (context-is (r .past), r .done .place-is, top-scope (p .scope))
-
   room-used : u .«name_bytes» ≡ length (putAll empty (reverse (r .past)) .names)
   unfolding used
   room-used =
       rw (rooms-past (r .past), ← r .done .sums-are) (sym (ap (λ (v : layouts.Used). v .names) (used-past (r .past))))
 
+  -- it is left at the file's end
   finish-landed : (size : ℕ) → Landed (finish size (r .past)) t (finishOf size p u)
   unfolding finish finishOf
   finish-landed size =
-      let b : Bool = eqb (p .scope) 0 && not (p .attributed) in
-      by-test b
-      (λ e. rw (ends, e) (ap Accepted room-used, r .done .tables-are ∙ ap (λ (R : Rooms). tablesOf (memory R 0)) (sym (rooms-past (r .past)))))
-      (λ e. rw (ends, e) refl)
+      by-test (closesAt p)
+      (λ e. rw (closes-place (r .past), r .done .place-is, e) (ap Accepted room-used, r .done .tables-are ∙ ap (λ (R : Rooms). tablesOf (memory R 0)) (sym (rooms-past (r .past)))))
+      (λ e. rw (closes-place (r .past), r .done .place-is, e) refl)
 
   pub landed-end : (a : Answer) → length f ≤ at → a ≡ finishOf (length f) p u → Landed (readAny f) t a
   landed-end a h ea =

@@ -1,10 +1,9 @@
 -- What the parts of reading promise: of one line, and of the lines so far.
 use Prim.Native.Nat.{ℕ, _-_, _≤_}
 use mathlib.Core.Path.{_≡_}
-use mathlib.Core.Bool.{true, not, cond, _&&_}
+use mathlib.Core.Bool.{true, cond}
 use mathlib.Core.Option.{some}
 use mathlib.Core.List.{List, _∷_}
-use lib.Dec.{eqb}
 use lib.ListN.{length}
 use lib.Seq.{slice}
 use Rattle.rules.specs.Lines as rules
@@ -15,7 +14,7 @@ use Rattle.rules.specs.Reading as reading
 use Rattle.rules.specs.Reading.{outcome, next}
 use Rattle.rules.specs.Layout.{empty, putAll, memory}
 use Rattle.scanner.specs.declared.lines.Line.{Line}
-use Rattle.past.specs.Place.{placeOf, Bounds}
+use Rattle.past.specs.Place.{placeOf, closesAt, Bounds}
 use Rattle.past.specs.Sizes.{sumsOf, Within}
 use Rattle.past.specs.declared.place.Place.{Place}
 use Rattle.past.specs.declared.sizes.Sizes.{Sizes}
@@ -111,7 +110,7 @@ refusalOf f l (Stop n) = answer.Refused n (place (lineOf f l))
 
 -- and the file's end, by the place behind the last statement
 unfoldable pub finishOf : ℕ → Place → Sizes → Answer
-finishOf size p u = cond (eqb (p .scope) 0 && not (p .attributed)) (answer.Accepted (u .«name_bytes»)) (answer.Refused 5 size)
+finishOf size p u = cond (closesAt p) (answer.Accepted (u .«name_bytes»)) (answer.Refused 5 size)
 
 -- the file's answer: of an accepted one the tables hold the statements, and so many bytes of the name room are used
 abbrev pub Landed : reading.Answer → Tables → Answer → Type 0

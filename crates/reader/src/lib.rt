@@ -9,6 +9,7 @@ use netlist::lengths::right_lengths;
 use netlist::used::used_from;
 use past::place::Place;
 use past::place::after;
+use past::place::is_closed;
 use past::place::start;
 use past::sizes::Sizes;
 use past::sizes::none;
@@ -184,19 +185,13 @@ fn finish(size: usize, place: Place, sums: Sizes) -> Answer
     requires { ⌜ size ≤ 32768 ⌝ }
     ensures { λ r. ⌜ r ≡ finishOf size place sums ⌝ }
 {
-    if place.scope != 0 {
-        return Answer::Refused {
-            number: 5,
-            place: size as u32,
-        };
+    if is_closed(place) {
+        return Answer::Accepted(sums.name_bytes);
     }
-    if place.attributed {
-        return Answer::Refused {
-            number: 5,
-            place: size as u32,
-        };
+    Answer::Refused {
+        number: 5,
+        place: size as u32,
     }
-    Answer::Accepted(sums.name_bytes)
 }
 
 fn read_lines(

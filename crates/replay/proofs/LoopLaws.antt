@@ -16,18 +16,17 @@ use Rattle.scanner.specs.Laws.{never}
 use Rattle.wires.specs.Rows.{wordAt}
 use Rattle.netlist.specs.Laid.{roomsOf}
 use Rattle.netlist.specs.LaidLaws.{length-rows}
-use Rattle.past.specs.Place.{placeOf, Bounds}
+use Rattle.past.specs.Place.{placeOf, closesAt, Bounds}
 use Rattle.past.specs.Sizes.{sumsOf, Within}
 use Rattle.past.specs.declared.place.Place.{Place}
 use Rattle.past.specs.declared.sizes.Sizes.{Sizes}
-use Rattle.past.proofs.PlaceLaws.{bounds}
+use Rattle.past.proofs.PlaceLaws.{bounds, closes-place}
 use Rattle.replay.specs.Reads.{Tables}
 use Rattle.replay.specs.OneLaws.{next-kind, stored-next}
 use Rattle.replay.specs.Begins.{isStatement, Replays}
-use Rattle.replay.specs.Turns.{closesAt, Ready, Reached, TurnIs}
+use Rattle.replay.specs.Turns.{Ready, Reached, TurnIs}
 use Rattle.replay.specs.declared.Replayed.{Replayed}
 use Rattle.replay.specs.declared.turns.Turn.{Turn}
-use Rattle.replay.proofs.TurnLaws.{closes-place}
 
 pub record Done (t : Tables) (rows : List ℕ) (p : Place) (u : Sizes) : Type 0 where
   pub past : Past
@@ -70,7 +69,7 @@ module _ (t : Tables) (rows : List ℕ) (p : Place) (u : Sizes) (d : Done t rows
     kind-is = ap (λ (n : ℕ). isStatement (getD rows (8 * n) 0)) (length-rows ss ∙ rows-are) ∙ ap isStatement (sym ek)
 
     pub done-closed : isStatement k ≡ false → closesAt p ≡ true → Replays t rows (Replayed.Holding p u)
-    unfolding Replays
+    unfolding Replays closes
     done-closed e c = (
       ss,
       record {
@@ -83,7 +82,7 @@ module _ (t : Tables) (rows : List ℕ) (p : Place) (u : Sizes) (d : Done t rows
     )
 
     pub done-open : isStatement k ≡ false → closesAt p ≡ false → Replays t rows Replayed.Damaged
-    unfolding Replays
+    unfolding Replays closes
     done-open e c qs h =
         ⊎-elim (λ q. never (closes ss) (ap closes (sym q) ∙ h .closed) (closes-place ss ∙ ap closesAt (d .reached .place) ∙ c))
         (λ q. never (isStatement k) (sym kind-is ∙ next-kind (q .1) ss (q .3)) e)

@@ -5,18 +5,16 @@ use mathlib.Core.Path.{_≡_, refl, sym, ap, ap₂, _∙_, subst}
 use mathlib.Core.List.{List, _∷_}
 use mathlib.Core.Bool.{Bool, true, false, not}
 use native.Mathlib.Omega.{arith}
-use lib.Dec.{eqb, leb}
+use lib.Dec.{leb}
 use lib.ListN.{length, getD}
 use borrow.Author.Tests.{le-leb, leb-true, not-true, not-false}
 use Rattle.rules.specs.Bytes.{any}
 use Rattle.rules.specs.Tokens.{Name}
 use Rattle.rules.specs.Statements.{Statement, contents, code, holds, ownName, is, autoidx-stmt, attr-stmt, module-stmt, param-stmt, wire-stmt, memory-stmt, cell-stmt, cell-param-stmt, cell-conn-stmt, conn-stmt, proc-stmt, end-stmt}
-use Rattle.rules.specs.Shapes.{Scope, top, inModule, inCell}
 use Rattle.rules.specs.Signals.{Wires}
 use Rattle.rules.specs.Judgement.{Past, sum, wires, among, signalSize, valueSize, stringSize, nameSize, takesName, exceedsSize}
-use Rattle.rules.specs.Reading.{isTop}
 use Rattle.rules.specs.Layout.{Used, padded, row, used, nameBytes, statementRow}
-use Rattle.admitted.specs.Admitted.{stands, fineParts, admits, admitted, closes}
+use Rattle.admitted.specs.Admitted.{stands, fineParts, admits, admitted}
 use Rattle.admitted.specs.AdmitLaws.{admits-all, admitted-offsets}
 use Rattle.tables.specs.Row.{words, rowAt}
 use Rattle.tables.specs.declared.Row.{Row}
@@ -30,20 +28,19 @@ use Rattle.netlist.specs.Laid.{roomsOf, Laid}
 use Rattle.netlist.specs.WireLaws.{wires-laid}
 use Rattle.netlist.specs.Found.{spaceFrom, foundIn}
 use Rattle.netlist.specs.FoundLaws.{takes-found}
-use Rattle.past.specs.Place.{placeOf, scopeCode, contextOf, Bounds, AfterIs}
+use Rattle.past.specs.Place.{placeOf, contextOf, Bounds, AfterIs}
 use Rattle.past.specs.Sizes.{sizesBy, sumsOf, plusOf, exceeds, Within, AtMost, KindSizesAre}
 use Rattle.past.specs.declared.place.Place.{Place}
 use Rattle.past.specs.declared.sizes.Sizes.{Sizes}
 use Rattle.past.proofs.PlaceLaws.{context-is}
 use Rattle.past.proofs.SizeLaws.{sums-step, exceeds-sums, within-past, sizes-small}
-use Rattle.admitted.specs.CountLaws.{context-scope}
 use Rattle.netlist.specs.Used.{usedBy}
 use Rattle.netlist.specs.Spans.{Has}
 use Rattle.replay.specs.Reads.{Tables, tabled, Reads, Counts, Tells, statementOf, Small}
 use Rattle.netlist.specs.Fronts.{Fronts, Stands}
 use Rattle.netlist.specs.FrontLaws.{fronts-laid, fronts-wired, fronts-stand, stand-fronts, stand-row}
 use Rattle.replay.specs.Begins.{withRows}
-use Rattle.replay.specs.Turns.{standsAt, closesAt, Reached, TurnIs, Told, Rowed, CountsAs, Counted, smallParts}
+use Rattle.replay.specs.Turns.{standsAt, Reached, TurnIs, Told, Rowed, CountsAs, Counted, smallParts}
 use Rattle.replay.specs.declared.statements.Found.{Found}
 use Rattle.replay.specs.declared.turns.Turn.{Turn}
 use Rattle.designs.specs.CodeLaws.{narrow, narrow-past}
@@ -57,16 +54,6 @@ use Rattle.replay.proofs.BeginLaws.{stand-long, stand-reads, reads-stan
 pub stands-place : (ss : Past) (s : Statement) → stands ss s ≡ standsAt (placeOf ss) (code (contents s .kind))
 unfolding stands standsAt among ofKinds is contextOf
 stands-place ss s = rw (context-is ss)
-
-top-code : (z : Scope) → isTop z ≡ eqb (scopeCode z) 0
-unfolding isTop scopeCode
-top-code top = refl
-top-code inModule = refl
-top-code inCell = refl
-
-pub closes-place : (ss : Past) → closes ss ≡ closesAt (placeOf ss)
-unfolding closes closesAt placeOf
-closes-place ss = rw (context-scope ss, top-code)
 
 -- ---- the name
 

@@ -2,8 +2,8 @@
 use Prim.Native.Nat.{ℕ, _≤_}
 use mathlib.Core.Path.{_≡_}
 use mathlib.Core.List.{List, _∷_}
-use mathlib.Core.Bool.{Bool, true, false, not, _&&_}
-use lib.Dec.{eqb, leb}
+use mathlib.Core.Bool.{Bool, true, false, _&&_}
+use lib.Dec.{leb}
 use lib.ListN.{length}
 use Rattle.rules.specs.Statements.{Statement, code, contents}
 use Rattle.rules.specs.Judgement.{Past, wires, takesName, exceedsSize}
@@ -25,10 +25,6 @@ use Rattle.replay.specs.declared.turns.Turn.{Turn}
 -- whether a statement of this kind has a form at a place
 unfoldable pub standsAt : Place → ℕ → Bool
 standsAt p k = ofKinds (kinds (scopeOf (p .scope)) (p .first) (p .attributed)) k
-
--- whether a file may end at a place
-unfoldable pub closesAt : Place → Bool
-closesAt p = eqb (p .scope) 0 && not (p .attributed)
 
 -- nothing exceeds its size, so that sums don't wrap
 pub record Ready (p : Place) (u : Sizes) : Type 0 where

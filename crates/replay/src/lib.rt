@@ -1,6 +1,7 @@
 // Whether tables hold statements that may stand one after another. The statements are replayed from the first row on, whatever the tables hold:
 // each row says where its parts are, and has to be the row of the statement that they make.
 use past::place::Place;
+use past::place::is_closed;
 use past::place::start;
 use past::sizes::Sizes;
 use past::sizes::none;
@@ -16,7 +17,6 @@ use turns::one_more;
 ghost use mathlib.Core.Path.{_≡_};
 ghost use Rattle.replay.specs.Reads.{tabled};
 ghost use Rattle.replay.specs.Begins.{isStatement, Replays};
-ghost use Rattle.replay.specs.Turns.{closesAt};
 
 // The place and the sums behind the statements that the tables hold.
 pub enum Replayed {
@@ -31,16 +31,6 @@ fn is_statement(kind: u32) -> bool
         return false;
     }
     kind <= 12
-}
-
-// A file may end here.
-fn is_closed(p: Place) -> bool
-    ensures { λ r. ⌜ r ≡ closesAt p ⌝ }
-{
-    if p.scope != 0 {
-        return false;
-    }
-    !p.attributed
 }
 
 pub fn replay(names: &[u8], strings: &[u8], bits: &[u32], wires: &[u32], rows: &[u32]) -> Replayed

@@ -1,9 +1,9 @@
 -- The scope, then the attributes.
 -- Assumes nothing.
 use borrow.Author.Tests.{eq-eqb, ne-eqb}
-use Rattle.replay.specs.Turns.{closesAt}
-use Rattle.replay.proofs.is_closed.Statement.{statement}
-use Rattle.replay.proofs.is_closed.Tie as tie
+use Rattle.past.specs.Place.{closesAt}
+use Rattle.past.proofs.place.is_closed.Statement.{statement}
+use Rattle.past.proofs.place.is_closed.Tie as tie
 
 returns : tie.Need-returns
 unfolding closesAt
