@@ -17,7 +17,7 @@ use Rattle.rules.specs.Shapes.{isMark}
 use Rattle.rules.specs.Signals.{Wires}
 use Rattle.rules.specs.Numbers.{inRange}
 use Rattle.rules.specs.Text.{cut, sig, literalOf, setting, unless, portOptions, wireOptions, memoryOptions, written, wordToken, numberToken, lowTokens, sigTokens, optionTokens, sortTokens, shapeTokens, decimalText, integerText, literalText, tokenText, tight, behind, spaced}
-use Rattle.numbers.specs.Kinds.{digitOf}
+use Rattle.numbers.specs.Kinds.{digitOf, signalOf}
 use Rattle.numbers.specs.Signed.{signedOf}
 use Rattle.wires.specs.Rows.{column, portOf, wireOf, spanAt}
 use Rattle.netlist.specs.Rows.{kindAt, nameFrom}
@@ -26,7 +26,6 @@ use Rattle.wire_names.specs.declared.Module.{Module}
 use Rattle.wire_names.specs.Now.{nameNow, ownNow}
 use Rattle.line_text.specs.Pieces.{spread, Piece, piece-none, piece-name, piece-word, piece-literal, piece-sig, piece-bounds, spread-name, spread-literal, spread-append, spaced-word, spaced-two, spaced-three}
 use Rattle.line_text.specs.Options.{piece-options, spread-options}
-use Rattle.line_text.specs.Runs.{bitsOf}
 use Rattle.line_text.specs.Lines.{statementNow, bodyText}
 
 pub span-le : (t rows : List ℕ) (k c : ℕ) → length (spanAt t rows k c) ≤ length t
@@ -169,8 +168,8 @@ pub span-name : (names rows n : List ℕ) (k c : ℕ) → n ≡ spanAt names row
 unfolding spanAt nameFrom
 span-name names rows n k c e = e
 
-pub span-signal : (bits rows w : List ℕ) (k c : ℕ) → w ≡ spanAt bits rows k c → bitsOf w ≡ signalAt bits rows k c
-unfolding bitsOf signalAt
+pub span-signal : (bits rows w : List ℕ) (k c : ℕ) → w ≡ spanAt bits rows k c → signalOf w ≡ signalAt bits rows k c
+unfolding signalOf signalAt
 span-signal bits rows w k c e = rw e
 
 pub own-now : (names wires rows : List ℕ) (x : Module) (k n : ℕ) → n ≡ k - x .first → nameNow names wires rows (x .from) (x .renames) (x .number .0) n k ≡ ownNow names wires rows x k

@@ -25,6 +25,7 @@ ghost use Rattle.rules.specs.Tokens.{literal, mark};
 ghost use Rattle.rules.specs.Statements.{autoidx-stmt, attr-stmt, module-stmt, param-stmt, wire-stmt, memory-stmt, cell-stmt, cell-param-stmt, cell-conn-stmt, conn-stmt};
 ghost use Rattle.rules.specs.Text.{cut, runSig, sig, literalOf, setting, unless, portOptions, wireOptions, memoryOptions, numberToken, lowTokens, sigTokens, optionTokens, sortTokens, shapeTokens, decimalText, integerText, spaced};
 ghost use Rattle.rules.specs.Numbers.{inRange};
+ghost use Rattle.numbers.specs.Kinds.{signalOf};
 ghost use Rattle.numbers.specs.Signed.{signedOf};
 ghost use Rattle.wires.specs.Rows.{column, spanAt, portOf, wireOf};
 ghost use Rattle.netlist.specs.Rows.{nameFrom};
@@ -32,7 +33,7 @@ ghost use Rattle.netlist.specs.Statements.{constantAt, optionalAt, signalAt, me
 ghost use Rattle.wire_names.specs.Now.{wiresIn, ownNow};
 ghost use Rattle.text.specs.Written.{Written};
 ghost use Rattle.line_text.specs.Pieces.{spread};
-ghost use Rattle.line_text.specs.Runs.{bitsOf, joint, firstRun, runsText, Apart, Lowest};
+ghost use Rattle.line_text.specs.Runs.{joint, firstRun, runsText, Apart, Lowest};
 ghost use Rattle.line_text.specs.Lines.{statementNow, bodyText, lineOf, PlainIs};
 
 // The words from start up to end, cut to those that are there.
@@ -246,7 +247,7 @@ fn put_signal(
     at: usize,
 ) -> usize
     requires { ⌜ (at ≤ 32769) × (length (now s) ≤ 16384) ⌝ }
-    ensures { λ r. ⌜ Written at (spread (sigTokens (sig (wiresIn (now (names .entry)) (now (wires .entry)) (now (rows .entry)) m) (bitsOf (now (s .entry)))))) (now (out .entry)) (now (out .exit)) r ⌝ }
+    ensures { λ r. ⌜ Written at (spread (sigTokens (sig (wiresIn (now (names .entry)) (now (wires .entry)) (now (rows .entry)) m) (signalOf (now (s .entry)))))) (now (out .entry)) (now (out .exit)) r ⌝ }
 {
     let n = s.len();
     if n == 0 {

@@ -2,7 +2,7 @@
 -- Assumes nothing.
 use Prim.Native.Nat.{ℕ}
 use mathlib.Core.Path.{_≡_, refl, ap, _∙_}
-use mathlib.Core.List.{List, [], _∷_, _++_, reverse, reverse-cons}
+use mathlib.Core.List.{List, [], _∷_, _++_, reverse, reverse-cons, foldl-append}
 use native.Mathlib.Omega.{arith}
 use lib.ListN.{length, length-append}
 use Rattle.rules.specs.Statements.{Statement}
@@ -18,8 +18,7 @@ use Rattle.netlist.specs.Laid.{roomsOf, Laid}
 -- one statement more, in the order of the file and from the last one on
 pub put-last : (R : Rooms) (ss : List Statement) (s : Statement) → putAll R (ss ++ s ∷ []) ≡ put (putAll R ss) s
 unfolding putAll
-put-last R [] s = refl
-put-last R (r ∷ ss) s = put-last (put R r) ss s
+put-last R ss s = foldl-append put R ss (s ∷ [])
 
 pub rooms-past : (ss : Past) → putAll empty (reverse ss) ≡ roomsOf ss
 unfolding putAll roomsOf

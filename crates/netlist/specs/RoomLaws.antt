@@ -2,7 +2,7 @@
 -- Assumes nothing.
 use Prim.Native.Nat.{ℕ, _+_}
 use mathlib.Core.Path.{_≡_, refl, sym, ap, _∙_}
-use mathlib.Core.List.{List, [], _∷_, _++_, reverse, reverse-reverse}
+use mathlib.Core.List.{List, [], _∷_, _++_, reverse, reverse-reverse, foldl-append}
 use native.Mathlib.Omega.{arith}
 use lib.ListN.{length, length-append}
 use Rattle.rules.specs.Statements.{Statement}
@@ -16,8 +16,7 @@ use Rattle.netlist.specs.LaidLaws.{rooms-past}
 -- more behind them, one more, their rows, and their names
 pub renames-append : (R : Rooms) (rs more : List Rename) → putRenames R (rs ++ more) ≡ putRenames (putRenames R rs) more
 unfolding putRenames
-renames-append R [] more = refl
-renames-append R (r ∷ rs) more = renames-append (putRename R r) rs more
+renames-append R rs more = foldl-append putRename R rs more
 
 pub put-renames-last : (R : Rooms) (rs : List Rename) (r : Rename) → putRenames R (rs ++ r ∷ []) ≡ putRename (putRenames R rs) r
 unfolding putRenames

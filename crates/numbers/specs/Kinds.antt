@@ -1,9 +1,10 @@
 -- A bit of a signal as code holds it, and the bit that it means; the sort of a code.
 use Prim.Native.Nat.{ℕ, _-_, _/_, _%_, _<_}
 use mathlib.Core.Bool.{cond}
+use mathlib.Core.List.{List, map}
 use lib.Dec.{eqb, ltb}
 use Rattle.rules.specs.Tokens.{Digit, S0, S1, Sx, Sz, Sm, Sa}
-use Rattle.rules.specs.Statements.{Bit, digit, bit, Sort}
+use Rattle.rules.specs.Statements.{Bit, digit, bit, Signal, Sort}
 use Rattle.numbers.specs.declared.kinds.SignalBit.{SignalBit}
 
 -- the digit of a code; one above 5 is taken for 5
@@ -17,6 +18,9 @@ bitOf (SignalBit.Wire w i) = bit (w .0) i
 -- the bit of a code: 0 to 5 are the digits, then each wire has 2,048 codes
 unfoldable pub bitAt : ℕ → SignalBit
 bitAt c = cond (ltb c 6) (SignalBit.Digit c) (SignalBit.Wire (record { 0 = (c - 6) / 2048 }) ((c - 6) % 2048))
+
+unfoldable pub signalOf : List ℕ → Signal
+signalOf cs = map (λ c. bitOf (bitAt c)) cs
 
 -- a bit that has a code: a digit's, or a wire's that the sizes allow
 unfoldable pub Valid : SignalBit → Type 0

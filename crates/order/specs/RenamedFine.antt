@@ -2,7 +2,7 @@
 -- Assumes nothing.
 use Prim.Native.Nat.{ℕ, zero, suc, _+_, _≤_, _<_}
 use mathlib.Core.Path.{_≡_, refl, sym, ap, _∙_}
-use mathlib.Core.List.{List, [], _∷_, _++_, map, flatMap, reverse-reverse}
+use mathlib.Core.List.{List, [], _∷_, _++_, map, flatMap, reverse-reverse, foldl-append}
 use mathlib.Core.Option.{Option, none, some, Option·elim}
 use mathlib.Core.Bool.{Bool, true, false, cond, _&&_, false≢true}
 use native.Mathlib.Nat.{le-trans}
@@ -248,8 +248,7 @@ room-now d (r ∷ rs) = omega (arith, room-now (renamed r d) rs, names-renamed r
 
 pub now-more : (d : Design) (rs : List Rename) (r : Rename) → now d (rs ++ r ∷ []) ≡ renamed r (now d rs)
 unfolding now
-now-more d [] r = refl
-now-more d (q ∷ rs) r = now-more (renamed q d) rs r
+now-more d rs r = foldl-append (λ e q. renamed q e) d rs (r ∷ [])
 
 pub undo-last : (rs : List Rename) (r : Rename) → undoCall (rs ++ r ∷ []) ≡ accepted rs
 unfolding undoCall

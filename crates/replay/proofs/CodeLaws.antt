@@ -16,12 +16,12 @@ use Rattle.admitted.specs.Admitted.{fineBit, fineSignal, fineConstant}
 use Rattle.tables.specs.Row.{words}
 use Rattle.tables.specs.declared.Row.{Row}
 use Rattle.numbers.specs.KindLaws as kinds
-use Rattle.numbers.specs.Kinds.{digitOf, bitOf, bitAt}
+use Rattle.numbers.specs.Kinds.{digitOf, bitOf, bitAt, signalOf}
 use Rattle.numbers.specs.KindLaws.{digit-code, code-digit}
 use Rattle.numbers.specs.SignedLaws.{word-signed, signed-int32}
 use Rattle.scanner.specs.Laws.{and-true-left, and-true-right, never}
 use Rattle.scanner.specs.Elements.{all-map, all-each, each-of, map-back}
-use Rattle.replay.specs.Parts.{span, whole, isDigit, digitsStand, textStands, signalOf, signalStands}
+use Rattle.replay.specs.Parts.{span, whole, isDigit, digitsStand, textStands, signalStands}
 use Rattle.replay.specs.Reads.{constantOf, TellsConstant}
 use Rattle.replay.specs.declared.statements.Held.{Held}
 use Rattle.replay.proofs.Spans.{whole-long, long-whole, has-none, has-span, span-has, has-whole}

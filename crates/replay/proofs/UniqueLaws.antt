@@ -10,6 +10,7 @@ use lib.ListN.{length, getD}
 use Rattle.rules.specs.Statements.{Statement, Constant, value, integer, string, aProcess, is, contents, holds, code, autoidx-stmt, attr-stmt, module-stmt, param-stmt, wire-stmt, memory-stmt, cell-stmt, cell-param-stmt, cell-conn-stmt, conn-stmt, proc-stmt, end-stmt}
 use Rattle.rules.specs.Signals.{Wires}
 use Rattle.rules.specs.Layout.{Used, padded, row, constantColumns, sortCode, columns, statementRow}
+use Rattle.numbers.specs.Kinds.{signalOf}
 use Rattle.tables.specs.Row.{words}
 use Rattle.tables.specs.declared.Row.{Row}
 use Rattle.wires.specs.Rows.{wordAt, column, spanAt}
@@ -19,7 +20,7 @@ use Rattle.netlist.specs.Statements as netlist
 use Rattle.netlist.specs.Statements.{constantAt, optionalAt, signalAt, memoryAt, sortAt, statementAt}
 use Rattle.designs.specs.CodeLaws.{narrow}
 use Rattle.designs.specs.DecodeLaws.{decodes}
-use Rattle.replay.specs.Parts.{span, signalOf}
+use Rattle.replay.specs.Parts.{span}
 use Rattle.replay.specs.Reads.{Tables, constantOf, optionalOf, memoryOf, statementBy, statementOf, Reads}
 use Rattle.replay.proofs.CodeLaws.{columns-read}
 

@@ -15,6 +15,7 @@ use Rattle.rules.specs.Statements.{Statement, Wire, Signal, contents, holds, co
 use Rattle.rules.specs.Signals.{Wires, twosComplement}
 use Rattle.rules.specs.Judgement.{sum, signalSize, valueSize, stringSize, nameSize}
 use Rattle.rules.specs.Layout.{Used, padded, row, nameBytes, stringBytes, bitCodes, flags, wireRow, wireRows, columns, statementRow}
+use Rattle.numbers.specs.Kinds.{signalOf}
 use Rattle.admitted.specs.Admitted.{fineWire, fineSignal, sameLength, fineAlone, fineParts}
 use Rattle.tables.specs.Row.{words, rowAt, words-rowAt}
 use Rattle.tables.specs.declared.Row.{Row}
@@ -24,7 +25,7 @@ use Rattle.scanner.specs.Laws.{by-test, same-refl, same-eq, and-true-left, and-
 use Rattle.scanner.specs.Elements.{test-at}
 use Rattle.wires.specs.Rows.{wordAt, column, portOf, wireOf, wiresFrom}
 use Rattle.wires.specs.RowLaws.{length-wire-row, port-small, flags-back, port-number-back}
-use Rattle.replay.specs.Parts.{span, nameStands, signalOf, signalStands}
+use Rattle.replay.specs.Parts.{span, nameStands, signalStands}
 use Rattle.netlist.specs.Spans.{Has}
 use Rattle.replay.specs.Reads.{tabled, Decides, Reads, Tells, TellsWire, TellsCellConnection, TellsConnection, WireRowStands}
 use Rattle.replay.specs.declared.statements.Found.{Found}

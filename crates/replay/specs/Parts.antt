@@ -1,13 +1,12 @@
 -- The parts of statements that stand in tables: a part behind what is used of its table, as long as its row says. A span past the table's end is cut.
 use Prim.Native.Nat.{ℕ, _+_, _-_}
 use mathlib.Core.Path.{_≡_}
-use mathlib.Core.List.{List, map}
+use mathlib.Core.List.{List}
 use mathlib.Core.Bool.{Bool, _&&_}
 use lib.Dec.{eqb, leb, ltb}
 use lib.ListN.{length}
 use lib.Seq.{slice}
 use Rattle.rules.specs.Bytes.{all, within, legal}
-use Rattle.rules.specs.Statements.{Signal}
 use Rattle.rules.specs.Signals.{Wires}
 use Rattle.admitted.specs.Admitted.{fineBit, fineWire}
 use Rattle.numbers.specs.Kinds.{bitOf, bitAt}
@@ -40,9 +39,6 @@ digitsStand bits at n = partStands isDigit bits at n
 
 unfoldable pub textStands : List ℕ → (at n : ℕ) → Bool
 textStands strings at n = whole strings at n && all (within 1 255) (span strings at n)
-
-unfoldable pub signalOf : List ℕ → Signal
-signalOf cs = map (λ c. bitOf (bitAt c)) cs
 
 -- each bit of a signal is a digit's or lies inside its wire, as the rules say it
 unfoldable pub signalStands : Wires → List ℕ → (at n : ℕ) → Bool

@@ -15,11 +15,11 @@ use Rattle.admitted.specs.Admitted.{fineConstant, fineParts}
 use Rattle.tables.specs.Row.{words}
 use Rattle.tables.specs.declared.Row.{Row}
 use Rattle.numbers.specs.Signed.{signedOf}
-use Rattle.numbers.specs.Kinds.{digitOf, sortOf}
+use Rattle.numbers.specs.Kinds.{digitOf, sortOf, signalOf}
 use Rattle.wires.specs.Rows.{wireOf, wiresFrom}
 use Rattle.netlist.specs.Spans.{Has}
 use Rattle.netlist.specs.Fronts.{Parts}
-use Rattle.replay.specs.Parts.{span, signalOf}
+use Rattle.replay.specs.Parts.{span}
 use Rattle.replay.specs.declared.statements.Found.{Found}
 use Rattle.replay.specs.declared.statements.Held.{Held}
 

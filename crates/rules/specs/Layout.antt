@@ -1,7 +1,7 @@
 -- The design memory: where the statements of a file and the standing renames lie in the lent tables.
 use Prim.Native.Nat.{ℕ, _+_, _-_, _*_}
 use mathlib.Core.Path.{_≡_}
-use mathlib.Core.List.{List, [], _∷_, _++_, map, flatMap, zip}
+use mathlib.Core.List.{List, [], _∷_, _++_, map, flatMap, zip, foldl}
 use mathlib.Core.Option.{Option·elim}
 use mathlib.Core.Bool.{cond}
 use lib.ListN.{length, replicate}
@@ -150,8 +150,7 @@ put R s =
     }
 
 unfoldable pub putAll : Rooms → List Statement → Rooms
-putAll R [] = R
-putAll R (s ∷ ss) = putAll (put R s) ss
+putAll R ss = foldl put R ss
 
 -- A standing rename's row: kind 13, its new name, its module and wire number
 unfoldable pub renameRow : ℕ → Rename → List ℕ
@@ -169,8 +168,7 @@ putRename R r =
     }
 
 unfoldable pub putRenames : Rooms → List Rename → Rooms
-putRenames R [] = R
-putRenames R (r ∷ rs) = putRenames (putRename R r) rs
+putRenames R rs = foldl putRename R rs
 
 unfoldable pub rooms : List Statement → List Rename → Rooms
 rooms ss rs = putRenames (putAll empty ss) rs

@@ -1,6 +1,6 @@
 -- The plain session, and the calls that ask of a design.
 use Prim.Native.Nat.{ℕ, zero, suc, _+_, _-_}
-use mathlib.Core.List.{List, [], _∷_, _++_, map, dropLast}
+use mathlib.Core.List.{List, [], _∷_, _++_, map, dropLast, foldl}
 use mathlib.Core.Option.{Option, Option·elim}
 use mathlib.Core.Bool.{Bool, true, false, not, cond, _||_}
 use lib.ListN.{length, getElem?}
@@ -53,8 +53,7 @@ renamed r d =
 
 -- Names now: those read, then each listed rename, oldest first, gives its wire its new name
 unfoldable pub now : Design → List Rename → Design
-now d [] = d
-now d (r ∷ rs) = now (renamed r d) rs
+now d rs = foldl (λ e r. renamed r e) d rs
 
 -- Room used: the bytes of the design's names as read, and of the listed new names
 unfoldable pub roomUsed : Design → List Rename → ℕ

@@ -6,7 +6,8 @@ use Prim.Native.Nat.{_-_, _<_}
 use lib.ListN.{drop}
 use borrow.Author.Tests.{not-true, not-false}
 use Rattle.rules.specs.Text.{runs}
-use Rattle.line_text.specs.Runs.{bitsOf, firstRun}
+use Rattle.numbers.specs.Kinds.{signalOf}
+use Rattle.line_text.specs.Runs.{firstRun}
 use Rattle.line_text.specs.RunLaws.{run-top, run-more}
 use native.Mathlib.Omega.{arith}
 use denote.Ref.{now}
@@ -14,7 +15,7 @@ use Rattle.line_text.proofs.run_low.Statement.{statement}
 use Rattle.line_text.proofs.run_low.Tie as tie
 
 abbrev Inv-loop : tie.InvT-loop
-Inv-loop s i j₀ j = (j < i) × (runs (bitsOf (drop j s)) ≡ firstRun (drop j s) (i - j) ∷ runs (bitsOf (drop i s)))
+Inv-loop s i j₀ j = (j < i) × (runs (signalOf (drop j s)) ≡ firstRun (drop j s) (i - j) ∷ runs (signalOf (drop i s)))
 
 abbrev μ-loop : tie.MeasureT-loop
 μ-loop s i j₀ j = j
