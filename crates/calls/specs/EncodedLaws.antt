@@ -4,10 +4,10 @@ use Prim.Native.Nat.{ℕ, zero, suc, _+_, _*_, _/_, _<_}
 use mathlib.Core.Path.{_≡_, refl, ap, ap₂, _∙_}
 use mathlib.Core.List.{List, [], _∷_, _++_, append-assoc}
 use lib.ListN.{length, length-append}
-use lib.Seq.{slice, take-append-seam, drop-append-seam}
 use native.Mathlib.Omega.{arith}
 use Rattle.rules.specs.Session.{Call, rename, undo}
 use Rattle.scanner.specs.Elements.{Each, each-append}
+use Rattle.scanner.specs.Parts.{slice-between}
 use Rattle.calls.specs.Calls.{callWord, renameAt, callAt, callsFrom, callsIn}
 
 -- the names of renames, one behind the other
@@ -24,9 +24,6 @@ wordsFrom at (undo ∷ cs) = 0 ∷ 0 ∷ 0 ∷ 0 ∷ 0 ∷ wordsFrom at cs
 
 unfoldable pub encoded : List Call → List ℕ × List ℕ
 encoded cs = (wordsFrom 0 cs, namesIn cs)
-
-name-between : (ts n more : List ℕ) → slice (length ts) (length ts + length n) (ts ++ (n ++ more)) ≡ n
-name-between ts n more = rw (← length-append ts n, ← append-assoc ts n more, take-append-seam (ts ++ n) more, drop-append-seam ts n)
 
 -- the calls behind the first one are those of the words behind its five
 module _ (a b c d e : ℕ) (ws ts : List ℕ) where
@@ -45,7 +42,7 @@ from-place ts [] = refl
 from-place ts (rename r ∷ cs) =
     let n = r .newName in
     let rest = rw (length-append ts n, append-assoc ts n (namesIn cs)) at (from-place (ts ++ n) cs) in
-    ap₂ _∷_ (ap (λ (m : List ℕ). rename (record { moduleNumber = r .moduleNumber; wireNumber = r .wireNumber; newName = m })) (name-between ts n (namesIn cs)))
+    ap₂ _∷_ (ap (λ (m : List ℕ). rename (record { moduleNumber = r .moduleNumber; wireNumber = r .wireNumber; newName = m })) (slice-between ts n (namesIn cs)))
     (later-calls 1 (r .moduleNumber) (r .wireNumber) (length ts) (length n) (wordsFrom (length ts + length n) cs) (ts ++ (n ++ namesIn cs)) (length cs) 0 ∙ rest)
 from-place ts (undo ∷ cs) = ap (λ (l : List Call). undo ∷ l) (later-calls 0 0 0 0 0 (wordsFrom (length ts) cs) (ts ++ namesIn cs) (length cs) 0 ∙ from-place ts cs)
 

@@ -20,10 +20,11 @@ use Rattle.rules.specs.Session.{Rename}
 use Rattle.rules.specs.Text.{textOpen}
 use Rattle.rules.specs.Layout.{used, nameBytes, putRenames}
 use Rattle.scanner.specs.Laws.{by-test, and-true-left, and-true-right, eqb-sym}
+use Rattle.scanner.specs.Elements.{all-snoc}
+use Rattle.scanner.specs.Sums.{sum-behind}
 use Rattle.wires.specs.Rows.{column, nameOf, wireOf}
 use Rattle.wires.specs.RowLaws.{row-wire, row-name}
 use Rattle.past.specs.Place.{wiresIn}
-use Rattle.order.specs.Sums.{sum-behind}
 use Rattle.netlist.specs.Rows.{kindAt}
 use Rattle.netlist.specs.Laid.{roomsOf}
 use Rattle.netlist.specs.LaidLaws.{length-rows, eights-rows}
@@ -52,7 +53,7 @@ use Rattle.module_text.specs.StandLaws.{Follows, one-follows, follows, follows-
 use Rattle.design_text.specs.declared.Counts.{Counts}
 use Rattle.design_text.specs.Rows.{nextRow, rowLine, lineIf, kindRows, bodyRows, moduleAt, moduleIf, moduleRows, textRows}
 use Rattle.design_text.proofs.NowLaws.{fronts-past, name-is, wires-are}
-use Rattle.design_text.proofs.Passes.{waits, passes, Rowed, no-rows, one-row, rowed-more, Kinded, no-kinds, one-kind, next-until, more-behind, all-more, row-line, attribute-rows, body-rows}
+use Rattle.design_text.proofs.Passes.{waits, passes, Rowed, no-rows, one-row, rowed-more, Kinded, no-kinds, one-kind, next-until, more-behind, row-line, attribute-rows, body-rows}
 use Rattle.design_text.proofs.Named.{named-code, named-other, nowed, length-nowed, body-nowed}
 use Rattle.past.specs.Forms.{by-form, is-other}
 
@@ -291,7 +292,7 @@ module _
       let o : is aModule s ≡ false = is-other anAttribute aModule s refl w in
       let same : n ≡ moduleCount (s ∷ ps) = h ∙ sym (other-counts s ps o) in
       rw (module-not s ps n first (length qs) k o, waits _ first (length ps) s (fronts-kind s ps k) w, n′, ← same, w)
-      (modules-rows qs (s ∷ ps) n first (at ++ s ∷ []) fo i same (more-behind (length ps) first at s el) (all-more (is anAttribute) at s ea w)
+      (modules-rows qs (s ∷ ps) n first (at ++ s ∷ []) fo i same (more-behind (length ps) first at s el) (all-snoc (is anAttribute) at s ea w)
       (λ m. rowed-more s (length ps) el (r m) (plain-row m s ps k (admitted-past qs (s ∷ ps) a) (is-other anAttribute aWire s refl w)) (fronts-kind s ps k))))
       (λ w. by-test (is aModule s)
       (λ z.

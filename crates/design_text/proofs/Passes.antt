@@ -15,7 +15,7 @@ use Rattle.rules.specs.Signals.{Wires}
 use Rattle.rules.specs.Judgement.{until}
 use Rattle.rules.specs.Text.{textOpen}
 use Rattle.scanner.specs.Laws.{by-test, and-true-left, and-true-right, eqb-sym}
-use Rattle.scanner.specs.Elements.{all-append}
+use Rattle.scanner.specs.Elements.{all-snoc}
 use Rattle.past.specs.Forms.{is-other}
 use Rattle.netlist.specs.Rows.{kindAt}
 use Rattle.wire_names.specs.Now.{wiresIn}
@@ -26,10 +26,6 @@ use Rattle.module_text.specs.Blocks.{lineOf}
 use Rattle.module_text.specs.Passes.{linesOf, kindLines, Print, objectLines, printMemory, cellBlock, printToEnd}
 use Rattle.netlist.specs.Tables.{Tables}
 use Rattle.design_text.specs.Rows.{nextRow, waitingFrom, rowLine, lineIf, kindRows, cellRows, objectIf, objectRows, bodyRows}
-
-pub all-more : {A : Type 0} (f : A → Bool) (xs : List A) (x : A) → all f xs ≡ true → f x ≡ true → all f (xs ++ x ∷ []) ≡ true
-unfolding all
-all-more f xs x h e = all-append f xs (x ∷ []) h (rw e)
 
 pub more-behind : (k first : ℕ) (at : List Statement) (s : Statement) → k ≡ first + length at → suc k ≡ first + length (at ++ s ∷ [])
 more-behind k first at s e = omega (arith, length-append at (s ∷ []))
@@ -157,7 +153,7 @@ module _ (t : Tables) (m : Module) where
     object-rows n first k at e h a (one-row {s = s} {ss} x q r) =
         by-test (is anAttribute s)
         (λ w. rw (object-not first k (length ss) s q (is-other anAttribute K s other w), waits _ first k s q w, w)
-        (object-rows n first (suc k) (at ++ s ∷ []) (more-behind k first at s e) (all-more (is anAttribute) at s h w) (rowed-more s k e a x q) r))
+        (object-rows n first (suc k) (at ++ s ∷ []) (more-behind k first at s e) (all-snoc (is anAttribute) at s h w) (rowed-more s k e a x q) r))
         (λ w. by-test (is K s)
         (λ z. rw (passes _ first k s q w, w, z)
         (ap₂ _++_

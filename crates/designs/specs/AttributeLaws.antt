@@ -13,9 +13,8 @@ use Rattle.rules.specs.Judgement.{Past, until, wires, ofModule, ofObject}
 use Rattle.rules.specs.Design.{Setting, Object, object, Item, settingIn, items, objectsIn, design}
 use Rattle.rules.specs.Session.{wireAt}
 use Rattle.scanner.specs.Laws.{by-test}
-use Rattle.scanner.specs.Lists.{element-at, flatMap-append}
+use Rattle.scanner.specs.Lists.{element-at, flatMap-append, flatMap-back}
 use Rattle.designs.specs.Modules.{statementsOf, wiresOf, moduleCount}
-use Rattle.designs.specs.ListLaws.{flatMap-back}
 use Rattle.designs.specs.DesignLaws.{only-attribute, wires-pairs, wires-at}
 use Rattle.designs.specs.PastLaws.{module-open}
 

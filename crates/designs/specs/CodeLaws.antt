@@ -17,7 +17,8 @@ use Rattle.rules.specs.Judgement.{Past, wires}
 use Rattle.rules.specs.Layout.{digitCode, bitCode}
 use Rattle.scanner.specs.Laws.{and-true-right}
 use Rattle.scanner.specs.Elements.{all-reverse, all-element, all-implied, all-zip-second, each-all, each-of, map-back}
-use Rattle.numbers.specs.Kinds.{digitOf, bitOf, bitAt}
+use Rattle.numbers.specs.Kinds.{digitOf, bitOf, bitAt, signalOf}
+use Rattle.numbers.specs.KindLaws as kinds
 use Rattle.numbers.specs.KindLaws.{Within, digit-back, bit-back}
 use Rattle.admitted.specs.Admitted.{ownWire, fineBit, fineSignal, admitted}
 use Rattle.admitted.specs.AdmitLaws.{own-wire, admitted-wires}
@@ -52,6 +53,6 @@ module _ (ws : Wires) (wide : narrow ws ≡ true) where
       let k : i < 2048 = fine-index (getElem? (reverse ws) w) i (λ v e. all-element f (reverse ws) w v (all-reverse f ws [] wide refl) e) h in
       bit-back (suc w) (bit w i) (omega arith, k)
 
-  pub signal-back : (x : Signal) → fineSignal ws x ≡ true → map (λ c. bitOf (bitAt c)) (map bitCode x) ≡ x
+  pub signal-back : (x : Signal) → fineSignal ws x ≡ true → signalOf (map bitCode x) ≡ x
   unfolding fineSignal
-  signal-back x h = map-back bitCode (λ c. bitOf (bitAt c)) x (each-of _ (fineBit ws) bit-within x (and-true-right (leb (length x) 2048) _ h))
+  signal-back x h = kinds.signal-back x (each-of _ (fineBit ws) bit-within x (and-true-right (leb (length x) 2048) _ h))

@@ -16,12 +16,13 @@ use Rattle.rules.specs.Numbers.{int32}
 use Rattle.rules.specs.Judgement.{Past, wires}
 use Rattle.rules.specs.Layout.{Used, padded, row, digitCode, bitCode, nameBytes, stringBytes, bitCodes, constantColumns, sortCode, columns, statementRow, used}
 use Rattle.scanner.specs.Laws.{and-true-left, and-true-right}
-use Rattle.numbers.specs.Kinds.{digitOf, bitOf, bitAt}
+use Rattle.scanner.specs.Parts.{slice-span}
+use Rattle.numbers.specs.Kinds.{digitOf, signalOf}
 use Rattle.numbers.specs.Signed.{signedOf}
 use Rattle.numbers.specs.SignedLaws.{signed-word}
 use Rattle.numbers.specs.KindLaws.{sort-back}
 use Rattle.wires.specs.Rows.{column, wireOf, spanAt}
-use Rattle.wires.specs.RowLaws.{slice-span, RowIs, row-wire}
+use Rattle.wires.specs.RowLaws.{RowIs, row-wire}
 use Rattle.netlist.specs.Rows.{kindAt, nameFrom}
 use Rattle.netlist.specs.Statements.{constantAt, optionalAt, signalAt, memoryAt, sortAt, statementBy, statementAt}
 use Rattle.admitted.specs.Admitted.{fineConstant, fineMemory, fineSignal, fineParts, admitted}
@@ -96,7 +97,7 @@ module _ (names strings bits wires rows : List ℕ) (u : Used) (ws : Wires) (wid
   signal-is : (c at : ℕ) (x : Signal) → column rows k c ≡ at → column rows k (c + 1) ≡ length x → Has bits at (map bitCode x) → fineSignal ws x ≡ true → signalAt bits rows k c ≡ x
   unfolding signalAt
   signal-is c at x ea en h f =
-      ap (map (λ c. bitOf (bitAt c))) (span-has bits rows k c at (length x) (map bitCode x) ea en (sym (length-map x bitCode)) h) ∙ signal-back ws wide x f
+      ap signalOf (span-has bits rows k c at (length x) (map bitCode x) ea en (sym (length-map x bitCode)) h) ∙ signal-back ws wide x f
 
   valued : (c : Constant) → Columned rows k u c → Has strings (u .strings) (bytesOf c ++ []) → Has bits (u .bits) ((map digitCode (digitsOf c) ++ []) ++ []) → fineConstant c ≡ true → constantAt strings bits rows k 3 ≡ c
   valued c h hs hb f = constant-is strings bits rows k u c h (rw append-nil at hs) (rw (append-nil, append-nil) at hb) f

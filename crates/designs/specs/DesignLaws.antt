@@ -2,7 +2,7 @@
 -- Assumes nothing.
 use Prim.Native.Nat.{ℕ}
 use mathlib.Core.Path.{_≡_, refl, sym, ap, _∙_}
-use mathlib.Core.List.{List, [], _∷_, _++_, map, map-map, map-id, flatMap, zip, zipWith}
+use mathlib.Core.List.{List, [], _∷_, _++_, map, map-map, map-id, map-congr-left, flatMap, zip, zipWith}
 use mathlib.Core.Option.{Option, none, some, Option·elim}
 use mathlib.Core.Bool.{Bool, true, false, cond, _||_, or-assoc}
 use lib.ListN.{getD, getElem?, List·getD-map}
@@ -14,10 +14,10 @@ use Rattle.rules.specs.Design.{Setting, Object, object, Module, Item, Inside, s
 use Rattle.rules.specs.Session.{wiresAt, names, taken}
 use Rattle.past.specs.Forms.{by-form}
 use Rattle.scanner.specs.Laws.{by-test}
-use Rattle.scanner.specs.Lists.{zip-none, flatMap-same}
+use Rattle.scanner.specs.Lists.{zip-none, flatMap-same, elim-at, elim-map, flatMap-only, map-flatMap}
+use Rattle.scanner.specs.Elements.{any-append}
 use Rattle.netlist.specs.NameLaws.{ownNames}
 use Rattle.designs.specs.Modules.{modulesIn, statementsOf, wiresOf, memoriesAt, cellsAt}
-use Rattle.designs.specs.ListLaws.{elim-at, map-same, map-flatMap, chosen, any-append}
 
 -- an attribute is of no other kind
 pub record OnlyAttribute (s : Statement) : Type 0 where
@@ -64,8 +64,9 @@ module _ {A : Type 0} (g : Module → List A) (h : List Item → List A) (none :
   unfolding design statementsOf items
   module-at ss m =
       let bs = blocks (is aModule) (items [] ss) in
-      elim-at moduleOf (λ o. g (o .body)) [] bs m
-      ∙ ap (λ (l : List (List A)). getD l m []) (map-same (λ b. g (moduleOf b .body)) (λ b. h (b .1)) from bs ∙ sym (map-map h (λ b. b .1) bs) ∙ ap (map h) (blocks-items [] ss) ∙ map-map h (items []) (modulesIn ss))
+      sym (elim-map [] (λ o. g (o .body)) moduleOf bs m)
+      ∙ elim-at (λ b. g (moduleOf b .body)) [] bs m
+      ∙ ap (λ (l : List (List A)). getD l m []) (map-congr-left {f = λ b. g (moduleOf b .body)} {g = λ b. h (b .1)} {l = bs} (λ b i. from b) ∙ sym (map-map h (λ b. b .1) bs) ∙ ap (map h) (blocks-items [] ss) ∙ map-map h (items []) (modulesIn ss))
       ∙ ap (λ (z : List A). getD (map (λ qs. h (items [] qs)) (modulesIn ss)) m z) (sym none)
       ∙ List·getD-map (λ qs. h (items [] qs)) (modulesIn ss) m []
 
@@ -105,7 +106,7 @@ memory-names at qs =
     at
     qs
     ∙ flatMap-same _ _ memory-name qs
-    ∙ chosen (among (aMemory ∷ [])) (λ s. ownName (contents s .names)) qs
+    ∙ flatMap-only (among (aMemory ∷ [])) (λ s. ownName (contents s .names)) qs
 
 -- a cell's type and its own name
 unfoldable pub cellNames : Statement → List (Name × Name)
@@ -137,7 +138,7 @@ cell-names at qs =
     ∙ ap (map (λ x. x .1)) (cell-pairs at qs)
     ∙ map-flatMap (λ x. x .1) cellNames qs
     ∙ flatMap-same _ _ cell-name qs
-    ∙ chosen (among (aCell ∷ [])) (λ s. ownName (contents s .names)) qs
+    ∙ flatMap-only (among (aCell ∷ [])) (λ s. ownName (contents s .names)) qs
 
 -- names of two kinds
 or-both : (a b c : Bool) → a || (b || c) ≡ (a || b) || (a || c)

@@ -10,7 +10,7 @@ use Rattle.rules.specs.Tokens.{Name}
 use Rattle.rules.specs.Statements.{Statement, Wire, wire-stmt, cell-stmt, aModule, aWire, aCell, anEnd, is, statementsOpen}
 use Rattle.rules.specs.Shapes.{Scope, top, inModule, inCell}
 use Rattle.rules.specs.Judgement.{Past, outer, scope, context, among}
-use Rattle.scanner.specs.Laws.{by-test, or-true-right}
+use Rattle.scanner.specs.Laws.{by-test, or-true-right, or-true-left}
 use Rattle.past.specs.Place.{scopeCode}
 use Rattle.past.specs.Forms.{by-form}
 use Rattle.admitted.specs.Admitted.{kinds, stands}
@@ -67,12 +67,9 @@ scope-headed (s ∷ ss) (one-stands e h) =
     (λ b. rw (a, b) (omega (arith, stands-inside ss s e (or-true-right (is aWire s) (is aCell s) b))))
     (λ b. by-test (is anEnd s) (λ d. rw (a, b, d) (omega (arith, outer-le (scope ss)))) (λ d. rw (a, b, d) (omega arith))))
 
-or-left : (a b : Bool) → a ≡ true → a || b ≡ true
-or-left a b e = rw e
-
 pub standing-headed : {ss : Past} → Standing ss → Headed ss
 standing-headed none-stand = none-headed
 standing-headed (one-stands {s} {ss} e h) =
     let p : is aWire s ≡ true → 0 < moduleCount ss =
-    λ w. omega (arith, scope-headed ss h, stands-inside ss s e (or-left (is aWire s) (is aCell s) w)) in
+    λ w. omega (arith, scope-headed ss h, stands-inside ss s e (or-true-left (is aWire s) (is aCell s) w)) in
     one-headed p (standing-headed h)

@@ -1,5 +1,4 @@
 pub mod Modules
-pub mod ListLaws
 pub mod DesignLaws
 pub mod Now
 pub mod NowLaws

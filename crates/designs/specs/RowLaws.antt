@@ -16,8 +16,8 @@ use Rattle.rules.specs.Layout.{used, statementRow}
 use Rattle.wires.specs.Rows.{column}
 use Rattle.wires.specs.RowLaws.{RowIs}
 use Rattle.scanner.specs.Laws.{by-test}
+use Rattle.scanner.specs.Lists.{until-take}
 use Rattle.past.proofs.KindLaws.{count-one}
-use Rattle.past.proofs.PlaceLaws.{until-take}
 use Rattle.netlist.specs.Rows.{kindAt, namesBetween}
 use Rattle.netlist.specs.Kinds.{Tests, hasName}
 use Rattle.netlist.specs.RowLaws.{row-kind}

@@ -18,13 +18,13 @@ use Rattle.rules.specs.Layout.{used, padded, row, wireRow}
 use Rattle.past.specs.Forms.{by-form, by-wire, is-other}
 use Rattle.wires.specs.Rows.{column, wiresFrom}
 use Rattle.scanner.specs.Laws.{by-test}
+use Rattle.scanner.specs.Lists.{flatMap-back}
 use Rattle.past.specs.Place.{wiresIn, placeOf}
 use Rattle.past.specs.Offsets.{Offsets, more-offsets}
 use Rattle.netlist.specs.Laid.{roomsOf, Wired}
 use Rattle.netlist.specs.WireLaws.{eights-wires, wired-put, wired-row, wires-laid}
 use Rattle.netlist.specs.UsedLaws.{used-wires, used-modules}
 use Rattle.designs.specs.Modules.{statementsOf, wiresOf, moduleCount, upTo, Headed, none-headed, one-headed}
-use Rattle.designs.specs.ListLaws.{flatMap-back}
 use Rattle.designs.specs.DesignLaws.{pairs-at}
 use Rattle.designs.specs.PastLaws.{module-counts, other-counts, count-step, module-first, module-more, none-counts, module-past, no-module, up-to-all, up-to-back, up-to-holds}
 use Rattle.designs.specs.Ranges.{rowsWhere, wireRange}

@@ -15,13 +15,13 @@ use Rattle.rules.specs.Session.{Rename, renameCall, numberOf}
 use Rattle.rules.specs.Layout.{Rooms, renameRow, putRename, rooms}
 use Rattle.tables.specs.Row.{words, rowAt}
 use Rattle.tables.specs.declared.Row.{Row}
-use Rattle.wires.specs.RowLaws.{slice-span}
 use Rattle.past.specs.Place.{placeOf}
 use Rattle.past.specs.declared.place.Place.{Place}
 use Rattle.admitted.specs.Holds.{Allowed, no-renames}
 use Rattle.netlist.specs.Spans.{Has}
 use Rattle.netlist.specs.Laid.{Laid, Wired}
 use Rattle.scanner.specs.Laws.{never}
+use Rattle.scanner.specs.Parts.{slice-span}
 use Rattle.standing.specs.Judged.{Lies, judged}
 use Rattle.standing.specs.JudgedLaws.{judged-is}
 use Rattle.held.specs.declared.Renamed.{Renamed}

@@ -2,7 +2,7 @@
 -- Assumes nothing.
 use Prim.Native.Nat.{_≤_}
 use mathlib.Core.Path.{_≡_, refl, sym, ap, _∙_, subst}
-use mathlib.Core.List.{List, [], _∷_, _++_, reverse, reverse-cons, reverse-append, reverse-reverse, append-assoc, append-nil}
+use mathlib.Core.List.{List, [], _∷_, _++_, reverse, reverse-cons, reverse-reverse, append-assoc, append-nil}
 use native.Mathlib.Omega.{arith}
 use lib.ListN.{length, length-append}
 use borrow.Author.Tests.{leb-true}
@@ -13,16 +13,7 @@ use Rattle.rules.specs.Session.{Rename, roomUsed, renameCall, numberOf}
 use Rattle.admitted.specs.JudgeLaws.{by-verdict}
 use Rattle.admitted.specs.Holds.{Allowed, no-renames, one-rename}
 use Rattle.order.specs.RenamedFine.{accepted-keeps, room-more}
-
--- LISTS WITH A LAST ELEMENT
-last-same : {A : Type 0} (xs ys : List A) (x y : A) → xs ++ x ∷ [] ≡ ys ++ y ∷ [] → (xs ≡ ys) × (x ≡ y)
-last-same xs ys x y e =
-    let q : x ∷ reverse xs ≡ y ∷ reverse ys = sym (reverse-append xs (x ∷ [])) ∙ ap reverse e ∙ reverse-append ys (y ∷ []) in
-    let h : reverse xs ≡ reverse ys = cc in
-    (sym (reverse-reverse xs) ∙ ap reverse h ∙ reverse-reverse ys, cc)
-
-no-last : {A : Type 0} {P : Type 0} (xs : List A) (x : A) → [] ≡ xs ++ x ∷ [] → P
-no-last xs x e = absurd (omega (arith, ap length e, length-append xs (x ∷ [])))
+use Rattle.scanner.specs.Lists.{last-same, no-last}
 
 -- THE FIRST ONES of accepted renames are accepted
 module _ {d : Design} where

@@ -7,13 +7,14 @@ use mathlib.Core.List.{List}
 use mathlib.Core.Option.{Option, none, some}
 use native.Mathlib.Omega.{arith}
 use lib.Dec.{eqb}
-use lib.ListN.{length, take, drop, replicate, length-take, length-drop, length-replicate}
+use lib.ListN.{length, drop, replicate, length-drop, length-replicate}
 use Rattle.rules.specs.Statements as rules
 use Rattle.rules.specs.Statements.{statementsOpen, code, contents, ownName}
 use Rattle.rules.specs.Numbers.{goodLiteral}
 use Rattle.rules.specs.Signals.{kept, literalBits, literalWidth}
 use Rattle.rules.specs.Judgement.{sum, signalSize, valueSize, stringSize, nameSize}
 use Rattle.scanner.specs.Numbers.{capped}
+use Rattle.scanner.specs.Parts.{slice-le}
 use Rattle.strings.specs.Decoded.{decoded}
 use Rattle.strings.proofs.StringLaws.{decoded-length}
 use Rattle.tokens.specs.Rows.{literalIn}
@@ -121,7 +122,7 @@ module _ (f : List ℕ) (a : Statement) (p : Parts) (e : p ≡ partsOf a) (sound
 
 pub name-few : (f : List ℕ) (n : Span) → length (nameIn f n) ≤ length f
 unfolding nameIn
-name-few f n = omega (arith, length-drop (n .start) (take (n .end) f), length-take (n .end) f)
+name-few f n = slice-le (n .start) (n .end) f
 
 pub text-few : (f : List ℕ) (at : ℕ) → length (decoded (drop at f)) ≤ length f
 text-few f at = omega (arith, decoded-length (drop at f), length-drop at f)

@@ -11,7 +11,7 @@ use lib.Seq.{slice, length-slice, append-snoc}
 use borrow.Author.Tests.{ltb-true, ltb-false}
 use Rattle.rules.specs.Tokens as rules
 use Rattle.scanner.specs.Laws.{by-test}
-use Rattle.scanner.proofs.RunLaws.{slice-part}
+use Rattle.scanner.specs.Parts.{slice-part}
 use Rattle.tables.specs.Store.{store, length-store, store-before, store-inside}
 use Rattle.tokens.specs.Rows.{tokenIn, tokenOf, rowOf, rowWords, rowsFrom, line, Small}
 use Rattle.tokens.specs.declared.Token.{Token}

@@ -19,8 +19,9 @@ use Rattle.scanner.specs.Class.{classOf, inClass}
 use Rattle.scanner.specs.Runs.{endOf}
 use Rattle.scanner.specs.Words.{keywordNumber, keywordAt}
 use Rattle.scanner.proofs.ClassLaws.{class-value-digit, class-parting}
-use Rattle.scanner.proofs.RunLaws.{slice-part, endOf-low, endOf-high, endOf-slice, endOf-rest}
+use Rattle.scanner.proofs.RunLaws.{endOf-low, endOf-high, endOf-slice, endOf-rest}
 use Rattle.scanner.proofs.WordLaws.{keyword-number, keyword-back}
+use Rattle.scanner.specs.Parts.{slice-part}
 use Rattle.strings.specs.Decoded.{CloseIs}
 use Rattle.strings.specs.declared.Close.{Close}
 use Rattle.strings.specs.declared.Close.the-variants.{At, Broken}

@@ -5,10 +5,9 @@ use mathlib.Core.Bool.{false, not, cond}
 use mathlib.Core.List.{List, [], _∷_, _++_, map, reverse, append-nil, Option·toList}
 use mathlib.Core.Option.{none, some, Option·map}
 use Prim.Native.Nat.{ℕ, _+_, _-_, _/_, _%_, _≤_}
-use native.Mathlib.Omega.{arith}
 use lib.Dec.{eqb}
 use lib.IntN.{ℤ, pos}
-use lib.ListN.{length, take, length-take, length-drop, length-map}
+use lib.ListN.{length, length-map}
 use borrow.Author.Tests.{eq-eqb, ne-eqb}
 use Rattle.rules.specs.Bytes.{bytes}
 use Rattle.rules.specs.Tokens.{Name, Literal, value, integer, string, literal, mark}
@@ -27,11 +26,11 @@ use Rattle.wire_names.specs.Now.{nameNow, ownNow}
 use Rattle.line_text.specs.Pieces.{spread, Piece, piece-none, piece-name, piece-word, piece-literal, piece-sig, piece-bounds, spread-name, spread-literal, spread-append, spaced-word, spaced-two, spaced-three}
 use Rattle.line_text.specs.Options.{piece-options, spread-options}
 use Rattle.line_text.specs.Lines.{statementNow, bodyText}
+use Rattle.scanner.specs.Parts.{slice-le}
 
 pub span-le : (t rows : List ℕ) (k c : ℕ) → length (spanAt t rows k c) ≤ length t
 unfolding spanAt
-span-le t rows k c =
-    omega (arith, length-drop (column rows k c) (take (column rows k c + column rows k (c + 1)) t), length-take (column rows k c + column rows k (c + 1)) t)
+span-le t rows k c = slice-le (column rows k c) (column rows k c + column rows k (c + 1)) t
 
 -- ---- constants: x is the kind, w the span
 module _ (strings bits rows : List ℕ) (k c x : ℕ) (ex : x ≡ column rows k c) where

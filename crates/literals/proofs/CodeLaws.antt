@@ -28,8 +28,8 @@ use Rattle.tokens.specs.declared.Integer.{Integer}
 use Rattle.tokens.specs.declared.Constant.{Constant}
 use Rattle.tokens.specs.declared.Constant.the-variants as constant
 use Rattle.literals.specs.Codes.{codes, wordCodes, filledCodes}
-use Rattle.literals.proofs.Lists.{map-reverse, map-at, map-replicate, getD-reverse, length-flatMap}
-use Rattle.scanner.specs.Lists.{flatMap-snoc}
+use Rattle.scanner.specs.Lists.{flatMap-snoc, getD-reverse, map-at, map-replicate, map-reverse}
+use Rattle.scanner.specs.Sums.{length-equal}
 
 -- ---- widths
 
@@ -40,7 +40,7 @@ literal-long (value w ds) h =
     let k : length ds ≤ w = leb-true (length ds) w (and-true-right (leb w 2048) (leb (length ds) w) h) in
     rw (length-reverse, length-append, length-replicate) (omega arith)
 literal-long (integer i) h = binary-length 32 (twosComplement i)
-literal-long (string s) h = length-flatMap (binary 8) 8 (binary-length 8) (reverse s) ∙ ap (λ (n : ℕ). 8 * n) (length-reverse s)
+literal-long (string s) h = length-equal (binary 8) 8 (binary-length 8) (reverse s) ∙ ap (λ (n : ℕ). 8 * n) (length-reverse s)
 
 pub codes-long : (l : Literal) → goodLiteral l ≡ true → length (codes l) ≡ literalWidth l
 codes-long l h = length-reverse (map digitCode (literalBits l)) ∙ length-map (literalBits l) digitCode ∙ literal-long l h
@@ -100,7 +100,7 @@ module _ (k w : ℕ) where
   unfolding wordCodes
   word-at j h =
       let n : length (map digitCode (binary k w)) ≡ k = length-map (binary k w) digitCode ∙ binary-length k w in
-      sym (getD-reverse (map digitCode (binary k w)) j (k - 1 - j) (omega arith) ∙ binary-at k w (k - 1 - j) (omega arith))
+      sym (getD-reverse (map digitCode (binary k w)) j (k - 1 - j) 0 (omega arith) ∙ binary-at k w (k - 1 - j) (omega arith))
 
 pub integer-codes : (w : ℕ) (i : ℤ) → w ≡ twosComplement i → wordCodes 32 w ≡ codes (integer i)
 unfolding literalBits wordCodes
@@ -126,7 +126,7 @@ module _ (zeros : ℕ) (bs : List ℕ) where
       let z : List ℕ = replicate zeros 0 in
       let e : j ≡ length z + (j - zeros) = rw length-replicate (omega arith) in
       let ds : List ℕ = map (λ b. digitCode (digit b)) bs in
-      sym (ap (λ (n : ℕ). getD (z ++ ds) n 0) e ∙ getD-append-add z ds (j - zeros) 0 ∙ map-at (λ b. digitCode (digit b)) bs (j - zeros) (omega arith))
+      sym (ap (λ (n : ℕ). getD (z ++ ds) n 0) e ∙ getD-append-add z ds (j - zeros) 0 ∙ map-at (λ b. digitCode (digit b)) bs (j - zeros) 0 0 (omega arith))
 
 -- the value whose width's digits ds were read, with the cap, as width
 module _ (f : List ℕ) (a b e : ℕ) (ds : List ℕ) (width : ℕ) (part : ds ≡ slice a b f) (read : width ≡ capped (decimal ds)) where
@@ -195,7 +195,7 @@ string-codes (b ∷ s) =
 -- a turn of a loop that stores the next byte's bits
 module _ (s : List ℕ) (j : ℕ) where
   bytes-long : j ≤ length s → 8 * j ≡ length (flatMap (wordCodes 8) (take j s))
-  bytes-long h = sym (length-flatMap (wordCodes 8) 8 (word-long 8) (take j s) ∙ ap (λ (n : ℕ). 8 * n) (length-take-le j s h))
+  bytes-long h = sym (length-equal (wordCodes 8) 8 (word-long 8) (take j s) ∙ ap (λ (n : ℕ). 8 * n) (length-take-le j s h))
 
   bytes-snoc : j < length s → flatMap (wordCodes 8) (take j s) ++ wordCodes 8 (getD s j 0) ≡ flatMap (wordCodes 8) (take (j + 1) s)
   bytes-snoc h = rw (add-one, take-suc s j 0 h) (sym (flatMap-snoc (wordCodes 8) (take j s) (getD s j 0)))

@@ -1,2 +1,2 @@
-mod Lists
+mod Stored
 pub mod CodeLaws

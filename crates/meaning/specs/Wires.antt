@@ -1,8 +1,8 @@
 -- The wires of a module that is admitted: each is found by its name, and none is too wide.
 -- Assumes nothing.
-use Prim.Native.Nat.{ℕ, zero, suc, _+_, _-_, _<_, _≤_}
-use mathlib.Core.Path.{_≡_, refl, sym, ap, _∙_}
-use mathlib.Core.List.{List, [], _∷_, _++_, reverse, reverse-cons}
+use Prim.Native.Nat.{ℕ, suc, _+_, _-_, _<_, _≤_}
+use mathlib.Core.Path.{_≡_, sym, ap, _∙_}
+use mathlib.Core.List.{[], _∷_, reverse, reverse-cons}
 use mathlib.Core.Option.{none, some}
 use mathlib.Core.Bool.{false}
 use native.Mathlib.Omega.{arith}
@@ -14,7 +14,7 @@ use Rattle.rules.specs.Tokens.{Name}
 use Rattle.rules.specs.Statements.{Wire}
 use Rattle.rules.specs.Signals.{Wires, find}
 use Rattle.scanner.specs.Laws.{by-test, same-refl, same-eq}
-use Rattle.scanner.specs.Lists.{element-at}
+use Rattle.scanner.specs.Lists.{element-at, element-front}
 
 -- ---- names that differ
 
@@ -24,11 +24,6 @@ pub data Sound : Wires → Type 0 where
   one-more : {w : Name × Wire} {ws : Wires} → find (w .0) ws ≡ none → w .1 .width ≤ 2048 → Sound ws → Sound (w ∷ ws)
 
 -- ---- the wire with a number
-
-at-front : {A : Type 0} (xs ys : List A) (n : ℕ) → n < length xs → getElem? (xs ++ ys) n ≡ getElem? xs n
-at-front [] ys n h = absurd (omega arith)
-at-front (x ∷ xs) ys zero h = refl
-at-front (x ∷ xs) ys (suc n) h = at-front xs ys n (omega arith)
 
 -- a wire's number and name lead to the same wire
 pub record Located (ws : Wires) (n : ℕ) : Type 0 where
@@ -65,7 +60,7 @@ located-more w ws n h e l =
     record {
       wire = l .wire;
       before = l .before;
-      numbered = rw (reverse-cons w ws) (at-front (reverse ws) (w ∷ []) n (rw (length-reverse ws) h) ∙ l .numbered);
+      numbered = rw (reverse-cons w ws) (element-front (reverse ws) (w ∷ []) n (rw (length-reverse ws) h) ∙ l .numbered);
       dropped = ap (λ j. drop j (w ∷ ws)) (let z : suc (length ws) - (n + 1) ≡ suc (length ws - (n + 1)) = omega arith in z) ∙ l .dropped;
       named = rw (not-same ws n w l e) (l .named);
       narrow = l .narrow;

@@ -1,24 +1,20 @@
 -- A turn of the search for a name over rows, and the bound of a name's column.
 -- Assumes nothing.
 use Prim.Native.Nat.{ℕ, suc, _+_, _≤_}
-use mathlib.Core.Path.{_≡_, refl}
-use mathlib.Core.List.{List, _∷_}
-use mathlib.Core.Bool.{Bool, true, false, cond, _&&_, _||_}
+use mathlib.Core.Path.{_≡_}
+use mathlib.Core.List.{List}
+use mathlib.Core.Bool.{Bool, _&&_, _||_}
 use native.Mathlib.Omega.{arith}
 use lib.Dec.{eqb}
 use Rattle.rules.specs.Bytes.{same, any}
 use Rattle.rules.specs.Tokens.{Name}
 use Rattle.scanner.specs.Laws.{by-cond}
+use Rattle.scanner.specs.Elements.{any-chosen}
 use Rattle.netlist.specs.Rows.{nameColumn, kindAt, nameAt, namesBetween}
 
 pub name-column-small : (k : ℕ) → nameColumn k ≤ 3
 unfolding nameColumn
 name-column-small k = by-cond (λ (c : ℕ). c ≤ 3) (eqb k 7) (λ e. omega arith) (λ e. omega arith)
-
-any-chosen : {A : Type 0} (f : A → Bool) (b : Bool) (x : A) (xs : List A) → any f (cond b (x ∷ xs) xs) ≡ (b && f x) || any f xs
-unfolding any
-any-chosen f true x xs = refl
-any-chosen f false x xs = refl
 
 -- the last of k rows is row from + j, with j rows before it; a: whether it has the name
 module _ (names rows : List ℕ) (test : ℕ → Bool) (from k j : ℕ) (n : Name) (a : Bool)

@@ -1,16 +1,16 @@
 -- The rows that the code searches for a name are the name space of its kind.
 -- Assumes nothing.
 use Prim.Native.Nat.{ℕ, _-_, _≤_}
-use mathlib.Core.Path.{_≡_, refl, sym, ap, ap₂, _∙_}
+use mathlib.Core.Path.{_≡_, refl, sym, ap₂, _∙_}
 use mathlib.Core.Bool.{Bool, true, false, cond, _||_, or-false}
 use mathlib.Core.List.{List}
 use native.Mathlib.Omega.{arith}
 use lib.Dec.{eqb, ltb}
-use lib.ListN.{length, length-take}
+use lib.ListN.{length}
 use Rattle.rules.specs.Bytes.{same, any}
 use Rattle.rules.specs.Tokens.{Name}
 use Rattle.rules.specs.Statements.{Kind, anAutoidx, anAttribute, aModule, aParameter, aWire, aMemory, aCell, aCellParameter, aCellConnection, aConnection, aProcess, anEnd, Stmt, code, contents, ownName}
-use Rattle.rules.specs.Judgement.{Past, until, only, space, nameSpaces, ofModule, ofCell, ofObject, takesName}
+use Rattle.rules.specs.Judgement.{Past, only, space, nameSpaces, ofModule, ofCell, ofObject, takesName}
 use Rattle.netlist.specs.Rows.{namesBetween}
 use Rattle.netlist.specs.Kinds.{isKind, ofKinds}
 use Rattle.netlist.specs.Spaces.{spacesOf, kindsOf}
@@ -18,8 +18,8 @@ use Rattle.netlist.specs.SpaceLaws.{takes-in-rows}
 use Rattle.netlist.specs.Laid.{roomsOf, Laid}
 use Rattle.past.specs.Place.{placeOf, Bounds}
 use Rattle.past.specs.declared.place.Place.{Place}
-use Rattle.past.proofs.PlaceLaws.{until-take}
 use Rattle.netlist.specs.Found.{spaceFrom, kindsFrom, foundIn}
+use Rattle.scanner.specs.Lists.{until-le}
 
 -- a name space begins at one of the rows so far
 pick-le : (b : Bool) (m n k : ℕ) → m ≤ k → n ≤ k → cond b m n ≤ k
@@ -33,9 +33,6 @@ space-within p k b =
     let r : p .rows ≤ p .rows = omega arith in
     pick-le (eqb k 2) _ _ _ (b .object-from)
     (pick-le (eqb k 3) _ _ _ z (pick-le (ltb k 4) _ _ _ r (pick-le (ltb k 8) _ _ _ (b .module-from) (pick-le (ltb k 10) _ _ _ (b .cell-from) r))))
-
-last-le : {A : Type 0} (f : A → Bool) (xs : List A) → length (until f xs) ≤ length xs
-last-le f xs = omega (arith, ap length (until-take f xs), length-take (length (until f xs)) xs)
 
 -- the search for a name in count rows from a row on
 module _ (names rows : List ℕ) (n : Name) where
@@ -55,14 +52,14 @@ module _ (names rows : List ℕ) (n : Name) where
       ≡ foundIn names rows (placeOf ss) (code k) n
   unfolding found foundIn spacesOf nameSpaces space only ofKinds any code kindsOf kindsFrom spaceFrom placeOf ofModule ofCell ofObject
   space-rows anAutoidx ss = no-rows _ (length ss)
-  space-rows anAttribute ss = last-rows _ (length ss) _ _ (last-le _ ss) refl
+  space-rows anAttribute ss = last-rows _ (length ss) _ _ (until-le _ ss) refl
   space-rows aModule ss = last-rows _ (length ss) (length ss) 0 (omega arith) (omega arith)
-  space-rows aParameter ss = last-rows _ (length ss) _ _ (last-le _ ss) refl
-  space-rows aWire ss = last-rows _ (length ss) _ _ (last-le _ ss) refl
-  space-rows aMemory ss = last-rows _ (length ss) _ _ (last-le _ ss) refl
-  space-rows aCell ss = last-rows _ (length ss) _ _ (last-le _ ss) refl
-  space-rows aCellParameter ss = last-rows _ (length ss) _ _ (last-le _ ss) refl
-  space-rows aCellConnection ss = last-rows _ (length ss) _ _ (last-le _ ss) refl
+  space-rows aParameter ss = last-rows _ (length ss) _ _ (until-le _ ss) refl
+  space-rows aWire ss = last-rows _ (length ss) _ _ (until-le _ ss) refl
+  space-rows aMemory ss = last-rows _ (length ss) _ _ (until-le _ ss) refl
+  space-rows aCell ss = last-rows _ (length ss) _ _ (until-le _ ss) refl
+  space-rows aCellParameter ss = last-rows _ (length ss) _ _ (until-le _ ss) refl
+  space-rows aCellConnection ss = last-rows _ (length ss) _ _ (until-le _ ss) refl
   space-rows aConnection ss = no-rows _ (length ss)
   space-rows aProcess ss = no-rows _ (length ss)
   space-rows anEnd ss = no-rows _ (length ss)

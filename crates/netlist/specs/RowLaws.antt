@@ -13,10 +13,11 @@ use Rattle.rules.specs.Statements.{Statement, Constant, value, integer, string,
 use Rattle.rules.specs.Layout.{Used, padded, row, nameBytes, constantColumns, columns, statementRow}
 use Rattle.tables.specs.Padded.{length-row}
 use Rattle.wires.specs.Rows.{column, spanAt}
-use Rattle.wires.specs.RowLaws.{slice-span, RowIs}
+use Rattle.wires.specs.RowLaws.{RowIs}
 use Rattle.netlist.specs.Rows.{kindAt, nameColumn, nameFrom, nameAt}
 use Rattle.netlist.specs.Kinds.{ofKinds, hasName}
 use Rattle.netlist.specs.Spans.{Has, has-second}
+use Rattle.scanner.specs.Parts.{slice-span}
 
 -- a row has eight columns
 length-constant : (u : Used) (c : Constant) → length (constantColumns u c) ≡ 3

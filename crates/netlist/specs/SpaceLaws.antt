@@ -1,18 +1,17 @@
 -- Each of the rules' name spaces is a range of rows, so the rule for taken names is the search over rows.
 -- Assumes nothing.
 use Prim.Native.Nat.{ℕ, _+_, _-_}
-use mathlib.Core.Path.{_≡_, refl, sym, ap, ap₂, _∙_}
+use mathlib.Core.Path.{_≡_, refl, sym, ap, _∙_}
 use mathlib.Core.List.{List, [], _∷_}
-use mathlib.Core.Bool.{Bool, true, _&&_, _||_, and-true}
+use mathlib.Core.Bool.{Bool, true, _&&_, and-true}
 use native.Mathlib.Omega.{arith}
 use lib.ListN.{length, take, length-take}
 use lib.Seq.{take-length}
 use Rattle.rules.specs.Bytes.{same, any, all}
 use Rattle.rules.specs.Statements.{Kind, anAutoidx, anAttribute, aModule, aParameter, aWire, aMemory, aCell, aCellParameter, aCellConnection, aConnection, aProcess, anEnd, Stmt, code, contents, is, ownName}
 use Rattle.rules.specs.Judgement.{Past, only, ofModule, ofCell, ofObject, among, Space, space, namesIn, nameSpaces, takesName}
-use Rattle.scanner.specs.Laws.{by-test}
-use Rattle.scanner.specs.Elements.{Each, each-map}
-use Rattle.past.proofs.PlaceLaws.{until-take}
+use Rattle.scanner.specs.Elements.{Each, each-map, any-only, any-same}
+use Rattle.scanner.specs.Lists.{until-take}
 use Rattle.netlist.specs.Rows.{namesBetween}
 use Rattle.netlist.specs.Kinds.{isKind, ofKinds, hasName, oneKind, threeKinds}
 use Rattle.netlist.specs.KindLaws.{one-kind, three-kinds}
@@ -20,12 +19,6 @@ use Rattle.netlist.specs.declared.rows.Kinds.{Kinds}
 use Rattle.netlist.specs.Laid.{roomsOf, Laid}
 use Rattle.netlist.specs.NameLaws.{ownNames, names-laid}
 use Rattle.netlist.specs.Spaces.{Ranged, spacesOf, kindsOf}
-
--- a name is looked for in the spaces of its kind
-any-only : {A : Type 0} (f g : A → Bool) (xs : List A) → any (λ x. f x && g x) xs ≡ any g (only f xs)
-unfolding any only
-any-only f g [] = refl
-any-only f g (x ∷ xs) = by-test (f x) (λ e. rw (e, any-only f g xs)) (λ e. rw (e, any-only f g xs))
 
 pub takes-in-spaces :
     {C S W M : Type 0} (ss : Past) (sh : Stmt C S W M) →
@@ -50,11 +43,6 @@ module _ (f : Past → Past) (ss : Past) (from count : ℕ) (part-is : f ss ≡ 
   ranged-three k l m h = record { named = rw and-true h; tests = three-kinds k l m; part-is = part-is; ends = ends }
 
 -- ---- the six spaces
-
-any-each : {A : Type 0} (f g : A → Bool) (xs : List A) → Each (λ x. f x ≡ g x) xs → any f xs ≡ any g xs
-unfolding any
-any-each f g [] h = refl
-any-each f g (x ∷ xs) h = ap₂ _||_ (h .0) (any-each f g xs (h .1))
 
 -- a space's part of the past, by where it starts and how much it is
 abbrev InRows : Kind → Past → Space → Type 0
@@ -99,5 +87,5 @@ pub takes-in-rows :
     ≡ any (λ z. any (same (ownName (contents sh .names))) (namesBetween names rows (isKind (kindsOf (contents sh .kind))) (length ss - length (z .part ss)) (length (z .part ss)))) (spacesOf (contents sh .kind))
 takes-in-rows ss sh l =
     takes-in-spaces ss sh
-    ∙ any-each _ _ (spacesOf (contents sh .kind))
+    ∙ any-same _ _ (spacesOf (contents sh .kind))
     (each-map (InRows (contents sh .kind) ss) _ (λ z r. ap (any (same (ownName (contents sh .names)))) (space-names z ss l r)) (spacesOf (contents sh .kind)) (spaces-in-rows (contents sh .kind) ss))

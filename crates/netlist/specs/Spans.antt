@@ -8,7 +8,8 @@ use lib.ListN.{length, take, drop, replicate, length-append, take-append-drop}
 use lib.Seq.{take-take, drop-drop, take-append-seam, drop-append-seam}
 use Rattle.rules.specs.Layout.{padded}
 use Rattle.tables.specs.Flat.{flat, Eights, flat-snoc, length-flat}
-use Rattle.wires.specs.RowLaws.{slice-span, RowIs, row-taken}
+use Rattle.wires.specs.RowLaws.{RowIs, row-taken}
+use Rattle.scanner.specs.Parts.{slice-span}
 
 abbrev pub Starts : List ℕ → List ℕ → Type 0
 Starts t xs = (more : List ℕ) × (t ≡ xs ++ more)

@@ -6,7 +6,7 @@ use mathlib.Core.Option.{Option, none, some}
 use mathlib.Core.Bool.{cond}
 use lib.Dec.{eqb}
 use Rattle.rules.specs.Statements.{Sort, Constant, value, integer, string, Signal, Memory, Statement, autoidx-stmt, attr-stmt, module-stmt, param-stmt, wire-stmt, memory-stmt, cell-stmt, cell-param-stmt, cell-conn-stmt, conn-stmt, end-stmt}
-use Rattle.numbers.specs.Kinds.{digitOf, bitOf, bitAt, sortOf}
+use Rattle.numbers.specs.Kinds.{digitOf, signalOf, sortOf}
 use Rattle.numbers.specs.Signed.{signedOf}
 use Rattle.wires.specs.Rows.{column, spanAt, wireOf}
 use Rattle.netlist.specs.Rows.{kindAt, nameFrom}
@@ -22,7 +22,7 @@ unfoldable pub optionalAt : (strings bits rows : List ℕ) → (row c : ℕ) →
 optionalAt strings bits rows k c = cond (eqb (column rows k c) 0) none (some (constantAt strings bits rows k c))
 
 unfoldable pub signalAt : (bits rows : List ℕ) → (row c : ℕ) → Signal
-signalAt bits rows k c = map (λ x. bitOf (bitAt x)) (spanAt bits rows k c)
+signalAt bits rows k c = signalOf (spanAt bits rows k c)
 
 unfoldable pub memoryAt : (rows : List ℕ) → (row : ℕ) → Memory
 memoryAt rows k = record { width = column rows k 3; size = column rows k 4; offset = signedOf (column rows k 5) }

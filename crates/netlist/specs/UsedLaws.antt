@@ -10,10 +10,11 @@ use Rattle.rules.specs.Judgement.{Past, sum, count, signalSize, valueSize, stri
 use Rattle.rules.specs.Layout.{Used, digitCode, bitCode, nameBytes, stringBytes, bitCodes, wireRow, wireRows, put, used}
 use Rattle.past.specs.Place.{placeOf, wiresIn}
 use Rattle.past.specs.Sizes.{sizesBy, sumsOf}
-use Rattle.past.proofs.PlaceLaws.{length-flatMap, wire-count}
+use Rattle.past.proofs.PlaceLaws.{wire-count}
 use Rattle.netlist.specs.Laid.{roomsOf}
 use Rattle.netlist.specs.LaidLaws.{length-rows}
 use Rattle.netlist.specs.Used.{usedBy}
+use Rattle.scanner.specs.Sums.{length-flatMap}
 
 -- what a statement puts is as long as the rules count it
 module _ (s : Statement) where

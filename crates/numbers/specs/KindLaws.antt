@@ -3,14 +3,15 @@ use Prim.Native.Nat.{ℕ, zero, suc, _+_, _-_, _*_, _/_, _%_, _<_, _≤_}
 use mathlib.Core.Path.{_≡_, refl, ap}
 use native.Mathlib.Omega.{arith}
 use lib.Dec.{ltb}
+use lib.ListN.{length, length-map}
 use borrow.Author.Tests.{lt-ltb, le-ltb, ltb-true, ltb-false}
 use mathlib.Core.List.{List, map}
 use Rattle.rules.specs.Tokens.{Digit, S0, S1, Sx, Sz, Sm, Sa}
-use Rattle.rules.specs.Statements.{Bit, digit, bit, Sort}
+use Rattle.rules.specs.Statements.{Bit, digit, bit, Signal, Sort}
 use Rattle.rules.specs.Layout.{digitCode, bitCode, sortCode}
 use Rattle.scanner.specs.Laws.{by-cond}
-use Rattle.scanner.specs.Elements.{each-all, map-back}
-use Rattle.numbers.specs.Kinds.{digitOf, bitOf, bitAt, sortOf}
+use Rattle.scanner.specs.Elements.{Each, each-all, map-back}
+use Rattle.numbers.specs.Kinds.{digitOf, bitOf, bitAt, signalOf, sortOf}
 use Rattle.numbers.specs.declared.kinds.SignalBit.{SignalBit}
 
 pub digit-back : (d : Digit) → digitOf (digitCode d) ≡ d
@@ -70,8 +71,18 @@ pub code-back : (c : ℕ) → bitCode (bitOf (bitAt c)) ≡ c
 unfolding bitOf bitCode
 code-back c = by-code (λ b. bitCode (bitOf b) ≡ c) c (λ l. code-digit c l) (λ l. omega arith)
 
-pub codes-back : (cs : List ℕ) → map bitCode (map (λ c. bitOf (bitAt c)) cs) ≡ cs
+-- codes and the signal of them
+pub codes-back : (cs : List ℕ) → map bitCode (signalOf cs) ≡ cs
+unfolding signalOf
 codes-back cs = map-back (λ c. bitOf (bitAt c)) bitCode cs (each-all _ code-back cs)
+
+pub signal-back : (x : Signal) → Each (λ b. bitOf (bitAt (bitCode b)) ≡ b) x → signalOf (map bitCode x) ≡ x
+unfolding signalOf
+signal-back x h = map-back bitCode (λ c. bitOf (bitAt c)) x h
+
+pub length-signal : (cs : List ℕ) → length (signalOf cs) ≡ length cs
+unfolding signalOf
+length-signal cs = length-map cs _
 
 pub sort-back : (o : Sort) → sortOf (sortCode o) ≡ o
 unfolding sortOf sortCode

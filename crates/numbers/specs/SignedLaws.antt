@@ -24,6 +24,10 @@ signed-word (negsuc n) h =
     let l : n < 2147483648 = ltb-true n 2147483648 h in
     rw (le-ltb (4294967295 - n) 2147483648 (omega arith)) (ap negsuc (omega arith))
 
+-- the integer of its word
+pub number-back : (z : ℤ) (w : ℕ) → int32 z ≡ true → twosComplement z ≡ w → signedOf w ≡ z
+number-back z w h e = rw e at (signed-word z h)
+
 -- what holds of both halves of the words holds of each word's integer
 pub by-half :
     (P : ℤ → Type 0) (w : ℕ) →

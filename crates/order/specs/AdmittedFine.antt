@@ -10,12 +10,13 @@ use Rattle.rules.specs.Statements.{Statement, autoidx-stmt, module-stmt, param-
 use Rattle.rules.specs.Judgement.{Past, wires}
 use Rattle.rules.specs.Design.{Setting, Object, object, design, flatten}
 use Rattle.scanner.specs.Elements.{Each, each-map, each-through, each-together, all-each, all-flatMap}
+use Rattle.scanner.specs.Sums.{sum-reverse}
 use Rattle.admitted.specs.Admitted.{fineAlone, admits, admitted, closes}
 use Rattle.order.specs.Nesting.{Entry, param-entry, wire-entry, memory-entry, cell-entry, connection-entry, File, settings, lineIn, linesOf, linesOfModule, linesOfFile, wiresOf, memoriesOf, cellBody, cellsOf, bodyOf, moduleIn, designOf}
 use Rattle.order.specs.DesignLaws.{design-lines}
 use Rattle.order.specs.Fine.{Differ, settingNames, wiresIn, FineCell, FineModule, FineDesign}
 use Rattle.order.specs.Tally.{Through, through-before, held-once, held-behind, notAttribute, nameTally, moduleNames, attributeNames, module-names-lawful, attribute-names-lawful}
-use Rattle.order.specs.Sums.{sum-reverse, all-fewer, sizes-fewer}
+use Rattle.order.specs.Sums.{all-fewer, sizes-fewer}
 use Rattle.order.specs.BodySums.{canonical-sum, file-names-sum, attribute-sum}
 use Rattle.order.specs.Apart.{sees, Apart, admits-apart, through-admits, through-each, admitted-apart}
 use Rattle.order.specs.Walks.{EntryDiffers, Clean, clean-behind, opening-clean, settings-stay, noModule, entry-inside, module-once, objects, parameters, port-numbers, cell-once, cell-parameters, cell-ports}

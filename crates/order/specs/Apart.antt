@@ -1,17 +1,17 @@
 -- The tests of a statement after those before it, one by one.
 -- Assumes nothing.
 use mathlib.Core.Path.{_≡_, refl, ap}
-use mathlib.Core.List.{List, [], _∷_}
+use mathlib.Core.List.{[], _∷_}
 use mathlib.Core.Bool.{Bool, true, false, not, _&&_}
 use native.Mathlib.Omega.{arith}
 use borrow.Author.Tests.{not-true}
 use Rattle.rules.specs.Bytes.{any, all, same}
 use Rattle.rules.specs.Statements.{Statement, contents, ownName}
 use Rattle.rules.specs.Judgement.{Past, sum, wires, among, Space, namesIn, nameSpaces, takesName, sizes, exceedsSize}
-use Rattle.scanner.specs.Laws.{and-true-left, and-true-right, or-false-left, or-false-right}
-use Rattle.scanner.specs.Elements.{Each, test-at}
+use Rattle.scanner.specs.Laws.{and-true-left, and-true-right}
+use Rattle.scanner.specs.Elements.{Each, test-at, any-none, none-any}
 use Rattle.admitted.specs.Admitted.{stands, fineSignal, fineAlone, fineParts, admits, admitted}
-use Rattle.admitted.specs.AdmitLaws.{admits-all}
+use Rattle.admitted.specs.AdmitLaws.{admits-all, admits-last, admitted-before}
 use Rattle.order.specs.Tally.{Through, nameTally, moduleNames, objectNames, attributeNames, parameterNames, cellParameterNames, cellPortNames, portTally}
 use Rattle.order.specs.Sums.{sizes-fewer}
 
@@ -33,16 +33,6 @@ pub record Apart (p : Past) (s : Statement) : Type 0 where
   pub room : exceedsSize (s ∷ p) ≡ false
 
 -- NAMES: a test that fails in each name space
-any-none : {A : Type 0} (f : A → Bool) (xs : List A) → any f xs ≡ false → Each (λ x. f x ≡ false) xs
-unfolding any
-any-none f [] e = tt
-any-none f (x ∷ xs) e = (or-false-left (f x) _ e, any-none f xs (or-false-right (f x) _ e))
-
-none-any : {A : Type 0} (f : A → Bool) (xs : List A) → Each (λ x. f x ≡ false) xs → any f xs ≡ false
-unfolding any
-none-any f [] e = refl
-none-any f (x ∷ xs) e = rw (e .0) (none-any f xs (e .1))
-
 module _ (p : Past) (s : Statement) where
   abbrev takesIn : Space → Bool
   takesIn z = among (z .kinds) s && any (same (ownName (contents s .names))) (namesIn z p)
@@ -92,9 +82,8 @@ module _ (p : Past) (s : Statement) where
 
 -- all statements so far
 pub through-admits : (p : Past) → admitted p ≡ true → Through admits p
-unfolding admitted
 through-admits [] e = tt
-through-admits (s ∷ p) e = (and-true-right (admitted p) _ e, through-admits p (and-true-left (admitted p) _ e))
+through-admits (s ∷ p) e = (admits-last s p e, through-admits p (admitted-before s p e))
 
 pub through-each : (f g : Past → Statement → Bool) → ((p : Past) (s : Statement) → f p s ≡ true → g p s ≡ true) → (p : Past) → Through f p → Through g p
 through-each f g h [] t = tt
@@ -114,14 +103,14 @@ pub record ApartAll (p : Past) : Type 0 where
   pub room : exceedsSize p ≡ false
 
 all-alone : (p : Past) → admitted p ≡ true → all fineAlone p ≡ true
-unfolding all admitted
+unfolding all
 all-alone [] e = refl
-all-alone (s ∷ p) e = rw (admits-apart p s (and-true-right (admitted p) _ e) .alone) (all-alone p (and-true-left (admitted p) _ e))
+all-alone (s ∷ p) e = rw (admits-apart p s (admits-last s p e) .alone) (all-alone p (admitted-before s p e))
 
 all-room : (p : Past) → admitted p ≡ true → exceedsSize p ≡ false
-unfolding any sum sizes exceedsSize admitted
+unfolding any sum sizes exceedsSize
 all-room [] e = refl
-all-room (s ∷ p) e = admits-apart p s (and-true-right (admitted p) _ e) .room
+all-room (s ∷ p) e = admits-apart p s (admits-last s p e) .room
 
 pub admitted-apart : (p : Past) → admitted p ≡ true → ApartAll p
 admitted-apart p e =

@@ -18,7 +18,8 @@ use Rattle.order.specs.Nesting.{CellEntry, parameter-entry, port-entry, 
 use Rattle.order.specs.DesignLaws.{flatten-file, design-file}
 use Rattle.order.specs.Fine.{times, settingNames, portsIn}
 use Rattle.order.specs.Tally.{nameTally, moduleNames, objectNames, attributeNames, parameterNames, cellParameterNames, cellPortNames, portTally}
-use Rattle.order.specs.Sums.{sum-append, sum-map, sum-flatMap, sum-same, times-append}
+use Rattle.scanner.specs.Sums.{sum-append, sum-map, sum-flatMap, sum-same, sum-zero}
+use Rattle.order.specs.Sums.{times-append}
 
 -- a cell; a module's entries
 module _ (f : Statement → ℕ) where
@@ -102,11 +103,6 @@ module _ (f : Statement → ℕ) where
   canonical-sum x = flatten-sum (designOf x) ∙ sym (file-sum x)
 
 -- SUMS THAT LEAVE OUT `autoidx`, attributes, what is inside cells, and ends
-pub sum-zero : {A : Type 0} (f : A → ℕ) → ((x : A) → f x ≡ 0) → (xs : List A) → sum f xs ≡ 0
-unfolding sum
-sum-zero f h [] = refl
-sum-zero f h (x ∷ xs) = omega (arith, h x, sum-zero f h xs)
-
 pub record Sparse (f : Statement → ℕ) : Type 0 where
   pub autoidx : (i : ℤ) → f (autoidx-stmt i) ≡ 0
   pub attribute : (n : Name) (c : Constant) → f (attr-stmt n c) ≡ 0

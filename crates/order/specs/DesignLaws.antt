@@ -1,7 +1,7 @@
 -- The design of a file is found kind by kind; so a design is that of its own statements in canonical order.
 -- Assumes nothing.
 use mathlib.Core.Path.{_≡_, refl, sym, ap, ap₂, _∙_}
-use mathlib.Core.List.{List, [], _∷_, _++_, map, flatMap, zip, zipWith, head?, Option·toList, append-assoc, append-nil, map-append, map-map, map-id, map-congr-left}
+use mathlib.Core.List.{List, [], _∷_, _++_, map, flatMap, zip, zipWith, head?, Option·toList, append-assoc, append-nil, map-append, map-map, map-congr-left}
 use mathlib.Core.Option.{Option, none, some}
 use mathlib.Core.Bool.{Bool, true, false, not}
 use lib.IntN.{ℤ}
@@ -12,35 +12,12 @@ use Rattle.rules.specs.Bytes.{all}
 use Rattle.rules.specs.Judgement.{until}
 use Rattle.rules.specs.Design.{Setting, Object, object, Cell, Module, Design, Item, settingIn, items, blocks, objectsIn, parameterIn, portIn, pair, connectionIn, cellParameterIn, each, cellOf, moduleOf, design, flatten, objects, cellLines, moduleLines, designOpen}
 use Rattle.scanner.specs.Laws.{and-true-left, and-true-right}
-use Rattle.scanner.specs.Lists.{flatMap-append, flatMap-same}
+use Rattle.scanner.specs.Lists.{flatMap-append, flatMap-same, flatMap-map, flatMap-flatMap, flatMap-none, flatMap-one, flatMap-self}
 use Rattle.scanner.specs.Elements.{all-append, all-map, all-each, map-back, each-all, all-flatMap}
 use Rattle.order.specs.Nesting.{CellEntry, parameter-entry, port-entry, Entry, param-entry, wire-entry, memory-entry, cell-entry, connection-entry, File, settings, lineIn, linesOf, linesOfModule, linesOfFile, parameterOf, portOf, parametersOf, wiresOf, memoriesOf, cellBody, cellsOf, connectionsOf, bodyOf, moduleIn, designOf, cellEntries, entries, asFile, fileOf, nestingOpen}
 
--- lists
-module _ {A B : Type 0} (f : A → List B) where
-  pub flatMap-map : {C : Type 0} (g : C → A) (xs : List C) → flatMap f (map g xs) ≡ flatMap (λ x. f (g x)) xs
-  unfolding flatMap
-  flatMap-map g [] = refl
-  flatMap-map g (x ∷ xs) = ap (λ (l : List B). f (g x) ++ l) (flatMap-map g xs)
-
-  pub flatMap-flatMap : {C : Type 0} (g : C → List A) (xs : List C) → flatMap f (flatMap g xs) ≡ flatMap (λ x. flatMap f (g x)) xs
-  unfolding flatMap
-  flatMap-flatMap g [] = refl
-  flatMap-flatMap g (x ∷ xs) = flatMap-append f (g x) (flatMap g xs) ∙ ap (λ (l : List B). flatMap f (g x) ++ l) (flatMap-flatMap g xs)
-
-  pub flatMap-none : ((x : A) → f x ≡ []) → (xs : List A) → flatMap f xs ≡ []
-  unfolding flatMap
-  flatMap-none h [] = refl
-  flatMap-none h (x ∷ xs) = rw (h x) (flatMap-none h xs)
-
 none-of : {A B : Type 0} (xs : List A) → flatMap {B = B} (λ (x : A). []) xs ≡ []
 none-of xs = flatMap-none (λ x. []) (λ x. refl) xs
-
--- each element by itself
-pub flatMap-one : {A B : Type 0} (f : A → List B) (g : A → B) → ((x : A) → f x ≡ g x ∷ []) → (xs : List A) → flatMap f xs ≡ map g xs
-unfolding flatMap
-flatMap-one f g h [] = refl
-flatMap-one f g h (x ∷ xs) = rw (h x) (ap (λ (l : List _). g x ∷ l) (flatMap-one f g h xs))
 
 -- ATTRIBUTES AND THE LINES OF A CELL: tests that they pass, and what none of them has
 pub settings-pass : (f : Statement → Bool) → ((n : Name) (c : Constant) → f (attr-stmt n c) ≡ true) → (at : List Setting) → all f (settings at) ≡ true
@@ -374,9 +351,6 @@ pub design-lines : (f : File) → design (linesOfFile f) ≡ designOf f
 design-lines f = lines-by (f .autoidx) (f .modules)
 
 -- THE CANONICAL ORDER
-flatMap-self : {A : Type 0} (f : A → List A) → ((x : A) → f x ≡ x ∷ []) → (xs : List A) → flatMap f xs ≡ xs
-flatMap-self f h xs = flatMap-one f (λ x. x) h xs ∙ map-id xs
-
 alone : {A : Type 0} (xs : List A) → flatMap (λ x. x ∷ []) xs ≡ xs
 alone xs = flatMap-self (λ x. x ∷ []) (λ x. refl) xs
 

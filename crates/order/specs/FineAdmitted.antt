@@ -13,12 +13,14 @@ use Rattle.rules.specs.Statements.{Statement, autoidx-stmt, statementsOpen}
 use Rattle.rules.specs.Judgement.{Past, sum, among, space}
 use Rattle.rules.specs.Design.{Object, Cell, Module, Design, flatten}
 use Rattle.scanner.specs.Elements.{Each, each-map, each-through}
+use Rattle.scanner.specs.Lists.{flatMap-map}
+use Rattle.scanner.specs.Sums.{sum-reverse}
 use Rattle.admitted.specs.Admitted.{admitted, closes}
 use Rattle.order.specs.Nesting.{Entry, File, linesOfModule, linesOfFile, bodyOf, moduleIn, asFile, fileOf}
-use Rattle.order.specs.DesignLaws.{flatMap-map, body-entries, flatten-file}
+use Rattle.order.specs.DesignLaws.{body-entries, flatten-file}
 use Rattle.order.specs.Fine.{FineCell, FineModule, FineDesign}
 use Rattle.order.specs.Tally.{Through, Tally, nameTally, attributeNames}
-use Rattle.order.specs.Sums.{sum-reverse, all-fewer, sizes-fewer}
+use Rattle.order.specs.Sums.{all-fewer, sizes-fewer}
 use Rattle.order.specs.Apart.{sees, ApartAll, apart-admitted}
 use Rattle.order.specs.Walks.{opening-clean, behind-each, OfModule, autoidx-new, modules-new, objects, parameters, port-numbers, OfCell, autoidx-outside, cells-new, cell-parameters, cell-ports, attributes-new, modules-named}
 use Rattle.order.specs.Places.{file-ready, ready-closes}

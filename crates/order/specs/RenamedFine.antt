@@ -18,17 +18,17 @@ use Rattle.rules.specs.Design.{Object, object, Module, Design, flatten}
 use Rattle.rules.specs.Session.{Rename, wireAt, change, renameWire, renamed, now, roomUsed, names, taken, renameCall, undoCall}
 use Rattle.admitted.specs.Admitted.{fineBit, fineSignal, fineAlone}
 use Rattle.scanner.specs.Laws.{by-test, same-eq, or-false-left, or-false-right}
-use Rattle.scanner.specs.Lists.{drop-last}
+use Rattle.scanner.specs.Lists.{drop-last, elim-map, flatMap-map}
 use Rattle.scanner.specs.Elements.{Each, all-same}
+use Rattle.scanner.specs.Sums.{sum-append, sum-map}
 use Rattle.past.specs.Sizes.{sizesBy, sumsOf}
 use Rattle.past.proofs.SizeLaws.{within-past, limits-within, exceeds-sums}
 use Rattle.admitted.specs.Holds.{Allowed, no-renames, one-rename}
 use Rattle.admitted.specs.JudgeLaws.{no-tests}
 use Rattle.order.specs.Nesting.{settings}
-use Rattle.order.specs.DesignLaws.{flatMap-map}
 use Rattle.order.specs.Fine.{times, Differ, wiresIn, signalsIn, portsIn, FineModule, FineDesign}
 use Rattle.order.specs.Tally.{times-none}
-use Rattle.order.specs.Sums.{sum-append, sum-map, fails, all-none, none-all}
+use Rattle.order.specs.Sums.{fails, all-none, none-all}
 use Rattle.order.specs.BodySums.{bodySum, moduleSum, designSum, flatten-sum}
 
 -- ONE ELEMENT CHANGED
@@ -183,14 +183,6 @@ module _ (r : Rename) (m : Module) where
 unfoldable bitIn : List Wire → Bit → Bool
 bitIn ws (digit d) = true
 bitIn ws (bit w i) = Option·elim (getElem? ws w) false (λ v. ltb i (v .width))
-
-pub elim-map :
-    {A B C : Type 0} (z : C) (f : B → C) (g : A → B) (xs : List A) (n : ℕ) →
-    Option·elim (getElem? xs n) z (λ x. f (g x)) ≡ Option·elim (getElem? (map g xs) n) z f
-unfolding Option·elim
-elim-map z f g [] n = refl
-elim-map z f g (x ∷ xs) zero = refl
-elim-map z f g (x ∷ xs) (suc n) = elim-map z f g xs n
 
 bit-in : (m : Module) (b : Bit) → fineBit (wiresIn m) b ≡ bitIn (map (λ w. w .body) (m .wires)) b
 unfolding fineBit wiresIn bitIn

@@ -1,14 +1,14 @@
 -- The wires that a line sees, and the signals whose bits lie in them.
 -- Assumes nothing.
-use Prim.Native.Nat.{ℕ, zero, suc, _+_}
+use Prim.Native.Nat.{ℕ, _+_}
 use mathlib.Core.Path.{_≡_, refl, sym, ap, _∙_}
 use mathlib.Core.List.{List, [], _∷_, _++_, map, flatMap, reverse, reverseAux, reverseAux-append, reverse-append, map-append, append-assoc}
-use mathlib.Core.Option.{Option, Option·elim}
-use mathlib.Core.Bool.{Bool, true, false, not, _&&_}
+use mathlib.Core.Option.{Option}
+use mathlib.Core.Bool.{Bool, true, not, _&&_}
 use native.Mathlib.Omega.{arith}
 use borrow.Author.Tests.{not-true}
 use lib.Dec.{leb, ltb}
-use lib.ListN.{length, getElem?}
+use lib.ListN.{length}
 use Rattle.rules.specs.Bytes.{any, all}
 use Rattle.rules.specs.Tokens.{Name}
 use Rattle.rules.specs.Statements.{Constant, Signal, Bit, digit, bit, Wire, Statement, module-stmt, param-stmt, wire-stmt, memory-stmt, cell-param-stmt, cell-conn-stmt, conn-stmt, end-stmt, aModule, aWire, is, contents, statementsOpen}
@@ -17,15 +17,16 @@ use Rattle.rules.specs.Judgement.{Past, sum, wires}
 use Rattle.rules.specs.Design.{Setting, Object, Cell, Module}
 use Rattle.admitted.specs.Admitted.{fineBit, fineSignal}
 use Rattle.scanner.specs.Laws.{and-true-left, and-true-right}
-use Rattle.scanner.specs.Lists.{flatMap-append}
+use Rattle.scanner.specs.Lists.{flatMap-append, element-stays, flatMap-map}
 use Rattle.scanner.specs.Elements.{all-append, all-implied, all-both, all-right, all-flatMap}
 use Rattle.order.specs.Nesting.{CellEntry, Entry, param-entry, wire-entry, memory-entry, cell-entry, connection-entry, settings, lineIn, linesOf, wiresOf, bodyOf, linesOfModule, cellEntries, entries, asFile}
-use Rattle.order.specs.DesignLaws.{flatMap-map, settings-pass, cell-pass, cellEntry, body-entries}
+use Rattle.order.specs.DesignLaws.{settings-pass, cell-pass, cellEntry, body-entries}
 use Rattle.order.specs.Fine.{wiresIn, signalsIn}
 use Rattle.order.specs.Tally.{Through, behind-all, through-before}
 use Rattle.order.specs.Apart.{sees}
-use Rattle.order.specs.Sums.{sum-append, sum-map, sum-flatMap, sum-same, fails, all-none, none-all}
-use Rattle.order.specs.BodySums.{cellSum, bodySum, body-sum, sum-zero, settings-zero}
+use Rattle.scanner.specs.Sums.{sum-append, sum-map, sum-flatMap, sum-same, sum-zero}
+use Rattle.order.specs.Sums.{fails, all-none, none-all}
+use Rattle.order.specs.BodySums.{cellSum, bodySum, body-sum, settings-zero}
 use Rattle.order.specs.Walks.{noModule}
 use Rattle.past.specs.Forms.{by-wire}
 use Rattle.past.proofs.PlaceLaws.{wires-none, wires-one, wires-reset}
@@ -81,17 +82,10 @@ unfolding wiresIn bodyOf statementsOpen
 body-wires n es p = entries-wires es (module-stmt n ∷ p) ∙ ap (reverseAux (map seen (flatMap wiresOf es))) (wires-reset (module-stmt n) p refl)
 
 -- A BIT OF A WIRE IS THAT OF THE SAME WIRE among more
-get-more :
-    {A : Type 0} (P : A → Bool) (xs ys : List A) (n : ℕ) → Option·elim (getElem? xs n) false P ≡ true → Option·elim (getElem? (xs ++ ys) n) false P ≡ true
-unfolding Option·elim
-get-more P [] ys n e = cc
-get-more P (x ∷ xs) ys zero e = e
-get-more P (x ∷ xs) ys (suc n) e = get-more P xs ys n e
-
 bit-more : (later ws : Wires) (b : Bit) → fineBit ws b ≡ true → fineBit (later ++ ws) b ≡ true
 unfolding fineBit
 bit-more later ws (digit d) e = refl
-bit-more later ws (bit w i) e = rw (reverse-append later ws) (get-more (λ v. ltb i (v .1 .width)) (reverse ws) (reverse later) w e)
+bit-more later ws (bit w i) e = rw (reverse-append later ws) (element-stays (λ v. ltb i (v .1 .width)) (reverse ws) (reverse later) w e)
 
 signal-more : (later ws : Wires) (x : Signal) → fineSignal ws x ≡ true → fineSignal (later ++ ws) x ≡ true
 unfolding fineSignal

@@ -13,8 +13,9 @@ use Rattle.rules.specs.Tokens.{Name}
 use Rattle.rules.specs.Statements.{Wire, Direction, Statement, statementsOpen, Kind, anAttribute, aModule, aParameter, aWire, aMemory, aCell, aCellParameter, aCellConnection, code, contents, is, ownName}
 use Rattle.rules.specs.Signals.{Wires}
 use Rattle.rules.specs.Judgement.{Past, sum, wires, portNumbers, among, Space, space, namesIn, only, until, ofModule, ofCell, ofObject}
-use Rattle.scanner.specs.Laws.{by-test, and-true-left, and-true-right, same-refl, same-eq, or-false-left, or-false-right}
+use Rattle.scanner.specs.Laws.{by-test, and-true-left, and-true-right, same-refl, same-eq}
 use Rattle.scanner.specs.Elements.{all-first, all-later}
+use Rattle.scanner.specs.Sums.{none-sum, sum-none}
 use Rattle.past.proofs.PlaceLaws.{wires-none, wires-one, wires-reset}
 use Rattle.past.specs.Forms.{by-wire}
 use Rattle.admitted.specs.Admitted.{newPorts}
@@ -93,17 +94,12 @@ module _ {I : Type 0} (t : Tally I) (w : Lawful t) where
 -- COUNTING
 module _ {A : Type 0} (f : A → Bool) where
   pub times-none : (xs : List A) → any f xs ≡ false → times f xs ≡ 0
-  unfolding times any sum
-  times-none [] e = refl
-  times-none (x ∷ xs) e = rw (or-false-left (f x) _ e) (omega (arith, times-none xs (or-false-right (f x) _ e)))
+  unfolding times
+  times-none = none-sum f _ (λ x e. rw e)
 
   pub none-times : (xs : List A) → times f xs ≡ 0 → any f xs ≡ false
-  unfolding times any sum
-  none-times [] e = refl
-  none-times (x ∷ xs) e =
-      by-test (f x)
-      (λ q. let z : 1 + times f xs ≡ 0 = rw q at e in absurd (omega arith))
-      (λ q. rw q (let z : 0 + times f xs ≡ 0 = rw q at e in none-times xs (omega arith)))
+  unfolding times
+  none-times = sum-none f _ (λ x e. by-test (f x) (λ q. let z : 1 ≡ 0 = rw q at e in absurd (omega arith)) (λ q. q))
 
 -- NAMES
 unfoldable pub nameTally : Space → (Statement → Bool) → Tally Name
@@ -227,15 +223,10 @@ portTally =
     }
 
 no-port : (n : ℕ) (ws : Wires) → any (λ v. any (eqb n) (portNumbers (v .1))) ws ≡ false → portCount n ws ≡ 0
-unfolding any sum
-no-port n [] e = refl
-no-port n (v ∷ ws) e =
-    omega (arith, times-none (eqb n) (portNumbers (v .1)) (or-false-left _ _ e), no-port n ws (or-false-right (any (eqb n) (portNumbers (v .1))) _ e))
+no-port n = none-sum _ _ (λ v. times-none (eqb n) (portNumbers (v .1)))
 
 port-none : (n : ℕ) (ws : Wires) → portCount n ws ≡ 0 → any (λ v. any (eqb n) (portNumbers (v .1))) ws ≡ false
-unfolding any sum
-port-none n [] e = refl
-port-none n (v ∷ ws) e = rw (none-times (eqb n) (portNumbers (v .1)) (omega arith)) (port-none n ws (omega arith))
+port-none n = sum-none _ _ (λ v. none-times (eqb n) (portNumbers (v .1)))
 
 port-fits :
     (o : Option (Direction × ℕ)) (w : Wire) (ws : Wires) → w .port ≡ o → newPorts ws w ≡ true → (n : ℕ) → portCount n ws ≤ 1 →

@@ -1,14 +1,13 @@
 -- Laws of the place behind a past: it is carried on by one statement; its fields tell the context of the next line and how many wires the
 -- module has. The wires behind one statement more.
 -- Assumes nothing.
-use Prim.Native.Nat.{ℕ, _+_, _-_, _≤_}
-use mathlib.Core.Path.{_≡_, refl, ap, sym, ap₂, _∙_}
+use Prim.Native.Nat.{ℕ, _+_, _-_}
+use mathlib.Core.Path.{_≡_, refl, sym, ap₂, _∙_}
 use mathlib.Core.Bool.{Bool, true, false, not, cond, _&&_}
-use mathlib.Core.List.{List, [], _∷_, _++_, flatMap, zip, zipWith}
+use mathlib.Core.List.{List, [], _∷_, flatMap, zip, zipWith}
 use native.Mathlib.Omega.{arith}
 use lib.Dec.{eqb}
-use lib.ListN.{length, take, length-append}
-use lib.Seq.{take-append-add}
+use lib.ListN.{length, take}
 use Rattle.rules.specs.Bytes.{any}
 use Rattle.rules.specs.Tokens.{Name}
 use Rattle.rules.specs.Statements.{Statement, anAttribute, aModule, aWire, aCell, anEnd, code, contents, is, statementsOpen, Wire, wire-stmt}
@@ -19,7 +18,8 @@ use Rattle.past.specs.Forms.{by-form}
 use Rattle.past.specs.Place.{scopeCode, scopeOf, wiresIn, placeOf, contextOf, closesAt, Bounds, scopeAfter, placeAfter, AfterIs}
 use Rattle.past.specs.declared.place.Place.{Place}
 use Rattle.scanner.specs.Laws.{by-test}
-use Rattle.scanner.specs.Lists.{zip-none}
+use Rattle.scanner.specs.Lists.{zip-none, flatMap-until}
+use Rattle.scanner.specs.Sums.{sum-more, sum-le, sum-until, length-flatMap}
 use Rattle.past.proofs.KindLaws.{is-code, count-one, count-le}
 
 -- A measure of lists to which each element adds its own: over the last elements, and over those before them
@@ -29,42 +29,8 @@ module _ {A : Type 0} (m : List A → ℕ) (g : A → ℕ) (none : m [] ≡ 0) (
   before-step x xs =
       by-test (f x) (λ e. rw e (omega (arith, none, more x xs))) (λ e. rw e (omega (arith, more x xs, more x (until f xs))))
 
-  until-le : (xs : List A) → m (until f xs) ≤ m xs
-  unfolding until
-  until-le [] = omega arith
-  until-le (x ∷ xs) =
-      by-test (f x) (λ e. rw e (omega (arith, none))) (λ e. rw e (omega (arith, until-le xs, more x xs, more x (until f xs))))
-
-module _ {A : Type 0} where
-  length-more : (x : A) (xs : List A) → length (x ∷ xs) ≡ length xs + 1
-  length-more x xs = omega arith
-
-  sum-more : (g : A → ℕ) (x : A) (xs : List A) → sum g (x ∷ xs) ≡ sum g xs + g x
-  unfolding sum
-  sum-more g x xs = omega arith
-
-  pub until-take : (f : A → Bool) (xs : List A) → until f xs ≡ take (length (until f xs)) xs
-  unfolding until
-  until-take f [] = refl
-  until-take f (x ∷ xs) = by-test (f x) (λ e. rw e) (λ e. rw e (ap (λ (l : List A). x ∷ l) (until-take f xs)))
-
-  sum-le : (g : A → ℕ) → ((x : A) → g x ≤ 1) → (xs : List A) → sum g xs ≤ length xs
-  unfolding sum
-  sum-le g h [] = omega arith
-  sum-le g h (x ∷ xs) = omega (arith, h x, sum-le g h xs)
-
-  pub length-flatMap : {B : Type 0} (f : A → List B) (g : A → ℕ) → ((x : A) → length (f x) ≡ g x) → (xs : List A) → length (flatMap f xs) ≡ sum g xs
-  unfolding sum flatMap
-  length-flatMap f g h [] = refl
-  length-flatMap f g h (x ∷ xs) = rw (length-append, h x, length-flatMap f g h xs)
-
-  flatMap-take : {B : Type 0} (h : A → List B) (f : A → Bool) (xs : List A) → flatMap h (until f xs) ≡ take (length (flatMap h (until f xs))) (flatMap h xs)
-  unfolding until flatMap
-  flatMap-take h f [] = refl
-  flatMap-take h f (x ∷ xs) =
-      by-test (f x)
-      (λ e. rw e)
-      (λ e. rw (e, length-append, take-append-add) (ap (λ l. h x ++ l) (flatMap-take h f xs)))
+length-more : {A : Type 0} (x : A) (xs : List A) → length (x ∷ xs) ≡ length xs + 1
+length-more x xs = omega arith
 
 -- no field is above the statements so far
 pub bounds : (ss : Past) → Bounds (placeOf ss)
@@ -125,10 +91,6 @@ module _ (g : Statement → ℕ) (f : Statement → Bool) where
   unfolding sum
   sum-before = before-step (sum g) g refl (sum-more g) f
 
-  sum-until : (ss : Past) → sum g (until f ss) ≤ sum g ss
-  unfolding sum
-  sum-until = until-le (sum g) g refl (sum-more g) f
-
 pub length-wires : (ss : Past) → length (wires ss) ≡ placeOf ss .wires - placeOf ss .«wires_from»
 unfolding placeOf wiresIn wires ofModule
 length-wires ss =
@@ -146,7 +108,7 @@ length-all-wires ss = length-flatMap (λ s. zip (contents s .names) (contents s 
 pub wires-last : (ss : Past)
     → wires ss ≡ take (placeOf ss .wires - placeOf ss .«wires_from») (flatMap (λ s. zip (contents s .names) (contents s .wires)) ss)
 unfolding wires ofModule
-wires-last ss = rw (← length-wires ss) (flatMap-take (λ s. zip (contents s .names) (contents s .wires)) (is aModule) ss)
+wires-last ss = rw (← length-wires ss) (flatMap-until (λ s. zip (contents s .names) (contents s .wires)) (is aModule) ss)
 
 -- the place is carried on by one statement
 outer-code : (z : Scope) → scopeCode (outer z) ≡ scopeCode z - 1

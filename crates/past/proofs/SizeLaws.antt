@@ -2,11 +2,10 @@
 -- Assumes nothing.
 use Prim.Native.Nat.{ℕ, _≤_}
 use mathlib.Core.Path.{_≡_, refl, _∙_}
-use mathlib.Core.Bool.{false, true≢false}
+use mathlib.Core.Bool.{false}
 use mathlib.Core.List.{List, [], _∷_}
 use native.Mathlib.Nat.{le-trans}
 use native.Mathlib.Omega.{arith}
-use lib.Dec.{ltb}
 use borrow.Author.Tests.{ltb-false, le-ltb}
 use Rattle.rules.specs.Bytes.{any}
 use Rattle.rules.specs.Statements.{Statement, anAttribute, aModule, aParameter, aWire, aMemory, aCell, aCellParameter, aCellConnection, aConnection, code, contents}
@@ -14,7 +13,7 @@ use Rattle.rules.specs.Judgement.{Past, sum, signalSize, valueSize, stringSize,
 use Rattle.past.specs.Place.{placeOf, wiresIn}
 use Rattle.past.specs.Sizes.{sizesBy, sizesOf, sumsOf, plusOf, limits, exceeds, Within, AtMost, kindSizes, KindSizesAre}
 use Rattle.past.specs.declared.sizes.Sizes.{Sizes}
-use Rattle.scanner.specs.Laws.{by-test}
+use Rattle.scanner.specs.Elements.{Each, any-none, each-map, none-any}
 use Rattle.past.proofs.KindLaws.{count-le, count-one, count-two}
 
 -- the sums with one statement more
@@ -34,34 +33,21 @@ same-wires ss = refl
 
 -- no size exceeds its limit exactly where each is within it
 Below : List (ℕ × ℕ) → Type 0
-Below [] = Unit {0}
-Below (z ∷ zs) = (z .1 ≤ z .0) × Below zs
-
-none-exceeds : (l : List (ℕ × ℕ)) → any (λ z. ltb (z .0) (z .1)) l ≡ false → Below l
-unfolding any Below
-none-exceeds [] e = tt
-none-exceeds (z ∷ zs) e =
-    by-test (ltb (z .0) (z .1))
-    (λ t. absurd (true≢false (rw t at e)))
-    (λ t. (ltb-false (z .0) (z .1) t, none-exceeds zs (rw t at e)))
-
-below-none : (l : List (ℕ × ℕ)) → Below l → any (λ z. ltb (z .0) (z .1)) l ≡ false
-unfolding any Below
-below-none [] b = refl
-below-none (z ∷ zs) b = rw (le-ltb (z .0) (z .1) (b .0)) (below-none zs (b .1))
+Below = Each (λ z. z .1 ≤ z .0)
 
 module _ (u : Sizes) where
   pub within-limits : exceeds u ≡ false → Within u
   unfolding Below limits exceeds
   within-limits e =
-      let b : Below (limits u) = none-exceeds (limits u) e in
+      let b : Below (limits u) = each-map _ _ (λ z. ltb-false (z .0) (z .1)) (limits u) (any-none _ (limits u) e) in
       omega arith
 
   pub limits-within : Within u → exceeds u ≡ false
   unfolding Below limits exceeds
   limits-within w =
-      below-none (limits u)
-      (w .modules, (w .wires, (w .memories, (w .cells, (w .parameters, (w .attributes, (w .ports, (w .connections, (w .signal-bits, (w .value-bits, (w .string-bytes, (w .name-bytes, tt))))))))))))
+      let b : Below (limits u) =
+      (w .modules, (w .wires, (w .memories, (w .cells, (w .parameters, (w .attributes, (w .ports, (w .connections, (w .signal-bits, (w .value-bits, (w .string-bytes, (w .name-bytes, tt)))))))))))) in
+      none-any _ (limits u) (each-map _ _ (λ z. le-ltb (z .0) (z .1)) (limits u) b)
 
   -- so that sums of two do not wrap
   pub within-small : (n : ℕ) → 16384 ≤ n → Within u → AtMost n u

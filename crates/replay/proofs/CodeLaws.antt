@@ -11,13 +11,12 @@ use Rattle.rules.specs.Bytes.{all, within}
 use Rattle.rules.specs.Tokens.{Digit}
 use Rattle.rules.specs.Statements.{Constant, value, integer, string, digitsOf, bytesOf}
 use Rattle.rules.specs.Signals.{Wires}
-use Rattle.rules.specs.Layout.{Used, padded, row, digitCode, constantColumns, bitCode}
+use Rattle.rules.specs.Layout.{Used, padded, row, digitCode, constantColumns}
 use Rattle.admitted.specs.Admitted.{fineBit, fineSignal, fineConstant}
 use Rattle.tables.specs.Row.{words}
 use Rattle.tables.specs.declared.Row.{Row}
-use Rattle.numbers.specs.KindLaws as kinds
 use Rattle.numbers.specs.Kinds.{digitOf, bitOf, bitAt, signalOf}
-use Rattle.numbers.specs.KindLaws.{digit-code, code-digit}
+use Rattle.numbers.specs.KindLaws.{digit-code, code-digit, length-signal}
 use Rattle.numbers.specs.SignedLaws.{word-signed, signed-int32}
 use Rattle.scanner.specs.Laws.{and-true-left, and-true-right, never}
 use Rattle.scanner.specs.Elements.{all-map, all-each, each-of, map-back}
@@ -34,14 +33,6 @@ digits-back cs h = map-back digitOf digitCode cs (each-of _ isDigit (λ c e. cod
 pub all-digit : (ds : List Digit) → all isDigit (map digitCode ds) ≡ true
 unfolding isDigit
 all-digit ds = all-map isDigit digitCode ds ∙ all-each _ (λ d. lt-ltb (digitCode d) 6 (digit-code d)) ds
-
-pub codes-back : (cs : List ℕ) → map bitCode (signalOf cs) ≡ cs
-unfolding signalOf
-codes-back cs = kinds.codes-back cs
-
-pub length-signal : (cs : List ℕ) → length (signalOf cs) ≡ length cs
-unfolding signalOf
-length-signal cs = length-map cs _
 
 all-signal : (ws : Wires) (cs : List ℕ) → all (fineBit ws) (signalOf cs) ≡ all (λ c. fineBit ws (bitOf (bitAt c))) cs
 unfolding signalOf
@@ -140,11 +131,11 @@ module _ (strings bits : List ℕ) (u : Used) (a b : ℕ) where
   unfolding TellsConstant constantOf constantColumns
   kind-not k x y z = rw (ne-eqb k 1 x, ne-eqb k 2 z) (λ r. y (sym (ap (λ (l : List ℕ). getD l 0 0) (r .columns))))
 
--- the columns of a constant, read from its row
-pub columns-read :
+-- the columns of a constant and what stands behind them, read from its row
+pub constant-read :
     (u : Used) (c : Constant) (r : Row) (kind a n sort : ℕ) → words r ≡ row (kind ∷ a ∷ n ∷ constantColumns u c ++ sort ∷ []) →
-    constantColumns u c ≡ r .c ∷ r .d ∷ r .e ∷ []
+    (constantColumns u c ≡ r .c ∷ r .d ∷ r .e ∷ []) × (r .f ≡ sort)
 unfolding constantColumns words row padded
-columns-read u (value ds) r kind a n sort e = sym (ap (λ (l : List ℕ). take 3 (drop 3 l)) e)
-columns-read u (integer i) r kind a n sort e = sym (ap (λ (l : List ℕ). take 3 (drop 3 l)) e)
-columns-read u (string s) r kind a n sort e = sym (ap (λ (l : List ℕ). take 3 (drop 3 l)) e)
+constant-read u (value ds) r kind a n sort e = (sym (ap (λ (l : List ℕ). take 3 (drop 3 l)) e), ap (λ (l : List ℕ). getD l 6 0) e)
+constant-read u (integer i) r kind a n sort e = (sym (ap (λ (l : List ℕ). take 3 (drop 3 l)) e), ap (λ (l : List ℕ). getD l 6 0) e)
+constant-read u (string s) r kind a n sort e = (sym (ap (λ (l : List ℕ). take 3 (drop 3 l)) e), ap (λ (l : List ℕ). getD l 6 0) e)

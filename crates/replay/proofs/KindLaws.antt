@@ -2,7 +2,7 @@
 -- Assumes nothing.
 use Prim.Native.Nat.{ℕ, _+_, _*_, _≤_, _<_}
 use mathlib.Core.Path.{_≡_, refl, sym, ap, ap₂, _∙_, subst}
-use mathlib.Core.List.{List, [], _∷_, _++_, flatMap, zip, zipWith, append-nil, Option·toList}
+use mathlib.Core.List.{List, [], _∷_, flatMap, zip, zipWith, append-nil, Option·toList}
 use mathlib.Core.Option.{Option·elim}
 use mathlib.Core.Bool.{true, false, cond, _&&_, and-true}
 use native.Mathlib.Omega.{arith}
@@ -11,10 +11,10 @@ use lib.ListN.{length, getD}
 use borrow.Author.Tests.{eq-eqb, ne-eqb}
 use Rattle.rules.specs.Bytes.{same, all, within, legal}
 use Rattle.rules.specs.Tokens.{Name}
-use Rattle.rules.specs.Statements.{Sort, plain, signed, real, Statement, Constant, value, integer, string, Memory, contents, holds, code, attr-stmt, module-stmt, memory-stmt, cell-stmt, proc-stmt, end-stmt}
+use Rattle.rules.specs.Statements.{Sort, plain, signed, real, Statement, Memory, contents, holds, code, attr-stmt, module-stmt, memory-stmt, cell-stmt, proc-stmt, end-stmt}
 use Rattle.rules.specs.Signals.{Wires}
 use Rattle.rules.specs.Judgement.{sum, signalSize, valueSize, stringSize, nameSize}
-use Rattle.rules.specs.Layout.{Used, padded, row, nameBytes, stringBytes, bitCodes, wireRows, constantColumns, sortCode, columns, statementRow}
+use Rattle.rules.specs.Layout.{Used, padded, row, nameBytes, stringBytes, bitCodes, wireRows, sortCode, columns, statementRow}
 use Rattle.admitted.specs.Admitted.{fineMemory, sameLength, fineAlone, fineParts}
 use Rattle.tables.specs.Row.{words}
 use Rattle.tables.specs.declared.Row.{Row}
@@ -27,6 +27,7 @@ use Rattle.netlist.specs.RowLaws.{row-zero}
 use Rattle.replay.specs.Reads.{Tables, tabled, constantOf, optionalOf, memoryOf, statementBy, statementOf, Reads, Tells, TellsNamed, TellsValued, TellsAutoidx, TellsEnd, TellsMemory, TellsCell, TellsParameter, TellsCellParameter}
 use Rattle.replay.specs.declared.statements.Found.{Found}
 use Rattle.replay.proofs.Spans.{has-none, has-span, spans}
+use Rattle.replay.proofs.CodeLaws.{constant-read}
 use Rattle.replay.proofs.ReadLaws.{settled, name-legal, name-long, name-not}
 
 -- ---- a statement without parts
@@ -150,12 +151,6 @@ module _ (names : List ℕ) (u : Used) (r : Row) where
 
 -- ---- parameters
 
-pub sort-read : (u : Used) (c : Constant) (r : Row) (kind a n sort : ℕ) → words r ≡ row (kind ∷ a ∷ n ∷ constantColumns u c ++ sort ∷ []) → r .f ≡ sort
-unfolding constantColumns words row padded
-sort-read u (value ds) r kind a n sort e = ap (λ (l : List ℕ). getD l 6 0) e
-sort-read u (integer i) r kind a n sort e = ap (λ (l : List ℕ). getD l 6 0) e
-sort-read u (string s) r kind a n sort e = ap (λ (l : List ℕ). getD l 6 0) e
-
 sort-few : (o : Sort) → sortCode o ≤ 2
 unfolding sortCode
 sort-few plain = omega arith
@@ -186,7 +181,7 @@ module _ (names strings bits : List ℕ) (u : Used) (r : Row) (f : Found) where
 pub cell-parameter-not : (names strings bits : List ℕ) (u : Used) (r : Row) → 2 < r .f → TellsCellParameter names strings bits u r Found.Nothing
 unfolding Tells statementRow columns code contents holds
 cell-parameter-not names strings bits u r h wires ws d =
-    let e : r .f ≡ sortCode (sortOf (r .f)) = sort-read u (constantOf strings bits u (r .c) (r .d) (r .e)) r 8 (u .names) (length (span names (u .names) (r .b))) (sortCode (sortOf (r .f))) (d .row) in
+    let e : r .f ≡ sortCode (sortOf (r .f)) = constant-read u (constantOf strings bits u (r .c) (r .d) (r .e)) r 8 (u .names) (length (span names (u .names) (r .b))) (sortCode (sortOf (r .f))) (d .row) .1 in
     absurd (omega (arith, sort-few (sortOf (r .f))))
 
 -- ---- by the row's kind

@@ -23,7 +23,7 @@ use Rattle.replay.specs.Reads.{Tables, tabled, constantOf, ReadsConstant
 use Rattle.replay.specs.declared.statements.Found.{Found}
 use Rattle.replay.specs.declared.statements.Held.{Held}
 use Rattle.replay.proofs.Spans.{whole-long, long-whole, has-none, has-span}
-use Rattle.replay.proofs.CodeLaws.{columns-read}
+use Rattle.replay.proofs.CodeLaws.{constant-read}
 
 -- with the parts there, the row decides
 pub settled :
@@ -85,7 +85,7 @@ module _ (names strings bits : List ℕ) (u : Used) (r : Row) (kind sort : ℕ) 
     unfolding holds stringBytes bitCodes flatMap
     read-constant q d =
         record {
-          columns = columns-read u c r kind (u .names) (length n) sort (d .row ∙ q);
+          columns = constant-read u c r kind (u .names) (length n) sort (d .row ∙ q) .0;
           strings-has = rw (e, append-nil) at (d .parts .strings-has);
           bits-has = rw (e, append-nil, append-nil) at (d .parts .bits-has);
           fine = and-true-right (legal n) (fineConstant c) (sym valued-fine ∙ d .fine);

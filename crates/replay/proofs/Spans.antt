@@ -1,18 +1,18 @@
 -- Spans of a table: how long they are, tests of all their values, and what a table has from a place on.
 -- Assumes nothing.
-use Prim.Native.Nat.{ℕ, zero, suc, min, _+_, _-_, _≤_, _<_}
+use Prim.Native.Nat.{ℕ, min, _+_, _-_, _≤_, _<_}
 use mathlib.Core.Path.{_≡_, refl, sym, ap, _∙_}
-use mathlib.Core.List.{List, [], _∷_, _++_}
+use mathlib.Core.List.{List, [], _++_}
 use mathlib.Core.Bool.{Bool, true, false}
 use native.Mathlib.Numerals.{add-one}
 use native.Mathlib.Omega.{arith}
-use lib.ListN.{length, getD, take, drop, length-take, length-drop, drop-of-length-le}
+use lib.ListN.{length, getD, take, drop, length-take, length-drop}
 use lib.Seq.{slice, slice-cons}
 use borrow.Author.Tests.{eq-eqb, ne-eqb, eqb-true}
 use Rattle.rules.specs.Bytes.{all}
-use Rattle.wires.specs.RowLaws.{slice-span, slice-join}
 use Rattle.replay.specs.Parts.{span, whole}
 use Rattle.netlist.specs.Spans.{Has}
+use Rattle.scanner.specs.Parts.{slice-join, slice-none, slice-span, take-taken}
 
 pub span-is : (t : List ℕ) (at n : ℕ) → span t at n ≡ take n (drop at t)
 unfolding span
@@ -60,7 +60,7 @@ module _ (f : ℕ → Bool) (l : List ℕ) (i to : ℕ) where
 
   pub all-end : to ≤ i → all f (slice i to l) ≡ true
   unfolding all
-  all-end h = let b : length (take to l) ≤ i = omega (arith, length-take to l) in rw (drop-of-length-le (take to l) b)
+  all-end h = rw (slice-none i to l h)
 
 -- ---- what a table has
 
@@ -68,11 +68,6 @@ module _ (t : List ℕ) (at : ℕ) where
   pub has-none : Has t at []
   unfolding Has
   has-none = refl
-
-  take-taken : (n : ℕ) (l : List ℕ) → take (length (take n l)) l ≡ take n l
-  take-taken zero l = refl
-  take-taken (suc n) [] = refl
-  take-taken (suc n) (x ∷ l) = ap (λ (r : List ℕ). x ∷ r) (take-taken n l)
 
   pub has-span : (n : ℕ) → Has t at (span t at n)
   unfolding Has

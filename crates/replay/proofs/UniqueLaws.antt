@@ -22,7 +22,7 @@ use Rattle.designs.specs.CodeLaws.{narrow}
 use Rattle.designs.specs.DecodeLaws.{decodes}
 use Rattle.replay.specs.Parts.{span}
 use Rattle.replay.specs.Reads.{Tables, constantOf, optionalOf, memoryOf, statementBy, statementOf, Reads}
-use Rattle.replay.proofs.CodeLaws.{columns-read}
+use Rattle.replay.proofs.CodeLaws.{constant-read}
 
 -- where a row's columns are those of a statement, its parts are where the row says
 module _ (t : Tables) (u : Used) (r : Row) where
@@ -46,14 +46,14 @@ module _ (t : Tables) (u : Used) (r : Row) where
   placed : (s : Statement) → words r ≡ statementRow u s → is aProcess s ≡ false → statementAt (t .names) (t .strings) (t .bits) (t .wires) (words r) 0 ≡ some (statementOf t u r)
   unfolding statementAt netlist.statementBy statementOf statementBy kindAt nameFrom signalAt signalOf memoryAt memoryOf sortAt spanAt span column wordAt words statementRow columns code contents holds is row padded Option·elim Option·toList
   placed (autoidx-stmt i) e p = rw (at 0 e)
-  placed (attr-stmt n c) e p = rw (constant-placed c (columns-read u c r 2 (u .names) (length n) 0 (e ∙ sym (row-zero u c 2 (u .names) (length n)))), at 0 e, at 1 e)
+  placed (attr-stmt n c) e p = rw (constant-placed c (constant-read u c r 2 (u .names) (length n) 0 (e ∙ sym (row-zero u c 2 (u .names) (length n))) .0), at 0 e, at 1 e)
   placed (module-stmt n) e p = rw (at 0 e, at 1 e)
   placed (param-stmt n none) e p = rw (constant-none (at 3 e), at 0 e, at 1 e)
-  placed (param-stmt n (some c)) e p = rw (constant-there c (columns-read u c r 4 (u .names) (length n) 0 (e ∙ sym (row-zero u c 4 (u .names) (length n)))), at 0 e, at 1 e)
+  placed (param-stmt n (some c)) e p = rw (constant-there c (constant-read u c r 4 (u .names) (length n) 0 (e ∙ sym (row-zero u c 4 (u .names) (length n))) .0), at 0 e, at 1 e)
   placed (wire-stmt w n) e p = rw (at 0 e, at 1 e, at 3 e)
   placed (memory-stmt m n) e p = rw (at 0 e, at 1 e)
   placed (cell-stmt y n) e p = rw (at 0 e, at 1 e, at 3 e, at 2 e)
-  placed (cell-param-stmt o n c) e p = rw (constant-placed c (columns-read u c r 8 (u .names) (length n) (sortCode o) e), at 0 e, at 1 e)
+  placed (cell-param-stmt o n c) e p = rw (constant-placed c (constant-read u c r 8 (u .names) (length n) (sortCode o) e .0), at 0 e, at 1 e)
   placed (cell-conn-stmt n x) e p = rw (at 0 e, at 1 e, at 3 e)
   placed (conn-stmt x y) e p = rw (at 0 e, at 1 e, at 3 e, at 2 e)
   placed (proc-stmt n) e p = absurd (false≢true (sym p))

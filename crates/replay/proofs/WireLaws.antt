@@ -30,7 +30,8 @@ use Rattle.netlist.specs.Spans.{Has}
 use Rattle.replay.specs.Reads.{tabled, Decides, Reads, Tells, TellsWire, TellsCellConnection, TellsConnection, WireRowStands}
 use Rattle.replay.specs.declared.statements.Found.{Found}
 use Rattle.replay.proofs.Spans.{whole-long, has-none, has-span, spans}
-use Rattle.replay.proofs.CodeLaws.{codes-back, length-signal, signal-fine, signal-whole, signal-long}
+use Rattle.numbers.specs.KindLaws.{codes-back, length-signal}
+use Rattle.replay.proofs.CodeLaws.{signal-fine, signal-whole, signal-long}
 use Rattle.replay.proofs.ReadLaws.{settled, name-legal, name-long, name-not}
 
 -- a signal that stands there has as many bits as its row says, and keeps the rules

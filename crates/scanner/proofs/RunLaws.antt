@@ -1,24 +1,18 @@
 -- The laws of where a run ends, for every test.
 -- Assumes nothing.
-use mathlib.Core.Path.{_≡_, sym, ap, _∙_}
+use mathlib.Core.Path.{_≡_, sym, _∙_}
 use mathlib.Core.Logic.{_⊎_, ⊎-elim}
 use mathlib.Core.Bool.{Bool, true, false}
-use mathlib.Core.List.{List, [], _∷_}
-use Prim.Native.Nat.{ℕ, zero, suc, _+_, _-_, _<_, _≤_}
+use mathlib.Core.List.{List, []}
+use Prim.Native.Nat.{ℕ, _+_, _-_, _<_, _≤_}
 use native.Mathlib.Numerals.{add-one}
 use native.Mathlib.Omega.{arith}
 use lib.ListN.{length, getD, take, drop, length-drop, drop-of-length-le}
-use lib.Seq.{take-all, take-length, take-nil, drop-cons, drop-drop, slice}
+use lib.Seq.{drop-cons, drop-drop, slice}
 use Rattle.rules.specs.Bytes.{run, rest}
 use Rattle.scanner.specs.Runs.{endOf}
 use Rattle.scanner.specs.Laws.{run-le, take-run, drop-run}
-
--- a part, as code cuts it and as `slice` does
-pub slice-part : (i e : ℕ) (s : List ℕ) → slice i e s ≡ take (e - i) (drop i s)
-slice-part zero e s = let q : e - 0 ≡ e = omega arith in rw q
-slice-part (suc i) zero s = let q : 0 - suc i ≡ 0 = omega arith in rw q
-slice-part (suc i) (suc e) [] = rw take-nil
-slice-part (suc i) (suc e) (x ∷ xs) = let q : suc e - suc i ≡ e - i = omega arith in rw q (slice-part i e xs)
+use Rattle.scanner.specs.Parts.{slice-part, slice-cut, slice-none}
 
 module _ (f : ℕ → Bool) (s : List ℕ) (i : ℕ) where
   pub endOf-end : length s ≤ i → endOf f s i ≡ i
@@ -54,13 +48,6 @@ module _ (f : ℕ → Bool) (s : List ℕ) (i : ℕ) where
   pub endOf-rest : drop (endOf f s i) s ≡ rest f (drop i s)
   unfolding endOf
   endOf-rest = sym (drop-drop (length (run f (drop i s))) i s) ∙ drop-run f (drop i s)
-
--- a span past the end is cut there; one that ends where it starts, or before, is empty
-pub slice-cut : (i e : ℕ) (s : List ℕ) → length s ≤ e → slice i (length s) s ≡ slice i e s
-slice-cut i e s h = ap (drop i) (take-length s ∙ sym (take-all e s h))
-
-pub slice-none : (i e : ℕ) (s : List ℕ) → e ≤ i → slice i e s ≡ []
-slice-none i e s h = let q : e - i ≡ 0 = omega arith in slice-part i e s ∙ ap (λ (n : ℕ). take n (drop i s)) q
 
 -- the part that code cuts at the table's end
 module _ (start end stop : ℕ) (l : List ℕ) (came : (stop ≡ end) ⊎ ((length l ≤ end) × (stop ≡ length l))) where

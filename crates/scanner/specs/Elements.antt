@@ -1,7 +1,7 @@
--- Tests that all elements of a list pass, and what holds of each.
+-- Tests that all elements of a list pass, or some, and what holds of each.
 -- Assumes nothing.
-use mathlib.Core.Path.{_≡_, refl, ap, ap₂, _∙_}
-use mathlib.Core.Bool.{Bool, true, _&&_, false≢true}
+use mathlib.Core.Path.{_≡_, refl, sym, ap, ap₂, _∙_}
+use mathlib.Core.Bool.{Bool, true, false, cond, _&&_, _||_, or-assoc, false≢true}
 use mathlib.Core.List.{List, [], _∷_, _++_, map, flatMap, zip, zipWith, reverseAux}
 use mathlib.Core.Option.{some}
 use Prim.Native.Nat.{ℕ, zero, suc}
@@ -9,8 +9,8 @@ use lib.Dec.{eqb}
 use lib.ListN.{getElem?, getD, take, drop}
 use borrow.Author.Tests.{eqb-true}
 use Rattle.rules.specs.Bytes.{all, any}
-use Rattle.rules.specs.Judgement.{until}
-use Rattle.scanner.specs.Laws.{by-cond, by-test, and-true-left, and-true-right}
+use Rattle.rules.specs.Judgement.{until, only}
+use Rattle.scanner.specs.Laws.{by-cond, by-test, and-true-left, and-true-right, or-false-left, or-false-right}
 
 module _ {A : Type 0} (f : A → Bool) where
   pub all-split : (xs ys : List A) → all f (xs ++ ys) ≡ all f xs && all f ys
@@ -73,6 +73,13 @@ module _ {A : Type 0} (f : A → Bool) where
   all-implied g h [] e = refl
   all-implied g h (x ∷ xs) e = rw (h x (and-true-left (f x) _ e)) (all-implied g h xs (and-true-right (f x) _ e))
 
+  pub all-one : (x : A) → f x ≡ true → all f (x ∷ []) ≡ true
+  unfolding all
+  all-one x h = all-cons x [] h refl
+
+  pub all-snoc : (xs : List A) (x : A) → all f xs ≡ true → f x ≡ true → all f (xs ++ x ∷ []) ≡ true
+  all-snoc xs x h e = all-append xs (x ∷ []) h (all-one x e)
+
   -- that every element passes
   pub all-each : ((x : A) → f x ≡ true) → (xs : List A) → all f xs ≡ true
   unfolding all
@@ -117,11 +124,14 @@ infixr 20 _then_
 abbrev pub _then_ : {A B : Type 0} → A → B → A × B
 p then q = (p, q)
 
--- holds of a number that is found among them
-pub by-any : (P : ℕ → Type 0) (xs : List ℕ) → Each P xs → (n : ℕ) → any (eqb n) xs ≡ true → P n
+-- holds of what is found among them, by a comparison
+pub by-found : {A : Type 0} (equal : A → A → Bool) → ((x y : A) → equal x y ≡ true → x ≡ y) → (P : A → Type 0) (xs : List A) → Each P xs → (n : A) → any (equal n) xs ≡ true → P n
 unfolding any
-by-any P [] ps n h = absurd (false≢true h)
-by-any P (x ∷ xs) ps n h = by-test (eqb n x) (λ e. rw (eqb-true n x e) (ps .0)) (λ e. by-any P xs (ps .1) n (rw e at h))
+by-found equal h P [] ps n e = absurd (false≢true e)
+by-found equal h P (x ∷ xs) ps n e = by-test (equal n x) (λ t. rw (h n x t) (ps .0)) (λ t. by-found equal h P xs (ps .1) n (rw t at e))
+
+pub by-any : (P : ℕ → Type 0) (xs : List ℕ) → Each P xs → (n : ℕ) → any (eqb n) xs ≡ true → P n
+by-any = by-found eqb eqb-true
 
 module _ {A : Type 0} (P : A → Type 0) where
   pub each-front : (xs ys : List A) → Each P (xs ++ ys) → Each P xs
@@ -203,3 +213,38 @@ all-same f g h (x ∷ xs) = rw (h x, all-same f g h xs)
 pub each-through : {A B : Type 0} (P : A → Type 0) (k : A → B) (R : B → Type 0) → ((x : A) → P x → R (k x)) → (xs : List A) → Each P xs → Each R (map k xs)
 each-through P k R h [] e = tt
 each-through P k R h (x ∷ xs) e = (h x (e .0), each-through P k R h xs (e .1))
+
+-- that some element passes
+module _ {A : Type 0} where
+  pub any-append : (f : A → Bool) (xs ys : List A) → any f (xs ++ ys) ≡ any f xs || any f ys
+  unfolding any
+  any-append f [] ys = refl
+  any-append f (x ∷ xs) ys = ap (λ (b : Bool). f x || b) (any-append f xs ys) ∙ sym (or-assoc (f x) (any f xs) (any f ys))
+
+  pub any-same : (f g : A → Bool) (xs : List A) → Each (λ x. f x ≡ g x) xs → any f xs ≡ any g xs
+  unfolding any
+  any-same f g [] h = refl
+  any-same f g (x ∷ xs) h = ap₂ _||_ (h .0) (any-same f g xs (h .1))
+
+  -- and another test
+  pub any-only : (f g : A → Bool) (xs : List A) → any (λ x. f x && g x) xs ≡ any g (only f xs)
+  unfolding any only
+  any-only f g [] = refl
+  any-only f g (x ∷ xs) = by-test (f x) (λ e. rw (e, any-only f g xs)) (λ e. rw (e, any-only f g xs))
+
+  -- with one element more, or not
+  pub any-chosen : (f : A → Bool) (b : Bool) (x : A) (xs : List A) → any f (cond b (x ∷ xs) xs) ≡ (b && f x) || any f xs
+  unfolding any
+  any-chosen f true x xs = refl
+  any-chosen f false x xs = refl
+
+  -- none does just where each fails
+  pub any-none : (f : A → Bool) (xs : List A) → any f xs ≡ false → Each (λ x. f x ≡ false) xs
+  unfolding any
+  any-none f [] e = tt
+  any-none f (x ∷ xs) e = (or-false-left (f x) _ e, any-none f xs (or-false-right (f x) _ e))
+
+  pub none-any : (f : A → Bool) (xs : List A) → Each (λ x. f x ≡ false) xs → any f xs ≡ false
+  unfolding any
+  none-any f [] e = refl
+  none-any f (x ∷ xs) e = rw (e .0) (none-any f xs (e .1))

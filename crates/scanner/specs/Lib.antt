@@ -6,3 +6,5 @@ pub mod Numbers
 pub mod Laws
 pub mod Lists
 pub mod Elements
+pub mod Parts
+pub mod Sums

@@ -15,15 +15,15 @@ use Rattle.rules.specs.Design.{Setting, settingIn}
 use Rattle.rules.specs.Session.{hdlname}
 use Rattle.rules.specs.Layout.{used, padded, row, stringBytes, constantColumns, columns, statementRow}
 use Rattle.scanner.specs.Laws.{by-test}
+use Rattle.scanner.specs.Lists.{flatMap-back}
+use Rattle.scanner.specs.Parts.{slice-span}
 use Rattle.past.specs.Forms.{by-form}
 use Rattle.past.specs.Place.{wiresIn}
 use Rattle.wires.specs.Rows.{column, spanAt}
-use Rattle.wires.specs.RowLaws.{slice-span}
 use Rattle.netlist.specs.Rows.{kindAt, nameAt}
 use Rattle.netlist.specs.Kinds.{ofKinds, hasName}
 use Rattle.netlist.specs.RowLaws.{row-own}
 use Rattle.netlist.specs.Laid.{roomsOf}
-use Rattle.designs.specs.ListLaws.{flatMap-back}
 use Rattle.designs.specs.AttributeLaws.{settingsBefore}
 use Rattle.netlist.specs.UsedLaws.{used-wires}
 use Rattle.designs.specs.WireLaws.{Adds, a-wire, no-wire, adds}

@@ -8,13 +8,13 @@ use mathlib.Core.Logic.{_⊎_, inl, inr}
 use native.Mathlib.Numerals.{add-one}
 use native.Mathlib.Omega.{arith}
 use lib.Dec.{eqb, leb, ltb}
-use lib.ListN.{length, getD, take, drop}
-use lib.Seq.{slice, drop-cons, length-slice}
+use lib.ListN.{length, getD, take, drop, length-drop}
+use lib.Seq.{slice, drop-cons, length-take-le}
 use borrow.Author.Tests.{ltb-true, ltb-false, leb-true, leb-false}
 use Rattle.rules.specs.Bytes.{byte}
 use Rattle.rules.specs.Session.{plainName, orElse}
 use Rattle.scanner.specs.Laws.{by-cond, by-test}
-use Rattle.scanner.proofs.RunLaws.{slice-part, cut-none, cut-part}
+use Rattle.scanner.proofs.RunLaws.{cut-none, cut-part}
 use Rattle.wires.specs.Rows.{column, spanAt}
 use Rattle.wire_names.specs.Now.{lastRename, nameNow}
 use Rattle.wire_names.specs.NowLaws.{name-own, name-given}
@@ -95,9 +95,6 @@ module _ (names : List ℕ) (p : Part) (h : p .end ≤ length names) where
       (λ q. rw q (b, h, plain-none (ltb-false (p .start) (p .end) q)))
 
 -- THE STRING, OR THE NAME
-length-part : (t : List ℕ) (start end : ℕ) → end ≤ length t → length (take (end - start) (drop start t)) ≡ end - start
-length-part t start end h = ap length (sym (slice-part start end t)) ∙ length-slice start end t h
-
 else-first : (xs ys : List ℕ) → 0 < length xs → xs ≡ orElse xs ys
 unfolding orElse
 else-first [] ys h = absurd (omega arith)
@@ -110,7 +107,7 @@ else-second (x ∷ xs) ys h = absurd (omega arith)
 
 module _ (names strings xs ys : List ℕ) (t p : Part) (ht : PartIs strings xs t) (hp : PartIs names ys p) where
   text-length : length xs ≡ t .end - t .start
-  text-length = ap length (sym (ht .2)) ∙ length-part strings (t .start) (t .end) (ht .1)
+  text-length = ap length (sym (ht .2)) ∙ length-take-le (t .end - t .start) (drop (t .start) strings) (omega (arith, length-drop (t .start) strings, ht .1))
 
   abbrev Is : Shown → Type 0
   Is r = InRange names strings r × (numberOf r ≡ 0) × (bytesIn names strings r ≡ orElse xs ys)

@@ -13,6 +13,7 @@ use Rattle.rules.specs.Signals.{Wires, width, widths, bits, bitsOf, parts, part
 use Rattle.rules.specs.Numbers.{goodNumbers}
 use Rattle.rules.specs.Shapes.{sigs, members, signal}
 use Rattle.scanner.specs.Laws.{and-true-left, and-true-right}
+use Rattle.scanner.specs.Parts.{slice-join, slice-kept, take-kept}
 use Rattle.tokens.specs.Rows.{line}
 use Rattle.tokens.proofs.TokenLaws.{line-long}
 use Rattle.signals.specs.Faults.{faults, fault, merge, tooWide, mild}
@@ -21,11 +22,10 @@ use Rattle.signals.specs.Reads.{markAt, membersOn, SignalIs, BundleIs}
 use Rattle.signals.specs.declared.Bits.{Bits}
 use Rattle.signals.specs.declared.Answer.the-variants.{Read, NoShape}
 use Rattle.signals.proofs.FaultLaws.{merge-zero, mild-merge, late-merge, too-wide-late, too-wide-zero, faults-append, faults-front, own-width}
-use Rattle.signals.proofs.Lists.{slice-kept, take-kept, codes-append}
+use Rattle.signals.proofs.Codes.{codes-append}
 use Rattle.signals.proofs.HeldLaws.{sized, kept-same}
 use Rattle.signals.proofs.SliceLaws.{kept-on}
 use Rattle.signals.proofs.Parses.{mark-below, members-start, members-closed, members-next, members-none}
-use Rattle.wires.specs.RowLaws.{slice-join}
 
 -- the members read so far, of this width and number: as Held, of a bundle that is not closed
 pub record MembersHeld (ws : Wires) (ss : List Sig) (o : ℕ) (out : List ℕ) (width fault : ℕ) : Type 0 where

@@ -18,12 +18,13 @@ use Rattle.rules.specs.Numbers.{int32, goodNumbers}
 use Rattle.numbers.specs.Signed.{signedOf}
 use Rattle.numbers.specs.SignedLaws.{by-half, signed-int32}
 use Rattle.scanner.specs.Laws.{by-test}
+use Rattle.scanner.specs.Parts.{slice-within}
 use Rattle.tables.specs.Store.{store, store-slice}
 use Rattle.signals.specs.Faults.{faults, fault, merge, tooWide, mild}
 use Rattle.signals.specs.Held.{codes, Held, Kept, CutIs}
 use Rattle.signals.specs.declared.Bits.{Bits}
 use Rattle.signals.proofs.FaultLaws.{merge-zero, mild-not, mild-merge, late-merge, too-wide-late, too-wide-zero, faults-front, own-slice, own-width}
-use Rattle.signals.proofs.Lists.{slice-within, length-codes, codes-part}
+use Rattle.signals.proofs.Codes.{length-codes, codes-part}
 use Rattle.signals.proofs.HeldLaws.{sized, held-not, kept-same, kept-store}
 
 -- ---- bounds

@@ -1,7 +1,7 @@
 -- What is promised of a wire, a constant and a slice, from what the code did.
 -- Assumes nothing.
 use mathlib.Core.Path.{_≡_, refl, sym, ap, _∙_}
-use mathlib.Core.Bool.{Bool, true, false}
+use mathlib.Core.Bool.{true, false}
 use mathlib.Core.List.{List, [], _∷_, reverse, map-map}
 use mathlib.Core.Option.{Option, some, Option·elim, Option·getD}
 use Prim.Native.Nat.{ℕ, suc, _+_, _<_, _≤_}
@@ -16,7 +16,7 @@ use Rattle.rules.specs.Signals.{Wires, find, wireBits, literalBits, literalWidt
 use Rattle.rules.specs.Numbers.{goodLiteral, goodNumbers}
 use Rattle.rules.specs.Layout.{bitCode}
 use Rattle.tables.specs.Store.{store, length-store, store-slice, store-take}
-use Rattle.scanner.specs.Laws.{by-cond}
+use Rattle.scanner.specs.Laws.{by-cond, never}
 use Rattle.numbers.specs.declared.kinds.WireNumber.{WireNumber}
 use Rattle.wires.specs.Found.{widthFound, foundOf}
 use Rattle.wires.specs.FoundLaws.{found-declared, found-width, found-bits}
@@ -27,7 +27,7 @@ use Rattle.signals.specs.Faults.{fault, tooWide, mild}
 use Rattle.signals.specs.Held.{codes, Held, Kept, Put}
 use Rattle.signals.specs.declared.Bits.{Bits}
 use Rattle.signals.proofs.FaultLaws.{mild-none, own-number, own-wire, own-width}
-use Rattle.signals.proofs.Lists.{length-wire-codes}
+use Rattle.signals.proofs.Codes.{length-wire-codes}
 
 pub kept-same : (o : ℕ) (out : List ℕ) → Kept o out out
 kept-same o out = record { long = refl; below = refl }
@@ -40,18 +40,15 @@ kept-store o out out′ vs e room =
 abbrev pub sized : ℕ → ℕ → Bits
 sized w n = record { width = w; fault = n }
 
-true-false : (b : Bool) → b ≡ true → b ≡ false → ⊥
-true-false b p q = let z : _≡_ {A = ℕ} 0 1 = cc in omega arith
-
 module _ (ws : Wires) (s : Sig) (o : ℕ) (out : List ℕ) (w : ℕ) where
   -- a rule other than that of the width is broken
   pub held-not : (n : ℕ) → fault ws s ≡ n → mild n ≡ false → Held ws s o out (sized w n)
   held-not n e m =
       record {
         refused = e;
-        wide = λ t. absurd (true-false (mild n) t m);
-        small = λ t. absurd (true-false (mild n) (mild-none n t) m);
-        coded = λ t. absurd (true-false (mild n) (mild-none n t) m);
+        wide = λ t. never (mild n) t m;
+        small = λ t. never (mild n) (mild-none n t) m;
+        coded = λ t. never (mild n) (mild-none n t) m;
       }
 
   -- no other rule is broken

@@ -1,5 +1,5 @@
 pub mod FaultLaws
-pub mod Lists
+pub mod Codes
 mod HeldLaws
 mod Parses
 mod CutLaws

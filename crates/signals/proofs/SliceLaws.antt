@@ -14,7 +14,7 @@ use Rattle.rules.specs.Signals.{Wires, lower, twosComplement, parts}
 use Rattle.rules.specs.Numbers.{int32, goodNumbers}
 use Rattle.rules.specs.Shapes.{sliced}
 use Rattle.numbers.specs.Signed.{signedOf}
-use Rattle.numbers.specs.SignedLaws.{signed-word}
+use Rattle.numbers.specs.SignedLaws.{number-back}
 use Rattle.tokens.specs.Rows.{line, integerIn}
 use Rattle.tokens.proofs.TokenLaws.{line-long}
 use Rattle.tokens.specs.declared.Integer.{Integer}
@@ -59,7 +59,7 @@ module _ (b : Bits) (o : ℕ) (out : List ℕ) where
   -- bounds that keep them, by their words
   module _ (h : ℤ) (high : ℕ) (out′ : List ℕ) (r : Bits) (eh : int32 h ≡ true) (qh : twosComplement h ≡ high) where
     word-is : signedOf high ≡ h
-    word-is = ap signedOf (sym qh) ∙ signed-word h eh
+    word-is = number-back h high eh qh
 
     cut-slice : (z : Option ℤ) (low : ℕ) → lower h z ≡ signedOf low → all int32 (Option·toList z) ≡ true → CutIs b high low o out out′ r → SliceIs b h z o out out′ r
     cut-slice z low el ez C =
@@ -76,7 +76,7 @@ module _ (b : Bits) (o : ℕ) (out : List ℕ) where
 
     pub slice-two : (l : ℤ) (low : ℕ) → int32 l ≡ true → twosComplement l ≡ low → CutIs b high low o out out′ r → SliceIs b h (some l) o out out′ r
     unfolding lower all Option·toList
-    slice-two l low e q C = cut-slice (some l) low (sym (ap signedOf (sym q) ∙ signed-word l e)) (rw e) C
+    slice-two l low e q C = cut-slice (some l) low (sym (number-back l low e q)) (rw e) C
 
 -- ---- slices behind one another
 

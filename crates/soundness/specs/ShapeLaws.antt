@@ -17,7 +17,7 @@ use Rattle.rules.specs.Statements.{Sig, bundle, Opt, Shape, autoidx-stmt, attr-
 use Rattle.rules.specs.Shapes.{Parse, Scope, top, inModule, inCell, Context, isWord, isMark, nowhere, give, one, after, of₁, of₂, of₃, either, choice, offers, closedBy, repeat, several, orEnd, isId, isConstant, isInteger, isAtom, id, const, int, atom, low, bounds, sliced, withSlices, sigs, members, signal, sigspec, numbered, flag, wireOptionForms, memoryOptionForms, options, sort, autoidxForm, attributeForm, topForms, objectForms, bodyForms, cellForms, forms, wholeBy, whole, shape}
 use Rattle.rules.specs.Judgement.{among}
 use Rattle.scanner.specs.Laws.{by-cond}
-use Rattle.scanner.specs.Elements.{all-cons, all-first, all-later, Each, _then_, each-append}
+use Rattle.scanner.specs.Elements.{all-cons, all-first, all-later, Each, _then_, each-append, all-one}
 use Rattle.admitted.specs.Admitted.{kinds}
 use Rattle.written.specs.TokenLaws.{fineLiteral, fineToken, Fine}
 
@@ -232,10 +232,6 @@ pub record FineShape (ks : List Kind) (sh : Shape) : Type 0 where
   pub names : all legal (contents sh .names) ≡ true
   pub constants : all fineLiteral (contents sh .constants) ≡ true
   pub stands : is aProcess sh || among ks sh ≡ true
-
-all-one : {A : Type 0} (f : A → Bool) (x : A) → f x ≡ true → all f (x ∷ []) ≡ true
-unfolding all
-all-one f x h = rw h
 
 abbrev RawOption : Option Literal → Type 0
 RawOption c = all fineLiteral (Option·toList c) ≡ true

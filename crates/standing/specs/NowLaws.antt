@@ -15,7 +15,7 @@ use Rattle.rules.specs.Session.{Rename, wiresAt, now}
 use Rattle.rules.specs.Layout.{Rooms, padded, row, renameRow, putRename, putRenames}
 use Rattle.tables.specs.Flat.{Eights}
 use Rattle.wires.specs.Rows.{nameOf, wireOf, wiresFrom, spanAt}
-use Rattle.wires.specs.RowLaws.{RowIs, slice-span}
+use Rattle.wires.specs.RowLaws.{RowIs}
 use Rattle.netlist.specs.Rows.{nameFrom}
 use Rattle.netlist.specs.Laid.{roomsOf, Laid, Wired}
 use Rattle.netlist.specs.Spans.{Has, starts-has, starts-row}
@@ -32,6 +32,7 @@ use Rattle.wire_names.specs.Now as rows
 use Rattle.wire_names.specs.declared.Module.{Module}
 use Rattle.standing.specs.Judged.{moduleBy}
 use Rattle.netlist.specs.RoomLaws.{put-renames-last, length-rename-row, rename-rows, eights-renames}
+use Rattle.scanner.specs.Parts.{slice-span}
 
 -- what a rename's row holds
 module _ (t : List ℕ) (k at : ℕ) (r : Rename) (h : RowIs t k (renameRow at r)) where

@@ -15,12 +15,12 @@ use Rattle.admitted.specs.Admitted.{admitted, closes}
 use Rattle.netlist.specs.Laid.{roomsOf}
 use Rattle.order.specs.Nesting.{linesOfFile}
 use Rattle.order.specs.DesignLaws.{design-lines}
-use Rattle.order.specs.Sums.{sum-reverse}
 use Rattle.order.specs.BodySums.{canonical-sum}
 use Rattle.order.specs.Apart.{admitted-apart}
 use Rattle.order.specs.Parse.{parsed}
 use Rattle.netlist.specs.UsedLaws.{used-names}
 use Rattle.netlist.specs.RoomLaws.{rename-names, rooms-file}
+use Rattle.scanner.specs.Sums.{sum-reverse}
 
 -- what is summed over a design's statements doesn't depend on their order
 pub sum-design : (f : Statement → ℕ) (ss : List Statement) → admitted (reverse ss) ≡ true → closes (reverse ss) ≡ true → sum f (flatten (design ss)) ≡ sum f ss

@@ -16,7 +16,8 @@ use Rattle.rules.specs.Signals.{Wires}
 use Rattle.rules.specs.Design.{Object, design}
 use Rattle.rules.specs.Session.{Rename, wiresAt, wireAt, now, taken}
 use Rattle.rules.specs.Layout.{putRenames}
-use Rattle.scanner.specs.Lists.{element-none}
+use Rattle.scanner.specs.Lists.{element-none, elim-map}
+use Rattle.scanner.specs.Elements.{any-append}
 use Rattle.wires.specs.Rows.{wireOf, wiresFrom}
 use Rattle.wires.specs.RowLaws.{length-wires, wire-numbered}
 use Rattle.past.specs.Place.{wiresIn, placeOf}
@@ -26,14 +27,12 @@ use Rattle.netlist.specs.Laid.{roomsOf, Laid, Wired}
 use Rattle.netlist.specs.LaidLaws.{laid-renames}
 use Rattle.netlist.specs.NameLaws.{ownNames}
 use Rattle.designs.specs.Modules.{statementsOf, Headed}
-use Rattle.designs.specs.ListLaws.{any-append}
 use Rattle.designs.specs.Now.{nameNow}
 use Rattle.designs.specs.NowLaws.{taken-read-now}
 use Rattle.designs.specs.Ranges.{wireRange}
 use Rattle.designs.specs.RowLaws.{taken-range}
 use Rattle.designs.specs.WireLaws.{design-range}
 use Rattle.wire_names.specs.Now as rows
-use Rattle.order.specs.RenamedFine.{elim-map}
 use Rattle.standing.specs.Judged.{objectTaken, nameTaken, moduleBy}
 use Rattle.standing.specs.NowLaws.{up, up-last, numbered-laid}
 

@@ -18,13 +18,14 @@ use Rattle.rules.specs.Signals.{Wires, find, lower, span, literalBits, wireBits
 use Rattle.rules.specs.Judgement.{lowest}
 use Rattle.rules.specs.Layout.{bitCode}
 use Rattle.scanner.specs.Laws.{and-true-left, and-true-right}
-use Rattle.scanner.specs.Elements.{all-split, Each, each-append, map-back}
+use Rattle.scanner.specs.Elements.{all-split, Each, each-append}
+use Rattle.scanner.specs.Parts.{slice-kept}
 use Rattle.numbers.specs.Kinds.{bitOf, bitAt}
+use Rattle.numbers.specs.KindLaws as kinds
 use Rattle.numbers.specs.KindLaws.{Within, bit-back}
 use Rattle.signals.specs.Faults.{faults, fault}
 use Rattle.signals.specs.Held.{codes, Held}
 use Rattle.signals.specs.declared.Bits.{Bits}
-use Rattle.signals.proofs.Lists.{slice-kept}
 use Rattle.syntax.specs.Statements.{signalIn}
 
 -- ---- bits that their codes give back
@@ -91,7 +92,7 @@ module _ (ws : Wires) where
   pub signal-back : (a : Sig) (o : ℕ) (s : List ℕ) (b : Bits) → Held ws a o s b → b .fault ≡ 0 → signalIn s o (b .width) ≡ bits ws a
   unfolding signalIn codes fault faults narrow
   signal-back a o s b H z =
-      rw (H .coded z, reverse-reverse) (map-back bitCode (λ c. bitOf (bitAt c)) (bits ws a) (coded a (last-holds _ _ _ _ (H .refused ∙ z))))
+      rw (H .coded z, reverse-reverse) (kinds.signal-back (bits ws a) (coded a (last-holds _ _ _ _ (H .refused ∙ z))))
 
 -- a signal stays where the table is kept up to its end
 pub held-kept : (ws : Wires) (a : Sig) (o n : ℕ) (s s′ : List ℕ) (b : Bits) → o + 2048 ≤ n → take n s′ ≡ take n s → Held ws a o s b → Held ws a o s′ b

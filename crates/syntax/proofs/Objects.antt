@@ -23,7 +23,8 @@ use Rattle.options.specs.Limits.{portNumber, WireGood, MemoryGood}
 use Rattle.options.proofs.Ports.{code-range}
 use Rattle.syntax.specs.Statements.{wireFrom, memoryFrom, Judged}
 use Rattle.syntax.specs.declared.Statement.the-variants as statement
-use Rattle.syntax.proofs.ShapeLaws.{plainOpen, bad-number, stated, number-back}
+use Rattle.numbers.specs.SignedLaws.{number-back}
+use Rattle.syntax.proofs.ShapeLaws.{plainOpen, bad-number, stated}
 
 -- ---- a wire from its columns
 

@@ -6,14 +6,10 @@ use mathlib.Core.List.{List, []}
 use mathlib.Core.Option.{none, some}
 use mathlib.Core.Bool.{true, false}
 use native.Mathlib.Omega.{arith}
-use lib.IntN.{ℤ}
 use Rattle.rules.specs.Bytes.{all}
 use Rattle.rules.specs.Statements.{Shape, aProcess, is, contents, statementsOpen}
-use Rattle.rules.specs.Numbers.{int32}
-use Rattle.rules.specs.Signals.{Wires, twosComplement}
+use Rattle.rules.specs.Signals.{Wires}
 use Rattle.rules.specs.Judgement.{breaksNumber, lowest, meaning, allParts, lacksWire, breaksWidth, equalWidths, partTooWide, judgementOpen}
-use Rattle.numbers.specs.Signed.{signedOf}
-use Rattle.numbers.specs.SignedLaws.{signed-word}
 use Rattle.forms.specs.Forms.{formOf, valueIn, InRows, FormFrom}
 use Rattle.forms.specs.declared.Form.{Form}
 use Rattle.forms.specs.declared.Form.the-variants as form
@@ -66,10 +62,6 @@ module _ (ws : Wires) (f s : List ℕ) {sh : Shape} where
         late = λ _. rw (e, l);
         means = λ _ _. m;
       }
-
--- the integer of its word
-pub number-back : (i : ℤ) (w : ℕ) → int32 i ≡ true → twosComplement i ≡ w → signedOf w ≡ i
-number-back i w h e = rw e at (signed-word i h)
 
 -- a constant of rows whose strings have their ends, and a form of such rows
 module _ (f t : List ℕ) (C : Closed f t) where

@@ -4,9 +4,9 @@ use Prim.Native.Nat.{ℕ, _+_, _≤_}
 use mathlib.Core.Path.{_≡_, _∙_}
 use mathlib.Core.List.{List, reverse}
 use native.Mathlib.Omega.{arith}
-use lib.ListN.{length, length-map, length-reverse}
+use lib.ListN.{length, length-reverse}
 use lib.Seq.{slice, length-slice}
-use Rattle.numbers.specs.Kinds.{bitOf, bitAt}
+use Rattle.numbers.specs.KindLaws.{length-signal}
 use Rattle.syntax.specs.Statements.{signalIn}
 
 module _ (scratch : List ℕ) (o w : ℕ) where
@@ -16,4 +16,4 @@ module _ (scratch : List ℕ) (o w : ℕ) where
 
   pub signal-long : o + w ≤ length scratch → length (signalIn scratch o w) ≡ w
   unfolding signalIn
-  signal-long h = length-map (reverse (slice o (o + w) scratch)) (λ c. bitOf (bitAt c)) ∙ signal-words h
+  signal-long h = length-signal (reverse (slice o (o + w) scratch)) ∙ signal-words h

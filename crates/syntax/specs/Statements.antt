@@ -1,7 +1,7 @@
 -- What the answer about a line says of the rules: the line's shape, its first refusal of 5, 6, 7 and 8, and what it means.
 use Prim.Native.Nat.{ℕ, _+_, _≤_, _<_}
 use mathlib.Core.Path.{_≡_}
-use mathlib.Core.List.{List, [], _∷_, map, reverse}
+use mathlib.Core.List.{List, [], _∷_, reverse}
 use mathlib.Core.Option.{Option, none, some, Option·map, Option·getD}
 use mathlib.Core.Bool.{Bool, true, cond}
 use lib.Dec.{eqb}
@@ -15,7 +15,7 @@ use Rattle.rules.specs.Numbers.{goodLiteral}
 use Rattle.rules.specs.Signals.{Wires, kept}
 use Rattle.rules.specs.Judgement.{breaksNumber, lacksWire, breaksWidth, partTooWide, lowest, meaning}
 use Rattle.numbers.specs.Signed.{signedOf}
-use Rattle.numbers.specs.Kinds.{bitOf, bitAt, sortOf}
+use Rattle.numbers.specs.Kinds.{signalOf, sortOf}
 use Rattle.past.specs.Place.{contextOf}
 use Rattle.past.specs.declared.place.Place.{Place}
 use Rattle.tokens.specs.Rows.{literalIn, line}
@@ -84,7 +84,7 @@ memoryFrom w z t = record { width = w; size = z; offset = signedOf t }
 
 -- a signal by its codes in the scratch table, highest first
 unfoldable pub signalIn : List ℕ → (at width : ℕ) → Signal
-signalIn s o w = map (λ c. bitOf (bitAt c)) (reverse (slice o (o + w) s))
+signalIn s o w = signalOf (reverse (slice o (o + w) s))
 
 -- the statement that an answer stands for, over the file and the scratch table
 unfoldable pub statementIn : List ℕ → List ℕ → Statement → Option rules.Statement

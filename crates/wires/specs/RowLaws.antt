@@ -1,14 +1,14 @@
 -- A row of the layout holds its wire; the flags and the port's number of a row's wire are the row's.
 -- Assumes nothing.
-use Prim.Native.Nat.{ℕ, zero, suc, _+_, _*_, _/_, _%_, _≤_, _<_, _-_}
-use mathlib.Core.Path.{_≡_, refl, sym, ap, _∙_, ap₂}
-use mathlib.Core.List.{List, [], reverse, reverseAux, _++_}
+use Prim.Native.Nat.{ℕ, zero, suc, _+_, _*_, _/_, _%_, _≤_, _<_}
+use mathlib.Core.Path.{_≡_, refl, sym, ap, _∙_}
+use mathlib.Core.List.{List, [], reverse, reverseAux}
 use mathlib.Core.Option.{Option, none, some, Option·elim}
 use mathlib.Core.Bool.{Bool, true, false, cond}
 use native.Mathlib.Omega.{arith}
 use lib.Dec.{eqb, ltb}
 use lib.ListN.{length, getD, getElem?, take, drop}
-use lib.Seq.{slice, getD-take, getD-drop, drop-drop, take-add}
+use lib.Seq.{getD-take, getD-drop}
 use borrow.Author.Tests.{ltb-true, ltb-false}
 use Rattle.rules.specs.Signals.{Wires}
 use Rattle.rules.specs.Tokens.{Name}
@@ -17,7 +17,7 @@ use Rattle.rules.specs.Numbers.{int32}
 use Rattle.rules.specs.Layout.{Used, padded, row, directionCode, flags, wireRow}
 use Rattle.scanner.specs.Laws.{by-test}
 use Rattle.scanner.specs.Lists.{element-behind}
-use Rattle.scanner.proofs.RunLaws.{slice-part}
+use Rattle.scanner.specs.Parts.{slice-span}
 use Rattle.numbers.specs.SignedLaws.{signed-word}
 use Rattle.wires.specs.Rows.{wordAt, column, nameOf, portOf, wireOf, wiresFrom, spanAt}
 
@@ -25,16 +25,6 @@ pub length-wires : (names t : List ℕ) (first count : ℕ) → length (wiresFro
 unfolding wiresFrom
 length-wires names t first zero = refl
 length-wires names t first (suc k) = ap suc (length-wires names t first k)
-
--- a span by its start and its length; two behind one another
-pub slice-span : (i n : ℕ) (s : List ℕ) → slice i (i + n) s ≡ take n (drop i s)
-slice-span i n s = let q : i + n - i ≡ n = omega arith in slice-part i (i + n) s ∙ ap (λ (k : ℕ). take k (drop i s)) q
-
-pub slice-join : (l : List ℕ) (a m n : ℕ) → slice a (a + m) l ++ slice (a + m) (a + m + n) l ≡ slice a (a + (m + n)) l
-slice-join l a m n =
-    ap₂ _++_ (slice-span a m l) (slice-span (a + m) n l ∙ ap (take n) (sym (drop-drop m a l)))
-    ∙ sym (take-add m n (drop a l))
-    ∙ sym (slice-span a (m + n) l)
 
 pub length-wire-row : (u : Used) (x : Name × Wire) → length (wireRow u x) ≡ 8
 unfolding wireRow row padded

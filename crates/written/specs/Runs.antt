@@ -1,21 +1,11 @@
--- Runs of bytes that pass a test, and one of some lists that all pass.
+-- Runs of bytes that pass a test.
 -- Assumes nothing.
 use mathlib.Core.Path.{_≡_, refl}
-use mathlib.Core.Bool.{Bool, true, false, false≢true}
+use mathlib.Core.Bool.{Bool, true, false}
 use mathlib.Core.List.{List, [], _∷_, _++_}
 use Prim.Native.Nat.{ℕ}
-use Rattle.rules.specs.Bytes.{same, any, all, run, rest}
-use Rattle.scanner.specs.Laws.{by-test, same-eq}
+use Rattle.rules.specs.Bytes.{all, run, rest}
 use Rattle.scanner.specs.Elements.{all-first, all-later}
-
--- one of some lists of bytes passes a test that all of them pass
-pub list-passes : (f : List ℕ → Bool) (xs : List (List ℕ)) (b : List ℕ) → all f xs ≡ true → any (same b) xs ≡ true → f b ≡ true
-unfolding any
-list-passes f [] b a h = absurd (false≢true h)
-list-passes f (x ∷ xs) b a h =
-    by-test (same b x)
-    (λ e. rw (same-eq b x e) (all-first f x xs a))
-    (λ e. list-passes f xs b (all-later f x xs a) (rw e at h))
 
 -- the list is empty, or its first byte fails
 abbrev pub Stops : (ℕ → Bool) → List ℕ → Type 0

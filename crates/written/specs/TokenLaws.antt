@@ -10,13 +10,13 @@ use lib.Dec.{eqb}
 use lib.IntN.{pos, negsuc, negℤ}
 use lib.ListN.{length, getD, replicate, length-append, length-replicate}
 use borrow.Author.Tests.{eqb-true, ne-eqb}
-use Rattle.rules.specs.Bytes.{all, any, within, oneOf, isBlank, isNameStart, isNameByte, isLower, isDigit, isValueDigit, isMark, legal, run, rest, bytesOpen}
+use Rattle.rules.specs.Bytes.{same, all, any, within, oneOf, isBlank, isNameStart, isNameByte, isLower, isDigit, isValueDigit, isMark, legal, run, rest, bytesOpen}
 use Rattle.rules.specs.Tokens.{Digit, S0, S1, Sx, Sz, Sm, Sa, Literal, value, integer, string, Token, name, word, literal, mark, keywords, isKeyword, decimal, digit, token, done, separate, parted, nameStep, wordStep, integerStep, valueStep, numberStep, minusStep, stringStep, stepAt, step, good, tokensOnto, tokensBy, tokensFrom, tokens}
 use Rattle.rules.specs.Shapes as shapes
 use Rattle.rules.specs.Text.{decimalText, integerText, digitByte, escaped, literalText, tokenText, tight, behind, spaced}
-use Rattle.scanner.specs.Laws.{by-test, within-below, within-low, within-high}
-use Rattle.scanner.specs.Elements.{by-any, all-first, all-later, all-cons, all-map, all-each, each-all, map-back, test-at}
-use Rattle.written.specs.Runs.{list-passes, Stops, run-upto, rest-upto}
+use Rattle.scanner.specs.Laws.{same-eq, by-test, within-below, within-low, within-high}
+use Rattle.scanner.specs.Elements.{by-any, by-found, each-of, all-first, all-later, all-cons, all-map, all-each, each-all, map-back, test-at}
+use Rattle.written.specs.Runs.{Stops, run-upto, rest-upto}
 use Rattle.written.specs.NumberLaws.{decimal-text, Digits, some-digits, decimal-digits}
 use Rattle.written.specs.StringLaws.{quoted-string}
 
@@ -121,7 +121,7 @@ lowers (b ∷ bs) = all isLower (b ∷ bs)
 
 keyword-lowers : (w : List ℕ) → isKeyword w ≡ true → lowers w ≡ true
 unfolding isKeyword keywords lowers bytesOpen
-keyword-lowers w h = list-passes lowers keywords w refl h
+keyword-lowers w h = by-found same same-eq (λ w. lowers w ≡ true) keywords (each-of _ lowers (λ x e. e) keywords refl) w h
 
 lower-all : (w : List ℕ) → lowers w ≡ true → all isLower w ≡ true
 unfolding lowers

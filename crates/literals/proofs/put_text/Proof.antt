@@ -8,7 +8,7 @@ use lib.ListN.{length}
 use Rattle.rules.specs.Tokens.{string}
 use Rattle.tables.specs.Store.{store}
 use Rattle.literals.specs.Codes.{codes}
-use Rattle.literals.proofs.Lists.{stored-front}
+use Rattle.literals.proofs.Stored.{stored-front}
 use borrow.Author.Needs.{needs}
 use Rattle.literals.proofs.put_text.Statement.{statement}
 use Rattle.literals.proofs.put_text.Tie as tie

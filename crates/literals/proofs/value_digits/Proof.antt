@@ -1,10 +1,12 @@
 -- A quote mark past the file's end has no digits behind it.
+use Prim.Native.Nat.{_+_}
+use native.Mathlib.Omega.{arith}
 use mathlib.Core.Path.{sym}
 use denote.Ref.{now}
-use Rattle.literals.proofs.Lists.{slice-past}
 use borrow.Author.Needs.{needs}
 use Rattle.literals.proofs.value_digits.Statement.{statement}
 use Rattle.literals.proofs.value_digits.Tie as tie
+use Rattle.scanner.specs.Parts.{slice-past}
 
 sub-result : tie.Need-sub-result
 sub-result c = search needs
@@ -16,7 +18,7 @@ part-result-end : tie.Need-part-result-end
 part-result-end c = search needs
 
 returns : tie.Need-returns
-returns c = sym (slice-past (now (c .before .before .before .args .f)) (c .before .before .before .args .quote) (c .before .before .before .args .end) (c .before .if1 .taken))
+returns c = sym (slice-past (c .before .before .before .args .quote + 1) (c .before .before .before .args .end) (now (c .before .before .before .args .f)) (omega (arith, c .before .if1 .taken)))
 
 add-part : tie.Need-add-part
 add-part c = search needs

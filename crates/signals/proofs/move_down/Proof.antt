@@ -7,7 +7,7 @@ use denote.Ref.{now}
 use lib.ListN.{length, take, length-set}
 use lib.Seq.{slice, length-slice}
 use Rattle.tables.specs.Store.{store, store-none, filled-end}
-use Rattle.signals.proofs.Lists.{move-put}
+use Rattle.signals.proofs.Codes.{move-put}
 use Rattle.signals.proofs.move_down.Statement.{statement}
 use Rattle.signals.proofs.move_down.Tie as tie
 

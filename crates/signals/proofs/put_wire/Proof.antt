@@ -9,7 +9,7 @@ use Rattle.rules.specs.Signals.{wireBits}
 use Rattle.tables.specs.Store.{store, store-none, filled-end}
 use Rattle.numbers.specs.Kinds.{bitOf, Valid}
 use Rattle.signals.specs.Held.{codes}
-use Rattle.signals.proofs.Lists.{wire-put, length-wire-codes}
+use Rattle.signals.proofs.Codes.{wire-put, length-wire-codes}
 use Rattle.signals.proofs.put_wire.Statement.{statement}
 use Rattle.signals.proofs.put_wire.Tie as tie
 

@@ -1,6 +1,7 @@
 -- By the form.
 use mathlib.Core.Path.{refl, sym, _∙_}
-use Rattle.syntax.proofs.ShapeLaws.{plainOpen, refused, bad-number, stated, number-back}
+use Rattle.numbers.specs.SignedLaws.{number-back}
+use Rattle.syntax.proofs.ShapeLaws.{plainOpen, refused, bad-number, stated}
 use borrow.Author.Needs.{needs}
 use Rattle.syntax.proofs.form_statement.Statement.{statement}
 use Rattle.syntax.proofs.form_statement.Tie as tie

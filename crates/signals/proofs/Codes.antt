@@ -1,4 +1,4 @@
--- Parts of tables behind one another, and the codes of bits.
+-- The codes of bits, and of a wire from the top; words moved down.
 -- Assumes nothing.
 use mathlib.Core.Path.{_≡_, refl, sym, ap, ap₂, _∙_}
 use mathlib.Core.List.{List, [], _∷_, _++_, map, reverse, append-assoc, reverse-append, map-append}
@@ -6,33 +6,13 @@ use Prim.Native.Nat.{ℕ, zero, suc, _+_, _-_, _<_, _≤_}
 use native.Mathlib.Nat.{add-zero}
 use native.Mathlib.Omega.{arith}
 use lib.ListN.{length, take, drop, getD, set, length-drop, length-reverse, length-map, take-append-drop}
-use lib.Seq.{slice, length-take-le, length-slice, take-take, take-at, drop-at, drop-drop, getD-take, getD-drop}
+use lib.Seq.{slice, length-take-le, length-slice, take-at, drop-at, getD-take, getD-drop}
 use Rattle.rules.specs.Statements.{bit, Signal}
 use Rattle.rules.specs.Signals.{wireBits}
 use Rattle.rules.specs.Layout.{bitCode}
 use Rattle.tables.specs.Store.{store, store-behind, filled}
-use Rattle.wires.specs.RowLaws.{slice-span}
 use Rattle.scanner.specs.Lists.{length-wire}
 use Rattle.signals.specs.Held.{codes}
-
--- ---- parts
-
--- a part of what is kept
-pub take-kept : (l l′ : List ℕ) (n m : ℕ) → take n l′ ≡ take n l → m ≤ n → take m l′ ≡ take m l
-take-kept l l′ n m e h = sym (take-take m n l′ h) ∙ ap (take m) e ∙ take-take m n l h
-
-pub slice-kept : (l l′ : List ℕ) (n a b : ℕ) → take n l′ ≡ take n l → b ≤ n → slice a b l′ ≡ slice a b l
-slice-kept l l′ n a b e h = ap (drop a) (take-kept l l′ n b e h)
-
--- a part of a part
-pub slice-within : (l : List ℕ) (o w x n : ℕ) → x + n ≤ w → slice (o + x) (o + x + n) l ≡ take n (drop x (slice o (o + w) l))
-slice-within l o w x n h =
-    slice-span (o + x) n l
-    ∙ ap (take n) (sym (drop-drop x o l))
-    ∙ sym (slice-span x n (drop o l))
-    ∙ ap (drop x) (sym (take-take (x + n) w (drop o l) h))
-    ∙ slice-span x n (take w (drop o l))
-    ∙ ap (λ (y : List ℕ). take n (drop x y)) (sym (slice-span o w l))
 
 -- ---- codes
 
