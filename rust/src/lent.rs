@@ -57,26 +57,33 @@ pub unsafe fn part_mut<'a, T>(start: *mut T, length: usize) -> Option<&'a mut [T
 /// A table as C lends it: where it starts, and its length.
 pub type Raw<T> = (*mut T, usize);
 
-/// A call on the tables and the card, then what the call takes of its own.
-macro_rules! change {
-    ($call:ident, $lent:expr $(, $more:expr)*) => {
-        // SAFETY: each pointer comes with its length, no two overlap, and the call asks nothing of its caller.
+/// A call: what it takes before the tables, the tables and what it takes behind them. Names and rows are lent by `$changed`, the other tables by `$kept`.
+macro_rules! call {
+    ($call:ident, [$($before:expr),*], $memory:expr, $changed:ident, $kept:ident, [$($behind:expr),*]) => {
+        // SAFETY: each pointer comes with its length, what is changed overlaps nothing else, and the call asks nothing of its caller.
         unsafe {
             sys::$call(
-                $lent.names.as_mut_ptr(),
-                $lent.names.len(),
-                $lent.strings.as_ptr(),
-                $lent.strings.len(),
-                $lent.bits.as_ptr(),
-                $lent.bits.len(),
-                $lent.wires.as_ptr(),
-                $lent.wires.len(),
-                $lent.rows.as_mut_ptr(),
-                $lent.rows.len(),
-                $lent.card
-                $(, $more)*
+                $($before,)*
+                $memory.names.$changed(),
+                $memory.names.len(),
+                $memory.strings.$kept(),
+                $memory.strings.len(),
+                $memory.bits.$kept(),
+                $memory.bits.len(),
+                $memory.wires.$kept(),
+                $memory.wires.len(),
+                $memory.rows.$changed(),
+                $memory.rows.len(),
+                $($behind),*
             )
         }
+    };
+}
+
+/// A call that only asks: the tables, the two counts, then what the call takes of its own.
+macro_rules! ask {
+    ($call:ident, $view:expr $(, $more:expr)*) => {
+        call!($call, [], $view, as_ptr, as_ptr, [$view.card.renames, $view.card.room $(, $more)*])
     };
 }
 
@@ -120,66 +127,32 @@ impl<'a> Lent<'a> {
 
     /// Reads a file: number and place. On 1 nothing is touched, on any other refusal all memory is zero.
     pub fn read(&mut self, file: &[u8]) -> Answer {
-        // SAFETY: each pointer comes with its length, no two overlap, and the call asks nothing of its caller.
-        unsafe {
-            sys::skytassel_read(
-                file.as_ptr(),
-                file.len(),
-                self.names.as_mut_ptr(),
-                self.names.len(),
-                self.strings.as_mut_ptr(),
-                self.strings.len(),
-                self.bits.as_mut_ptr(),
-                self.bits.len(),
-                self.wires.as_mut_ptr(),
-                self.wires.len(),
-                self.rows.as_mut_ptr(),
-                self.rows.len(),
-                self.card,
-            )
-        }
+        call!(
+            skytassel_read,
+            [file.as_ptr(), file.len()],
+            self,
+            as_mut_ptr,
+            as_mut_ptr,
+            [self.card]
+        )
     }
 
     /// Renames a wire. A refusal changes nothing.
     pub fn rename(&mut self, module: u32, wire: u32, name: &[u8]) -> Answer {
-        change!(
+        call!(
             skytassel_rename,
+            [],
             self,
-            module,
-            wire,
-            name.as_ptr(),
-            name.len()
+            as_mut_ptr,
+            as_ptr,
+            [self.card, module, wire, name.as_ptr(), name.len()]
         )
     }
 
     /// Takes the youngest rename off.
     pub fn undo(&mut self) -> Answer {
-        change!(skytassel_undo, self)
+        call!(skytassel_undo, [], self, as_mut_ptr, as_ptr, [self.card])
     }
-}
-
-/// A call on the tables and the two counts, then what the call takes of its own.
-macro_rules! ask {
-    ($call:ident, $view:expr $(, $more:expr)*) => {
-        // SAFETY: each pointer comes with its length, and the call asks nothing of its caller.
-        unsafe {
-            sys::$call(
-                $view.names.as_ptr(),
-                $view.names.len(),
-                $view.strings.as_ptr(),
-                $view.strings.len(),
-                $view.bits.as_ptr(),
-                $view.bits.len(),
-                $view.wires.as_ptr(),
-                $view.wires.len(),
-                $view.rows.as_ptr(),
-                $view.rows.len(),
-                $view.card.renames,
-                $view.card.room
-                $(, $more)*
-            )
-        }
-    };
 }
 
 impl View<'_> {
