@@ -18,7 +18,7 @@ use Rattle.rules.specs.Layout.{Memory}
 use Rattle.scanner.specs.Laws.{by-cond}
 use Rattle.tables.specs.Store.{store}
 use Rattle.netlist.specs.Lengths.{rightSizes}
-use Rattle.text.specs.Written.{Written, written-end}
+use Rattle.text.specs.Written.{Written, written-end, written-whole}
 use Rattle.reader.specs.Read.{Result, rightLengths, leaves, readInto}
 use Rattle.session.specs.Called.{Called, wrong-lengths, damaged, holding}
 use Rattle.writer.specs.Write.{wrote}
@@ -56,7 +56,7 @@ module _ (n p : ℕ) (hn : n < 4294967296) (hp : p < 4294967296) {old new : List
   unfolding putting
   refusal-put =
       let z : r ≡ length (refusal n p) = omega (arith, written-end w fits) in
-      λ i. (z i, w .stored fits i)
+      λ i. (z i, written-whole w fits i)
 
   pub refusal-fits : r ≤ 32768
   refusal-fits = omega (arith, written-end w fits, fits)

@@ -3,13 +3,13 @@
 use mathlib.Core.Path.{_≡_, refl, sym, ap, _∙_}
 use mathlib.Core.Bool.{Bool, true, false, cond}
 use mathlib.Core.List.{List, [], _∷_, _++_, map, flatMap, reverse, reverse-cons, map-append}
-use Prim.Native.Nat.{ℕ, zero, suc, _+_, _/_, _%_, _≤_, _<_}
+use Prim.Native.Nat.{ℕ, zero, suc, _+_, _-_, _/_, _%_, _≤_, _<_}
 use native.Mathlib.Numerals.{add-one}
 use native.Mathlib.Omega.{arith}
 use borrow.Author.Tests.{lt-ltb, le-ltb, ltb-false}
 use lib.Dec.{ltb}
 use lib.ListN.{length, take, drop, getD, set, replicate, length-set, replicate-append-replicate}
-use lib.Seq.{take-suc, drop-cons}
+use lib.Seq.{take-suc, take-all, drop-cons}
 use Rattle.rules.specs.Text.{decimalOnto, decimalText, digitByte, escaped}
 use Rattle.rules.specs.Tokens.{Digit}
 use Rattle.scanner.specs.Lists.{flatMap-snoc}
@@ -17,10 +17,15 @@ use Rattle.numbers.specs.Kinds.{digitOf}
 use Rattle.tables.specs.Store.{store}
 use Rattle.text.specs.Written.{Written, moved}
 
--- a byte in its place (past the room's end that changes nothing)
-pub one-byte : (l m : List ℕ) (at b r : ℕ) → m ≡ set l at b → r ≡ moved at 1 → Written at (b ∷ []) l m r
-unfolding store
-one-byte l m at b r e k = record { place = k; stored = λ h. e; kept = ap length e ∙ length-set l at b }
+-- a byte in its place (past the room's end that changes nothing), and one past byte 32768
+pub one-byte : (l m : List ℕ) (at b : ℕ) → m ≡ set l at b → at < 32768 → Written at (b ∷ []) l m (at + 1)
+unfolding store moved
+one-byte l m at b e h =
+    record { place = omega arith; stored = e ∙ ap (store l at) (sym (take-all (32768 - at) (b ∷ []) (omega arith))); kept = ap length e ∙ length-set l at b }
+
+pub past-byte : (l : List ℕ) (at b : ℕ) → 32768 ≤ at → Written at (b ∷ []) l l 32769
+unfolding store moved
+past-byte l at b h = let k : 32768 - at ≡ 0 = omega arith in record { place = omega arith; stored = rw k; kept = refl }
 
 -- ---- decimal digits
 

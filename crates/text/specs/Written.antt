@@ -2,19 +2,23 @@
 -- Assumes nothing.
 use mathlib.Core.Path.{_≡_, refl, sym, ap, ap₂, _∙_}
 use mathlib.Core.List.{List, [], _++_}
-use Prim.Native.Nat.{ℕ, min, _+_, _≤_}
+use Prim.Native.Nat.{ℕ, min, _+_, _-_, _<_, _≤_}
 use native.Mathlib.Omega.{arith}
-use lib.ListN.{length, length-append}
+use lib.Dec.{leb}
+use lib.ListN.{length, take, length-append}
+use lib.Seq.{take-nil, take-all, take-append-le, take-append-add}
+use borrow.Author.Tests.{leb-true, leb-false}
+use Rattle.scanner.specs.Laws.{by-test}
 use Rattle.tables.specs.Store.{store, store-none, store-store}
 
 -- the place n bytes on; it stops at 32769, since a text of more than 32768 bytes is refused
 unfoldable pub moved : ℕ → ℕ → ℕ
 moved at n = min (at + n) 32769
 
--- the text stands from a place on where the room has a place for it, and r is the place behind it
+-- the text stands from a place on where the room has a place for it, up to byte 32768, and r is the place behind it
 pub record Written (at : ℕ) (text : List ℕ) (old new : List ℕ) (r : ℕ) : Type 0 where
   pub place : r ≡ moved at (length text)
-  pub stored : at + length text ≤ 32768 → new ≡ store old at text
+  pub stored : new ≡ store old at (take (32768 - at) text)
   pub kept : length new ≡ length old
 
 moved-moved : (at n m : ℕ) → moved (moved at n) m ≡ moved at (n + m)
@@ -23,7 +27,7 @@ moved-moved at n m = omega arith
 
 pub written-none : (at : ℕ) (l : List ℕ) → at ≤ 32769 → Written at [] l l at
 unfolding moved
-written-none at l h = record { place = omega arith; stored = λ k. sym (store-none l at); kept = refl }
+written-none at l h = record { place = omega arith; stored = sym (ap (store l at) (take-nil (32768 - at)) ∙ store-none l at); kept = refl }
 
 pub written-most : {at : ℕ} {xs o p : List ℕ} {r : ℕ} → Written at xs o p r → r ≤ 32769
 unfolding moved
@@ -34,21 +38,36 @@ pub written-end : {at : ℕ} {xs o p : List ℕ} {r : ℕ} → Written at xs o p
 unfolding moved
 written-end w h = omega (arith, w .place)
 
+pub written-whole : {at : ℕ} {xs o p : List ℕ} {r : ℕ} → Written at xs o p r → at + length xs ≤ 32768 → p ≡ store o at xs
+written-whole {at} {xs} {o} w h = w .stored ∙ ap (store o at) (take-all (32768 - at) xs (omega arith))
+
 -- one piece behind another
 pub written-then : {at r t : ℕ} {xs ys o p q : List ℕ} → Written at xs o p r → Written r ys p q t → Written at (xs ++ ys) o q t
+unfolding moved
 written-then {at} {r} {t} {xs} {ys} {o} {p} {q} w v =
     record {
       place = v .place ∙ ap (λ (k : ℕ). moved k (length ys)) (w .place) ∙ moved-moved at (length xs) (length ys) ∙ ap (moved at) (sym (length-append xs ys));
-      stored = λ h. both (rw length-append at h);
+      stored = by-test (leb (at + length xs) 32768) (λ h. inside (leb-true _ _ h)) (λ h. past (leb-false _ _ h));
       kept = v .kept ∙ w .kept;
     }
   where
-    both : at + (length xs + length ys) ≤ 32768 → q ≡ store o at (xs ++ ys)
-    both h =
-        let e : r ≡ at + length xs = written-end w (omega arith) in
-        v .stored (omega arith)
-        ∙ ap₂ (λ (l : List ℕ) (k : ℕ). store l k ys) (w .stored (omega arith)) e
-        ∙ store-store o at xs ys
+    inside : at + length xs ≤ 32768 → q ≡ store o at (take (32768 - at) (xs ++ ys))
+    inside h =
+        let n : ℕ = 32768 - (at + length xs) in
+        let e : 32768 - at ≡ length xs + n = omega arith in
+        v .stored
+        ∙ ap₂ (λ (l : List ℕ) (k : ℕ). store l k (take (32768 - k) ys)) (written-whole w h) (written-end w h)
+        ∙ store-store o at xs (take n ys)
+        ∙ ap (store o at) (sym (ap (λ (k : ℕ). take k (xs ++ ys)) e ∙ take-append-add xs ys n))
+
+    past : 32768 < at + length xs → q ≡ store o at (take (32768 - at) (xs ++ ys))
+    past h =
+        let e : 32768 - r ≡ 0 = omega (arith, w .place) in
+        v .stored
+        ∙ ap (λ (k : ℕ). store p r (take k ys)) e
+        ∙ store-none p r
+        ∙ w .stored
+        ∙ ap (store o at) (sym (take-append-le (32768 - at) xs ys (omega arith)))
 
 -- the same piece by another name
 pub written-as : {at r : ℕ} {xs ys o p : List ℕ} → Written at xs o p r → xs ≡ ys → Written at ys o p r

@@ -1,8 +1,9 @@
 // The leaves of the writer. Each writes a piece of text into lent room from a place on and answers the place behind it: a byte is stored
-// only where the room has a place for it, and the place moves on all the same, so that writing into any room measures.
+// only where the room has a place for it, and the place moves on all the same, so that writing into any room measures. Past 32,768 bytes
+// nothing is stored and the place stays at 32,769: such a text is refused, so where it would end does not matter.
 ghost use mathlib.Core.Path.{_≡_};
 ghost use mathlib.Core.List.{[], _∷_, map, flatMap, reverse};
-ghost use Prim.Native.Nat.{min, _+_, _≤_};
+ghost use Prim.Native.Nat.{_≤_};
 ghost use lib.ListN.{length, replicate};
 ghost use Rattle.rules.specs.Tokens.{value, string};
 ghost use Rattle.rules.specs.Text.{decimalText, integerText, digitByte, escaped, literalText, refusal};
@@ -10,25 +11,17 @@ ghost use Rattle.numbers.specs.Kinds.{digitOf};
 ghost use Rattle.numbers.specs.Signed.{signedOf};
 ghost use Rattle.text.specs.Written.{Written};
 
-// One place on, to 32,769 at most: a text of more than 32,768 bytes is refused, so where it would end does not matter.
-fn next(at: usize) -> usize
-    requires { ⌜ at ≤ 32769 ⌝ }
-    ensures { λ r. ⌜ r ≡ min (at + 1) 32769 ⌝ }
-{
-    if at < 32769 {
-        return at + 1;
-    }
-    at
-}
-
 pub fn put_byte(out: &mut [u8], at: usize, b: u8) -> usize
     requires { ⌜ at ≤ 32769 ⌝ }
     ensures { λ r. ⌜ Written at (b ∷ []) (now (out .entry)) (now (out .exit)) r ⌝ }
 {
+    if at >= 32768 {
+        return 32769;
+    }
     if at < out.len() {
         out[at] = b;
     }
-    next(at)
+    at + 1
 }
 
 pub fn put_bytes(out: &mut [u8], at: usize, s: &[u8]) -> usize

@@ -12,7 +12,7 @@ use Rattle.rules.specs.Session.{now}
 use Rattle.rules.specs.Text.{text, writeText, write, measureText, measure}
 use Rattle.rules.specs.Layout.{Memory}
 use Rattle.past.specs.declared.place.Place.{Place}
-use Rattle.text.specs.Written.{moved, Written, written-end}
+use Rattle.text.specs.Written.{moved, Written, written-end, written-whole}
 use Rattle.netlist.specs.Lengths.{sizes-exact}
 use Rattle.reader.specs.Read.{rightLengths}
 use Rattle.session.specs.Called.{Called, holding, answer}
@@ -62,7 +62,7 @@ module _ (t : List ℕ) (r : ℕ) (e : r ≡ moved 0 (length t)) where
         let q : length t ≡ r = end-is h in
         let x : 0 + length t ≤ 32768 = omega arith in
         let z : s ≡ length t = omega (arith, written-end w x) in
-        rw (le-ltb 32768 (length t) (omega arith), le-ltb (length old) (length t) (omega arith)) (ap₂ (λ (a : ℕ) (l : List ℕ). (0, a, l)) z (w .stored x))
+        rw (le-ltb 32768 (length t) (omega arith), le-ltb (length old) (length t) (omega arith)) (ap₂ (λ (a : ℕ) (l : List ℕ). (0, a, l)) z (written-whole w x))
 
 -- ---- memory that is open
 module _ {m : Memory} {p : Place} (h : Holding m p) where
