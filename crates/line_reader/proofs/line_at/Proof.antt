@@ -17,7 +17,7 @@ use ghost.Atoms.{Atoms, sem}
 use contract.Monad.{Fun}
 use contract.Running.{givenOf, tables}
 use types.Kit.{Given, ‵, raw, _⊛_, ⋆, _$_, _∵_, !, qed, by, move, drop, use1, use2, split, join, fsplit, fjoin, suffices, frame, done}
-use types.Run.{look, init, forget, stop, from, load, and-then, no-more, land, returns, enter, alloc1, alloc0, params1, pass1, pass0, free1, free0}
+use types.Run.{look, init, stop, from, load, and-then, no-more, land, returns, enter}
 use sound.WpLaws.{FmC}
 use denote.RattleType.{owns}
 use denote.Laws.{Is}
@@ -36,8 +36,9 @@ use denote.Triple.Table.{cited}
 use denote.Triple.Walked.{says, Stays, stay-none, stay-none-slice, walkOf, goes-none, goes-none-slice, ends-at}
 use denote.Exit.{yes}
 use Rattle.scanner.specs.Lines.{lineFrom}
-use Rattle.line_reader.specs.Reader.{opened, movedTo, lineRead}
+use Rattle.line_reader.specs.Reader.{movedTo, lineRead}
 use Rattle.line_reader.specs.declared.LineReader.{LineReader}
+use Rattle.line_reader.proofs.Locals.{starts, ends, none, cell, past}
 use Rattle.line_reader.proofs.Walk.{asks, copied, told, walk-enters, B}
 use Rattle.scanner.specs.declared.lines.Line.{Line}
 use Rattle.line_reader.proofs.LineReader as T
@@ -136,23 +137,22 @@ module _ {M : Type 1} (𝓤 : URA M) (H : Heap 𝓤) (A : Atoms 𝓤) (W : Given
     walk : Is (ShrSlice (named 0) κ u8) s (v ∷ []) → ent 𝓤 (onEntry 𝓤 H A top.signature (κ, tt) (q, tt) a vals) (WpFn 𝓤 H C Λ code.function (v ∷ vint w64 n ∷ []) Post)
     walk p =
         qed W (raw (onEntry 𝓤 H A top.signature (κ, tt) (q, tt) a vals) ∷ []) ∵ enter ! C Λ code.function (v ∷ vint w64 n ∷ []) _ $
-        alloc1 ! (λ l₀. alloc1 ! (λ l₁. alloc1 ! (λ l₂. alloc1 ! (λ l₃. alloc1 ! (λ l₄. alloc0 ! $ params1 ! $ pass1 ! (init ! 6 refl (shr-slice-lawful 𝓤 H A W (named 0) κ u8 .typed s (v ∷ []) p .0)) $ pass1 ! (init ! 4 refl (tt, record { fits = ok })) $ pass0 ! $
-        move ! (10 ∷ []) $ use1 W (raw (Open 𝓤 H A mem run .pre to-open) ⊛ ‵ Own) goes-open $ split ! $
-        calls-at ! fm (Open 𝓤 H A mem run) known-open to-open (and-then ! (load ! (from ! (stop !)) (look ! 8 refl)) (no-more !)) (λ u.
-        told ! tt opening.ended (opening.clauses 𝓤 H A mem run) to-open u (λ r. r ≡ opened s) (λ r ws. id⊢ 𝓤 _) (λ r e is.
-        -- [what the struct owns; the token; what s owns; room for _4; …; room for _3; …; _2; …; _1; …; room for _0; …]
-        land ! (from ! (stop !)) (init ! 3 refl (LL.lawful (T.the-type αᵉ) (T′.the-laws αᵉ) 𝓤 H A W .typed r _ is .0)) $
+        starts ! (shr-slice-lawful 𝓤 H A W (named 0) κ u8 .typed s (v ∷ []) p .0, ((tt, record { fits = ok }), tt)) (λ l₀ ls.
+        move ! (6 ∷ []) $ use1 W (raw (Open 𝓤 H A mem run .pre to-open) ⊛ ‵ Own) goes-open $ split ! $
+        calls-at ! fm (Open 𝓤 H A mem run) known-open to-open (and-then ! (load ! (from ! (stop !)) (look ! 3 refl)) (no-more !)) (λ u.
+        told ! tt opening.ended (opening.clauses 𝓤 H A mem run) to-open u (λ r ws. id⊢ 𝓤 _) (λ r e is.
+        -- [what the struct owns; the token; what s owns; the locals; that they can be freed]
+        land ! (from ! (stop !)) (init ! 7 refl (LL.lawful (T.the-type αᵉ) (T′.the-laws αᵉ) 𝓤 H A W .typed r _ is .0)) $
         use2 W (raw (Moved 𝓤 H A mem run .pre (to-moved r u))) (goes-moved r u) $
-        calls-at ! fm (Moved 𝓤 H A mem run) known-moved (to-moved r u) (and-then ! (load ! (from ! (stop !)) (look ! 2 refl)) (and-then ! (load ! (from ! (stop !)) (look ! 6 refl)) (no-more !))) (λ u₁.
-        told ! tt moved.ended (moved.clauses 𝓤 H A mem run) (to-moved r u) u₁ (λ r₁. r₁ ≡ movedTo r n) (λ r₁ ws. id⊢ 𝓤 _) (λ r₁ e₁ is₁.
-        land ! (from ! (stop !)) (init ! 5 refl (LL.lawful (T.the-type αᵉ) (T′.the-laws αᵉ) 𝓤 H A W .typed r₁ _ is₁ .0)) $
+        calls-at ! fm (Moved 𝓤 H A mem run) known-moved (to-moved r u) (and-then ! (load ! (from ! (stop !)) (look ! 6 refl)) (and-then ! (load ! (from ! (stop !)) (look ! 4 refl)) (no-more !))) (λ u₁.
+        told ! tt moved.ended (moved.clauses 𝓤 H A mem run) (to-moved r u) u₁ (λ r₁ ws. id⊢ 𝓤 _) (λ r₁ e₁ is₁.
+        land ! (from ! (stop !)) (init ! 6 refl (LL.lawful (T.the-type αᵉ) (T′.the-laws αᵉ) 𝓤 H A W .typed r₁ _ is₁ .0)) $
         use2 W (raw (Next 𝓤 H A mem run .pre (to-next r₁ u₁))) (goes-next r₁ u₁) $
-        calls-at ! fm (Next 𝓤 H A mem run) known-next (to-next r₁ u₁) (and-then ! (load ! (from ! (stop !)) (look ! 4 refl)) (no-more !)) (λ u′.
-        told ! tt next.ended (next.clauses 𝓤 H A mem run) (to-next r₁ u₁) u′ (λ t. t ≡ lineRead r₁) (λ t ws. id⊢ 𝓤 _) (λ t e′ is′.
-        -- [the result; the token; what s owns; _4; …; _3; …; _2; …; _1; …; room for _0; …]
-        land ! (from ! (stop !)) (init ! 11 refl (LL.lawful S.the-type S′.the-laws 𝓤 H A W .typed t _ is′ .0)) $
-        returns ! (look ! 11 refl) $ forget ! 3 refl $ forget ! 5 refl $ forget ! 7 refl $ forget ! 9 refl $ forget ! 11 refl $ move ! (11 ∷ 12 ∷ []) $ free1 ! $ move ! (9 ∷ 10 ∷ []) $ free1 ! $ move ! (7 ∷ 8 ∷ []) $ free1 ! $ move ! (5 ∷ 6 ∷ []) $ free1 ! $ move ! (3 ∷ 4 ∷ []) $ free1 ! $ free0 ! $
-        by ! (exits t u′ (e′ ∙ ap (λ (x : LineReader). lineRead x) (e₁ ∙ ap (λ (x : LineReader). movedTo x n) e))))))))))))))
+        calls-at ! fm (Next 𝓤 H A mem run) known-next (to-next r₁ u₁) (and-then ! (load ! (from ! (stop !)) (look ! 5 refl)) (no-more !)) (λ u′.
+        told ! tt next.ended (next.clauses 𝓤 H A mem run) (to-next r₁ u₁) u′ (λ t ws. id⊢ 𝓤 _) (λ t e′ is′.
+        land ! (from ! (stop !)) (init ! 3 refl (LL.lawful S.the-type S′.the-laws 𝓤 H A W .typed t _ is′ .0)) $
+        returns ! (look ! 3 refl) $ ends ! (past (past (past (cell (cell (cell (cell (cell none)))))))) $
+        by ! (exits t u′ (e′ ∙ ap (λ (x : LineReader). lineRead x) (e₁ ∙ ap (λ (x : LineReader). movedTo x n) e))))))))))
 
 pub line-at-spec : {M : Type 1} → stated.statement M
 unfolding code.routine
