@@ -16,13 +16,12 @@ use Rattle.rules.specs.Session.{Rename, now}
 use Rattle.rules.specs.Text.{decimalOnto, decimalText, text, writeText, write, refusal, printed, programBy, program}
 use Rattle.rules.specs.Layout.{Memory}
 use Rattle.scanner.specs.Laws.{by-cond}
-use Rattle.tables.specs.Store.{store}
 use Rattle.netlist.specs.Lengths.{rightSizes}
 use Rattle.text.specs.Written.{Written, written-end, written-whole}
 use Rattle.reader.specs.Read.{Result, rightLengths, leaves, readInto}
 use Rattle.session.specs.Called.{Called, wrong-lengths, damaged, holding}
 use Rattle.writer.specs.Write.{wrote}
-use Rattle.session.specs.CalledLaws.{called-one}
+use Rattle.session.specs.CalledLaws.{called-one, called-turn}
 use Rattle.calls.proofs.CallLaws.{LengthsKept, lengths-kept}
 use Rattle.calls.proofs.RunLaws.{Accepted, number-read, accepted-holds}
 use Rattle.answer.specs.Printed.{putting, PrintedAs}
@@ -69,56 +68,46 @@ module _ (m : Memory) (old mid : List ℕ) (n len : ℕ) where
   abbrev By : List ℕ → Bool → Verdict (List ℕ)
   By t b = verdict t (lowest ((12, b) ∷ []))
 
-  number-is : (k l : ℕ) (o : List ℕ) → _≡_ {A = ℕ × ℕ × List ℕ} (n, len, mid) (k, l, o) → n ≡ k
-  number-is k l o q = ap (λ (a : ℕ × ℕ × List ℕ). a .0) q
-
-  length-is : (k l : ℕ) (o : List ℕ) → _≡_ {A = ℕ × ℕ × List ℕ} (n, len, mid) (k, l, o) → len ≡ l
-  length-is k l o q = ap (λ (a : ℕ × ℕ × List ℕ). a .1) q
-
-  room-is : (k l : ℕ) (o : List ℕ) → _≡_ {A = ℕ × ℕ × List ℕ} (n, len, mid) (k, l, o) → mid ≡ o
-  room-is k l o q = ap (λ (a : ℕ × ℕ × List ℕ). a .2) q
+  is : {k l : ℕ} {o : List ℕ} → _≡_ {A = ℕ × ℕ × List ℕ} (n, len, mid) (k, l, o) → (n ≡ k) × (len ≡ l) × (mid ≡ o)
+  is q = (ap (λ (a : ℕ × ℕ × List ℕ). a .0) q, ap (λ (a : ℕ × ℕ × List ℕ). a .1) q, ap (λ (a : ℕ × ℕ × List ℕ). a .2) q)
 
   -- a refused writing changed nothing
   module _ (z : n ≡ 0 → ⊥) (new : List ℕ) (r : ℕ) (p : _≡_ {A = ℕ × List ℕ} (r, new) (putting mid (refusal n 0))) where
     put-number : (k : ℕ) → _≡_ {A = ℕ × ℕ × List ℕ} (n, len, mid) (k, 0, old) → _≡_ {A = ℕ × List ℕ} (r, new) (putting old (refusal k 0))
-    put-number k q = p ∙ ap₂ (λ (l : List ℕ) (e : ℕ). putting l (refusal e 0)) (room-is k 0 old q) (number-is k 0 old q)
+    put-number k q = p ∙ ap₂ (λ (l : List ℕ) (e : ℕ). putting l (refusal e 0)) (is q .2) (is q .0)
 
     refused-by : (t : List ℕ) (b : Bool) → _≡_ {A = ℕ × ℕ × List ℕ} (n, len, mid) (wrote old (By t b)) → _≡_ {A = ℕ × List ℕ} (r, new) (putting old (printed (By t b)))
     unfolding wrote verdict lowest printed
     refused-by t true q = put-number 12 q
-    refused-by t false q = absurd (z (number-is 0 (length t) (store old 0 t) q))
+    refused-by t false q = absurd (z (is q .0))
 
     pub held-refused : Wrote → PrintedAs m old new r
     unfolding write writeText
-    held-refused (wrong-lengths e q) = wrong-lengths e (put-number 1 q)
-    held-refused (damaged e d q) = damaged e d (put-number 3 q)
-    held-refused (holding ss rs e h q) = holding ss rs e h (refused-by (text (now (design ss) rs)) _ q)
+    held-refused = called-turn (λ k h. put-number k) (λ ss rs. refused-by (text (now (design ss) rs)) _)
 
   module _ (z : n ≡ 0) where
     no-number : {A : Type 0} (k : ℕ) → 0 < k → _≡_ {A = ℕ × ℕ × List ℕ} (n, len, mid) (k, 0, old) → A
-    no-number k h q = absurd (omega (arith, number-is k 0 old q))
+    no-number k h q = absurd (omega (arith, is q .0))
 
     written-by : (t : List ℕ) (b : Bool) → _≡_ {A = ℕ × ℕ × List ℕ} (n, len, mid) (wrote old (By t b)) → _≡_ {A = ℕ × List ℕ} (len, mid) (putting old (printed (By t b)))
     unfolding wrote verdict lowest printed putting
     written-by t true q = no-number 12 (omega arith) q
-    written-by t false q = λ i. (length-is 0 (length t) (store old 0 t) q i, room-is 0 (length t) (store old 0 t) q i)
+    written-by t false q = λ i. (is q .1 i, is q .2 i)
 
     pub held-written : Wrote → PrintedAs m old mid len
     unfolding write writeText
-    held-written (wrong-lengths e q) = no-number 1 (omega arith) q
-    held-written (damaged e d q) = no-number 3 (omega arith) q
-    held-written (holding ss rs e h q) = holding ss rs e h (written-by (text (now (design ss) rs)) _ q)
+    held-written = called-turn (λ k. no-number k) (λ ss rs. written-by (text (now (design ss) rs)) _)
 
   fits-by : (t : List ℕ) (a b : Bool) → ltb 32768 (length t) ≡ a → _≡_ {A = ℕ × ℕ × List ℕ} (n, len, mid) (wrote old (By t (a || b))) → len ≤ 32768
   unfolding wrote verdict lowest
-  fits-by t true b e q = omega (arith, length-is 12 0 old q)
-  fits-by t false true e q = omega (arith, length-is 12 0 old q)
-  fits-by t false false e q = omega (arith, length-is 0 (length t) (store old 0 t) q, ltb-false 32768 (length t) e)
+  fits-by t true b e q = omega (arith, is q .1)
+  fits-by t false true e q = omega (arith, is q .1)
+  fits-by t false false e q = omega (arith, is q .1, ltb-false 32768 (length t) e)
 
   pub written-fits : Wrote → len ≤ 32768
   unfolding write writeText
-  written-fits (wrong-lengths e q) = omega (arith, length-is 1 0 old q)
-  written-fits (damaged e d q) = omega (arith, length-is 3 0 old q)
+  written-fits (wrong-lengths e q) = omega (arith, is q .1)
+  written-fits (damaged e d q) = omega (arith, is q .1)
   written-fits (holding ss rs e h q) = fits-by (text (now (design ss) rs)) _ _ refl q
 
 -- TABLES of the lengths that calls ask for

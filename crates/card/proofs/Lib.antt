@@ -1,3 +1,2 @@
-mod Locals
 mod PartLaws
 mod Walk

@@ -1,8 +1,9 @@
 -- A call's contract settles its answer, for all memory.
 -- Assumes nothing.
-use Prim.Native.Nat.{ℕ}
+use Prim.Native.Nat.{ℕ, _<_}
 use mathlib.Core.Path.{_≡_, sym, ap₂, _∙_}
 use mathlib.Core.List.{List}
+use native.Mathlib.Omega.{arith}
 use Rattle.rules.specs.Statements.{Statement}
 use Rattle.rules.specs.Session.{Rename}
 use Rattle.rules.specs.Layout.{Memory}
@@ -24,3 +25,11 @@ called-one (damaged e d p) (holding ss rs f h q) = absurd (d ss rs h)
 called-one {m = m} (holding ss rs e h p) (wrong-lengths f q) = never (rightLengths m) e f
 called-one (holding ss rs e h p) (damaged f d q) = absurd (d ss rs h)
 called-one {says = says} (holding ss rs e h p) (holding qs ps f g q) = let o = holds-one h g in p ∙ ap₂ says (o .0) (o .1) ∙ sym q
+
+-- another answer, by what the one says of it
+pub called-turn :
+    {A B : Type 0} {m : Memory} {refuse : ℕ → A} {refuse′ : ℕ → B} {says : List Statement → List Rename → A} {says′ : List Statement → List Rename → B} {a : A} {b : B} →
+    ((n : ℕ) → 0 < n → a ≡ refuse n → b ≡ refuse′ n) → ((ss : List Statement) (rs : List Rename) → a ≡ says ss rs → b ≡ says′ ss rs) → Called m refuse says a → Called m refuse′ says′ b
+called-turn f g (wrong-lengths e q) = wrong-lengths e (f 1 (omega arith) q)
+called-turn f g (damaged e d q) = damaged e d (f 3 (omega arith) q)
+called-turn f g (holding ss rs e h q) = holding ss rs e h (g ss rs q)

@@ -17,7 +17,7 @@ use Rattle.scanner.specs.Laws.{by-cond, by-test}
 use Rattle.scanner.proofs.RunLaws.{cut-none, cut-part}
 use Rattle.wires.specs.Rows.{column, spanAt}
 use Rattle.wire_names.specs.Now.{lastRename, nameNow}
-use Rattle.wire_names.specs.NowLaws.{name-own, name-given}
+use Rattle.wire_names.specs.NowLaws.{nameBy, name-by}
 use Rattle.show.specs.Rows.{wireLine, hdlnameRow, textAt, shownName}
 use Rattle.show.specs.Parts.{part, cutOf, spanPart, textPart, partBy, namePart, plainPart, shownOf, shownPart, numberOf, bytesIn, InRange}
 use Rattle.show.specs.declared.Part.{Part}
@@ -52,14 +52,14 @@ module _ (t : List ℕ) where
   text-is rows (suc k) = by-test (eqb (column rows k 3) 3) (λ q. rw q (span-is rows k 4)) (λ q. rw q no-part)
 
 module _ (names wires rows : List ℕ) (from count m n k : ℕ) where
-  name-by : (last : ℕ) → last ≡ lastRename rows from count m n → PartIs names (nameNow names wires rows from count m n k) (partBy names wires rows from k last)
-  unfolding partBy
-  name-by zero e = rw (← name-own names wires rows from m n k count 0 e refl) (span-is names wires k 1)
-  name-by (suc j) e = rw (← name-given names wires rows from m n k count (suc j) e j refl) (span-is names rows (from + j) 1)
+  by-last : (last : ℕ) → PartIs names (nameBy names wires rows from k last) (partBy names wires rows from k last)
+  unfolding nameBy partBy
+  by-last zero = span-is names wires k 1
+  by-last (suc j) = span-is names rows (from + j) 1
 
   pub name-is : PartIs names (nameNow names wires rows from count m n k) (namePart names wires rows from count m n k)
   unfolding namePart
-  name-is = name-by (lastRename rows from count m n) refl
+  name-is = rw (name-by names wires rows from m n k count) (by-last (lastRename rows from count m n))
 
 -- WITHOUT THE `\\` OF A PUBLIC NAME
 module _ (names : List ℕ) (p : Part) (h : p .end ≤ length names) where

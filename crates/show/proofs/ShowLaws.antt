@@ -13,7 +13,7 @@ use Rattle.rules.specs.Statements.{Statement, Wire, wire-stmt}
 use Rattle.rules.specs.Signals.{Wires}
 use Rattle.rules.specs.Judgement.{Past, accepted, refused}
 use Rattle.rules.specs.Design.{Object, object, design}
-use Rattle.rules.specs.Session.{Rename, wiresAt, wireAt, now, hdlname, plainName, orElse, show}
+use Rattle.rules.specs.Session.{wiresAt, wireAt, now, hdlname, plainName, orElse, show}
 use Rattle.rules.specs.Layout.{Memory}
 use Rattle.wires.specs.Rows.{nameOf, wireOf, wiresFrom}
 use Rattle.wires.specs.RowLaws.{length-wires, wire-numbered}
@@ -36,7 +36,8 @@ use Rattle.netlist.specs.Tables.{Tables, tabled}
 use Rattle.netlist.specs.Fronts.{Fronts}
 use Rattle.netlist.specs.FrontLaws.{fronts-before, fronts-behind}
 use Rattle.held.specs.HeldLaws.{holds-stored}
-use Rattle.session.specs.Called.{Called, wrong-lengths, damaged, holding, answer}
+use Rattle.session.specs.Called.{holding, answer}
+use Rattle.session.specs.CalledLaws.{called-turn}
 use Rattle.session.specs.Steps.{Holding, NotOpen}
 use Rattle.session.proofs.CallLaws.{not-open}
 use Rattle.session.proofs.HoldLaws.{rows-before, lies}
@@ -166,17 +167,12 @@ unfolding numberOf bytesIn
 shown-refused M m w n h = (not-open Shown.Refused _ n h, (tt, not-open (λ e. (e, [])) _ n h))
 
 -- THE PART RETURNED
-called-map : {A B : Type 0} {M : Memory} (f : A → B) {refuse : ℕ → A} {says : List Statement → List Rename → A} {a : A} → Called M refuse says a → Called M (λ e. f (refuse e)) (λ ss rs. f (says ss rs)) (f a)
-called-map f (wrong-lengths e q) = wrong-lengths e (ap f q)
-called-map f (damaged e d q) = damaged e d (ap f q)
-called-map f (holding ss rs e h q) = holding ss rs e h (ap f q)
-
 module _ (M : Memory) (m w : ℕ) (names strings : ℕ × ℕ) (r : Shown) (h : Answered M m w r) where
   abbrev Returned : Shown → Type 0
   Returned x = ShownAs M m w (numberOf x) (bytesIn (M .names) (M .strings) x) × LiesAt M m w names strings (firstByte names strings x)
 
   returned : Returned r
-  returned = (h .1 .1, called-map (firstByte names strings) (h .0))
+  returned = (h .1 .1, called-turn (λ n p. ap (firstByte names strings)) (λ ss rs. ap (firstByte names strings)) (h .0))
 
   pub shown-name : (s e : ℕ) → r ≡ Shown.Name s e → ShownAs M m w 0 (take (e - s) (drop s (M .names))) × LiesAt M m w names strings (names .0, s + names .1)
   unfolding numberOf bytesIn firstByte

@@ -4,6 +4,7 @@ use Prim.Native.Nat.{ℕ, suc, _+_, _≤_, _<_}
 use mathlib.Core.Path.{_≡_, ap, _∙_}
 use mathlib.Core.List.{List}
 use mathlib.Core.Bool.{Bool, true, false, cond}
+use mathlib.Core.Logic.{_⊎_, ⊎-elim}
 use lib.Dec.{ltb}
 use lib.ListN.{length, getD}
 use borrow.Author.Tests.{lt-ltb, le-ltb, le-leb, lt-leb, ne-eqb}
@@ -51,7 +52,10 @@ module _ (names rows : List ℕ) (k found : ℕ) where
       hdlname-next t = rw (e, q, ← eb, t)
 
 -- THE PARTS
-module _ (t : List ℕ) (start end stop : ℕ) (e : stop ≡ cond (ltb end (length t)) end (length t)) where
+module _ (t : List ℕ) (start end stop : ℕ) (came : ((end < length t) × (stop ≡ end)) ⊎ ((length t ≤ end) × (stop ≡ length t))) where
+  e : stop ≡ cond (ltb end (length t)) end (length t)
+  e = ⊎-elim (λ w. rw (w .1, lt-ltb _ _ (w .0))) (λ w. rw (w .1, le-ltb _ _ (w .0))) came
+
   pub cut-none : stop ≤ start → part 0 0 ≡ cutOf t start end
   unfolding cutOf
   cut-none h = rw (← e, le-leb stop start h)
@@ -74,14 +78,9 @@ module _ (strings rows : List ℕ) (behind : ℕ) where
     unfolding textPart
     text-string q = rw (e, q)
 
-module _ (names wires rows : List ℕ) (from count m n k last : ℕ) (el : last ≡ lastRename rows from count m n) where
-  pub name-own : last ≡ 0 → spanPart names wires k 1 ≡ namePart names wires rows from count m n k
-  unfolding namePart partBy
-  name-own e = rw (← el, e)
-
-  pub name-given : (j : ℕ) → last ≡ suc j → spanPart names rows (from + j) 1 ≡ namePart names wires rows from count m n k
-  unfolding namePart partBy
-  name-given j e = rw (← el, e)
+pub name-at : (names wires rows : List ℕ) (from count m n k last l : ℕ) → last ≡ lastRename rows from count m n → last ≡ l → partBy names wires rows from k l ≡ namePart names wires rows from count m n k
+unfolding namePart
+name-at names wires rows from count m n k last l el e = rw (← el, e)
 
 module _ (names : List ℕ) (p : Part) where
   pub plain-public : p .start < p .end → getD names (p .start) 0 ≡ 92 → part (p .start + 1) (p .end) ≡ plainPart names p

@@ -28,16 +28,16 @@ reversed d s l at to j e h k n =
     ∙ reverse-cons (getD s (j - 1) 0) (slice (suc (j - 1)) to s)
     ∙ ap (λ (m : ℕ). reverse (slice m to s) ++ getD s (j - 1) 0 ∷ []) ej)
 
--- the values from a place on: the first, and those behind it
-all-from : (f : ℕ → Bool) (l : List ℕ) (i : ℕ) → i < length l → all f (drop i l) ≡ f (getD l i 0) && all f (drop (i + 1) l)
+-- the values from a place on: what the test says of the first, and of those behind it
+all-from : (f : ℕ → Bool) (l : List ℕ) (i : ℕ) (b : Bool) → i < length l → f (getD l i 0) ≡ b → all f (drop i l) ≡ b && all f (drop (i + 1) l)
 unfolding all
-all-from f l i h = rw (add-one, drop-cons l i 0)
+all-from f l i b h e = rw (add-one, drop-cons l i 0, e)
 
 pub zero-not : (l : List ℕ) (i : ℕ) → i < length l → (getD l i 0 ≡ 0 → ⊥) → all (eqb 0) (drop i l) ≡ false
-zero-not l i h e = all-from (eqb 0) l i h ∙ ap (λ (b : Bool). b && all (eqb 0) (drop (i + 1) l)) (ne-eqb 0 (getD l i 0) (λ z. e (sym z)))
+zero-not l i h e = all-from (eqb 0) l i false h (ne-eqb 0 (getD l i 0) (λ z. e (sym z)))
 
 pub zero-so-far : (l : List ℕ) (i : ℕ) → i < length l → getD l i 0 ≡ 0 → all (eqb 0) (drop i l) ≡ all (eqb 0) (drop (i + 1) l)
-zero-so-far l i h e = all-from (eqb 0) l i h ∙ ap (λ (b : Bool). b && all (eqb 0) (drop (i + 1) l)) (eq-eqb 0 (getD l i 0) (sym e))
+zero-so-far l i h e = all-from (eqb 0) l i true h (eq-eqb 0 (getD l i 0) (sym e))
 
 pub zero-to-end : (l : List ℕ) (i : ℕ) → length l ≤ i → all (eqb 0) (drop i l) ≡ true
 unfolding all

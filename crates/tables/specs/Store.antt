@@ -6,8 +6,8 @@ use Prim.Native.Nat.{ℕ, suc, _+_, _-_, _≤_, _<_}
 use native.Mathlib.Nat.{add-zero}
 use native.Mathlib.Numerals.{add-one}
 use native.Mathlib.Omega.{arith}
-use lib.ListN.{length, take, drop, getD, set, length-append, List·getD-append}
-use lib.Seq.{slice, sets, sets-eq, length-sets, length-take-le, take-all, take-suc, take-at, drop-at, take-append-seam, drop-append-seam, getD-take, getD-drop, getD-append-add}
+use lib.ListN.{length, take, drop, getD, set, length-append}
+use lib.Seq.{slice, sets, sets-eq, length-sets, length-take-le, take-all, take-suc, take-at, drop-at, take-append-seam, drop-append-seam, getD-take, getD-drop}
 
 -- values stored one behind another, from a place on
 unfoldable pub store : List ℕ → ℕ → List ℕ → List ℕ
@@ -76,36 +76,23 @@ module _ (l : List ℕ) (at : ℕ) (vs : List ℕ) (room : at + length vs ≤ le
       ap (take at) (store-eq l at vs room ∙ append-assoc (take at l) vs (drop (at + length vs) l))
       ∙ take-at (take at l) (vs ++ drop (at + length vs) l) at (length-take-le at l (omega arith))
 
+  store-drop : drop (at + length vs) (store l at vs) ≡ drop (at + length vs) l
+  store-drop = ap (drop (at + length vs)) (store-eq l at vs room) ∙ drop-at (take at l ++ vs) (drop (at + length vs) l) (at + length vs) front-long
+
 -- a read inside a run, in front of it, and behind it
 pub store-inside : (l : List ℕ) (at : ℕ) (vs : List ℕ) (i : ℕ) → at + length vs ≤ length l → i < length vs → getD (store l at vs) (at + i) 0 ≡ getD vs i 0
 store-inside l at vs i h k =
-    let q : List ℕ = drop (at + length vs) l in
-    let e : length (take at l) ≡ at = length-take-le at l (omega arith) in
-    ap (λ (x : List ℕ). getD x (at + i) 0) (store-eq l at vs h ∙ append-assoc (take at l) vs q)
-    ∙ ap (λ (n : ℕ). getD (take at l ++ (vs ++ q)) (n + i) 0) (sym e)
-    ∙ getD-append-add (take at l) (vs ++ q) i 0
-    ∙ List·getD-append vs q 0 i k
+    sym (getD-drop at (take (at + length vs) (store l at vs)) i 0 ∙ getD-take (at + length vs) (store l at vs) (at + i) 0 (omega arith))
+    ∙ ap (λ (x : List ℕ). getD x i 0) (store-slice l at vs h)
 
 pub store-before : (l : List ℕ) (at : ℕ) (vs : List ℕ) (i : ℕ) → at + length vs ≤ length l → i < at → getD (store l at vs) i 0 ≡ getD l i 0
-store-before l at vs i h k =
-    let q : List ℕ = drop (at + length vs) l in
-    let e : length (take at l) ≡ at = length-take-le at l (omega arith) in
-    ap (λ (x : List ℕ). getD x i 0) (store-eq l at vs h ∙ append-assoc (take at l) vs q)
-    ∙ List·getD-append (take at l) (vs ++ q) 0 i (omega arith)
-    ∙ getD-take at l i 0 k
+store-before l at vs i h k = sym (getD-take at (store l at vs) i 0 k) ∙ ap (λ (x : List ℕ). getD x i 0) (store-take l at vs h) ∙ getD-take at l i 0 k
 
 pub store-behind : (l : List ℕ) (at : ℕ) (vs : List ℕ) (i : ℕ) → at + length vs ≤ length l → at + length vs ≤ i → getD (store l at vs) i 0 ≡ getD l i 0
 store-behind l at vs i h k =
-    let p : List ℕ = take at l ++ vs in
-    let q : List ℕ = drop (at + length vs) l in
-    let e : length p ≡ at + length vs = rw (length-append, length-take-le at l (omega arith)) in
-    let j : ℕ = i - (at + length vs) in
-    let ei : i ≡ at + length vs + j = omega arith in
-    ap (λ (x : List ℕ). getD x i 0) (store-eq l at vs h)
-    ∙ ap (λ (n : ℕ). getD (p ++ q) n 0) (ei ∙ ap (λ (n : ℕ). n + j) (sym e))
-    ∙ getD-append-add p q j 0
-    ∙ getD-drop (at + length vs) l j 0
-    ∙ ap (λ (n : ℕ). getD l n 0) (sym ei)
+    let at-end : (x : List ℕ) → getD (drop (at + length vs) x) (i - (at + length vs)) 0 ≡ getD x i 0 =
+    λ x. let e : at + length vs + (i - (at + length vs)) ≡ i = omega arith in rw (getD-drop, e) in
+    sym (at-end (store l at vs)) ∙ ap (λ (x : List ℕ). getD x (i - (at + length vs)) 0) (store-drop l at vs h) ∙ at-end l
 
 -- a run over a part that is known
 pub store-over : (xs ys zs vs : List ℕ) → length vs ≡ length ys → store (xs ++ ys ++ zs) (length xs) vs ≡ xs ++ vs ++ zs

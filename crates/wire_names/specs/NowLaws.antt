@@ -42,24 +42,18 @@ module _ (rows : List ℕ) (from m n i : ℕ) where
     rename-before t = rw (e, ← eb, t)
 
 -- it gives the name now, and without one the wire's row does
-unfoldable nameBy : (names wires rows : List ℕ) → (from k last : ℕ) → Name
+unfoldable pub nameBy : (names wires rows : List ℕ) → (from k last : ℕ) → Name
 nameBy names wires rows from k zero = spanAt names wires k 1
 nameBy names wires rows from k (suc j) = spanAt names rows (from + j) 1
 
-name-by : (names wires rows : List ℕ) (from m n k count : ℕ) → nameNow names wires rows from count m n k ≡ nameBy names wires rows from k (lastRename rows from count m n)
+pub name-by : (names wires rows : List ℕ) (from m n k count : ℕ) → nameNow names wires rows from count m n k ≡ nameBy names wires rows from k (lastRename rows from count m n)
 unfolding nameNow lastRename nameBy nameOf nameFrom spanAt
 name-by names wires rows from m n k zero = refl
 name-by names wires rows from m n k (suc c) =
     by-test (renames rows (from + c) m n) (λ e. rw e) (λ e. rw e (name-by names wires rows from m n k c))
 
-module _ (names wires rows : List ℕ) (from m n k count last : ℕ) (el : last ≡ lastRename rows from count m n) where
-  pub name-own : last ≡ 0 → spanAt names wires k 1 ≡ nameNow names wires rows from count m n k
-  unfolding nameBy
-  name-own e = sym (name-by names wires rows from m n k count ∙ ap (nameBy names wires rows from k) (sym el ∙ e))
-
-  pub name-given : (j : ℕ) → last ≡ suc j → spanAt names rows (from + j) 1 ≡ nameNow names wires rows from count m n k
-  unfolding nameBy
-  name-given j e = sym (name-by names wires rows from m n k count ∙ ap (nameBy names wires rows from k) (sym el ∙ e))
+pub name-at : (names wires rows : List ℕ) (from m n k count last l : ℕ) → last ≡ lastRename rows from count m n → last ≡ l → nameBy names wires rows from k l ≡ nameNow names wires rows from count m n k
+name-at names wires rows from m n k count last l el e = sym (name-by names wires rows from m n k count ∙ ap (nameBy names wires rows from k) (sym el ∙ e))
 
 -- a wire's number n in its module of so many wires; one past them is taken for the last
 pub wire-now : (names wires rows : List ℕ) (x : Module) (w n : ℕ) → x .wires ≡ (x .wires - (w + 1)) + suc n → drop (x .wires - (w + 1)) (wiresIn names wires rows x) ≡ (nameNow names wires rows (x .from) (x .renames) (x .number .0) n (x .first + n), wireOf wires (x .first + n)) ∷ wiresNow names wires rows (x .from) (x .renames) (x .number .0) (x .first) n

@@ -1,8 +1,7 @@
 -- `card::skytassel_read` meets its contract: a walk of its MIR, by hand. The card's borrow is opened, its counts are read, the tables go to `read` for good at their own lifetimes, the counts that it returns are stored in the card, and the borrow is closed at the new record.
 -- All that the proof knows of `read` is that it meets its contract.
 -- Assumes nothing.
-use Rattle.card.proofs.Walk.{_≡_, refl, ℕ, _<_, _^_, [], _∷_, List, length, URA, named, w32, Val, vint, vptr, SProp, ent, emp, via, fst∗, id⊢, Lft, Share, GName, Fml, flft, fobs, fbor, Memory, Routine, Heap, Calls, Loops, WpFn, Tables, Atoms, sem, Fun, fact, givenOf, tables, tablesOf, Lfts, Shares, AllOutlive, Given, Item, ‵, raw, some, later, mean, _⊛_, ⋆, _$_, _∵_, !, qed, by, move, drop, use1, use2, split, pick, fsplit, fsplit3, fjoin, fjoin3, feqL, feqI, suffices, frame, await, done, look, init, stop, hop, fld, from, load, of-opd, and-then, no-more, assigns, returns, enter, agg, whole, sub, look-in, store-in, Body, FmC, fmOf, WpFn-mono, RattleType, owns, mem, Is, u8, u32, RefT, MutRef, ptr-vals, mut-tells, MutSlice, ShrSlice, Room, slice-vals, mut-slice-tells, shr-slice-tells, shr-slice-lawful, heard, nothing, onEntry, Meets, tripleOf, Contract, Triple, calls-at, ensured, lasts, entered, cited, says, Stays, stay-ref, stay-none-slice, gave-slice, walkOf, goes-ref, goes-none-slice, goes-gave-slice, Walks, ends-at, walked, walk-meets, yes, plain, tokens, apart, rejoined, starts, relends, ends, none, cell, past, result, lent, Card, Left, Answer, R, leftRow, sliced, h, answer, card-opens, card-closes, number, answers, copies, left-lands}
-use Rattle.reader.specs.Read.{readInto}
+use Rattle.card.proofs.Walk.{refl, ℕ, _<_, _^_, [], _∷_, List, length, URA, named, w32, Val, vint, vptr, SProp, ent, id⊢, Lft, Share, GName, Fml, flft, fobs, fbor, Memory, Routine, Heap, Calls, Loops, WpFn, Atoms, Fun, givenOf, tables, Lfts, Shares, AllOutlive, Given, Item, ‵, raw, mean, _⊛_, ⋆, _$_, _∵_, !, qed, by, move, drop, use1, use2, split, fsplit, fsplit3, fjoin, fjoin3, feqL, feqI, suffices, frame, done, look, init, stop, hop, fld, from, load, of-opd, and-then, no-more, assigns, returns, enter, agg, whole, sub, look-in, store-in, Body, FmC, RattleType, owns, mem, Is, u8, u32, RefT, MutRef, ptr-vals, mut-tells, MutSlice, ShrSlice, Room, slice-vals, mut-slice-tells, shr-slice-tells, shr-slice-lawful, nothing, alive, onEntry, tripleOf, Contract, Triple, calls-at, ensured, cited, says, Stays, stay-ref, stay-none-slice, gave-slice, walkOf, goes-ref, goes-none-slice, goes-gave-slice, ends-at, yes, plain, pull, unpull, tokens, owned-by, asks, returned, said, walk-enters, starts, relends, ends, none, cell, past, Card, Left, Answer, R, sliced, h, answer, card-opens, card-closes, number, answers, copies, left-lands}
 use Rattle.reader.proofs.read as core
 use Rattle.reader.proofs.read.Symbol as core-def
 use Rattle.reader.proofs.read.Symbol.{name as #reader·read}
@@ -33,21 +32,33 @@ module _ {M : Type 1} (𝓤 : URA M) (H : Heap 𝓤) (A : Atoms 𝓤) (W : Given
   abbrev vals : List Val × (List Val × (List Val × (List Val × (List Val × (List Val × (List Val × Unit {0}))))))
   vals = (sliced x₀ ∷ [], (sliced x₁ ∷ [], (sliced x₂ ∷ [], (sliced x₃ ∷ [], (sliced x₄ ∷ [], (sliced x₅ ∷ [], (vptr b o ∷ [], tt)))))))
 
+  abbrev lfts : Lfts 7
+  lfts = (κ₀, (κ₁, (κ₂, (κ₃, (κ₄, (κ₅, (κ₆, tt)))))))
+
+  abbrev shares : Shares 7
+  shares = (q₀, (q₁, (q₂, (q₃, (q₄, (q₅, (q₆, tt)))))))
+
   abbrev Thin : Contract 𝓤
   Thin = walkOf 𝓤 H A thin.ended stayed (thin.clauses 𝓤 H A at-mem run)
 
   abbrev here : Thin .Ghost
-  here = (((κ₀, (κ₁, (κ₂, (κ₃, (κ₄, (κ₅, (κ₆, tt))))))), (q₀, (q₁, (q₂, (q₃, (q₄, (q₅, (q₆, tt))))))), bounds, a, vals), tt)
+  here = ((lfts, shares, bounds, a, vals), tt)
 
   abbrev Params : List RattleType
   Params = ShrSlice (named 0) κ₀ u8 ∷ MutSlice (named 1) κ₁ u8 ∷ MutSlice (named 2) κ₂ u8 ∷ MutSlice (named 3) κ₃ u32 ∷ MutSlice (named 4) κ₄ u32 ∷ MutSlice (named 5) κ₅ u32 ∷ MutRef (named 6) κ₆ R ∷ []
 
+  abbrev κs : Lfts (core.signature .lifetimes)
+  κs = (κ₀, (κ₁, (κ₂, (κ₃, (κ₄, (κ₅, tt))))))
+
+  abbrev qs : Shares (core.signature .lifetimes)
+  qs = (q₀, (q₁, (q₂, (q₃, (q₄, (q₅, tt))))))
+
   -- the tokens, and those but for the card's
   abbrev Tokens : Item 𝓤
-  Tokens = tokens 𝓤 H A ((κ₀, q₀) ∷ (κ₁, q₁) ∷ (κ₂, q₂) ∷ (κ₃, q₃) ∷ (κ₄, q₄) ∷ (κ₅, q₅) ∷ (κ₆, q₆) ∷ [])
+  Tokens = raw (alive 𝓤 H A thin.signature lfts shares)
 
   abbrev Others : Item 𝓤
-  Others = tokens 𝓤 H A ((κ₀, q₀) ∷ (κ₁, q₁) ∷ (κ₂, q₂) ∷ (κ₃, q₃) ∷ (κ₄, q₄) ∷ (κ₅, q₅) ∷ [])
+  Others = raw (alive 𝓤 H A core.signature κs qs)
 
   abbrev CardLent : Fml
   CardLent = MutRef (named 6) κ₆ R .own (record { ptr = (b, o); name = γ; now = h n₀ n₁ }) (vptr b o ∷ [])
@@ -65,12 +76,6 @@ module _ {M : Type 1} (𝓤 : URA M) (H : Heap 𝓤) (A : Atoms 𝓤) (W : Given
   abbrev cv : List Val × (List Val × (List Val × (List Val × (List Val × (List Val × (List Val × (List Val × Unit {0})))))))
   cv = (sliced x₀ ∷ [], (sliced x₁ ∷ [], (sliced x₂ ∷ [], (sliced x₃ ∷ [], (sliced x₄ ∷ [], (sliced x₅ ∷ [], (vint w32 n₀ ∷ [], (vint w32 n₁ ∷ [], tt))))))))
 
-  abbrev κs : Lfts (core.signature .lifetimes)
-  κs = (κ₀, (κ₁, (κ₂, (κ₃, (κ₄, (κ₅, tt))))))
-
-  abbrev qs : Shares (core.signature .lifetimes)
-  qs = (q₀, (q₁, (q₂, (q₃, (q₄, (q₅, tt))))))
-
   abbrev to : Core 𝓤 H A at-mem run .Ghost
   to = ((κs, qs, tt, ca, cv), tt)
 
@@ -80,29 +85,20 @@ module _ {M : Type 1} (𝓤 : URA M) (H : Heap 𝓤) (A : Atoms 𝓤) (W : Given
   abbrev Pre : SProp 𝓤
   Pre = Core 𝓤 H A at-mem run .pre to
 
-  parted : ent 𝓤 (sem 𝓤 H A (owns Params a vals)) (mean 𝓤 H A (‵ CardLent ⊛ ‵ RestLent))
-  parted = qed W (‵ (owns Params a vals) ∷ []) ∵ fsplit ! $ move ! (1 ∷ []) $ fsplit ! $ move ! (1 ∷ []) $ fsplit ! $ move ! (1 ∷ []) $ fsplit ! $ move ! (1 ∷ []) $ fsplit ! $ move ! (1 ∷ []) $ fsplit ! $ move ! (1 ∷ []) $ fsplit ! $ move ! (1 ∷ []) $ move ! (2 ∷ 0 ∷ []) $ fjoin ! $ move ! (2 ∷ 0 ∷ []) $ fjoin ! $ move ! (2 ∷ 0 ∷ []) $ fjoin ! $ move ! (2 ∷ 0 ∷ []) $ fjoin ! $ move ! (2 ∷ 0 ∷ []) $ fjoin ! $ move ! (2 ∷ 0 ∷ []) $ fjoin ! $ move ! (1 ∷ []) $ frame ! $ done !
-
-  asked : ent 𝓤 (onEntry 𝓤 H A core.signature κs qs ca cv) Pre
-  asked = qed W ((Others ⊛ ‵ (owns (ShrSlice (named 0) κ₀ u8 ∷ MutSlice (named 1) κ₁ u8 ∷ MutSlice (named 2) κ₂ u8 ∷ MutSlice (named 3) κ₃ u32 ∷ MutSlice (named 4) κ₄ u32 ∷ MutSlice (named 5) κ₅ u32 ∷ u32 ∷ u32 ∷ []) ca cv)) ∷ []) ∵ frame ! $ done !
-
   -- what the callee asks, and what is kept
   passed : n₀ < 2 ^ 32 → n₁ < 2 ^ 32 → ent 𝓤 (mean 𝓤 H A (Others ⊛ ‵ RestLent)) (mean 𝓤 H A (raw Pre ⊛ ‵ Own₀))
-  passed f₀ f₁ = qed W (Others ∷ ‵ RestLent ∷ []) ∵ move ! (1 ∷ []) $ fsplit ! $ copies ! (named 0) κ₀ u8 x₀ (sliced x₀ ∷ []) $ move ! (2 ∷ []) $ fsplit ! $ move ! (1 ∷ []) $ fsplit ! $ move ! (1 ∷ []) $ fsplit ! $ move ! (1 ∷ []) $ fsplit ! $ move ! (1 ∷ []) $ fsplit ! $ move ! (1 ∷ []) $ number ! n₁ f₁ $ fjoin ! $ number ! n₀ f₀ $ fjoin ! $ move ! (1 ∷ 0 ∷ []) $ fjoin ! $ move ! (1 ∷ 0 ∷ []) $ fjoin ! $ move ! (1 ∷ 0 ∷ []) $ fjoin ! $ move ! (1 ∷ 0 ∷ []) $ fjoin ! $ move ! (1 ∷ 0 ∷ []) $ fjoin ! $ move ! (1 ∷ 0 ∷ []) $ fjoin ! $ move ! (2 ∷ 0 ∷ []) $ use2 W (raw Pre) asked $ frame ! $ done !
-
-  abbrev Lasts : Type 0
-  Lasts = Unit {0} × (List ℕ × (List ℕ × (List ℕ × (List ℕ × (List ℕ × (Unit {0} × (Unit {0} × Unit {0})))))))
+  passed f₀ f₁ = qed W (Others ∷ ‵ RestLent ∷ []) ∵ move ! (1 ∷ []) $ fsplit ! $ copies ! (named 0) κ₀ u8 x₀ (sliced x₀ ∷ []) $ move ! (2 ∷ []) $ fsplit ! $ move ! (1 ∷ []) $ fsplit ! $ move ! (1 ∷ []) $ fsplit ! $ move ! (1 ∷ []) $ fsplit ! $ move ! (1 ∷ []) $ fsplit ! $ move ! (1 ∷ []) $ number ! n₁ f₁ $ fjoin ! $ number ! n₀ f₀ $ fjoin ! $ move ! (1 ∷ 0 ∷ []) $ fjoin ! $ move ! (1 ∷ 0 ∷ []) $ fjoin ! $ move ! (1 ∷ 0 ∷ []) $ fjoin ! $ move ! (1 ∷ 0 ∷ []) $ fjoin ! $ move ! (1 ∷ 0 ∷ []) $ fjoin ! $ move ! (1 ∷ 0 ∷ []) $ fjoin ! $ move ! (2 ∷ 0 ∷ []) $ use2 W (raw Pre) (asks 𝓤 _) $ frame ! $ done !
 
   exits : (r : Left) → ansOf r .number < 2 ^ 32 → ansOf r .place < 2 ^ 32 → ent 𝓤 (⋆ 𝓤 H A (‵ (fobs γ (R .coded .code (newOf r))) ∷ ‵ (fbor κ₆ (Body (mem R) b o γ)) ∷ ‵ (flft κ₆ q₆) ∷ Others ∷ raw (Ensured r) ∷ ‵ Own₀ ∷ [])) (Thin .post here (answer (ansOf r)))
   exits r g₀ g₁ =
       qed W (‵ (fobs γ (R .coded .code (newOf r))) ∷ ‵ (fbor κ₆ (Body (mem R) b o γ)) ∷ ‵ (flft κ₆ q₆) ∷ Others ∷ raw (Ensured r) ∷ ‵ Own₀ ∷ []) ∵
-      move ! (4 ∷ []) $ use1 W (some (λ (zs : Lasts). ‵ (lasts core.ended κs ca zs) ⊛ raw (fact 𝓤 (result (r .number) (r .place) (lent (zs .1 .0) (zs .1 .1 .0) (zs .1 .1 .1 .0) (zs .1 .1 .1 .1 .0) (zs .1 .1 .1 .1 .1 .0) (r .renames) (r .room)) ≡ readInto (x₀ .now) (lent (x₁ .now) (x₂ .now) (x₃ .now) (x₄ .now) (x₅ .now) n₀ n₁))))) (id⊢ 𝓤 _) $ pick ! (λ zs. split ! $ move ! (1 ∷ []) $ heard ! _ (λ e. fsplit ! $ drop ! $ fsplit ! $ fsplit ! $ move ! (1 ∷ []) $ feqL ! (λ l₁. move ! (1 ∷ []) $ fsplit ! $ fsplit ! $ move ! (1 ∷ []) $ feqL ! (λ l₂. move ! (1 ∷ []) $ fsplit ! $ fsplit ! $ move ! (1 ∷ []) $ feqL ! (λ l₃. move ! (1 ∷ []) $ fsplit ! $ fsplit ! $ move ! (1 ∷ []) $ feqL ! (λ l₄. move ! (1 ∷ []) $ fsplit ! $ fsplit ! $ move ! (1 ∷ []) $ feqL ! (λ l₅. move ! (1 ∷ []) $ drop ! $ suffices ! _ (ends-at 𝓤 H A thin.ended stayed (thin.clauses 𝓤 H A at-mem run) W here (answer (ansOf r)) (ansOf r) (tt, ((zs .1 .0), ((zs .1 .1 .0), ((zs .1 .1 .1 .0), ((zs .1 .1 .1 .1 .0), ((zs .1 .1 .1 .1 .1 .0), (newOf r, tt))))))) (tt, (l₁, (l₂, (l₃, (l₄, (l₅, (tt, tt)))))))) $ says ! e $ move ! (7 ∷ 8 ∷ []) $ use2 W (Tokens) (rejoined 𝓤 H A W κ₆ q₆ [] ((κ₀, q₀) ∷ (κ₁, q₁) ∷ (κ₂, q₂) ∷ (κ₃, q₃) ∷ (κ₄, q₄) ∷ (κ₅, q₅) ∷ [])) $ frame ! $ move ! (5 ∷ 6 ∷ []) $ feqI ! (List Val) (vptr b o ∷ []) (vptr b o ∷ []) refl $ fjoin3 ! $ nothing ! $ move ! (1 ∷ 0 ∷ []) $ fjoin ! $ move ! (1 ∷ 0 ∷ []) $ fjoin ! $ move ! (1 ∷ 0 ∷ []) $ fjoin ! $ move ! (1 ∷ 0 ∷ []) $ fjoin ! $ move ! (1 ∷ 0 ∷ []) $ fjoin ! $ move ! (1 ∷ 0 ∷ []) $ fjoin ! $ move ! (1 ∷ 0 ∷ []) $ fjoin ! $ answers ! (ansOf r) g₀ g₁ $ move ! (1 ∷ 0 ∷ []) $ done !)))))))
+      move ! (4 ∷ []) $ said ! core.ended (core.clauses 𝓤 H A at-mem run) κs ca tt r (λ zs. id⊢ 𝓤 _) (λ zs e. fsplit ! $ drop ! $ fsplit ! $ fsplit ! $ move ! (1 ∷ []) $ feqL ! (λ l₁. move ! (1 ∷ []) $ fsplit ! $ fsplit ! $ move ! (1 ∷ []) $ feqL ! (λ l₂. move ! (1 ∷ []) $ fsplit ! $ fsplit ! $ move ! (1 ∷ []) $ feqL ! (λ l₃. move ! (1 ∷ []) $ fsplit ! $ fsplit ! $ move ! (1 ∷ []) $ feqL ! (λ l₄. move ! (1 ∷ []) $ fsplit ! $ fsplit ! $ move ! (1 ∷ []) $ feqL ! (λ l₅. move ! (1 ∷ []) $ drop ! $ suffices ! _ (ends-at 𝓤 H A thin.ended stayed (thin.clauses 𝓤 H A at-mem run) W here (answer (ansOf r)) (ansOf r) (tt, ((zs .1 .0), ((zs .1 .1 .0), ((zs .1 .1 .1 .0), ((zs .1 .1 .1 .1 .0), ((zs .1 .1 .1 .1 .1 .0), (newOf r, tt))))))) (tt, (l₁, (l₂, (l₃, (l₄, (l₅, (tt, tt)))))))) $ says ! e $ move ! (7 ∷ 8 ∷ []) $ use2 W Tokens (unpull 𝓤 H A 6 (tokens 𝓤 7 lfts shares)) $ frame ! $ move ! (5 ∷ 6 ∷ []) $ feqI ! (List Val) (vptr b o ∷ []) (vptr b o ∷ []) refl $ fjoin3 ! $ nothing ! $ move ! (1 ∷ 0 ∷ []) $ fjoin ! $ move ! (1 ∷ 0 ∷ []) $ fjoin ! $ move ! (1 ∷ 0 ∷ []) $ fjoin ! $ move ! (1 ∷ 0 ∷ []) $ fjoin ! $ move ! (1 ∷ 0 ∷ []) $ fjoin ! $ move ! (1 ∷ 0 ∷ []) $ fjoin ! $ move ! (1 ∷ 0 ∷ []) $ fjoin ! $ answers ! (ansOf r) g₀ g₁ $ move ! (1 ∷ 0 ∷ []) $ done !))))))
 
   module _ (C : Calls 𝓤 H) (Λ : Loops 𝓤 H) (fm : FmC 𝓤 H (W .laws) C) (known : Triple 𝓤 (C #reader·read) (Core 𝓤 H A at-mem run)) where
-    walk : Is (ShrSlice (named 0) κ₀ u8) x₀ (sliced x₀ ∷ []) → Room u8 (length (x₁ .now)) → Room u8 (length (x₂ .now)) → Room u32 (length (x₃ .now)) → Room u32 (length (x₄ .now)) → Room u32 (length (x₅ .now)) → ent 𝓤 (onEntry 𝓤 H A thin.signature (κ₀, (κ₁, (κ₂, (κ₃, (κ₄, (κ₅, (κ₆, tt))))))) (q₀, (q₁, (q₂, (q₃, (q₄, (q₅, (q₆, tt))))))) a vals) (WpFn 𝓤 H C Λ code.function (sliced x₀ ∷ sliced x₁ ∷ sliced x₂ ∷ sliced x₃ ∷ sliced x₄ ∷ sliced x₅ ∷ vptr b o ∷ []) (Thin .post here))
+    walk : Is (ShrSlice (named 0) κ₀ u8) x₀ (sliced x₀ ∷ []) → Room u8 (length (x₁ .now)) → Room u8 (length (x₂ .now)) → Room u32 (length (x₃ .now)) → Room u32 (length (x₄ .now)) → Room u32 (length (x₅ .now)) → ent 𝓤 (onEntry 𝓤 H A thin.signature lfts shares a vals) (WpFn 𝓤 H C Λ code.function (sliced x₀ ∷ sliced x₁ ∷ sliced x₂ ∷ sliced x₃ ∷ sliced x₄ ∷ sliced x₅ ∷ vptr b o ∷ []) (Thin .post here))
     walk is₀ room₁ room₂ room₃ room₄ room₅ =
-        qed W (Tokens ∷ ‵ (owns Params a vals) ∷ []) ∵ use1 W (‵ (flft κ₆ q₆) ⊛ Others) (apart 𝓤 H A W κ₆ q₆ [] ((κ₀, q₀) ∷ (κ₁, q₁) ∷ (κ₂, q₂) ∷ (κ₃, q₃) ∷ (κ₄, q₄) ∷ (κ₅, q₅) ∷ [])) $ split ! $ move ! (2 ∷ []) $
-        use1 W (‵ CardLent ⊛ ‵ RestLent) parted $ split ! $ fsplit3 ! $ drop ! $ move ! (0 ∷ 1 ∷ 3 ∷ 4 ∷ []) $
+        qed W (Tokens ∷ ‵ (owns Params a vals) ∷ []) ∵ use1 W (‵ (flft κ₆ q₆) ⊛ Others) (pull 𝓤 H A 6 (tokens 𝓤 7 lfts shares)) $ split ! $ move ! (2 ∷ []) $
+        use1 W (‵ CardLent ⊛ ‵ RestLent) (pull 𝓤 H A 6 (owned-by 𝓤 Params a vals)) $ split ! $ fsplit3 ! $ drop ! $ move ! (0 ∷ 1 ∷ 3 ∷ 4 ∷ []) $
         enter ! C Λ code.function (sliced x₀ ∷ sliced x₁ ∷ sliced x₂ ∷ sliced x₃ ∷ sliced x₄ ∷ sliced x₅ ∷ vptr b o ∷ []) _ $ starts ! (shr-slice-lawful 𝓤 H A W (named 0) κ₀ u8 .typed x₀ (sliced x₀ ∷ []) is₀ .0, ((tt, (tt, (record { fits = room₁ .0 }, tt))), ((tt, (tt, (record { fits = room₂ .0 }, tt))), ((tt, (tt, (record { fits = room₃ .0 }, tt))), ((tt, (tt, (record { fits = room₄ .0 }, tt))), ((tt, (tt, (record { fits = room₅ .0 }, tt))), ((tt, tt), tt))))))) (λ l₀ ls.
         -- [the locals; that they can be freed; the card's observation, its borrow and its token; the other tokens; what the other parameters own]
         relends ! 2 9 10 refl refl refl refl refl refl refl refl (record { fits = room₁ .0 }) $
@@ -115,7 +111,7 @@ module _ {M : Type 1} (𝓤 : URA M) (H : Heap 𝓤) (A : Atoms 𝓤) (W : Given
         assigns ! (of-opd ! (load ! (from ! (hop ! (look ! 11 refl) (fld ! refl (stop !)))) (look-in ! 0 (sub ! 1 refl (whole !))))) (from ! (stop !)) (init ! 24 refl (tt, record { fits = f₁ })) $
         move ! (26 ∷ 27 ∷ []) $ use2 W (raw Pre ⊛ ‵ Own₀) (passed f₀ f₁) $ split ! $
         calls-at ! fm (Core 𝓤 H A at-mem run) known to (and-then ! (load ! (from ! (stop !)) (look ! 7 refl)) (and-then ! (load ! (from ! (stop !)) (look ! 16 refl)) (and-then ! (load ! (from ! (stop !)) (look ! 18 refl)) (and-then ! (load ! (from ! (stop !)) (look ! 20 refl)) (and-then ! (load ! (from ! (stop !)) (look ! 22 refl)) (and-then ! (load ! (from ! (stop !)) (look ! 24 refl)) (and-then ! (load ! (from ! (stop !)) (look ! 25 refl)) (and-then ! (load ! (from ! (stop !)) (look ! 26 refl)) (no-more !))))))))) (λ w.
-        use1 W (later (some (λ (r : Left). (Others ⊛ ‵ (leftRow .own r (w ∷ []))) ⊛ raw (Ensured r)))) (id⊢ 𝓤 _) $ await ! tt $ pick ! (λ r. split ! $ split ! $ move ! (1 ∷ []) $
+        returned ! tt core.signature (core.spec 𝓤 H A at-mem run) to w (λ r.
         left-lands ! 8 15 r w refl refl refl (λ g₀ g₁ g₂ g₃.
         assigns ! (of-opd ! (load ! (from ! (fld ! refl (stop !))) (look-in ! 15 (sub ! 2 refl (whole !))))) (from ! (hop ! (look ! 14 refl) (fld ! refl (stop !)))) (store-in ! 3 (sub ! 0 refl (whole !)) (tt, record { fits = g₂ })) $
         assigns ! (of-opd ! (load ! (from ! (fld ! refl (stop !))) (look-in ! 15 (sub ! 3 refl (whole !))))) (from ! (hop ! (look ! 14 refl) (fld ! refl (stop !)))) (store-in ! 3 (sub ! 1 refl (whole !)) (tt, record { fits = g₃ })) $
@@ -124,25 +120,12 @@ module _ {M : Type 1} (𝓤 : URA M) (H : Heap 𝓤) (A : Atoms 𝓤) (W : Given
         returns ! (look ! 6 refl) $ ends ! (past (past (past (past (past (past (cell (cell (cell (cell (cell (cell (cell (cell (cell (cell (cell (cell (cell (cell (cell (cell (cell (cell (cell (cell (cell none))))))))))))))))))))))))))) $
         by ! (exits r g₀ g₁))))))
 
-module _ {M : Type 1} (𝓤 : URA M) (H : Heap 𝓤) (A : Atoms 𝓤) (W : Given 𝓤 H A) (at-mem : Memory → SProp 𝓤) (run : Routine → Fun 𝓤) where
-  thin-walks : (C : Calls 𝓤 H) (Λ : Loops 𝓤 H) → FmC 𝓤 H (W .laws) C → Triple 𝓤 (C #reader·read) (Core 𝓤 H A at-mem run) → Walks 𝓤 H A thin.ended stayed (WpFn 𝓤 H C Λ code.function) (thin.clauses 𝓤 H A at-mem run)
-  thin-walks C Λ fm known = walked 𝓤 H A thin.ended stayed (thin.clauses 𝓤 H A at-mem run) (WpFn 𝓤 H C Λ code.function)
-      (λ κs. (slice-vals, (slice-vals, (slice-vals, (slice-vals, (slice-vals, (slice-vals, (ptr-vals, tt))))))))
-      (λ κs. (shr-slice-tells (named 0) (κs .0) u8, (mut-slice-tells (named 1) (κs .1 .0) u8, (mut-slice-tells (named 2) (κs .1 .1 .0) u8, (mut-slice-tells (named 3) (κs .1 .1 .1 .0) u32, (mut-slice-tells (named 4) (κs .1 .1 .1 .1 .0) u32, (mut-slice-tells (named 5) (κs .1 .1 .1 .1 .1 .0) u32, (mut-tells (named 6) (κs .1 .1 .1 .1 .1 .1 .0) R, tt))))))))
-      (λ κs qs bounds a g are. via 𝓤 _ (fst∗ 𝓤 _ (emp 𝓤))
-      (walk 𝓤 H A W at-mem run (κs .0) (κs .1 .0) (κs .1 .1 .0) (κs .1 .1 .1 .0) (κs .1 .1 .1 .1 .0) (κs .1 .1 .1 .1 .1 .0) (κs .1 .1 .1 .1 .1 .1 .0) bounds (qs .0) (qs .1 .0) (qs .1 .1 .0) (qs .1 .1 .1 .0) (qs .1 .1 .1 .1 .0) (qs .1 .1 .1 .1 .1 .0) (qs .1 .1 .1 .1 .1 .1 .0) (a .0) (a .1 .0) (a .1 .1 .0) (a .1 .1 .1 .0) (a .1 .1 .1 .1 .0) (a .1 .1 .1 .1 .1 .0) (a .1 .1 .1 .1 .1 .1 .0 .ptr .0) (a .1 .1 .1 .1 .1 .1 .0 .ptr .1) (a .1 .1 .1 .1 .1 .1 .0 .name) (a .1 .1 .1 .1 .1 .1 .0 .now .renames) (a .1 .1 .1 .1 .1 .1 .0 .now .room) C Λ fm known (are .0) (are .1 .0 .0 .1) (are .1 .1 .0 .0 .1) (are .1 .1 .1 .0 .0 .1) (are .1 .1 .1 .1 .0 .0 .1) (are .1 .1 .1 .1 .1 .0 .0 .1)))
-
-thin-meets : {M : Type 1} (𝓤 : URA M) (H : Heap 𝓤) (A : Atoms 𝓤) → Given 𝓤 H A → (at-mem : Memory → SProp 𝓤) (run : Routine → Fun 𝓤) (𝓣 : Tables 𝓤 H) → Triple 𝓤 (𝓣 .C #reader·read) (Core 𝓤 H A at-mem run)
-    → Meets 𝓤 H A thin.signature (WpFn 𝓤 H (𝓣 .C) (𝓣 .Λ) code.function) (thin.spec 𝓤 H A at-mem run)
-thin-meets 𝓤 H A W at-mem run 𝓣 known =
-    walk-meets 𝓤 H A thin.ended stayed W
-    (goes-none-slice 𝓤 H A W 7 (0 ∷ []) tt (plain (λ _. u8)) yes, (goes-gave-slice 𝓤 H A W 7 1 tt (plain (λ _. u8)), (goes-gave-slice 𝓤 H A W 7 2 tt (plain (λ _. u8)), (goes-gave-slice 𝓤 H A W 7 3 tt (plain (λ _. u32)), (goes-gave-slice 𝓤 H A W 7 4 tt (plain (λ _. u32)), (goes-gave-slice 𝓤 H A W 7 5 tt (plain (λ _. u32)), (goes-ref 𝓤 H A W 7 6 tt (plain (λ _. R)), tt)))))))
-    (thin.clauses 𝓤 H A at-mem run) (WpFn 𝓤 H (𝓣 .C) (𝓣 .Λ) code.function) (WpFn-mono 𝓤 H (W .laws) 𝓣 code.function) (thin-walks 𝓤 H A W at-mem run (𝓣 .C) (𝓣 .Λ) (fmOf 𝓤 H (W .laws) 𝓣) known)
-
 pub skytassel-read-spec : {M : Type 1} → stated.statement M
-unfolding code.routine tablesOf
+unfolding code.routine
 skytassel-read-spec 𝓤 H 𝓜 𝓖 𝓡 =
-    entered 𝓤 H (tripleOf 𝓤 H (𝓖 .A) thin.signature (thin.spec 𝓤 H (𝓖 .A) (𝓜 .mem) (𝓡 .run)))
-    (tables 𝓤 H 𝓜 𝓡 code.env .C) (tables 𝓤 H 𝓜 𝓡 code.env .Λ) #card·skytassel-read code.function (code.unfolded 𝓤 H 𝓜 𝓡)
-    (thin-meets 𝓤 H (𝓖 .A) (givenOf 𝓤 H 𝓜 𝓖) (𝓜 .mem) (𝓡 .run) (tablesOf 𝓤 H 𝓜 (tables 𝓤 H 𝓜 𝓡 code.env))
-    (cited 𝓤 H (Core 𝓤 H (𝓖 .A) (𝓜 .mem) (𝓡 .run)) 𝓜 𝓡 code.env #reader·read core-def.routine code.calls-reader·read (core-thm.met 𝓤 H 𝓜 𝓖 𝓡)))
+    walk-enters 𝓤 H 𝓜 𝓖 𝓡 code.env thin.ended stayed (thin.clauses 𝓤 H (𝓖 .A) (𝓜 .mem) (𝓡 .run)) #card·skytassel-read code.function (code.unfolded 𝓤 H 𝓜 𝓡)
+    (goes-none-slice 𝓤 H (𝓖 .A) (givenOf 𝓤 H 𝓜 𝓖) 7 (0 ∷ []) tt (plain (λ _. u8)) yes, (goes-gave-slice 𝓤 H (𝓖 .A) (givenOf 𝓤 H 𝓜 𝓖) 7 1 tt (plain (λ _. u8)), (goes-gave-slice 𝓤 H (𝓖 .A) (givenOf 𝓤 H 𝓜 𝓖) 7 2 tt (plain (λ _. u8)), (goes-gave-slice 𝓤 H (𝓖 .A) (givenOf 𝓤 H 𝓜 𝓖) 7 3 tt (plain (λ _. u32)), (goes-gave-slice 𝓤 H (𝓖 .A) (givenOf 𝓤 H 𝓜 𝓖) 7 4 tt (plain (λ _. u32)), (goes-gave-slice 𝓤 H (𝓖 .A) (givenOf 𝓤 H 𝓜 𝓖) 7 5 tt (plain (λ _. u32)), (goes-ref 𝓤 H (𝓖 .A) (givenOf 𝓤 H 𝓜 𝓖) 7 6 tt (plain (λ _. R)), tt)))))))
+    (λ κs. (slice-vals, (slice-vals, (slice-vals, (slice-vals, (slice-vals, (slice-vals, (ptr-vals, tt))))))))
+    (λ κs. (shr-slice-tells (named 0) (κs .0) u8, (mut-slice-tells (named 1) (κs .1 .0) u8, (mut-slice-tells (named 2) (κs .1 .1 .0) u8, (mut-slice-tells (named 3) (κs .1 .1 .1 .0) u32, (mut-slice-tells (named 4) (κs .1 .1 .1 .1 .0) u32, (mut-slice-tells (named 5) (κs .1 .1 .1 .1 .1 .0) u32, (mut-tells (named 6) (κs .1 .1 .1 .1 .1 .1 .0) R, tt))))))))
+    (λ fm κs qs bounds a g are. walk 𝓤 H (𝓖 .A) (givenOf 𝓤 H 𝓜 𝓖) (𝓜 .mem) (𝓡 .run) (κs .0) (κs .1 .0) (κs .1 .1 .0) (κs .1 .1 .1 .0) (κs .1 .1 .1 .1 .0) (κs .1 .1 .1 .1 .1 .0) (κs .1 .1 .1 .1 .1 .1 .0) bounds (qs .0) (qs .1 .0) (qs .1 .1 .0) (qs .1 .1 .1 .0) (qs .1 .1 .1 .1 .0) (qs .1 .1 .1 .1 .1 .0) (qs .1 .1 .1 .1 .1 .1 .0) (a .0) (a .1 .0) (a .1 .1 .0) (a .1 .1 .1 .0) (a .1 .1 .1 .1 .0) (a .1 .1 .1 .1 .1 .0) (a .1 .1 .1 .1 .1 .1 .0 .ptr .0) (a .1 .1 .1 .1 .1 .1 .0 .ptr .1) (a .1 .1 .1 .1 .1 .1 .0 .name) (a .1 .1 .1 .1 .1 .1 .0 .now .renames) (a .1 .1 .1 .1 .1 .1 .0 .now .room) (tables 𝓤 H 𝓜 𝓡 code.env .C) (tables 𝓤 H 𝓜 𝓡 code.env .Λ) fm
+    (cited 𝓤 H (Core 𝓤 H (𝓖 .A) (𝓜 .mem) (𝓡 .run)) 𝓜 𝓡 code.env #reader·read core-def.routine code.calls-reader·read (core-thm.met 𝓤 H 𝓜 𝓖 𝓡)) (are .0) (are .1 .0 .0 .1) (are .1 .1 .0 .0 .1) (are .1 .1 .1 .0 .0 .1) (are .1 .1 .1 .1 .0 .0 .1) (are .1 .1 .1 .1 .1 .0 .0 .1))

@@ -1,9 +1,7 @@
 -- `card::skytassel_rename` meets its contract: a walk of its MIR, by hand. The card's borrow is opened, its counts are read, the tables go to `rename_by_number` for good at their own lifetimes, the counts that it returns are stored in the card, and the borrow is closed at the new record.
 -- All that the proof knows of `rename_by_number` is that it meets its contract.
 -- Assumes nothing.
-use Rattle.card.proofs.Walk.{refl, ℕ, _<_, _^_, [], _∷_, List, length, URA, named, w32, Val, vint, vptr, SProp, ent, emp, via, fst∗, id⊢, Lft, Share, GName, Fml, flft, fobs, fbor, Memory, Routine, Heap, Calls, Loops, WpFn, Tables, Atoms, sem, Fun, fact, givenOf, tables, tablesOf, Lfts, Shares, AllOutlive, Given, Item, ‵, raw, some, later, mean, _⊛_, ⋆, _$_, _∵_, !, qed, by, move, drop, use1, use2, split, pick, fsplit, fsplit3, fjoin, fjoin3, feqL, feqI, suffices, frame, await, done, look, init, stop, hop, fld, from, load, of-opd, and-then, no-more, assigns, returns, enter, agg, whole, sub, look-in, store-in, Body, FmC, fmOf, WpFn-mono, RattleType, owns, mem, Is, uint-vals, uint-tells, u8, u32, RefT, MutRef, ptr-vals, mut-tells, MutSlice, ShrSlice, Room, slice-vals, mut-slice-tells, shr-slice-tells, shr-slice-lawful, heard, nothing, onEntry, Meets, tripleOf, Contract, Triple, calls-at, ensured, lasts, entered, cited, says, Stays, stay-ref, stay-none, stay-none-slice, gave-slice, walkOf, goes-ref, goes-none, goes-none-slice, goes-gave-slice, Walks, ends-at, walked, walk-meets, yes, plain, tokens, apart, rejoined, starts, relends, ends, none, cell, past, result, lent, Card, Left, Answer, R, leftRow, sliced, h, answer, card-opens, card-closes, number, answers, copies, left-lands}
-use Rattle.rules.specs.Session.{Call}
-use Rattle.session.specs.Called.{CalledAs}
+use Rattle.card.proofs.Walk.{refl, ℕ, _<_, _^_, [], _∷_, List, length, URA, named, w32, Val, vint, vptr, SProp, ent, id⊢, Lft, Share, GName, Fml, flft, fobs, fbor, Memory, Routine, Heap, Calls, Loops, WpFn, Atoms, Fun, givenOf, tables, Lfts, Shares, AllOutlive, Given, Item, ‵, raw, mean, _⊛_, ⋆, _$_, _∵_, !, qed, by, move, drop, use1, use2, split, fsplit, fsplit3, fjoin, fjoin3, feqL, feqI, suffices, frame, done, look, init, stop, hop, fld, from, load, of-opd, and-then, no-more, assigns, returns, enter, agg, whole, sub, look-in, store-in, Body, FmC, RattleType, owns, mem, Is, uint-vals, uint-tells, u8, u32, RefT, MutRef, ptr-vals, mut-tells, MutSlice, ShrSlice, Room, slice-vals, mut-slice-tells, shr-slice-tells, shr-slice-lawful, nothing, alive, onEntry, tripleOf, Contract, Triple, calls-at, ensured, cited, says, Stays, stay-ref, stay-none, stay-none-slice, gave-slice, walkOf, goes-ref, goes-none, goes-none-slice, goes-gave-slice, ends-at, yes, plain, pull, unpull, tokens, owned-by, asks, returned, said, walk-enters, starts, relends, ends, none, cell, past, Card, Left, Answer, R, sliced, h, answer, card-opens, card-closes, number, answers, copies, left-lands}
 use Rattle.card.proofs.rename_by_number as core
 use Rattle.card.proofs.rename_by_number.Symbol as core-def
 use Rattle.card.proofs.rename_by_number.Symbol.{name as #card·rename-by-number}
@@ -34,21 +32,33 @@ module _ {M : Type 1} (𝓤 : URA M) (H : Heap 𝓤) (A : Atoms 𝓤) (W : Given
   abbrev vals : List Val × (List Val × (List Val × (List Val × (List Val × (List Val × (List Val × (List Val × (List Val × Unit {0}))))))))
   vals = (sliced x₀ ∷ [], (sliced x₁ ∷ [], (sliced x₂ ∷ [], (sliced x₃ ∷ [], (sliced x₄ ∷ [], (vptr b o ∷ [], (vint w32 x₆ ∷ [], (vint w32 x₇ ∷ [], (sliced x₈ ∷ [], tt)))))))))
 
+  abbrev lfts : Lfts 7
+  lfts = (κ₀, (κ₁, (κ₂, (κ₃, (κ₄, (κ₅, (κ₆, tt)))))))
+
+  abbrev shares : Shares 7
+  shares = (q₀, (q₁, (q₂, (q₃, (q₄, (q₅, (q₆, tt)))))))
+
   abbrev Thin : Contract 𝓤
   Thin = walkOf 𝓤 H A thin.ended stayed (thin.clauses 𝓤 H A at-mem run)
 
   abbrev here : Thin .Ghost
-  here = (((κ₀, (κ₁, (κ₂, (κ₃, (κ₄, (κ₅, (κ₆, tt))))))), (q₀, (q₁, (q₂, (q₃, (q₄, (q₅, (q₆, tt))))))), bounds, a, vals), tt)
+  here = ((lfts, shares, bounds, a, vals), tt)
 
   abbrev Params : List RattleType
   Params = MutSlice (named 0) κ₀ u8 ∷ ShrSlice (named 1) κ₁ u8 ∷ ShrSlice (named 2) κ₂ u32 ∷ ShrSlice (named 3) κ₃ u32 ∷ MutSlice (named 4) κ₄ u32 ∷ MutRef (named 5) κ₅ R ∷ u32 ∷ u32 ∷ ShrSlice (named 6) κ₆ u8 ∷ []
 
+  abbrev κs : Lfts (core.signature .lifetimes)
+  κs = (κ₀, (κ₁, (κ₂, (κ₃, (κ₄, (κ₆, tt))))))
+
+  abbrev qs : Shares (core.signature .lifetimes)
+  qs = (q₀, (q₁, (q₂, (q₃, (q₄, (q₆, tt))))))
+
   -- the tokens, and those but for the card's
   abbrev Tokens : Item 𝓤
-  Tokens = tokens 𝓤 H A ((κ₀, q₀) ∷ (κ₁, q₁) ∷ (κ₂, q₂) ∷ (κ₃, q₃) ∷ (κ₄, q₄) ∷ (κ₅, q₅) ∷ (κ₆, q₆) ∷ [])
+  Tokens = raw (alive 𝓤 H A thin.signature lfts shares)
 
   abbrev Others : Item 𝓤
-  Others = tokens 𝓤 H A ((κ₀, q₀) ∷ (κ₁, q₁) ∷ (κ₂, q₂) ∷ (κ₃, q₃) ∷ (κ₄, q₄) ∷ (κ₆, q₆) ∷ [])
+  Others = raw (alive 𝓤 H A core.signature κs qs)
 
   abbrev CardLent : Fml
   CardLent = MutRef (named 5) κ₅ R .own (record { ptr = (b, o); name = γ; now = h n₀ n₁ }) (vptr b o ∷ [])
@@ -75,12 +85,6 @@ module _ {M : Type 1} (𝓤 : URA M) (H : Heap 𝓤) (A : Atoms 𝓤) (W : Given
   abbrev cv : List Val × (List Val × (List Val × (List Val × (List Val × (List Val × (List Val × (List Val × (List Val × (List Val × Unit {0})))))))))
   cv = (sliced x₀ ∷ [], (sliced x₁ ∷ [], (sliced x₂ ∷ [], (sliced x₃ ∷ [], (sliced x₄ ∷ [], (vint w32 n₀ ∷ [], (vint w32 n₁ ∷ [], (vint w32 x₆ ∷ [], (vint w32 x₇ ∷ [], (sliced x₈ ∷ [], tt))))))))))
 
-  abbrev κs : Lfts (core.signature .lifetimes)
-  κs = (κ₀, (κ₁, (κ₂, (κ₃, (κ₄, (κ₆, tt))))))
-
-  abbrev qs : Shares (core.signature .lifetimes)
-  qs = (q₀, (q₁, (q₂, (q₃, (q₄, (q₆, tt))))))
-
   abbrev to : Core 𝓤 H A at-mem run .Ghost
   to = ((κs, qs, tt, ca, cv), tt)
 
@@ -93,29 +97,20 @@ module _ {M : Type 1} (𝓤 : URA M) (H : Heap 𝓤) (A : Atoms 𝓤) (W : Given
   abbrev Kept : Item 𝓤
   Kept = ‵ Own₁ ⊛ ‵ Own₂ ⊛ ‵ Own₃ ⊛ ‵ Own₈
 
-  parted : ent 𝓤 (sem 𝓤 H A (owns Params a vals)) (mean 𝓤 H A (‵ CardLent ⊛ ‵ RestLent))
-  parted = qed W (‵ (owns Params a vals) ∷ []) ∵ fsplit ! $ move ! (1 ∷ []) $ fsplit ! $ move ! (1 ∷ []) $ fsplit ! $ move ! (1 ∷ []) $ fsplit ! $ move ! (1 ∷ []) $ fsplit ! $ move ! (1 ∷ []) $ fsplit ! $ move ! (1 ∷ []) $ move ! (2 ∷ 0 ∷ []) $ fjoin ! $ move ! (2 ∷ 0 ∷ []) $ fjoin ! $ move ! (2 ∷ 0 ∷ []) $ fjoin ! $ move ! (2 ∷ 0 ∷ []) $ fjoin ! $ move ! (2 ∷ 0 ∷ []) $ fjoin ! $ move ! (1 ∷ []) $ frame ! $ done !
-
-  asked : ent 𝓤 (onEntry 𝓤 H A core.signature κs qs ca cv) Pre
-  asked = qed W ((Others ⊛ ‵ (owns (MutSlice (named 0) κ₀ u8 ∷ ShrSlice (named 1) κ₁ u8 ∷ ShrSlice (named 2) κ₂ u32 ∷ ShrSlice (named 3) κ₃ u32 ∷ MutSlice (named 4) κ₄ u32 ∷ u32 ∷ u32 ∷ u32 ∷ u32 ∷ ShrSlice (named 5) κ₆ u8 ∷ []) ca cv)) ∷ []) ∵ frame ! $ done !
-
   -- what the callee asks, and what is kept
   passed : n₀ < 2 ^ 32 → n₁ < 2 ^ 32 → x₆ < 2 ^ 32 → x₇ < 2 ^ 32 → ent 𝓤 (mean 𝓤 H A (Others ⊛ ‵ RestLent)) (mean 𝓤 H A (raw Pre ⊛ Kept))
-  passed f₀ f₁ fit₆ fit₇ = qed W (Others ∷ ‵ RestLent ∷ []) ∵ move ! (1 ∷ []) $ fsplit ! $ move ! (1 ∷ []) $ fsplit ! $ copies ! (named 1) κ₁ u8 x₁ (sliced x₁ ∷ []) $ move ! (2 ∷ []) $ fsplit ! $ copies ! (named 2) κ₂ u32 x₂ (sliced x₂ ∷ []) $ move ! (2 ∷ []) $ fsplit ! $ copies ! (named 3) κ₃ u32 x₃ (sliced x₃ ∷ []) $ move ! (2 ∷ []) $ fsplit ! $ move ! (1 ∷ []) $ fsplit ! $ drop ! $ fsplit ! $ drop ! $ fsplit ! $ copies ! (named 6) κ₆ u8 x₈ (sliced x₈ ∷ []) $ move ! (2 ∷ []) $ move ! (1 ∷ 0 ∷ []) $ fjoin ! $ number ! x₇ fit₇ $ fjoin ! $ number ! x₆ fit₆ $ fjoin ! $ number ! n₁ f₁ $ fjoin ! $ number ! n₀ f₀ $ fjoin ! $ move ! (2 ∷ 0 ∷ []) $ fjoin ! $ move ! (2 ∷ 0 ∷ []) $ fjoin ! $ move ! (3 ∷ 0 ∷ []) $ fjoin ! $ move ! (4 ∷ 0 ∷ []) $ fjoin ! $ move ! (5 ∷ 0 ∷ []) $ fjoin ! $ move ! (5 ∷ 0 ∷ []) $ use2 W (raw Pre) asked $ frame ! $ move ! (3 ∷ 2 ∷ 1 ∷ 0 ∷ []) $ done !
-
-  abbrev Lasts : Type 0
-  Lasts = List ℕ × (Unit {0} × (Unit {0} × (Unit {0} × (List ℕ × (Unit {0} × (Unit {0} × (Unit {0} × (Unit {0} × (Unit {0} × Unit {0})))))))))
+  passed f₀ f₁ fit₆ fit₇ = qed W (Others ∷ ‵ RestLent ∷ []) ∵ move ! (1 ∷ []) $ fsplit ! $ move ! (1 ∷ []) $ fsplit ! $ copies ! (named 1) κ₁ u8 x₁ (sliced x₁ ∷ []) $ move ! (2 ∷ []) $ fsplit ! $ copies ! (named 2) κ₂ u32 x₂ (sliced x₂ ∷ []) $ move ! (2 ∷ []) $ fsplit ! $ copies ! (named 3) κ₃ u32 x₃ (sliced x₃ ∷ []) $ move ! (2 ∷ []) $ fsplit ! $ move ! (1 ∷ []) $ fsplit ! $ drop ! $ fsplit ! $ drop ! $ fsplit ! $ copies ! (named 6) κ₆ u8 x₈ (sliced x₈ ∷ []) $ move ! (2 ∷ []) $ move ! (1 ∷ 0 ∷ []) $ fjoin ! $ number ! x₇ fit₇ $ fjoin ! $ number ! x₆ fit₆ $ fjoin ! $ number ! n₁ f₁ $ fjoin ! $ number ! n₀ f₀ $ fjoin ! $ move ! (2 ∷ 0 ∷ []) $ fjoin ! $ move ! (2 ∷ 0 ∷ []) $ fjoin ! $ move ! (3 ∷ 0 ∷ []) $ fjoin ! $ move ! (4 ∷ 0 ∷ []) $ fjoin ! $ move ! (5 ∷ 0 ∷ []) $ fjoin ! $ move ! (5 ∷ 0 ∷ []) $ use2 W (raw Pre) (asks 𝓤 _) $ frame ! $ move ! (3 ∷ 2 ∷ 1 ∷ 0 ∷ []) $ done !
 
   exits : x₆ < 2 ^ 32 → x₇ < 2 ^ 32 → (r : Left) → ansOf r .number < 2 ^ 32 → ansOf r .place < 2 ^ 32 → ent 𝓤 (⋆ 𝓤 H A (‵ (fobs γ (R .coded .code (newOf r))) ∷ ‵ (fbor κ₅ (Body (mem R) b o γ)) ∷ ‵ (flft κ₅ q₅) ∷ Others ∷ raw (Ensured r) ∷ Kept ∷ [])) (Thin .post here (answer (ansOf r)))
   exits fit₆ fit₇ r g₀ g₁ =
       qed W (‵ (fobs γ (R .coded .code (newOf r))) ∷ ‵ (fbor κ₅ (Body (mem R) b o γ)) ∷ ‵ (flft κ₅ q₅) ∷ Others ∷ raw (Ensured r) ∷ Kept ∷ []) ∵
-      move ! (4 ∷ []) $ use1 W (some (λ (zs : Lasts). ‵ (lasts core.ended κs ca zs) ⊛ raw (fact 𝓤 (CalledAs (lent (x₀ .now) (x₁ .now) (x₂ .now) (x₃ .now) (x₄ .now) n₀ n₁) (Call.rename (record { moduleNumber = x₆; wireNumber = x₇; newName = x₈ .now })) (result (r .number) (r .place) (lent (zs .0) (x₁ .now) (x₂ .now) (x₃ .now) (zs .1 .1 .1 .1 .0) (r .renames) (r .room))))))) (id⊢ 𝓤 _) $ pick ! (λ zs. split ! $ move ! (1 ∷ []) $ heard ! _ (λ e. fsplit ! $ fsplit ! $ move ! (1 ∷ []) $ feqL ! (λ l₀. move ! (1 ∷ []) $ fsplit ! $ drop ! $ fsplit ! $ drop ! $ fsplit ! $ drop ! $ fsplit ! $ fsplit ! $ move ! (1 ∷ []) $ feqL ! (λ l₄. move ! (1 ∷ []) $ drop ! $ suffices ! _ (ends-at 𝓤 H A thin.ended stayed (thin.clauses 𝓤 H A at-mem run) W here (answer (ansOf r)) (ansOf r) ((zs .0), (tt, (tt, (tt, ((zs .1 .1 .1 .1 .0), (newOf r, (tt, (tt, (tt, tt))))))))) (l₀, (tt, (tt, (tt, (l₄, (tt, (tt, (tt, (tt, tt)))))))))) $ says ! e $ move ! (4 ∷ 5 ∷ []) $ use2 W (Tokens) (rejoined 𝓤 H A W κ₅ q₅ ((κ₆, q₆) ∷ []) ((κ₀, q₀) ∷ (κ₁, q₁) ∷ (κ₂, q₂) ∷ (κ₃, q₃) ∷ (κ₄, q₄) ∷ [])) $ frame ! $ move ! (4 ∷ []) $ split ! $ move ! (1 ∷ []) $ split ! $ move ! (1 ∷ []) $ split ! $ move ! (6 ∷ 7 ∷ []) $ feqI ! (List Val) (vptr b o ∷ []) (vptr b o ∷ []) refl $ fjoin3 ! $ nothing ! $ move ! (3 ∷ 0 ∷ []) $ fjoin ! $ number ! x₇ fit₇ $ fjoin ! $ number ! x₆ fit₆ $ fjoin ! $ move ! (1 ∷ 0 ∷ []) $ fjoin ! $ move ! (4 ∷ 0 ∷ []) $ fjoin ! $ move ! (1 ∷ 0 ∷ []) $ fjoin ! $ move ! (1 ∷ 0 ∷ []) $ fjoin ! $ move ! (1 ∷ 0 ∷ []) $ fjoin ! $ move ! (1 ∷ 0 ∷ []) $ fjoin ! $ answers ! (ansOf r) g₀ g₁ $ move ! (1 ∷ 0 ∷ []) $ done !))))
+      move ! (4 ∷ []) $ said ! core.ended (core.clauses 𝓤 H A at-mem run) κs ca tt r (λ zs. id⊢ 𝓤 _) (λ zs e. fsplit ! $ fsplit ! $ move ! (1 ∷ []) $ feqL ! (λ l₀. move ! (1 ∷ []) $ fsplit ! $ drop ! $ fsplit ! $ drop ! $ fsplit ! $ drop ! $ fsplit ! $ fsplit ! $ move ! (1 ∷ []) $ feqL ! (λ l₄. move ! (1 ∷ []) $ drop ! $ suffices ! _ (ends-at 𝓤 H A thin.ended stayed (thin.clauses 𝓤 H A at-mem run) W here (answer (ansOf r)) (ansOf r) ((zs .0), (tt, (tt, (tt, ((zs .1 .1 .1 .1 .0), (newOf r, (tt, (tt, (tt, tt))))))))) (l₀, (tt, (tt, (tt, (l₄, (tt, (tt, (tt, (tt, tt)))))))))) $ says ! e $ move ! (4 ∷ 5 ∷ []) $ use2 W Tokens (unpull 𝓤 H A 5 (tokens 𝓤 7 lfts shares)) $ frame ! $ move ! (4 ∷ []) $ split ! $ move ! (1 ∷ []) $ split ! $ move ! (1 ∷ []) $ split ! $ move ! (6 ∷ 7 ∷ []) $ feqI ! (List Val) (vptr b o ∷ []) (vptr b o ∷ []) refl $ fjoin3 ! $ nothing ! $ move ! (3 ∷ 0 ∷ []) $ fjoin ! $ number ! x₇ fit₇ $ fjoin ! $ number ! x₆ fit₆ $ fjoin ! $ move ! (1 ∷ 0 ∷ []) $ fjoin ! $ move ! (4 ∷ 0 ∷ []) $ fjoin ! $ move ! (1 ∷ 0 ∷ []) $ fjoin ! $ move ! (1 ∷ 0 ∷ []) $ fjoin ! $ move ! (1 ∷ 0 ∷ []) $ fjoin ! $ move ! (1 ∷ 0 ∷ []) $ fjoin ! $ answers ! (ansOf r) g₀ g₁ $ move ! (1 ∷ 0 ∷ []) $ done !)))
 
   module _ (C : Calls 𝓤 H) (Λ : Loops 𝓤 H) (fm : FmC 𝓤 H (W .laws) C) (known : Triple 𝓤 (C #card·rename-by-number) (Core 𝓤 H A at-mem run)) where
-    walk : Room u8 (length (x₀ .now)) → Is (ShrSlice (named 1) κ₁ u8) x₁ (sliced x₁ ∷ []) → Is (ShrSlice (named 2) κ₂ u32) x₂ (sliced x₂ ∷ []) → Is (ShrSlice (named 3) κ₃ u32) x₃ (sliced x₃ ∷ []) → Room u32 (length (x₄ .now)) → x₆ < 2 ^ 32 → x₇ < 2 ^ 32 → Is (ShrSlice (named 6) κ₆ u8) x₈ (sliced x₈ ∷ []) → ent 𝓤 (onEntry 𝓤 H A thin.signature (κ₀, (κ₁, (κ₂, (κ₃, (κ₄, (κ₅, (κ₆, tt))))))) (q₀, (q₁, (q₂, (q₃, (q₄, (q₅, (q₆, tt))))))) a vals) (WpFn 𝓤 H C Λ code.function (sliced x₀ ∷ sliced x₁ ∷ sliced x₂ ∷ sliced x₃ ∷ sliced x₄ ∷ vptr b o ∷ vint w32 x₆ ∷ vint w32 x₇ ∷ sliced x₈ ∷ []) (Thin .post here))
+    walk : Room u8 (length (x₀ .now)) → Is (ShrSlice (named 1) κ₁ u8) x₁ (sliced x₁ ∷ []) → Is (ShrSlice (named 2) κ₂ u32) x₂ (sliced x₂ ∷ []) → Is (ShrSlice (named 3) κ₃ u32) x₃ (sliced x₃ ∷ []) → Room u32 (length (x₄ .now)) → x₆ < 2 ^ 32 → x₇ < 2 ^ 32 → Is (ShrSlice (named 6) κ₆ u8) x₈ (sliced x₈ ∷ []) → ent 𝓤 (onEntry 𝓤 H A thin.signature lfts shares a vals) (WpFn 𝓤 H C Λ code.function (sliced x₀ ∷ sliced x₁ ∷ sliced x₂ ∷ sliced x₃ ∷ sliced x₄ ∷ vptr b o ∷ vint w32 x₆ ∷ vint w32 x₇ ∷ sliced x₈ ∷ []) (Thin .post here))
     walk room₀ is₁ is₂ is₃ room₄ fit₆ fit₇ is₈ =
-        qed W (Tokens ∷ ‵ (owns Params a vals) ∷ []) ∵ use1 W (‵ (flft κ₅ q₅) ⊛ Others) (apart 𝓤 H A W κ₅ q₅ ((κ₆, q₆) ∷ []) ((κ₀, q₀) ∷ (κ₁, q₁) ∷ (κ₂, q₂) ∷ (κ₃, q₃) ∷ (κ₄, q₄) ∷ [])) $ split ! $ move ! (2 ∷ []) $
-        use1 W (‵ CardLent ⊛ ‵ RestLent) parted $ split ! $ fsplit3 ! $ drop ! $ move ! (0 ∷ 1 ∷ 3 ∷ 4 ∷ []) $
+        qed W (Tokens ∷ ‵ (owns Params a vals) ∷ []) ∵ use1 W (‵ (flft κ₅ q₅) ⊛ Others) (pull 𝓤 H A 5 (tokens 𝓤 7 lfts shares)) $ split ! $ move ! (2 ∷ []) $
+        use1 W (‵ CardLent ⊛ ‵ RestLent) (pull 𝓤 H A 5 (owned-by 𝓤 Params a vals)) $ split ! $ fsplit3 ! $ drop ! $ move ! (0 ∷ 1 ∷ 3 ∷ 4 ∷ []) $
         enter ! C Λ code.function (sliced x₀ ∷ sliced x₁ ∷ sliced x₂ ∷ sliced x₃ ∷ sliced x₄ ∷ vptr b o ∷ vint w32 x₆ ∷ vint w32 x₇ ∷ sliced x₈ ∷ []) _ $ starts ! ((tt, (tt, (record { fits = room₀ .0 }, tt))), (shr-slice-lawful 𝓤 H A W (named 1) κ₁ u8 .typed x₁ (sliced x₁ ∷ []) is₁ .0, (shr-slice-lawful 𝓤 H A W (named 2) κ₂ u32 .typed x₂ (sliced x₂ ∷ []) is₂ .0, (shr-slice-lawful 𝓤 H A W (named 3) κ₃ u32 .typed x₃ (sliced x₃ ∷ []) is₃ .0, ((tt, (tt, (record { fits = room₄ .0 }, tt))), ((tt, tt), ((tt, record { fits = fit₆ }), ((tt, record { fits = fit₇ }), (shr-slice-lawful 𝓤 H A W (named 6) κ₆ u8 .typed x₈ (sliced x₈ ∷ []) is₈ .0, tt))))))))) (λ l₀ ls.
         -- [the locals; that they can be freed; the card's observation, its borrow and its token; the other tokens; what the other parameters own]
         relends ! 1 11 12 refl refl refl refl refl refl refl refl (record { fits = room₀ .0 }) $
@@ -125,7 +120,7 @@ module _ {M : Type 1} (𝓤 : URA M) (H : Heap 𝓤) (A : Atoms 𝓤) (W : Given
         assigns ! (of-opd ! (load ! (from ! (hop ! (look ! 10 refl) (fld ! refl (stop !)))) (look-in ! 0 (sub ! 1 refl (whole !))))) (from ! (stop !)) (init ! 20 refl (tt, record { fits = f₁ })) $
         move ! (22 ∷ 23 ∷ []) $ use2 W (raw Pre ⊛ Kept) (passed f₀ f₁ fit₆ fit₇) $ split ! $
         calls-at ! fm (Core 𝓤 H A at-mem run) known to (and-then ! (load ! (from ! (stop !)) (look ! 18 refl)) (and-then ! (load ! (from ! (stop !)) (look ! 8 refl)) (and-then ! (load ! (from ! (stop !)) (look ! 9 refl)) (and-then ! (load ! (from ! (stop !)) (look ! 10 refl)) (and-then ! (load ! (from ! (stop !)) (look ! 20 refl)) (and-then ! (load ! (from ! (stop !)) (look ! 21 refl)) (and-then ! (load ! (from ! (stop !)) (look ! 22 refl)) (and-then ! (load ! (from ! (stop !)) (look ! 13 refl)) (and-then ! (load ! (from ! (stop !)) (look ! 14 refl)) (and-then ! (load ! (from ! (stop !)) (look ! 15 refl)) (no-more !))))))))))) (λ w.
-        use1 W (later (some (λ (r : Left). (Others ⊛ ‵ (leftRow .own r (w ∷ []))) ⊛ raw (Ensured r)))) (id⊢ 𝓤 _) $ await ! tt $ pick ! (λ r. split ! $ split ! $ move ! (1 ∷ []) $
+        returned ! tt core.signature (core.spec 𝓤 H A at-mem run) to w (λ r.
         left-lands ! 10 17 r w refl refl refl (λ g₀ g₁ g₂ g₃.
         assigns ! (of-opd ! (load ! (from ! (fld ! refl (stop !))) (look-in ! 17 (sub ! 2 refl (whole !))))) (from ! (hop ! (look ! 13 refl) (fld ! refl (stop !)))) (store-in ! 3 (sub ! 0 refl (whole !)) (tt, record { fits = g₂ })) $
         assigns ! (of-opd ! (load ! (from ! (fld ! refl (stop !))) (look-in ! 17 (sub ! 3 refl (whole !))))) (from ! (hop ! (look ! 13 refl) (fld ! refl (stop !)))) (store-in ! 3 (sub ! 1 refl (whole !)) (tt, record { fits = g₃ })) $
@@ -134,25 +129,12 @@ module _ {M : Type 1} (𝓤 : URA M) (H : Heap 𝓤) (A : Atoms 𝓤) (W : Given
         returns ! (look ! 6 refl) $ ends ! (past (past (past (past (past (past (cell (cell (cell (cell (cell (cell (cell (cell (cell (cell (cell (cell (cell (cell (cell (cell (cell none))))))))))))))))))))))) $
         by ! (exits fit₆ fit₇ r g₀ g₁))))))
 
-module _ {M : Type 1} (𝓤 : URA M) (H : Heap 𝓤) (A : Atoms 𝓤) (W : Given 𝓤 H A) (at-mem : Memory → SProp 𝓤) (run : Routine → Fun 𝓤) where
-  thin-walks : (C : Calls 𝓤 H) (Λ : Loops 𝓤 H) → FmC 𝓤 H (W .laws) C → Triple 𝓤 (C #card·rename-by-number) (Core 𝓤 H A at-mem run) → Walks 𝓤 H A thin.ended stayed (WpFn 𝓤 H C Λ code.function) (thin.clauses 𝓤 H A at-mem run)
-  thin-walks C Λ fm known = walked 𝓤 H A thin.ended stayed (thin.clauses 𝓤 H A at-mem run) (WpFn 𝓤 H C Λ code.function)
-      (λ κs. (slice-vals, (slice-vals, (slice-vals, (slice-vals, (slice-vals, (ptr-vals, (uint-vals w32, (uint-vals w32, (slice-vals, tt))))))))))
-      (λ κs. (mut-slice-tells (named 0) (κs .0) u8, (shr-slice-tells (named 1) (κs .1 .0) u8, (shr-slice-tells (named 2) (κs .1 .1 .0) u32, (shr-slice-tells (named 3) (κs .1 .1 .1 .0) u32, (mut-slice-tells (named 4) (κs .1 .1 .1 .1 .0) u32, (mut-tells (named 5) (κs .1 .1 .1 .1 .1 .0) R, (uint-tells w32, (uint-tells w32, (shr-slice-tells (named 6) (κs .1 .1 .1 .1 .1 .1 .0) u8, tt))))))))))
-      (λ κs qs bounds a g are. via 𝓤 _ (fst∗ 𝓤 _ (emp 𝓤))
-      (walk 𝓤 H A W at-mem run (κs .0) (κs .1 .0) (κs .1 .1 .0) (κs .1 .1 .1 .0) (κs .1 .1 .1 .1 .0) (κs .1 .1 .1 .1 .1 .0) (κs .1 .1 .1 .1 .1 .1 .0) bounds (qs .0) (qs .1 .0) (qs .1 .1 .0) (qs .1 .1 .1 .0) (qs .1 .1 .1 .1 .0) (qs .1 .1 .1 .1 .1 .0) (qs .1 .1 .1 .1 .1 .1 .0) (a .0) (a .1 .0) (a .1 .1 .0) (a .1 .1 .1 .0) (a .1 .1 .1 .1 .0) (a .1 .1 .1 .1 .1 .0 .ptr .0) (a .1 .1 .1 .1 .1 .0 .ptr .1) (a .1 .1 .1 .1 .1 .0 .name) (a .1 .1 .1 .1 .1 .0 .now .renames) (a .1 .1 .1 .1 .1 .0 .now .room) (a .1 .1 .1 .1 .1 .1 .0) (a .1 .1 .1 .1 .1 .1 .1 .0) (a .1 .1 .1 .1 .1 .1 .1 .1 .0) C Λ fm known (are .0 .0 .1) (are .1 .0) (are .1 .1 .0) (are .1 .1 .1 .0) (are .1 .1 .1 .1 .0 .0 .1) (are .1 .1 .1 .1 .1 .1 .0 .1) (are .1 .1 .1 .1 .1 .1 .1 .0 .1) (are .1 .1 .1 .1 .1 .1 .1 .1 .0)))
-
-thin-meets : {M : Type 1} (𝓤 : URA M) (H : Heap 𝓤) (A : Atoms 𝓤) → Given 𝓤 H A → (at-mem : Memory → SProp 𝓤) (run : Routine → Fun 𝓤) (𝓣 : Tables 𝓤 H) → Triple 𝓤 (𝓣 .C #card·rename-by-number) (Core 𝓤 H A at-mem run)
-    → Meets 𝓤 H A thin.signature (WpFn 𝓤 H (𝓣 .C) (𝓣 .Λ) code.function) (thin.spec 𝓤 H A at-mem run)
-thin-meets 𝓤 H A W at-mem run 𝓣 known =
-    walk-meets 𝓤 H A thin.ended stayed W
-    (goes-gave-slice 𝓤 H A W 7 0 tt (plain (λ _. u8)), (goes-none-slice 𝓤 H A W 7 (1 ∷ []) tt (plain (λ _. u8)) yes, (goes-none-slice 𝓤 H A W 7 (2 ∷ []) tt (plain (λ _. u32)) yes, (goes-none-slice 𝓤 H A W 7 (3 ∷ []) tt (plain (λ _. u32)) yes, (goes-gave-slice 𝓤 H A W 7 4 tt (plain (λ _. u32)), (goes-ref 𝓤 H A W 7 5 tt (plain (λ _. R)), (goes-none 𝓤 H A W 7 (λ _. u32) yes (λ κs x f. refl), (goes-none 𝓤 H A W 7 (λ _. u32) yes (λ κs x f. refl), (goes-none-slice 𝓤 H A W 7 (6 ∷ []) tt (plain (λ _. u8)) yes, tt)))))))))
-    (thin.clauses 𝓤 H A at-mem run) (WpFn 𝓤 H (𝓣 .C) (𝓣 .Λ) code.function) (WpFn-mono 𝓤 H (W .laws) 𝓣 code.function) (thin-walks 𝓤 H A W at-mem run (𝓣 .C) (𝓣 .Λ) (fmOf 𝓤 H (W .laws) 𝓣) known)
-
 pub skytassel-rename-spec : {M : Type 1} → stated.statement M
-unfolding code.routine tablesOf
+unfolding code.routine
 skytassel-rename-spec 𝓤 H 𝓜 𝓖 𝓡 =
-    entered 𝓤 H (tripleOf 𝓤 H (𝓖 .A) thin.signature (thin.spec 𝓤 H (𝓖 .A) (𝓜 .mem) (𝓡 .run)))
-    (tables 𝓤 H 𝓜 𝓡 code.env .C) (tables 𝓤 H 𝓜 𝓡 code.env .Λ) #card·skytassel-rename code.function (code.unfolded 𝓤 H 𝓜 𝓡)
-    (thin-meets 𝓤 H (𝓖 .A) (givenOf 𝓤 H 𝓜 𝓖) (𝓜 .mem) (𝓡 .run) (tablesOf 𝓤 H 𝓜 (tables 𝓤 H 𝓜 𝓡 code.env))
-    (cited 𝓤 H (Core 𝓤 H (𝓖 .A) (𝓜 .mem) (𝓡 .run)) 𝓜 𝓡 code.env #card·rename-by-number core-def.routine code.calls-card·rename-by-number (core-thm.met 𝓤 H 𝓜 𝓖 𝓡)))
+    walk-enters 𝓤 H 𝓜 𝓖 𝓡 code.env thin.ended stayed (thin.clauses 𝓤 H (𝓖 .A) (𝓜 .mem) (𝓡 .run)) #card·skytassel-rename code.function (code.unfolded 𝓤 H 𝓜 𝓡)
+    (goes-gave-slice 𝓤 H (𝓖 .A) (givenOf 𝓤 H 𝓜 𝓖) 7 0 tt (plain (λ _. u8)), (goes-none-slice 𝓤 H (𝓖 .A) (givenOf 𝓤 H 𝓜 𝓖) 7 (1 ∷ []) tt (plain (λ _. u8)) yes, (goes-none-slice 𝓤 H (𝓖 .A) (givenOf 𝓤 H 𝓜 𝓖) 7 (2 ∷ []) tt (plain (λ _. u32)) yes, (goes-none-slice 𝓤 H (𝓖 .A) (givenOf 𝓤 H 𝓜 𝓖) 7 (3 ∷ []) tt (plain (λ _. u32)) yes, (goes-gave-slice 𝓤 H (𝓖 .A) (givenOf 𝓤 H 𝓜 𝓖) 7 4 tt (plain (λ _. u32)), (goes-ref 𝓤 H (𝓖 .A) (givenOf 𝓤 H 𝓜 𝓖) 7 5 tt (plain (λ _. R)), (goes-none 𝓤 H (𝓖 .A) (givenOf 𝓤 H 𝓜 𝓖) 7 (λ _. u32) yes (λ κs x f. refl), (goes-none 𝓤 H (𝓖 .A) (givenOf 𝓤 H 𝓜 𝓖) 7 (λ _. u32) yes (λ κs x f. refl), (goes-none-slice 𝓤 H (𝓖 .A) (givenOf 𝓤 H 𝓜 𝓖) 7 (6 ∷ []) tt (plain (λ _. u8)) yes, tt)))))))))
+    (λ κs. (slice-vals, (slice-vals, (slice-vals, (slice-vals, (slice-vals, (ptr-vals, (uint-vals w32, (uint-vals w32, (slice-vals, tt))))))))))
+    (λ κs. (mut-slice-tells (named 0) (κs .0) u8, (shr-slice-tells (named 1) (κs .1 .0) u8, (shr-slice-tells (named 2) (κs .1 .1 .0) u32, (shr-slice-tells (named 3) (κs .1 .1 .1 .0) u32, (mut-slice-tells (named 4) (κs .1 .1 .1 .1 .0) u32, (mut-tells (named 5) (κs .1 .1 .1 .1 .1 .0) R, (uint-tells w32, (uint-tells w32, (shr-slice-tells (named 6) (κs .1 .1 .1 .1 .1 .1 .0) u8, tt))))))))))
+    (λ fm κs qs bounds a g are. walk 𝓤 H (𝓖 .A) (givenOf 𝓤 H 𝓜 𝓖) (𝓜 .mem) (𝓡 .run) (κs .0) (κs .1 .0) (κs .1 .1 .0) (κs .1 .1 .1 .0) (κs .1 .1 .1 .1 .0) (κs .1 .1 .1 .1 .1 .0) (κs .1 .1 .1 .1 .1 .1 .0) bounds (qs .0) (qs .1 .0) (qs .1 .1 .0) (qs .1 .1 .1 .0) (qs .1 .1 .1 .1 .0) (qs .1 .1 .1 .1 .1 .0) (qs .1 .1 .1 .1 .1 .1 .0) (a .0) (a .1 .0) (a .1 .1 .0) (a .1 .1 .1 .0) (a .1 .1 .1 .1 .0) (a .1 .1 .1 .1 .1 .0 .ptr .0) (a .1 .1 .1 .1 .1 .0 .ptr .1) (a .1 .1 .1 .1 .1 .0 .name) (a .1 .1 .1 .1 .1 .0 .now .renames) (a .1 .1 .1 .1 .1 .0 .now .room) (a .1 .1 .1 .1 .1 .1 .0) (a .1 .1 .1 .1 .1 .1 .1 .0) (a .1 .1 .1 .1 .1 .1 .1 .1 .0) (tables 𝓤 H 𝓜 𝓡 code.env .C) (tables 𝓤 H 𝓜 𝓡 code.env .Λ) fm
+    (cited 𝓤 H (Core 𝓤 H (𝓖 .A) (𝓜 .mem) (𝓡 .run)) 𝓜 𝓡 code.env #card·rename-by-number core-def.routine code.calls-card·rename-by-number (core-thm.met 𝓤 H 𝓜 𝓖 𝓡)) (are .0 .0 .1) (are .1 .0) (are .1 .1 .0) (are .1 .1 .1 .0) (are .1 .1 .1 .1 .0 .0 .1) (are .1 .1 .1 .1 .1 .1 .0 .1) (are .1 .1 .1 .1 .1 .1 .1 .0 .1) (are .1 .1 .1 .1 .1 .1 .1 .1 .0))

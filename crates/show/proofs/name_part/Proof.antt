@@ -4,7 +4,8 @@ use Prim.Native.Nat.{suc, _-_}
 use mathlib.Core.Path.{_≡_, _∙_}
 use native.Mathlib.Omega.{arith}
 use denote.Ref.{now}
-use Rattle.show.proofs.StepLaws.{name-own, name-given}
+use Rattle.show.specs.Parts.{partBy}
+use Rattle.show.proofs.StepLaws.{name-at}
 use borrow.Author.Needs.{needs}
 use Rattle.show.proofs.name_part.Statement.{statement}
 use Rattle.show.proofs.name_part.Tie as tie
@@ -16,7 +17,8 @@ span-requires : tie.Need-span-requires
 span-requires c κs = search needs
 
 returns : tie.Need-returns
-returns c = c .span .ensures ∙ name-own (now (c .before .before .before .before .before .before .args .names)) (now (c .before .before .before .before .before .before .args .wires)) (now (c .before .before .before .before .before .before .args .rows)) (c .before .before .before .before .before .before .args .from) (c .before .before .before .before .before .before .args .count) (c .before .before .before .before .before .before .args .m .0) (c .before .before .before .before .before .before .args .w .0) (c .before .before .before .before .before .before .args .k) _ (c .before .before .last-rename .ensures) (c .before .if1 .taken)
+unfolding partBy
+returns c = c .span .ensures ∙ name-at (now (c .before .before .before .before .before .before .args .names)) (now (c .before .before .before .before .before .before .args .wires)) (now (c .before .before .before .before .before .before .args .rows)) (c .before .before .before .before .before .before .args .from) (c .before .before .before .before .before .before .args .count) (c .before .before .before .before .before .before .args .m .0) (c .before .before .before .before .before .before .args .w .0) (c .before .before .before .before .before .before .args .k) _ 0 (c .before .before .last-rename .ensures) (c .before .if1 .taken)
 
 sub-span : tie.Need-sub-span
 sub-span c = search needs
@@ -31,8 +33,9 @@ span-requires-2 : tie.Need-span-requires-2
 span-requires-2 c κs = search needs
 
 returns-2 : tie.Need-returns-2
+unfolding partBy
 returns-2 c = let e : c .before .before .last-rename .result ≡ suc (c .before .before .last-rename .result - 1) = omega arith in
-    c .span2 .ensures ∙ name-given (now (c .before .before .before .before .before .before .args .names)) (now (c .before .before .before .before .before .before .args .wires)) (now (c .before .before .before .before .before .before .args .rows)) (c .before .before .before .before .before .before .args .from) (c .before .before .before .before .before .before .args .count) (c .before .before .before .before .before .before .args .m .0) (c .before .before .before .before .before .before .args .w .0) (c .before .before .before .before .before .before .args .k) _ (c .before .before .last-rename .ensures) (c .before .before .last-rename .result - 1) e
+    c .span2 .ensures ∙ name-at (now (c .before .before .before .before .before .before .args .names)) (now (c .before .before .before .before .before .before .args .wires)) (now (c .before .before .before .before .before .before .args .rows)) (c .before .before .before .before .before .before .args .from) (c .before .before .before .before .before .before .args .count) (c .before .before .before .before .before .before .args .m .0) (c .before .before .before .before .before .before .args .w .0) (c .before .before .before .before .before .before .args .k) _ _ (c .before .before .last-rename .ensures) e
 
 pub name-part-spec : {M : Type 1} → statement M
 name-part-spec =

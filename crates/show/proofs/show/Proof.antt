@@ -19,7 +19,7 @@ sub-result : tie.Need-sub-result
 sub-result c = subst (InRange (now (c .before .before .before .before .before .before .before .before .before .args .names)) (now (c .before .before .before .before .before .before .before .before .before .args .strings))) (c .before .place .given .1) (c .before .before .before .find-shown .ensures .1 .0) .0
 
 part-result-start : tie.Need-part-result-start
-part-result-start c = subst (InRange (now (c .before .before .before .before .before .before .before .before .before .args .names)) (now (c .before .before .before .before .before .before .before .before .before .args .strings))) (c .before .place .given .1) (c .before .before .before .find-shown .ensures .1 .0) .0
+part-result-start c = sub-result c
 
 part-result-end : tie.Need-part-result-end
 part-result-end c = subst (InRange (now (c .before .before .before .before .before .before .before .before .before .args .names)) (now (c .before .before .before .before .before .before .before .before .before .args .strings))) (c .before .place .given .1) (c .before .before .before .find-shown .ensures .1 .0) .1
@@ -34,7 +34,7 @@ sub-result-2 : tie.Need-sub-result-2
 sub-result-2 c = subst (InRange (now (c .before .before .before .before .before .before .before .before .before .args .names)) (now (c .before .before .before .before .before .before .before .before .before .args .strings))) (c .before .place2 .given .1) (c .before .before .before .find-shown .ensures .1 .0) .0
 
 part-result-start-2 : tie.Need-part-result-start-2
-part-result-start-2 c = subst (InRange (now (c .before .before .before .before .before .before .before .before .before .args .names)) (now (c .before .before .before .before .before .before .before .before .before .args .strings))) (c .before .place2 .given .1) (c .before .before .before .find-shown .ensures .1 .0) .0
+part-result-start-2 c = sub-result-2 c
 
 part-result-end-2 : tie.Need-part-result-end-2
 part-result-end-2 c = subst (InRange (now (c .before .before .before .before .before .before .before .before .before .args .names)) (now (c .before .before .before .before .before .before .before .before .before .args .strings))) (c .before .place2 .given .1) (c .before .before .before .find-shown .ensures .1 .0) .1

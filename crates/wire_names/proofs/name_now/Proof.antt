@@ -2,7 +2,7 @@
 -- Assumes nothing.
 use Prim.Native.Nat.{suc, _-_}
 use mathlib.Core.Path.{_≡_, _∙_}
-use Rattle.wire_names.specs.NowLaws.{name-own, name-given}
+use Rattle.wire_names.specs.NowLaws.{nameBy, name-at}
 use native.Mathlib.Omega.{arith}
 use denote.Ref.{now}
 use borrow.Author.Needs.{needs}
@@ -16,7 +16,8 @@ bytes-at-requires : tie.Need-bytes-at-requires
 bytes-at-requires c κs = search needs
 
 returns : tie.Need-returns
-returns c = c .bytes-at .ensures ∙ name-own (now (c .before .before .before .before .before .before .args .names)) (now (c .before .before .before .before .before .before .args .wires)) (now (c .before .before .before .before .before .before .args .rows)) (c .before .before .before .before .before .before .args .m .from) (c .before .before .before .before .before .before .args .m .number .0) (c .before .before .before .before .before .before .args .wire .0) (c .before .before .before .before .before .before .args .k) (c .before .before .before .before .before .before .args .m .renames) _ (c .before .before .last-rename .ensures) (c .before .if1 .taken)
+unfolding nameBy
+returns c = c .bytes-at .ensures ∙ name-at (now (c .before .before .before .before .before .before .args .names)) (now (c .before .before .before .before .before .before .args .wires)) (now (c .before .before .before .before .before .before .args .rows)) (c .before .before .before .before .before .before .args .m .from) (c .before .before .before .before .before .before .args .m .number .0) (c .before .before .before .before .before .before .args .wire .0) (c .before .before .before .before .before .before .args .k) (c .before .before .before .before .before .before .args .m .renames) _ 0 (c .before .before .last-rename .ensures) (c .before .if1 .taken)
 
 cast-bytes-at : tie.Need-cast-bytes-at
 cast-bytes-at c = search needs
@@ -34,9 +35,10 @@ bytes-at-requires-2 : tie.Need-bytes-at-requires-2
 bytes-at-requires-2 c κs = search needs
 
 returns-2 : tie.Need-returns-2
+unfolding nameBy
 returns-2 c =
     let e : c .before .before .before .last-rename .result ≡ suc (c .before .before .before .last-rename .result - 1) = omega arith in
-    c .bytes-at2 .ensures ∙ name-given (now (c .before .before .before .before .before .before .before .args .names)) (now (c .before .before .before .before .before .before .before .args .wires)) (now (c .before .before .before .before .before .before .before .args .rows)) (c .before .before .before .before .before .before .before .args .m .from) (c .before .before .before .before .before .before .before .args .m .number .0) (c .before .before .before .before .before .before .before .args .wire .0) (c .before .before .before .before .before .before .before .args .k) (c .before .before .before .before .before .before .before .args .m .renames) _ (c .before .before .before .last-rename .ensures) (c .before .before .before .last-rename .result - 1) e
+    c .bytes-at2 .ensures ∙ name-at (now (c .before .before .before .before .before .before .before .args .names)) (now (c .before .before .before .before .before .before .before .args .wires)) (now (c .before .before .before .before .before .before .before .args .rows)) (c .before .before .before .before .before .before .before .args .m .from) (c .before .before .before .before .before .before .before .args .m .number .0) (c .before .before .before .before .before .before .before .args .wire .0) (c .before .before .before .before .before .before .before .args .k) (c .before .before .before .before .before .before .before .args .m .renames) _ _ (c .before .before .before .last-rename .ensures) e
 
 pub name-now-spec : {M : Type 1} → statement M
 name-now-spec =
