@@ -14,6 +14,10 @@ use Rattle.replay.specs.Parts.{span, whole}
 use Rattle.netlist.specs.Spans.{Has}
 use Rattle.scanner.specs.Parts.{slice-join, slice-none, slice-span, take-taken}
 
+-- equal lists have equal values
+pub same-at : {xs ys : List ℕ} (i : ℕ) → xs ≡ ys → getD xs i 0 ≡ getD ys i 0
+same-at i e = ap (λ (l : List ℕ). getD l i 0) e
+
 pub span-is : (t : List ℕ) (at n : ℕ) → span t at n ≡ take n (drop at t)
 unfolding span
 span-is t at n = slice-span at n t

@@ -6,7 +6,7 @@ use mathlib.Core.List.{List, _∷_}
 use mathlib.Core.Bool.{Bool, true, false, not}
 use native.Mathlib.Omega.{arith}
 use lib.Dec.{leb}
-use lib.ListN.{length, getD}
+use lib.ListN.{length}
 use borrow.Author.Tests.{le-leb, leb-true, not-true, not-false}
 use Rattle.rules.specs.Bytes.{any}
 use Rattle.rules.specs.Tokens.{Name}
@@ -45,6 +45,7 @@ use Rattle.replay.specs.declared.statements.Found.{Found}
 use Rattle.replay.specs.declared.turns.Turn.{Turn}
 use Rattle.designs.specs.CodeLaws.{narrow, narrow-past}
 use Rattle.admitted.specs.CountLaws.{never-process}
+use Rattle.replay.proofs.Spans.{same-at}
 use Rattle.replay.proofs.UniqueLaws.{read-only}
 use Rattle.netlist.specs.UsedLaws.{used-past}
 use Rattle.replay.proofs.BeginLaws.{stand-long, stand-reads, reads-stand}
@@ -204,7 +205,7 @@ module _ (t : Tables) (rows : List ℕ) (p : Place) (u : Sizes) where
   -- the first column is the kind
   kind-read : {ws : Wires} (x : Statement) → Reads t (usedBy p u) ws next x → next .kind ≡ code (contents x .kind)
   unfolding words statementRow row padded rowAt
-  kind-read x d = ap (λ (l : List ℕ). getD l 0 0) (d .row)
+  kind-read x d = same-at 0 (d .row)
 
   pub turn-short : length rows < 8 * p .rows + 8 → TurnIs t rows p u Turn.Nothing
   unfolding TurnIs
