@@ -18,12 +18,13 @@ use Rattle.tables.specs.declared.Row.{Row}
 use Rattle.numbers.specs.Kinds.{digitOf, bitOf, bitAt, signalOf}
 use Rattle.numbers.specs.KindLaws.{digit-code, code-digit, length-signal}
 use Rattle.numbers.specs.SignedLaws.{word-signed, signed-int32}
+use Rattle.scanner.specs.Lists.{same-at}
 use Rattle.scanner.specs.Laws.{and-true-left, and-true-right, never}
 use Rattle.scanner.specs.Elements.{all-map, all-each, each-of, map-back}
 use Rattle.replay.specs.Parts.{span, whole, isDigit, digitsStand, textStands, signalStands}
 use Rattle.replay.specs.Reads.{constantOf, TellsConstant}
 use Rattle.replay.specs.declared.statements.Held.{Held}
-use Rattle.replay.proofs.Spans.{same-at, whole-long, long-whole, has-none, has-span, span-has, has-whole}
+use Rattle.replay.proofs.Spans.{whole-long, long-whole, has-none, has-span, span-has, has-whole}
 
 -- codes of digits are those of the digits that they mean, and digits have such codes
 pub digits-back : (cs : List ℕ) → all isDigit cs ≡ true → map digitCode (map digitOf cs) ≡ cs

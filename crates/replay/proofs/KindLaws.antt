@@ -19,6 +19,7 @@ use Rattle.admitted.specs.AdmitLaws.{fine-parts}
 use Rattle.tables.specs.Row.{words}
 use Rattle.tables.specs.declared.Row.{Row}
 use Rattle.numbers.specs.SignedLaws.{word-signed, signed-int32}
+use Rattle.scanner.specs.Lists.{same-at}
 use Rattle.scanner.specs.Laws.{and-true-left, and-true-right, never}
 use Rattle.scanner.specs.Elements.{test-at}
 use Rattle.replay.specs.Parts.{span, nameStands}
@@ -27,7 +28,7 @@ use Rattle.numbers.specs.KindLaws.{sort-code}
 use Rattle.netlist.specs.RowLaws.{row-zero}
 use Rattle.replay.specs.Reads.{Tables, tabled, constantOf, optionalOf, memoryOf, statementBy, statementOf, Reads, Tells, TellsNamed, TellsValued, TellsAutoidx, TellsEnd, TellsMemory, TellsCell, TellsParameter, TellsCellParameter}
 use Rattle.replay.specs.declared.statements.Found.{Found}
-use Rattle.replay.proofs.Spans.{same-at, has-none, has-span, spans}
+use Rattle.replay.proofs.Spans.{has-none, has-span, spans}
 use Rattle.replay.proofs.CodeLaws.{constant-read}
 use Rattle.replay.proofs.ReadLaws.{name-legal, name-long, name-not, first-not, laid}
 

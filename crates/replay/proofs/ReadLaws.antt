@@ -17,6 +17,7 @@ use Rattle.admitted.specs.AdmitLaws.{fine-parts}
 use Rattle.tables.specs.Flat.{flat}
 use Rattle.tables.specs.Row.{words}
 use Rattle.tables.specs.declared.Row.{Row}
+use Rattle.scanner.specs.Lists.{same-at}
 use Rattle.scanner.specs.Laws.{by-test, same-refl, same-eq, and-true-left, and-true-right, never}
 use Rattle.scanner.specs.Elements.{all-first}
 use Rattle.replay.specs.Parts.{span, whole, nameStands}
@@ -25,7 +26,7 @@ use Rattle.netlist.specs.Fronts.{Parts}
 use Rattle.replay.specs.Reads.{Tables, tabled, constantOf, ReadsConstant, TellsConstant, Reads, Counts, Tells, TellsNamed, TellsValued}
 use Rattle.replay.specs.declared.statements.Found.{Found}
 use Rattle.replay.specs.declared.statements.Held.{Held}
-use Rattle.replay.proofs.Spans.{same-at, whole-long, long-whole, has-none, has-span}
+use Rattle.replay.proofs.Spans.{whole-long, long-whole, has-none, has-span}
 use Rattle.replay.proofs.CodeLaws.{constant-read}
 
 -- with the parts there, the row decides

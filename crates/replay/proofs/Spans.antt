@@ -14,10 +14,6 @@ use Rattle.replay.specs.Parts.{span, whole}
 use Rattle.netlist.specs.Spans.{Has}
 use Rattle.scanner.specs.Parts.{slice-join, slice-none, slice-span, take-taken}
 
--- equal lists have equal values
-pub same-at : {xs ys : List ℕ} (i : ℕ) → xs ≡ ys → getD xs i 0 ≡ getD ys i 0
-same-at i e = ap (λ (l : List ℕ). getD l i 0) e
-
 pub span-is : (t : List ℕ) (at n : ℕ) → span t at n ≡ take n (drop at t)
 unfolding span
 span-is t at n = slice-span at n t
@@ -26,14 +22,6 @@ long : (t : List ℕ) (at n : ℕ) → length (span t at n) ≡ min n (length t 
 long t at n = ap length (span-is t at n) ∙ length-take n (drop at t) ∙ ap (min n) (length-drop at t)
 
 module _ (t : List ℕ) (at : ℕ) where
-  pub whole-none : whole t at 0 ≡ true
-  unfolding whole
-  whole-none = let e : length (span t at 0) ≡ 0 = omega (arith, long t at 0) in eq-eqb (length (span t at 0)) 0 e
-
-  pub whole-in : (n : ℕ) → at + n ≤ length t → whole t at n ≡ true
-  unfolding whole
-  whole-in n h = let e : length (span t at n) ≡ n = omega (arith, long t at n) in eq-eqb (length (span t at n)) n e
-
   pub whole-out : (n : ℕ) → 0 < n → length t < at + n → whole t at n ≡ false
   unfolding whole
   whole-out n p h = ne-eqb (length (span t at n)) n (λ e. omega (arith, long t at n, e))
@@ -45,6 +33,12 @@ module _ (t : List ℕ) (at : ℕ) where
   pub long-whole : (n : ℕ) → length (span t at n) ≡ n → whole t at n ≡ true
   unfolding whole
   long-whole n e = eq-eqb (length (span t at n)) n e
+
+  pub whole-none : whole t at 0 ≡ true
+  whole-none = long-whole 0 (omega (arith, long t at 0))
+
+  pub whole-in : (n : ℕ) → at + n ≤ length t → whole t at n ≡ true
+  whole-in n h = long-whole n (omega (arith, long t at n))
 
   pub whole-inside : (n : ℕ) → whole t at n ≡ true → 0 < n → at + n ≤ length t
   whole-inside n e p = omega (arith, long t at n, whole-long n e)

@@ -10,6 +10,7 @@ use Rattle.rules.specs.Statements.{Statement, Constant, value, integer, string,
 use Rattle.rules.specs.Signals.{Wires}
 use Rattle.rules.specs.Layout.{Used, padded, row, constantColumns, sortCode, columns, statementRow}
 use Rattle.numbers.specs.Kinds.{signalOf}
+use Rattle.scanner.specs.Lists.{same-at}
 use Rattle.tables.specs.Row.{words}
 use Rattle.tables.specs.declared.Row.{Row}
 use Rattle.wires.specs.Rows.{wordAt, column, spanAt}
@@ -21,7 +22,6 @@ use Rattle.designs.specs.CodeLaws.{narrow}
 use Rattle.designs.specs.DecodeLaws.{decodes}
 use Rattle.replay.specs.Parts.{span}
 use Rattle.replay.specs.Reads.{Tables, constantOf, optionalOf, memoryOf, statementBy, statementOf, Reads}
-use Rattle.replay.proofs.Spans.{same-at}
 use Rattle.replay.proofs.CodeLaws.{constant-read}
 
 -- where a row's columns are those of a statement, its parts are where the row says

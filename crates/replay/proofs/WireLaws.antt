@@ -7,7 +7,7 @@ use mathlib.Core.Option.{Option·elim}
 use mathlib.Core.Bool.{Bool, true, false, cond, _||_}
 use native.Mathlib.Omega.{arith}
 use lib.Dec.{eqb, leb}
-use lib.ListN.{length, take, drop, length-take, length-drop}
+use lib.ListN.{length}
 use borrow.Author.Tests.{eq-eqb, eqb-true, leb-false, lt-leb}
 use Rattle.rules.specs.Bytes.{same, all}
 use Rattle.rules.specs.Tokens.{Name}
@@ -18,18 +18,19 @@ use Rattle.rules.specs.Layout.{Used, padded, row, nameBytes, flags, wireRow, wi
 use Rattle.numbers.specs.Kinds.{signalOf}
 use Rattle.admitted.specs.Admitted.{ownWire, fineWire, fineSignal, sameLength, fineAlone, fineParts}
 use Rattle.admitted.specs.AdmitLaws.{fine-parts}
-use Rattle.tables.specs.Row.{words, rowAt, words-rowAt}
+use Rattle.tables.specs.Row.{words, rowAt}
 use Rattle.tables.specs.declared.Row.{Row}
 use Rattle.numbers.specs.Signed.{signedOf}
 use Rattle.numbers.specs.SignedLaws.{word-signed}
+use Rattle.scanner.specs.Lists.{same-at}
 use Rattle.scanner.specs.Laws.{by-test, same-refl, same-eq, and-true-left, and-true-right, never}
 use Rattle.wires.specs.Rows.{wordAt, column, portOf, wireOf, wiresFrom}
 use Rattle.wires.specs.RowLaws.{length-wire-row, port-small, flags-back, port-number-back}
 use Rattle.replay.specs.Parts.{span, nameStands, signalStands}
-use Rattle.netlist.specs.Spans.{Has}
+use Rattle.netlist.specs.Spans.{Has, row-has, has-row, has-long}
 use Rattle.replay.specs.Reads.{tabled, Decides, Tells, TellsWire, TellsCellConnection, TellsConnection, WireRowStands}
 use Rattle.replay.specs.declared.statements.Found.{Found}
-use Rattle.replay.proofs.Spans.{same-at, whole-long, has-none, has-span, spans}
+use Rattle.replay.proofs.Spans.{whole-long, has-none, has-span, spans}
 use Rattle.numbers.specs.KindLaws.{codes-back, length-signal}
 use Rattle.replay.proofs.CodeLaws.{signal-fine, signal-whole, signal-long}
 use Rattle.replay.proofs.ReadLaws.{name-legal, name-long, first-not, laid}
@@ -152,20 +153,6 @@ module _ (wires : List ℕ) (k : ℕ) where
   unfolding wireOf Option·elim portOf
   no-port h = let e : column wires k 5 / 4 ≡ 0 = omega arith in rw e
 
-  -- eight values from a row's place on are the row
-  pub row-has : 8 * k + 8 ≤ length wires → (xs : List ℕ) → length xs ≡ 8 → Has wires (8 * k) xs → words (rowAt wires (8 * k)) ≡ xs
-  unfolding Has
-  row-has h xs e q = words-rowAt wires (8 * k) h ∙ ap (λ (n : ℕ). take n (drop (8 * k) wires)) (sym e) ∙ q
-
-  pub has-row : 8 * k + 8 ≤ length wires → (xs : List ℕ) → length xs ≡ 8 → words (rowAt wires (8 * k)) ≡ xs → Has wires (8 * k) xs
-  unfolding Has
-  has-row h xs e q = ap (λ (n : ℕ). take n (drop (8 * k) wires)) e ∙ sym (words-rowAt wires (8 * k) h) ∙ q
-
-  pub has-long : (xs : List ℕ) → length xs ≡ 8 → Has wires (8 * k) xs → 8 * k + 8 ≤ length wires
-  unfolding Has
-  has-long xs e q =
-      omega (arith, ap length q, length-take (length xs) (drop (8 * k) wires), length-drop (8 * k) wires)
-
 module _ (wires : List ℕ) (u : Used) (size : ℕ) where
   pub wire-short : length wires < 8 * u .wires + 8 → WireRowStands wires u size false
   unfolding Decides
@@ -173,7 +160,7 @@ module _ (wires : List ℕ) (u : Used) (size : ℕ) where
 
   module _ (h : 8 * u .wires + 8 ≤ length wires) (q : Row) (eq : q ≡ rowAt wires (8 * u .wires)) where
     row-is : (n : Name) → Has wires (8 * u .wires) (wireRow u (n, wireOf wires (u .wires))) → words q ≡ wireRow u (n, wireOf wires (u .wires))
-    row-is n d = ap words eq ∙ row-has wires (u .wires) h (wireRow u (n, wireOf wires (u .wires))) (length-wire-row u (n, wireOf wires (u .wires))) d
+    row-is n d = ap words eq ∙ row-has wires (u .wires) (wireRow u (n, wireOf wires (u .wires))) (length-wire-row u (n, wireOf wires (u .wires))) h d
 
     flags-are : q .e ≡ column wires (u .wires) 5
     unfolding rowAt column wordAt
@@ -219,5 +206,5 @@ module _ (wires : List ℕ) (u : Used) (size : ℕ) where
         let fo = ap (λ (m : ℕ). twosComplement (signedOf m)) (sym offset-is) ∙ word-signed (q .d) o in
         let rx : words x ≡ wireRow u (n, w) = ex ∙ rw (ff, fp, fo, e, ← width-is) in
         by-test (same (words q) (words x))
-        (λ t. rw (eb, t) (has-row wires (u .wires) h (wireRow u (n, w)) (length-wire-row u (n, w)) (sym (ap words eq) ∙ same-eq (words q) (words x) t ∙ rx)))
+        (λ t. rw (eb, t) (has-row wires (u .wires) (wireRow u (n, w)) (length-wire-row u (n, w)) h (sym (ap words eq) ∙ same-eq (words q) (words x) t ∙ rx)))
         (λ t. rw (eb, t) (λ d. never (same (words q) (words x)) (ap (same (words q)) (rx ∙ sym (row-is n d)) ∙ same-refl (words q)) t))

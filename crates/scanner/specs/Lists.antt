@@ -203,3 +203,7 @@ pub onto-none : (q : Quoted) → quotedOnto [] q ≡ q
 unfolding quotedOnto
 onto-none (closed cs l) = refl
 onto-none broken = refl
+
+-- equal lists have equal numbers
+pub same-at : {xs ys : List ℕ} (i : ℕ) → xs ≡ ys → getD xs i 0 ≡ getD ys i 0
+same-at i e = ap (λ (l : List ℕ). getD l i 0) e
