@@ -162,21 +162,9 @@ module _ (wires : List ℕ) (u : Used) (size : ℕ) where
     row-is : (n : Name) → Has wires (8 * u .wires) (wireRow u (n, wireOf wires (u .wires))) → words q ≡ wireRow u (n, wireOf wires (u .wires))
     row-is n d = ap words eq ∙ row-has wires (u .wires) (wireRow u (n, wireOf wires (u .wires))) (length-wire-row u (n, wireOf wires (u .wires))) h d
 
-    flags-are : q .e ≡ column wires (u .wires) 5
+    columns-are : (q .c ≡ column wires (u .wires) 3) × (q .d ≡ column wires (u .wires) 4) × (q .e ≡ column wires (u .wires) 5) × (q .f ≡ column wires (u .wires) 6)
     unfolding rowAt column wordAt
-    flags-are = ap (λ (x : Row). x .e) eq
-
-    port-is : q .f ≡ column wires (u .wires) 6
-    unfolding rowAt column wordAt
-    port-is = ap (λ (x : Row). x .f) eq
-
-    width-is : q .c ≡ wireOf wires (u .wires) .width
-    unfolding rowAt column wordAt wireOf
-    width-is = ap (λ (x : Row). x .c) eq
-
-    offset-is : q .d ≡ column wires (u .wires) 4
-    unfolding rowAt column wordAt
-    offset-is = ap (λ (x : Row). x .d) eq
+    columns-are = rw eq (refl, refl, refl, refl)
 
     pub wire-flags : 15 < q .e → WireRowStands wires u size false
     unfolding Decides words wireRow row padded
@@ -189,7 +177,7 @@ module _ (wires : List ℕ) (u : Used) (size : ℕ) where
     wire-number g n e d =
         by-test (leb 4 (q .e)) (λ y. never (leb 4 (q .e) || eqb (q .f) 0) (rw y) g)
         (λ y. let l : q .e < 4 = leb-false 4 (q .e) y in
-        let z : q .f ≡ 0 = same-at 6 (row-is n d) ∙ no-port wires (u .wires) (omega (arith, flags-are)) in
+        let z : q .f ≡ 0 = same-at 6 (row-is n d) ∙ no-port wires (u .wires) (omega (arith, columns-are .2)) in
         never (leb 4 (q .e) || eqb (q .f) 0) (rw (y, z)) g)
 
     numbered : leb 4 (q .e) || eqb (q .f) 0 ≡ true → q .e < 4 → q .f ≡ 0
@@ -201,10 +189,10 @@ module _ (wires : List ℕ) (u : Used) (size : ℕ) where
     unfolding Decides wireRow row padded wireOf
     wire-row-settled g z o x ex b eb n e =
         let w : Wire = wireOf wires (u .wires) in
-        let ff : flags w ≡ q .e = flags-back wires (u .wires) (omega (arith, flags-are)) ∙ sym flags-are in
-        let fp : Option·elim (w .port) 0 (λ q. q .1) ≡ q .f = port-number-back wires (u .wires) (omega (arith, flags-are)) (λ y. sym port-is ∙ numbered z (omega (arith, flags-are))) ∙ sym port-is in
-        let fo = ap (λ (m : ℕ). twosComplement (signedOf m)) (sym offset-is) ∙ word-signed (q .d) o in
-        let rx : words x ≡ wireRow u (n, w) = ex ∙ rw (ff, fp, fo, e, ← width-is) in
+        let ff : flags w ≡ q .e = flags-back wires (u .wires) (omega (arith, columns-are .2)) ∙ sym (columns-are .2) in
+        let fp : Option·elim (w .port) 0 (λ q. q .1) ≡ q .f = port-number-back wires (u .wires) (omega (arith, columns-are .2)) (λ y. sym (columns-are .3) ∙ numbered z (omega (arith, columns-are .2))) ∙ sym (columns-are .3) in
+        let fo = ap (λ (m : ℕ). twosComplement (signedOf m)) (sym (columns-are .1)) ∙ word-signed (q .d) o in
+        let rx : words x ≡ wireRow u (n, w) = ex ∙ rw (ff, fp, fo, e, ← (columns-are .0)) in
         by-test (same (words q) (words x))
         (λ t. rw (eb, t) (has-row wires (u .wires) (wireRow u (n, w)) (length-wire-row u (n, w)) h (sym (ap words eq) ∙ same-eq (words q) (words x) t ∙ rx)))
         (λ t. rw (eb, t) (λ d. never (same (words q) (words x)) (ap (same (words q)) (rx ∙ sym (row-is n d)) ∙ same-refl (words q)) t))

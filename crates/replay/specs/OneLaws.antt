@@ -2,7 +2,7 @@
 -- Assumes nothing.
 use Prim.Native.Nat.{ℕ, _+_, _*_}
 use mathlib.Core.Path.{_≡_, refl, sym, ap, _∙_, subst}
-use mathlib.Core.List.{List, [], _∷_, _++_, append-nil}
+use mathlib.Core.List.{List, [], _∷_, _++_, reverse, append-nil, reverseAux-eq, reverse-reverse}
 use mathlib.Core.Logic.{_⊎_, inl, inr, ⊎-elim}
 use mathlib.Core.Bool.{true}
 use native.Mathlib.Omega.{arith}
@@ -12,7 +12,7 @@ use Rattle.rules.specs.Statements.{Statement, Kind, anAutoidx, anAttribute, aMo
 use Rattle.rules.specs.Judgement.{Past}
 use Rattle.scanner.specs.Laws.{never}
 use Rattle.admitted.specs.Admitted.{admitted}
-use Rattle.admitted.specs.AdmitLaws.{admitted-before}
+use Rattle.admitted.specs.AdmitLaws.{admitted-before, admitted-past}
 use Rattle.wires.specs.Rows.{wordAt, column}
 use Rattle.netlist.specs.Rows.{kindAt}
 use Rattle.netlist.specs.Laid.{roomsOf}
@@ -37,10 +37,6 @@ statement-kind aCellConnection = refl
 statement-kind aConnection = refl
 statement-kind aProcess = refl
 statement-kind anEnd = refl
-
-admitted-tail : (l ss : Past) → admitted (l ++ ss) ≡ true → admitted ss ≡ true
-admitted-tail [] ss h = h
-admitted-tail (x ∷ l) ss h = admitted-tail l ss (admitted-before x (l ++ ss) h)
 
 -- none stands before these, or one next to them
 first-next : (more ss : Past) → (more ++ ss ≡ ss) ⊎ ((init : Past) × (x : Statement) × (more ++ ss ≡ init ++ x ∷ ss))
@@ -71,7 +67,7 @@ module _ {t : Tables} {rows : List ℕ} where
       (λ q.
       let e : qs ≡ q .0 ++ q .1 ∷ ss = m ∙ q .2 in
       let f : Fronts (roomsOf (q .1 ∷ ss)) (withRows t rows) = fronts-behind (q .0) (q .1 ∷ ss) (subst (λ (l : Past). Fronts (roomsOf l) (withRows t rows)) e (h .begins .fronts)) in
-      inr (q .0, q .1, e, f, admitted-tail (q .0) (q .1 ∷ ss) (ap admitted (sym e) ∙ h .admits)))
+      inr (q .0, q .1, e, f, admitted-past (reverse (q .0)) (q .1 ∷ ss) (rw (reverseAux-eq, reverse-reverse, ← e) (h .admits))))
       (first-next more ss)
 
   pub stored-begins : (qs ss : Past) → Stored t rows qs → admitted ss ≡ true → Fronts (roomsOf ss) (withRows t rows) → (more : Past) × (qs ≡ more ++ ss)
