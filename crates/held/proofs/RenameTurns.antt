@@ -34,7 +34,7 @@ wired-more : {names wires rows : List ℕ} (S : Rooms) (r : Rename) → Laid (pu
 unfolding putRename
 wired-more S r l w = record { names-start = l .names-start; wires-start = w .wires-start }
 
-room-behind : (S : Rooms) (r : Rename) (R : Rooms) → R ≡ putRename S r → length (R .names) ≡ length (S .names) + length (r .newName)
+pub room-behind : (S : Rooms) (r : Rename) (R : Rooms) → R ≡ putRename S r → length (R .names) ≡ length (S .names) + length (r .newName)
 unfolding putRename
 room-behind S r R e = ap (λ (T : Rooms). length (T .names)) e ∙ length-append (S .names) (r .newName)
 

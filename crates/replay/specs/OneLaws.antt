@@ -6,11 +6,12 @@ use mathlib.Core.List.{List, [], _∷_, _++_, reverse, append-nil, reverseAux-eq
 use mathlib.Core.Logic.{_⊎_, inl, inr, ⊎-elim}
 use mathlib.Core.Bool.{true}
 use native.Mathlib.Omega.{arith}
-use lib.ListN.{length, length-append}
+use lib.ListN.{length}
 use Rattle.rules.specs.Bytes.{within}
 use Rattle.rules.specs.Statements.{Statement, Kind, anAutoidx, anAttribute, aModule, aParameter, aWire, aMemory, aCell, aCellParameter, aCellConnection, aConnection, aProcess, anEnd, code, contents}
 use Rattle.rules.specs.Judgement.{Past}
 use Rattle.scanner.specs.Laws.{never}
+use Rattle.scanner.specs.Lists.{first-next, both-begin}
 use Rattle.admitted.specs.Admitted.{admitted}
 use Rattle.admitted.specs.AdmitLaws.{admitted-before, admitted-past}
 use Rattle.wires.specs.Rows.{wordAt, column}
@@ -37,16 +38,6 @@ statement-kind aCellConnection = refl
 statement-kind aConnection = refl
 statement-kind aProcess = refl
 statement-kind anEnd = refl
-
--- none stands before these, or one next to them
-first-next : (more ss : Past) → (more ++ ss ≡ ss) ⊎ ((init : Past) × (x : Statement) × (more ++ ss ≡ init ++ x ∷ ss))
-first-next [] ss = inl refl
-first-next (y ∷ l) ss =
-    ⊎-elim (λ e. inr ([], y, ap (λ (m : Past). y ∷ m) e)) (λ q. inr (y ∷ q .0, q .1, ap (λ (m : Past). y ∷ m) (q .2))) (first-next l ss)
-
-both-begin : (qs ss more less : Past) → qs ≡ more ++ ss → ss ≡ less ++ qs → ss ≡ qs
-both-begin qs ss [] less e d = sym e
-both-begin qs ss (x ∷ more) less e d = absurd (omega (arith, ap length e, ap length d, length-append more ss, length-append less qs))
 
 -- a list is these statements, or goes on with one more that the tables begin with too
 abbrev pub GoesOn : Tables → List ℕ → (qs ss : Past) → Type 0

@@ -26,7 +26,7 @@ use Rattle.wire_names.specs.Now as table
 use Rattle.wire_names.specs.declared.Module.{Module}
 use Rattle.reader.specs.Read.{lent}
 use Rattle.standing.specs.Judged.{moduleBy}
-use Rattle.standing.specs.NowLaws.{up}
+use Rattle.scanner.specs.Lists.{up}
 use Rattle.standing.specs.LiesLaws.{names-are, there, missing}
 use Rattle.session.specs.Called.{Called, holding, answer}
 use Rattle.standing.specs.Search.{searchNow}

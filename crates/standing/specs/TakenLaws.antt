@@ -16,7 +16,7 @@ use Rattle.rules.specs.Signals.{Wires}
 use Rattle.rules.specs.Design.{Object, design}
 use Rattle.rules.specs.Session.{Rename, wiresAt, wireAt, now, taken}
 use Rattle.rules.specs.Layout.{putRenames}
-use Rattle.scanner.specs.Lists.{elim-map}
+use Rattle.scanner.specs.Lists.{elim-map, up, up-last}
 use Rattle.scanner.specs.Elements.{any-append}
 use Rattle.wires.specs.Rows.{wiresFrom}
 use Rattle.past.specs.Place.{wiresIn, placeOf}
@@ -33,7 +33,7 @@ use Rattle.designs.specs.RowLaws.{taken-range}
 use Rattle.designs.specs.WireLaws.{design-range}
 use Rattle.wire_names.specs.Now as rows
 use Rattle.standing.specs.Judged.{objectTaken, nameTaken, moduleBy}
-use Rattle.standing.specs.NowLaws.{up, up-last, numbered-laid}
+use Rattle.standing.specs.NowLaws.{numbered-laid}
 
 -- A WIRE BY ITS NUMBER
 module _ {names t : List ℕ} (m w : ℕ) (ss : Past) (headed : Headed ss) (o : Offsets ss) (l : Wired (roomsOf ss) names t) {C : Type 0} (z : C) (g : Wire → C) where
