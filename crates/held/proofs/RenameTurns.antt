@@ -2,7 +2,7 @@
 -- Assumes nothing.
 use Prim.Native.Nat.{ℕ, _+_, _*_, _≤_, _<_}
 use mathlib.Core.Path.{_≡_, sym, ap, ap₂, _∙_, subst}
-use mathlib.Core.List.{List, [], _∷_, _++_}
+use mathlib.Core.List.{List, [], _∷_, _++_, reverse}
 use mathlib.Core.Bool.{true, false}
 use native.Mathlib.Omega.{arith}
 use lib.ListN.{length, take, drop, length-append, length-take, length-drop}
@@ -15,8 +15,8 @@ use Rattle.rules.specs.Session.{Rename, renameCall, numberOf}
 use Rattle.rules.specs.Layout.{Rooms, renameRow, putRename, rooms}
 use Rattle.tables.specs.Row.{words, rowAt}
 use Rattle.tables.specs.declared.Row.{Row}
-use Rattle.past.specs.Place.{placeOf}
 use Rattle.past.specs.declared.place.Place.{Place}
+use Rattle.past.proofs.PlaceLaws.{place-rows}
 use Rattle.admitted.specs.Holds.{Allowed, no-renames}
 use Rattle.netlist.specs.Spans.{Has}
 use Rattle.netlist.specs.Laid.{Laid, Wired}
@@ -34,7 +34,7 @@ wired-more : {names wires rows : List ℕ} (S : Rooms) (r : Rename) → Laid (pu
 unfolding putRename
 wired-more S r l w = record { names-start = l .names-start; wires-start = w .wires-start }
 
-room-behind : (S : Rooms) (r : Rename) (R : Rooms) → R ≡ putRename S r → length (R .names) ≡ length (S .names) + length (r .newName)
+pub room-behind : (S : Rooms) (r : Rename) (R : Rooms) → R ≡ putRename S r → length (R .names) ≡ length (S .names) + length (r .newName)
 unfolding putRename
 room-behind S r R e = ap (λ (T : Rooms). length (T .names)) e ∙ length-append (S .names) (r .newName)
 
@@ -42,8 +42,7 @@ room-behind S r R e = ap (λ (T : Rooms). length (T .names)) e ∙ length-append
 module _ (names wires rows : List ℕ) (p : Place) (i used : ℕ) where
   module _ {ss : List Statement} {rs : List Rename} (l : Lies names wires rows p i used ss rs) where
     rows-are : length (rooms ss rs .rows) ≡ p .rows + i
-    unfolding placeOf
-    rows-are = length-file ss rs ∙ ap₂ _+_ (ap (λ (x : Place). x .rows) (l .place)) (l .standing)
+    rows-are = length-file ss rs ∙ ap₂ _+_ (place-rows (reverse ss) (l .place)) (l .standing)
 
     module _ (q : Rename) (k : Laid (rooms ss (rs ++ q ∷ [])) names rows) where
       next : Next names rows (rooms ss rs) q

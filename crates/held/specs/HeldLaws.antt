@@ -25,6 +25,7 @@ use Rattle.past.specs.Place.{wiresIn, placeOf}
 use Rattle.past.specs.Sizes.{sizesBy, sumsOf, Within}
 use Rattle.past.specs.declared.place.Place.{Place}
 use Rattle.past.specs.declared.sizes.Sizes.{Sizes}
+use Rattle.past.proofs.PlaceLaws.{place-rows}
 use Rattle.admitted.specs.Admitted.{admitted, closes}
 use Rattle.admitted.specs.AdmitLaws.{admitted-few, admitted-within}
 use Rattle.admitted.specs.Holds.{Allowed, Holds}
@@ -43,7 +44,7 @@ use Rattle.standing.specs.Judged.{Lies}
 use Rattle.netlist.specs.RoomLaws.{rooms-file, Kept, renames-keep}
 use Rattle.standing.specs.RoomLaws.{room-used}
 use Rattle.held.specs.Renamed.{isRename}
-use Rattle.netlist.specs.Lengths.{rightSizes, rightLengths, sizes-exact}
+use Rattle.netlist.specs.Lengths.{rightSizes, rightLengths, lengths-exact}
 use Rattle.held.specs.Held.{zeroFrom, restZero}
 use Rattle.held.specs.AllowedLaws.{allowed-few, allowed-room}
 use Rattle.held.specs.RenameLaws.{RowOf, words-rename, laid-next, eights-file, length-file}
@@ -67,10 +68,6 @@ module _ (ss : List Statement) (rs : List Rename) (p : Place) (u : Sizes) (many 
   used-is : used (roomsOf (reverse ss)) ≡ usedBy p u
   used-is = used-past (reverse ss) ∙ ap₂ usedBy ep eu
 
-  rows-is : length (reverse ss) ≡ p .rows
-  unfolding placeOf
-  rows-is = ap (λ (x : Place). x .rows) ep
-
   pub names-used : length (rooms ss [] .names) ≡ u .«name_bytes»
   unfolding used putRenames
   names-used = ap (λ (R : Rooms). length (R .names)) (rooms-file ss []) ∙ ap (λ (x : layouts.Used). x .names) used-is
@@ -84,7 +81,7 @@ module _ (ss : List Statement) (rs : List Rename) (p : Place) (u : Sizes) (many 
         strings = ap length (k .strings) ∙ ap (λ (x : layouts.Used). x .strings) used-is;
         bits = ap length (k .bits) ∙ ap (λ (x : layouts.Used). x .bits) used-is;
         wires = ap (λ (l : List (List ℕ)). length (flat l)) (k .wires) ∙ length-flat (roomsOf (reverse ss) .wires) (eights-wires (reverse ss)) ∙ ap (λ (n : ℕ). 8 * n) w;
-        rows = length-flat (rooms ss rs .rows) (eights-file ss rs) ∙ ap (λ (n : ℕ). 8 * n) (length-file ss rs ∙ ap₂ _+_ rows-is e);
+        rows = length-flat (rooms ss rs .rows) (eights-file ss rs) ∙ ap (λ (n : ℕ). 8 * n) (length-file ss rs ∙ ap₂ _+_ (place-rows (reverse ss) ep) e);
       }
 
 -- A MEMORY THAT HOLDS A DESIGN
@@ -92,33 +89,16 @@ module _ {m : layouts.Memory} {ss : List Statement} {rs : List Rename} (h : Hold
   abbrev S : Rooms
   S = rooms ss rs
 
-  names-are : padded 16384 (S .names) ≡ m .names
-  unfolding layout memory
-  names-are = ap (λ (x : layouts.Memory). x .names) (h .is)
-
-  strings-are : padded 8192 (S .strings) ≡ m .strings
-  unfolding layout memory
-  strings-are = ap (λ (x : layouts.Memory). x .strings) (h .is)
-
-  bits-are : padded 16384 (S .bits) ≡ m .bits
-  unfolding layout memory
-  bits-are = ap (λ (x : layouts.Memory). x .bits) (h .is)
-
-  wires-are : padded (8 * 512) (flat (S .wires)) ≡ m .wires
-  unfolding layout memory
-  wires-are = ap (λ (x : layouts.Memory). x .wires) (h .is)
-
-  rows-are : padded (8 * 4769) (flat (S .rows)) ≡ m .rows
-  unfolding layout memory
-  rows-are = ap (λ (x : layouts.Memory). x .rows) (h .is)
+  pub holds-as : {A : Type 0} (f : layouts.Memory → A) → f (layout ss rs) ≡ f m
+  holds-as f = ap f (h .is)
 
   pub holds-many : length rs ≡ m .renames
   unfolding layout memory
-  holds-many = ap (λ (x : layouts.Memory). x .renames) (h .is)
+  holds-many = holds-as (λ x. x .renames)
 
   pub holds-room : length (S .names) ≡ m .room
   unfolding layout memory
-  holds-room = ap (λ (x : layouts.Memory). x .room) (h .is)
+  holds-room = holds-as (λ x. x .room)
 
   holds-fronts : Fronts (rooms ss rs) (tablesIn m)
   holds-fronts = rw (h .is) at (fronts-layout ss rs)
@@ -148,14 +128,14 @@ module _ {m : layouts.Memory} {ss : List Statement} {rs : List Rename} (h : Hold
   wires-fit = sums-fit .wires
 
   pub holds-sizes : rightLengths m ≡ true
-  unfolding rightLengths rightSizes placeOf
+  unfolding layout memory rightLengths rightSizes placeOf
   holds-sizes =
-      let a : length (m .names) ≡ 16384 = ap length (sym names-are) ∙ length-padded 16384 (S .names) names-fit in
-      let b : length (m .strings) ≡ 8192 = ap length (sym strings-are) ∙ length-padded 8192 (S .strings) (omega (arith, in-place .strings, sums-fit .string-bytes)) in
-      let c : length (m .bits) ≡ 16384 = ap length (sym bits-are) ∙ length-padded 16384 (S .bits) (omega (arith, in-place .bits, sums-fit .value-bits, sums-fit .signal-bits)) in
-      let d : length (m .wires) ≡ 4096 = ap length (sym wires-are) ∙ length-padded (8 * 512) (flat (S .wires)) (omega (arith, in-place .wires, wires-fit)) in
+      let a : length (m .names) ≡ 16384 = sym (holds-as (λ x. length (x .names))) ∙ length-padded 16384 (S .names) names-fit in
+      let b : length (m .strings) ≡ 8192 = sym (holds-as (λ x. length (x .strings))) ∙ length-padded 8192 (S .strings) (omega (arith, in-place .strings, sums-fit .string-bytes)) in
+      let c : length (m .bits) ≡ 16384 = sym (holds-as (λ x. length (x .bits))) ∙ length-padded 16384 (S .bits) (omega (arith, in-place .bits, sums-fit .value-bits, sums-fit .signal-bits)) in
+      let d : length (m .wires) ≡ 4096 = sym (holds-as (λ x. length (x .wires))) ∙ length-padded (8 * 512) (flat (S .wires)) (omega (arith, in-place .wires, wires-fit)) in
       let e : length (m .rows) ≡ 38152 =
-      ap length (sym rows-are) ∙ length-padded (8 * 4769) (flat (S .rows)) (omega (arith, in-place .rows, admitted-few (reverse ss) (h .admitted), allowed-few (h .allowed))) in
+      sym (holds-as (λ x. length (x .rows))) ∙ length-padded (8 * 4769) (flat (S .rows)) (omega (arith, in-place .rows, admitted-few (reverse ss) (h .admitted), allowed-few (h .allowed))) in
       rw (a, b, c, d, e)
 
   -- what is not used is zero
@@ -164,15 +144,15 @@ module _ {m : layouts.Memory} {ss : List Statement} {rs : List Rename} (h : Hold
   rest t xs n k e l = rw (← e, ← l) (padded-rest n xs)
 
   pub holds-rest : (p : Place) (u : Sizes) → placeOf (reverse ss) ≡ p → sumsOf (reverse ss) ≡ u → restZero m p u ≡ true
-  unfolding restZero
+  unfolding restZero layout memory
   holds-rest p u ep eu =
       let z = sized ss rs p u (m .renames) ep eu holds-many in
       rw (
-        rest (m .names) (S .names) 16384 (m .room) names-are holds-room,
-        rest (m .strings) (S .strings) 8192 (u .«string_bytes») strings-are (z .strings),
-        rest (m .bits) (S .bits) 16384 (u .«value_bits» + u .«signal_bits») bits-are (z .bits),
-        rest (m .wires) (flat (S .wires)) (8 * 512) (8 * p .wires) wires-are (z .wires),
-        rest (m .rows) (flat (S .rows)) (8 * 4769) (8 * (p .rows + m .renames)) rows-are (z .rows),
+        rest (m .names) (S .names) 16384 (m .room) (holds-as (λ x. x .names)) holds-room,
+        rest (m .strings) (S .strings) 8192 (u .«string_bytes») (holds-as (λ x. x .strings)) (z .strings),
+        rest (m .bits) (S .bits) 16384 (u .«value_bits» + u .«signal_bits») (holds-as (λ x. x .bits)) (z .bits),
+        rest (m .wires) (flat (S .wires)) (8 * 512) (8 * p .wires) (holds-as (λ x. x .wires)) (z .wires),
+        rest (m .rows) (flat (S .rows)) (8 * 4769) (8 * (p .rows + m .renames)) (holds-as (λ x. x .rows)) (z .rows),
       )
 
   -- its statements are stored, and behind them stands no other
@@ -205,6 +185,7 @@ rows-end q (r ∷ rs) names rows l e =
     kind-ends rows (8 * length (R .rows)) k
 
 pub holds-stored : {m : layouts.Memory} {ss : List Statement} {rs : List Rename} → Holds m ss rs → Stored (partsOf m) (m .rows) (reverse ss)
+unfolding layout memory
 holds-stored {m} {ss} {rs} h =
     let e : rooms ss rs ≡ putRenames (roomsOf (reverse ss)) rs = rooms-file ss rs in
     record {
@@ -212,7 +193,7 @@ holds-stored {m} {ss} {rs} h =
       closed = h .closes;
       begins = record {
         fronts = fronts h;
-        ends = rows-end (reverse ss) rs (m .names) (m .rows) (subst (λ (R : Rooms). Laid R (m .names) (m .rows)) e (holds-laid h)) (rw e at (rows-are h));
+        ends = rows-end (reverse ss) rs (m .names) (m .rows) (subst (λ (R : Rooms). Laid R (m .names) (m .rows)) e (holds-laid h)) (rw e at (holds-as h (λ x. x .rows)));
       };
     }
 
@@ -242,13 +223,13 @@ module _ (m : layouts.Memory) (ss : List Statement) (p : Place) (u : Sizes)
       (rs : List Rename) → Lies (m .names) (m .wires) (m .rows) p (m .renames) (m .room) ss rs → Allowed (design ss) rs →
       rightLengths m ≡ true →
       restZero m p u ≡ true → Holds m ss rs
-  unfolding rightLengths restZero layout memory
+  unfolding restZero layout memory
   lies-holds rs l a s r =
       let z = sized ss rs p u (m .renames) ep eu (l .standing) in
       let k = file-keeps ss rs in
       let f = h .begins .fronts in
       let R : Rooms = rooms ss rs in
-      let e = sizes-exact (length (m .names)) (length (m .strings)) (length (m .bits)) (length (m .wires)) (length (m .rows)) s in
+      let e = lengths-exact m s in
       let r₁ = and-true-right (zeroFrom (m .names) (m .room)) _ r in
       let r₂ = and-true-right (zeroFrom (m .strings) (u .«string_bytes»)) _ r₁ in
       let r₃ = and-true-right (zeroFrom (m .bits) (u .«value_bits» + u .«signal_bits»)) _ r₂ in

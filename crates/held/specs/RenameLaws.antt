@@ -3,7 +3,7 @@
 use Prim.Native.Nat.{ℕ, _+_, _*_, _≤_}
 use mathlib.Core.Path.{_≡_, refl, sym, ap, ap₂, _∙_, subst}
 use mathlib.Core.List.{List, [], _∷_, _++_, reverse, append-assoc}
-use mathlib.Core.Bool.{true}
+use mathlib.Core.Bool.{true, and-assoc}
 use native.Mathlib.Omega.{arith}
 use lib.Dec.{eqb}
 use lib.ListN.{length, take, drop}
@@ -12,13 +12,13 @@ use Rattle.rules.specs.Tokens.{Name}
 use Rattle.rules.specs.Statements.{Statement}
 use Rattle.rules.specs.Session.{Rename}
 use Rattle.rules.specs.Layout.{Rooms, padded, row, renameRow, putRename, putRenames, rooms}
-use Rattle.tables.specs.Row.{words, rowAt, words-rowAt}
+use Rattle.tables.specs.Row.{words, rowAt}
 use Rattle.tables.specs.Flat.{flat, Eights, flat-snoc, length-flat}
 use Rattle.tables.specs.declared.Row.{Row}
-use Rattle.scanner.specs.Laws.{and-true-left, and-true-right}
+use Rattle.scanner.specs.Elements.{test-at}
 use Rattle.scanner.specs.Lists.{none-more}
 use Rattle.netlist.specs.Laid.{roomsOf, Laid}
-use Rattle.netlist.specs.Spans.{Starts, Has, starts-has, starts-long, starts-more}
+use Rattle.netlist.specs.Spans.{Starts, Has, starts-has, starts-long, starts-more, row-has, has-row}
 use Rattle.netlist.specs.LaidLaws.{laid-renames, eights-rows, length-rows}
 use Rattle.netlist.specs.RoomLaws.{renames-append, put-renames-last, length-rename-row, rename-rows, eights-renames, rooms-file}
 use Rattle.standing.specs.NowLaws.{last-rename-row, last-rename-name}
@@ -34,15 +34,8 @@ module _ (x : Row) (at : ℕ) where
   pub rename-words : (n : Name) → isRename x at ≡ true → length n ≡ x .b → words x ≡ renameRow at (record { moduleNumber = x .c; wireNumber = x .d; newName = n })
   unfolding isRename words renameRow row padded
   rename-words n e l =
-      let h₁ = and-true-right (eqb (x .kind) 13) _ e in
-      let h₂ = and-true-right (eqb (x .a) at) _ h₁ in
-      let h₃ = and-true-right (eqb (x .e) 0) _ h₂ in
-      let k : x .kind ≡ 13 = eqb-true _ _ (and-true-left (eqb (x .kind) 13) _ e) in
-      let a : x .a ≡ at = eqb-true _ _ (and-true-left (eqb (x .a) at) _ h₁) in
-      let b : x .e ≡ 0 = eqb-true _ _ (and-true-left (eqb (x .e) 0) _ h₂) in
-      let c : x .f ≡ 0 = eqb-true _ _ (and-true-left (eqb (x .f) 0) _ h₃) in
-      let d : x .g ≡ 0 = eqb-true _ _ (and-true-right (eqb (x .f) 0) _ h₃) in
-      rw (k, a, b, c, d, l)
+      let h = test-at (eqb (x .kind) 13) (eqb (x .a) at ∷ eqb (x .e) 0 ∷ eqb (x .f) 0 ∷ eqb (x .g) 0 ∷ []) (simp (← and-assoc) at e) in
+      rw (eqb-true (x .kind) 13 (h 0), eqb-true (x .a) at (h 1), eqb-true (x .e) 0 (h 2), eqb-true (x .f) 0 (h 3), eqb-true (x .g) 0 (h 4), l)
 
   pub record RowOf (q : Rename) : Type 0 where
     pub is : isRename x at ≡ true
@@ -74,7 +67,7 @@ pub record Next (names rows : List ℕ) (S : Rooms) (q : Rename) : Type 0 where
 
 module _ {names rows : List ℕ} (S : Rooms) (h : Eights (S .rows)) (q : Rename) where
   pub laid-next : Laid (putRename S q) names rows → Next names rows S q
-  unfolding putRename Has
+  unfolding putRename
   laid-next l =
       let z : List ℕ = renameRow (length (S .names)) q in
       let n : length z ≡ 8 = length-rename-row (length (S .names)) q in
@@ -83,10 +76,7 @@ module _ {names rows : List ℕ} (S : Rooms) (h : Eights (S .rows)) (q : Rename)
       let long : 8 * length (S .rows) + 8 ≤ length rows = omega (arith, starts-long rows (flat (S .rows)) z r) in
       record {
         room = long;
-        row =
-            words-rowAt rows (8 * length (S .rows)) long
-            ∙ ap (λ (k : ℕ). take k (drop (8 * length (S .rows)) rows)) (sym n)
-            ∙ starts-has rows (flat (S .rows)) z (8 * length (S .rows)) (sym f) r;
+        row = row-has rows (length (S .rows)) z n long (starts-has rows (flat (S .rows)) z (8 * length (S .rows)) (sym f) r);
         inside = starts-long names (S .names) (q .newName) (l .names-start);
         name = starts-has names (S .names) (q .newName) (length (S .names)) refl (l .names-start);
       }
@@ -96,10 +86,10 @@ module _ {names rows : List ℕ} (S : Rooms) (h : Eights (S .rows)) (q : Rename)
       words (rowAt rows (8 * length (S .rows))) ≡ renameRow (length (S .names)) q →
       Has names (length (S .names)) (q .newName) →
       Laid (putRename S q) names rows
-  unfolding putRename Has
+  unfolding putRename
   next-laid l long e en =
       let z : List ℕ = renameRow (length (S .names)) q in
-      let at : Has rows (8 * length (S .rows)) z = rw (length-rename-row (length (S .names)) q) (sym (words-rowAt rows (8 * length (S .rows)) long) ∙ e) in
+      let at : Has rows (8 * length (S .rows)) z = has-row rows (length (S .rows)) z (length-rename-row (length (S .names)) q) long e in
       record {
         names-start = starts-more names (S .names) (q .newName) (length (S .names)) refl (l .names-start) en;
         rows-start =

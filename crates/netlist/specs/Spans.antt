@@ -4,9 +4,10 @@ use Prim.Native.Nat.{ℕ, _+_, _-_, _*_, _≤_}
 use mathlib.Core.Path.{_≡_, refl, sym, ap, _∙_}
 use mathlib.Core.List.{List, [], _∷_, _++_, append-assoc}
 use native.Mathlib.Omega.{arith}
-use lib.ListN.{length, take, drop, replicate, length-append, take-append-drop}
+use lib.ListN.{length, take, drop, replicate, length-append, length-take, length-drop, take-append-drop}
 use lib.Seq.{take-take, drop-drop, take-append-seam, drop-append-seam}
 use Rattle.rules.specs.Layout.{padded}
+use Rattle.tables.specs.Row.{words, rowAt, words-rowAt}
 use Rattle.tables.specs.Flat.{flat, Eights, flat-snoc, length-flat}
 use Rattle.wires.specs.RowLaws.{RowIs, row-taken}
 use Rattle.scanner.specs.Parts.{slice-span}
@@ -69,3 +70,17 @@ has-columns t k r e h = row-taken t k r (ap (λ (n : ℕ). take n (drop (8 * k) 
 
 pub starts-row : (t : List ℕ) (rs : List (List ℕ)) (r : List ℕ) → Eights rs → length r ≡ 8 → Starts t (flat (rs ++ r ∷ [])) → RowIs t (length rs) r
 starts-row t rs r h n s = has-columns t (length rs) r n (starts-has t (flat rs) r (8 * length rs) (sym (length-flat rs h)) (rw flat-snoc at s))
+
+-- eight values from a row's place on are the row
+module _ (t : List ℕ) (k : ℕ) (r : List ℕ) (e : length r ≡ 8) where
+  pub row-has : 8 * k + 8 ≤ length t → Has t (8 * k) r → words (rowAt t (8 * k)) ≡ r
+  unfolding Has
+  row-has l h = words-rowAt t (8 * k) l ∙ ap (λ (n : ℕ). take n (drop (8 * k) t)) (sym e) ∙ h
+
+  pub has-row : 8 * k + 8 ≤ length t → words (rowAt t (8 * k)) ≡ r → Has t (8 * k) r
+  unfolding Has
+  has-row l h = ap (λ (n : ℕ). take n (drop (8 * k) t)) e ∙ sym (words-rowAt t (8 * k) l) ∙ h
+
+  pub has-long : Has t (8 * k) r → 8 * k + 8 ≤ length t
+  unfolding Has
+  has-long h = omega (arith, ap length h, length-take (length r) (drop (8 * k) t), length-drop (8 * k) t)

@@ -2,7 +2,7 @@
 -- module has. The wires behind one statement more.
 -- Assumes nothing.
 use Prim.Native.Nat.{ℕ, _+_, _-_}
-use mathlib.Core.Path.{_≡_, refl, sym, ap₂, _∙_}
+use mathlib.Core.Path.{_≡_, refl, sym, ap, ap₂, _∙_}
 use mathlib.Core.Bool.{Bool, true, false, not, cond, _&&_}
 use mathlib.Core.List.{List, [], _∷_, flatMap, zip, zipWith}
 use native.Mathlib.Omega.{arith}
@@ -153,3 +153,8 @@ module _ (ss : Past) (s : Statement) where
 -- so the next place is that behind each statement of the kind
 pub after-is : (p : Place) (k : ℕ) (r : Place) → r ≡ placeAfter p k → AfterIs p k r
 after-is p k r e ss s ep ek = place-step ss s ∙ ap₂ placeAfter (sym ep) (sym ek) ∙ sym e
+
+-- a place's rows are the statements before it
+pub place-rows : (ss : Past) {p : Place} → placeOf ss ≡ p → length ss ≡ p .rows
+unfolding placeOf
+place-rows ss e = ap (λ (p : Place). p .rows) e

@@ -6,8 +6,8 @@ use mathlib.Core.Bool.{Bool, true, false, not, Bool·not-not}
 use mathlib.Core.List.{List, [], _∷_}
 use native.Mathlib.Omega.{arith}
 use lib.Dec.{ltb}
-use lib.ListN.{length, getD, take, drop}
-use lib.Seq.{length-take-le, getD-take}
+use lib.ListN.{length, take, drop, take-append-drop}
+use lib.Seq.{length-take-le}
 use borrow.Author.Tests.{ltb-true}
 use Rattle.rules.specs.Lines as rules
 use Rattle.rules.specs.Lines.{place}
@@ -22,7 +22,7 @@ use Rattle.tokens.specs.Rows.{rowOf, tokenAt, rowsFrom, line}
 use Rattle.tokens.specs.declared.Constant.the-variants as constant
 use Rattle.tokens.specs.declared.Token as row
 use Rattle.tokens.specs.declared.Token.the-variants.{Name, Word, Constant as Constantly, Mark, End}
-use Rattle.tokens.proofs.TokenLaws.{present, front-token}
+use Rattle.tokens.proofs.TokenLaws.{present, row-before, front-token}
 use Rattle.lexer.specs.Lexemes.{Held}
 use Rattle.lexer.specs.Lines.{lexedOf, Among, LexedIs}
 use Rattle.lexer.specs.declared.Lexed.{Lexed}
@@ -55,11 +55,7 @@ module _ (f t : List ℕ) (n : ℕ) (room : 4 * n ≤ length t) where
   long = length-take-le (4 * n) t room
 
   row-taken : (i : ℕ) → i < n → rowOf rows i ≡ rowOf t i
-  unfolding rowOf
-  row-taken i h =
-      let at : (j : ℕ) → j < 4 → getD rows (4 * i + j) 0 ≡ getD t (4 * i + j) 0 = λ j k. getD-take (4 * n) t (4 * i + j) 0 (omega arith) in
-      let first : getD rows (4 * i) 0 ≡ getD t (4 * i) 0 = getD-take (4 * n) t (4 * i) 0 (omega arith) in
-      rw (first, at 1 (omega arith), at 2 (omega arith), at 3 (omega arith))
+  row-taken i h = sym (row-before rows (drop (4 * n) t) n long i h) ∙ ap (λ (u : List ℕ). rowOf u i) (take-append-drop (4 * n) t)
 
   closed : ((k : ℕ) → k < n → Held f (rowOf t k)) → Closed f rows
   unfolding tokenAt
@@ -112,9 +108,6 @@ module _ (f old new : List ℕ) (l : Line) (x : Lexed) (L : LexedIs f (l .start)
 
 -- ---- the outcome
 
-not-is : (a b : Bool) → not a ≡ b → a ≡ not b
-not-is a b e = sym (Bool·not-not a) ∙ ap not e
-
 lexed-some : (ss : Past) (l : rules.Line) (ts : List Token) → (ts ≡ [] → ⊥) → lexed ss l (good ts) ≡ judged (place l) (stated ss (l .ended) ts)
 unfolding lexed
 lexed-some ss l [] h = absurd (h refl)
@@ -134,13 +127,14 @@ module _ (ss : Past) (f old new : List ℕ) (l : Line) (x : Lexed) (L : LexedIs 
   outcome-none n e z = by-lexed (Tokens 0) (e ∙ ap Tokens z)
 
   module _ (n : ℕ) (e : x ≡ Tokens n) (inside : l .end ≤ length f) (file : length f ≤ 32768) (old-long : length old ≡ 131072) where
-    some-tokens : (n ≡ 0 → ⊥) → outcome ss (lineOf f l) ≡ judged (place (lineOf f l)) (stated ss (l .ended) (line f (take (4 * n) new) 0))
+    some-tokens : (n ≡ 0 → ⊥) → (b : Bool) → not (l .ended) ≡ b → outcome ss (lineOf f l) ≡ judged (place (lineOf f l)) (stated ss (not b) (line f (take (4 * n) new) 0))
     unfolding lexedOf lineOf
-    some-tokens h = by-lexed (Tokens n) e ∙ lexed-some ss (lineOf f l) _ (line-some f (take (4 * n) new) n (long f new n (rows-fit f old new l x L n e inside file old-long)) h)
+    some-tokens h b k =
+        rw (← k, Bool·not-not) (by-lexed (Tokens n) e ∙ lexed-some ss (lineOf f l) _ (line-some f (take (4 * n) new) n (long f new n (rows-fit f old new l x L n e inside file old-long)) h))
 
     pub outcome-open : (n ≡ 0 → ⊥) → not (l .ended) ≡ true → outcome ss (lineOf f l) ≡ reading.Outcome.refused 5 (place (lineOf f l))
     unfolding stated judged
-    outcome-open h k = some-tokens h ∙ ap (λ (b : Bool). judged (place (lineOf f l)) (stated ss b (line f (take (4 * n) new) 0))) (not-is (l .ended) true k)
+    outcome-open h k = some-tokens h true k
 
     pub outcome-shaped :
         (n ≡ 0 → ⊥) → not (l .ended) ≡ false →
@@ -148,28 +142,19 @@ module _ (ss : Past) (f old new : List ℕ) (l : Line) (x : Lexed) (L : LexedIs 
     unfolding stated
     outcome-shaped h k =
         let q : 4 * n ≡ 4 * n - 0 = omega arith in
-        some-tokens h
-        ∙ ap (λ (b : Bool). judged (place (lineOf f l)) (stated ss b (line f (take (4 * n) new) 0))) (not-is (l .ended) false k)
-        ∙ ap (λ (m : ℕ). judged (place (lineOf f l)) (shaped ss (shape (context ss) (line f (take m new) 0)))) q
+        some-tokens h false k ∙ ap (λ (m : ℕ). judged (place (lineOf f l)) (shaped ss (shape (context ss) (line f (take m new) 0)))) q
 
 -- ---- the verdict
-
-judged-is : (ss : Past) (l : rules.Line) (f t s : List ℕ) (j : Judged) → outcome ss l ≡ judged (place l) (shaped ss (shape (context ss) (line f t 0))) → Verdicts ss f t s j
-    → OutcomeIs ss l f s (judgedAs j)
-unfolding judgedAs judged
-judged-is ss l f t s (judgedly.Stated r u) e v =
-    record { statement = v .statement; is = e ∙ ap (judged (place l)) (v .accepts); stated = v .stated; sums-are = v .sums-are }
-judged-is ss l f t s (judgedly.Refused n) e v = e ∙ ap (judged (place l)) v
 
 pub outcome-judged :
     (ss : Past) (l : rules.Line) (f t s : List ℕ) (j : Judged) (r : Outcome) → r ≡ judgedAs j →
     outcome ss l ≡ judged (place l) (shaped ss (shape (context ss) (line f t 0))) → Verdicts ss f t s j → OutcomeIs ss l f s r
-outcome-judged ss l f t s j r q e v = subst (OutcomeIs ss l f s) (sym q) (judged-is ss l f t s j e v)
-
-storable-is : (f : List ℕ) (j : Judged) → judgement.Storable f j → Storable f (judgedAs j)
-unfolding judgedAs
-storable-is f (judgedly.Stated r u) h = h
-storable-is f (judgedly.Refused n) h = tt
+unfolding judgedAs judged
+outcome-judged ss l f t s (judgedly.Stated x u) r q e v =
+    rw q (record { statement = v .statement; is = e ∙ ap (judged (place l)) (v .accepts); stated = v .stated; sums-are = v .sums-are })
+outcome-judged ss l f t s (judgedly.Refused n) r q e v = rw q (e ∙ ap (judged (place l)) v)
 
 pub storable-judged : (f : List ℕ) (j : Judged) (r : Outcome) → r ≡ judgedAs j → judgement.Storable f j → Storable f r
-storable-judged f j r q h = subst (Storable f) (sym q) (storable-is f j h)
+unfolding judgedAs
+storable-judged f (judgedly.Stated x u) r q h = rw q h
+storable-judged f (judgedly.Refused n) r q h = rw q tt

@@ -22,7 +22,7 @@ use Rattle.past.specs.Place.{placeOf, AfterIs}
 use Rattle.past.specs.Sizes.{sumsOf, Within}
 use Rattle.past.specs.declared.place.Place.{Place}
 use Rattle.past.specs.declared.sizes.Sizes.{Sizes}
-use Rattle.past.proofs.PlaceLaws.{bounds}
+use Rattle.past.proofs.PlaceLaws.{bounds, place-rows}
 use Rattle.past.proofs.SizeLaws.{same-wires}
 use Rattle.admitted.specs.Admitted.{admitted}
 use Rattle.admitted.specs.AdmitLaws.{admitted-offsets, admitted-within, admitted-few}
@@ -87,8 +87,7 @@ module _ {ss : Past} {p : Place} {u : Sizes} {t : Tables} (d : Done ss p u t) wh
   done-sized = rw (d .tables-are) (sized-past ss (d .admits))
 
   pub done-rows : p .rows < 4294967295
-  unfolding placeOf
-  done-rows = rw (← d .place-is) (omega (arith, admitted-few ss (d .admits)))
+  done-rows = omega (arith, place-rows ss (d .place-is), admitted-few ss (d .admits))
 
 -- ---- one statement more
 

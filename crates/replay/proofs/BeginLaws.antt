@@ -11,10 +11,10 @@ use Rattle.rules.specs.Layout.{Used, statementRow}
 use Rattle.admitted.specs.Admitted.{fineParts}
 use Rattle.tables.specs.Row.{rowAt}
 use Rattle.netlist.specs.RowLaws.{length-statement-row}
+use Rattle.netlist.specs.Spans.{row-has, has-row, has-long}
 use Rattle.netlist.specs.Fronts.{Stands}
 use Rattle.replay.specs.Reads.{Tables, Reads}
 use Rattle.replay.specs.Begins.{withRows}
-use Rattle.replay.proofs.WireLaws.{row-has, has-row, has-long}
 
 module _ (t : Tables) (rows : List ℕ) (u : Used) (ws : Wires) (s : Statement) where
   pub stand-long : Stands (withRows t rows) u s → 8 * u .rows + 8 ≤ length rows
@@ -24,7 +24,7 @@ module _ (t : Tables) (rows : List ℕ) (u : Used) (ws : Wires) (s : Statement) 
   stand-reads h f =
       record {
         parts = h .parts;
-        row = row-has rows (u .rows) (stand-long h) (statementRow u s) (length-statement-row u s) (h .row);
+        row = row-has rows (u .rows) (statementRow u s) (length-statement-row u s) (stand-long h) (h .row);
         fine = f;
       }
 
@@ -32,5 +32,5 @@ module _ (t : Tables) (rows : List ℕ) (u : Used) (ws : Wires) (s : Statement) 
   reads-stand l d =
       record {
         parts = d .parts;
-        row = has-row rows (u .rows) l (statementRow u s) (length-statement-row u s) (d .row);
+        row = has-row rows (u .rows) (statementRow u s) (length-statement-row u s) l (d .row);
       }

@@ -5,7 +5,7 @@ use mathlib.Core.Path.{_≡_, refl, sym, ap, _∙_}
 use mathlib.Core.List.{List, [], _∷_, _++_, map}
 use mathlib.Core.Bool.{true, false, _&&_}
 use lib.Dec.{leb}
-use lib.ListN.{length, take, drop, getD, length-map}
+use lib.ListN.{length, take, drop, length-map}
 use borrow.Author.Tests.{ltb-true, lt-ltb, ne-eqb}
 use Rattle.rules.specs.Bytes.{all, within}
 use Rattle.rules.specs.Tokens.{Digit}
@@ -18,6 +18,7 @@ use Rattle.tables.specs.declared.Row.{Row}
 use Rattle.numbers.specs.Kinds.{digitOf, bitOf, bitAt, signalOf}
 use Rattle.numbers.specs.KindLaws.{digit-code, code-digit, length-signal}
 use Rattle.numbers.specs.SignedLaws.{word-signed, signed-int32}
+use Rattle.scanner.specs.Lists.{same-at}
 use Rattle.scanner.specs.Laws.{and-true-left, and-true-right, never}
 use Rattle.scanner.specs.Elements.{all-map, all-each, each-of, map-back}
 use Rattle.replay.specs.Parts.{span, whole, isDigit, digitsStand, textStands, signalStands}
@@ -72,14 +73,14 @@ module _ (strings bits : List ℕ) (u : Used) (a b : ℕ) where
 
   pub value-start : (a ≡ u .bits → ⊥) → TellsConstant strings bits u 1 a b (constantOf strings bits u 1 a b) Held.Nothing
   unfolding TellsConstant constantOf constantColumns
-  value-start n r = n (sym (ap (λ (l : List ℕ). getD l 1 0) (r .columns)))
+  value-start n r = n (sym (same-at 1 (r .columns)))
 
   pub value-not : digitsStand bits (u .bits) b ≡ false → TellsConstant strings bits u 1 a b (constantOf strings bits u 1 a b) Held.Nothing
   unfolding TellsConstant constantOf constantColumns digitsOf fineConstant digitsStand
   value-not h r =
       let cs = span bits (u .bits) b in
       let ds = map digitOf cs in
-      let l : b ≡ length ds = sym (ap (λ (l : List ℕ). getD l 2 0) (r .columns)) in
+      let l : b ≡ length ds = sym (same-at 2 (r .columns)) in
       let k : b ≡ length (map digitCode ds) = l ∙ sym (length-map ds digitCode) in
       let w : whole bits (u .bits) b ≡ true = has-whole bits (u .bits) b (map digitCode ds) (r .bits-has) k in
       let e : all isDigit cs ≡ true = ap (all isDigit) (span-has bits (u .bits) b (map digitCode ds) (r .bits-has) k) ∙ all-digit ds in
@@ -102,12 +103,12 @@ module _ (strings bits : List ℕ) (u : Used) (a b : ℕ) where
 
   pub text-start : (a ≡ u .strings → ⊥) → TellsConstant strings bits u 3 a b (constantOf strings bits u 3 a b) Held.Nothing
   unfolding TellsConstant constantOf constantColumns
-  text-start n r = n (sym (ap (λ (l : List ℕ). getD l 1 0) (r .columns)))
+  text-start n r = n (sym (same-at 1 (r .columns)))
 
   pub text-not : textStands strings (u .strings) b ≡ false → TellsConstant strings bits u 3 a b (constantOf strings bits u 3 a b) Held.Nothing
   unfolding TellsConstant constantOf constantColumns fineConstant textStands
   text-not h r =
-      let w : whole strings (u .strings) b ≡ true = long-whole strings (u .strings) b (ap (λ (l : List ℕ). getD l 2 0) (r .columns)) in
+      let w : whole strings (u .strings) b ≡ true = long-whole strings (u .strings) b (same-at 2 (r .columns)) in
       never (whole strings (u .strings) b && all (within 1 255) (span strings (u .strings) b)) (rw (w, r .fine)) h
 
   pub tells-integer : a < 4294967296 → b ≡ 0 → TellsConstant strings bits u 2 a b (constantOf strings bits u 2 a b) (Held.Constant 0 0)
@@ -125,17 +126,17 @@ module _ (strings bits : List ℕ) (u : Used) (a b : ℕ) where
 
   pub integer-not : (b ≡ 0 → ⊥) → TellsConstant strings bits u 2 a b (constantOf strings bits u 2 a b) Held.Nothing
   unfolding TellsConstant constantOf constantColumns
-  integer-not n r = n (sym (ap (λ (l : List ℕ). getD l 2 0) (r .columns)))
+  integer-not n r = n (sym (same-at 2 (r .columns)))
 
   pub kind-not : (k : ℕ) → (k ≡ 1 → ⊥) → (k ≡ 3 → ⊥) → (k ≡ 2 → ⊥) → TellsConstant strings bits u k a b (constantOf strings bits u k a b) Held.Nothing
   unfolding TellsConstant constantOf constantColumns
-  kind-not k x y z = rw (ne-eqb k 1 x, ne-eqb k 2 z) (λ r. y (sym (ap (λ (l : List ℕ). getD l 0 0) (r .columns))))
+  kind-not k x y z = rw (ne-eqb k 1 x, ne-eqb k 2 z) (λ r. y (sym (same-at 0 (r .columns))))
 
 -- the columns of a constant and what stands behind them, read from its row
 pub constant-read :
     (u : Used) (c : Constant) (r : Row) (kind a n sort : ℕ) → words r ≡ row (kind ∷ a ∷ n ∷ constantColumns u c ++ sort ∷ []) →
     (constantColumns u c ≡ r .c ∷ r .d ∷ r .e ∷ []) × (r .f ≡ sort)
 unfolding constantColumns words row padded
-constant-read u (value ds) r kind a n sort e = (sym (ap (λ (l : List ℕ). take 3 (drop 3 l)) e), ap (λ (l : List ℕ). getD l 6 0) e)
-constant-read u (integer i) r kind a n sort e = (sym (ap (λ (l : List ℕ). take 3 (drop 3 l)) e), ap (λ (l : List ℕ). getD l 6 0) e)
-constant-read u (string s) r kind a n sort e = (sym (ap (λ (l : List ℕ). take 3 (drop 3 l)) e), ap (λ (l : List ℕ). getD l 6 0) e)
+constant-read u (value ds) r kind a n sort e = (sym (ap (λ (l : List ℕ). take 3 (drop 3 l)) e), same-at 6 e)
+constant-read u (integer i) r kind a n sort e = (sym (ap (λ (l : List ℕ). take 3 (drop 3 l)) e), same-at 6 e)
+constant-read u (string s) r kind a n sort e = (sym (ap (λ (l : List ℕ). take 3 (drop 3 l)) e), same-at 6 e)

@@ -1,25 +1,27 @@
 -- Each kind of statement: where its row and its parts stand, and where not.
 -- Assumes nothing.
-use Prim.Native.Nat.{ℕ, _+_, _*_, _≤_, _<_}
-use mathlib.Core.Path.{_≡_, refl, sym, ap, ap₂, _∙_, subst}
+use Prim.Native.Nat.{ℕ, _+_, _≤_, _<_}
+use mathlib.Core.Path.{_≡_, refl, sym, ap, subst}
 use mathlib.Core.List.{List, [], _∷_, flatMap, zip, zipWith, append-nil, Option·toList}
 use mathlib.Core.Option.{Option·elim}
-use mathlib.Core.Bool.{true, false, cond, _&&_, and-true}
+use mathlib.Core.Bool.{true, false, cond}
 use native.Mathlib.Omega.{arith}
 use lib.Dec.{leb}
 use lib.ListN.{length, getD}
 use borrow.Author.Tests.{eq-eqb, ne-eqb}
 use Rattle.rules.specs.Bytes.{same, all, within, legal}
-use Rattle.rules.specs.Tokens.{Name}
-use Rattle.rules.specs.Statements.{Sort, plain, signed, real, Statement, Memory, contents, holds, code, attr-stmt, module-stmt, memory-stmt, cell-stmt, proc-stmt, end-stmt}
+use Rattle.rules.specs.Statements.{Sort, plain, signed, real, Statement, contents, holds, code, attr-stmt, module-stmt, memory-stmt, proc-stmt, end-stmt}
 use Rattle.rules.specs.Signals.{Wires}
-use Rattle.rules.specs.Judgement.{sum, signalSize, valueSize, stringSize, nameSize}
-use Rattle.rules.specs.Layout.{Used, padded, row, nameBytes, stringBytes, bitCodes, wireRows, sortCode, columns, statementRow}
+use Rattle.rules.specs.Judgement.{sum, signalSize, nameSize}
+use Rattle.rules.specs.Layout.{Used, padded, row, nameBytes, wireRows, sortCode, columns, statementRow}
 use Rattle.admitted.specs.Admitted.{fineMemory, sameLength, fineAlone, fineParts}
+use Rattle.admitted.specs.AdmitLaws.{fine-parts}
 use Rattle.tables.specs.Row.{words}
 use Rattle.tables.specs.declared.Row.{Row}
 use Rattle.numbers.specs.SignedLaws.{word-signed, signed-int32}
+use Rattle.scanner.specs.Lists.{same-at}
 use Rattle.scanner.specs.Laws.{and-true-left, and-true-right, never}
+use Rattle.scanner.specs.Elements.{test-at}
 use Rattle.replay.specs.Parts.{span, nameStands}
 use Rattle.numbers.specs.Kinds.{sortOf}
 use Rattle.numbers.specs.KindLaws.{sort-code}
@@ -28,126 +30,72 @@ use Rattle.replay.specs.Reads.{Tables, tabled, constantOf, optionalOf, m
 use Rattle.replay.specs.declared.statements.Found.{Found}
 use Rattle.replay.proofs.Spans.{has-none, has-span, spans}
 use Rattle.replay.proofs.CodeLaws.{constant-read}
-use Rattle.replay.proofs.ReadLaws.{settled, name-legal, name-long, name-not}
+use Rattle.replay.proofs.ReadLaws.{name-legal, name-long, name-not, first-not, laid}
 
 -- ---- a statement without parts
 
 module _ (u : Used) (r x : Row) (f : Found) (ef : f ≡ cond (same (words r) (words x)) (Found.Statement 0 0 0 0) Found.Nothing) where
   pub tells-autoidx : words x ≡ row (1 ∷ r .a ∷ []) → r .a < 4294967296 → TellsAutoidx u r f
-  unfolding statementRow columns code contents holds fineAlone fineParts all sameLength nameBytes stringBytes bitCodes wireRows flatMap zip zipWith signalSize valueSize stringSize nameSize sum
-  tells-autoidx ex h t ws =
-      settled t ws r x (ex ∙ ap (λ (n : ℕ). row (1 ∷ n ∷ [])) (sym (word-signed (r .a) h)))
-      (record {
-        names-has = has-none (t .names) (u .names);
-        strings-has = has-none (t .strings) (u .strings);
-        bits-has = has-none (t .bits) (u .bits);
-        wires-has = has-none (t .wires) (8 * u .wires);
-      })
-      (rw (signed-int32 (r .a)))
-      (record { signals = refl; values = refl; strings = refl; names = refl })
-      f ef
+  unfolding statementRow columns code contents holds fineAlone fineParts all sameLength nameBytes wireRows flatMap zip zipWith signalSize nameSize sum
+  tells-autoidx ex h t ws = laid t u ws r x _ refl (rw (word-signed (r .a) h) ex) (has-none _ _) (has-none _ _) (has-none _ _) (rw (signed-int32 (r .a))) refl refl f ef
 
   pub tells-end : words x ≡ row (12 ∷ []) → TellsEnd u r f
-  unfolding statementRow columns code contents holds fineAlone fineParts all sameLength nameBytes stringBytes bitCodes wireRows flatMap zip zipWith signalSize valueSize stringSize nameSize sum
-  tells-end ex t ws =
-      settled t ws r x ex
-      (record {
-        names-has = has-none (t .names) (u .names);
-        strings-has = has-none (t .strings) (u .strings);
-        bits-has = has-none (t .bits) (u .bits);
-        wires-has = has-none (t .wires) (8 * u .wires);
-      })
-      refl
-      (record { signals = refl; values = refl; strings = refl; names = refl })
-      f ef
+  unfolding statementRow columns code contents holds fineAlone fineParts all sameLength nameBytes wireRows flatMap zip zipWith signalSize nameSize sum
+  tells-end ex t ws = laid t u ws r x _ refl ex (has-none _ _) (has-none _ _) (has-none _ _) refl refl refl f ef
 
 -- ---- a memory
-
-memory-fine : (ws : Wires) (m : Memory) (n : Name) → fineParts ws (memory-stmt m n) ≡ legal n && fineMemory m
-unfolding fineAlone fineParts contents holds all sameLength
-memory-fine ws m n = simp and-true
 
 module _ (names : List ℕ) (u : Used) (r : Row) where
   memory-facts :
       {strings bits wires : List ℕ} {ws : Wires} → Reads (tabled names strings bits wires) u ws r (memory-stmt (memoryOf r) (span names (u .names) (r .b))) →
-      legal (span names (u .names) (r .b)) && fineMemory (memoryOf r) ≡ true
-  memory-facts d = sym (memory-fine _ _ _) ∙ d .fine
+      (i : ℕ) → getD (within 1 2048 (r .c) ∷ leb (r .d) 2147483647 ∷ []) i true ≡ true
+  unfolding contents holds all fineMemory memoryOf
+  memory-facts {ws = ws} d = test-at _ (_ ∷ []) (and-true-left _ _ (and-true-left _ _ (fine-parts ws _ (d .fine) .memories)))
 
   pub memory-name : nameStands names (u .names) (r .b) ≡ false → TellsMemory names u r Found.Nothing
-  unfolding Tells statementRow columns code contents holds words row padded
-  memory-name h strings bits wires ws d =
-      name-not names (u .names) (r .b) h (ap (λ (l : List ℕ). getD l 2 0) (d .row)) (and-true-left _ _ (memory-facts d))
+  unfolding Tells statementRow columns contents holds row padded
+  memory-name h strings bits wires ws d = first-not d h refl refl
 
   pub memory-width : within 1 2048 (r .c) ≡ false → TellsMemory names u r Found.Nothing
-  unfolding Tells fineMemory memoryOf
-  memory-width h strings bits wires ws d =
-      never (within 1 2048 (r .c)) (and-true-left _ _ (and-true-left _ _ (and-true-right (legal (span names (u .names) (r .b))) _ (memory-facts d)))) h
+  unfolding Tells
+  memory-width h strings bits wires ws d = never (within 1 2048 (r .c)) (memory-facts d 0) h
 
   pub memory-size : leb (r .d) 2147483647 ≡ false → TellsMemory names u r Found.Nothing
-  unfolding Tells fineMemory memoryOf
-  memory-size h strings bits wires ws d =
-      never (leb (r .d) 2147483647) (and-true-right (within 1 2048 (r .c)) _ (and-true-left _ _ (and-true-right (legal (span names (u .names) (r .b))) _ (memory-facts d)))) h
+  unfolding Tells
+  memory-size h strings bits wires ws d = never (leb (r .d) 2147483647) (memory-facts d 1) h
 
   pub memory-settled :
       nameStands names (u .names) (r .b) ≡ true → within 1 2048 (r .c) ≡ true → leb (r .d) 2147483647 ≡ true → r .e < 4294967296 →
       (x : Row) → words x ≡ row (6 ∷ u .names ∷ r .b ∷ r .c ∷ r .d ∷ r .e ∷ []) → (f : Found) →
       f ≡ cond (same (words r) (words x)) (Found.Statement 0 0 0 (r .b)) Found.Nothing → TellsMemory names u r f
-  unfolding statementRow columns code contents holds fineMemory memoryOf nameBytes stringBytes bitCodes wireRows flatMap zip zipWith signalSize valueSize stringSize nameSize sum
+  unfolding statementRow columns code contents holds fineAlone fineParts all sameLength fineMemory memoryOf nameBytes wireRows flatMap zip zipWith signalSize nameSize sum
   memory-settled h w z o x ex f ef strings bits wires ws =
       let l : r .b ≡ length (span names (u .names) (r .b)) = name-long names (u .names) (r .b) h in
-      settled (tabled names strings bits wires) ws r x
-      (ex ∙ ap₂ (λ (n m : ℕ). row (6 ∷ u .names ∷ n ∷ r .c ∷ r .d ∷ m ∷ [])) l (sym (word-signed (r .e) o)))
-      (record {
-        names-has = rw append-nil (has-span names (u .names) (r .b));
-        strings-has = has-none strings (u .strings);
-        bits-has = has-none bits (u .bits);
-        wires-has = has-none wires (8 * u .wires);
-      })
-      (memory-fine ws (memoryOf r) (span names (u .names) (r .b)) ∙ rw (name-legal names (u .names) (r .b) h, w, z, signed-int32 (r .e)))
-      (record { signals = refl; values = refl; strings = refl; names = omega arith })
-      f ef
+      laid (tabled names strings bits wires) u ws r x _ refl (rw (← l, word-signed (r .e) o) ex) (rw append-nil (has-span names (u .names) (r .b))) (has-none _ _) (has-none _ _)
+      (rw (name-legal names (u .names) (r .b) h, w, z, signed-int32 (r .e))) refl (omega arith) f ef
 
 -- ---- a cell
 
-cell-fine : (ws : Wires) (m n : Name) → fineParts ws (cell-stmt m n) ≡ legal m && legal n
-unfolding fineAlone fineParts contents holds all sameLength
-cell-fine ws m n = simp and-true
-
 module _ (names : List ℕ) (u : Used) (r : Row) where
-  cell-facts :
-      {strings bits wires : List ℕ} {ws : Wires} → Reads (tabled names strings bits wires) u ws r (cell-stmt (span names (u .names) (r .b)) (span names (u .names + r .b) (r .d))) →
-      legal (span names (u .names) (r .b)) && legal (span names (u .names + r .b) (r .d)) ≡ true
-  cell-facts d = sym (cell-fine _ _ _) ∙ d .fine
-
   pub cell-type : nameStands names (u .names) (r .b) ≡ false → TellsCell names u r Found.Nothing
-  unfolding Tells statementRow columns code contents holds words row padded
-  cell-type h strings bits wires ws d =
-      name-not names (u .names) (r .b) h (ap (λ (l : List ℕ). getD l 2 0) (d .row)) (and-true-left _ _ (cell-facts d))
+  unfolding Tells statementRow columns contents holds row padded
+  cell-type h strings bits wires ws d = first-not d h refl refl
 
   pub cell-name : nameStands names (u .names + r .b) (r .d) ≡ false → TellsCell names u r Found.Nothing
-  unfolding Tells statementRow columns code contents holds words row padded
+  unfolding Tells statementRow columns contents holds words row padded all
   cell-name h strings bits wires ws d =
-      name-not names (u .names + r .b) (r .d) h (ap (λ (l : List ℕ). getD l 4 0) (d .row)) (and-true-right (legal (span names (u .names) (r .b))) _ (cell-facts d))
+      name-not names (u .names + r .b) (r .d) h (same-at 4 (d .row)) (and-true-left _ _ (and-true-right (legal (span names (u .names) (r .b))) _ (fine-parts ws _ (d .fine) .names)))
 
   pub cell-settled :
       nameStands names (u .names) (r .b) ≡ true → nameStands names (u .names + r .b) (r .d) ≡ true →
       (x : Row) → words x ≡ row (7 ∷ u .names ∷ r .b ∷ (u .names + r .b) ∷ r .d ∷ []) → (f : Found) →
       f ≡ cond (same (words r) (words x)) (Found.Statement 0 0 0 (r .b + r .d)) Found.Nothing → TellsCell names u r f
-  unfolding statementRow columns code contents holds nameBytes stringBytes bitCodes wireRows flatMap zip zipWith signalSize valueSize stringSize nameSize sum
+  unfolding statementRow columns code contents holds fineAlone fineParts all sameLength nameBytes wireRows flatMap zip zipWith signalSize nameSize sum
   cell-settled h k x ex f ef strings bits wires ws =
       let l : r .b ≡ length (span names (u .names) (r .b)) = name-long names (u .names) (r .b) h in
       let m : r .d ≡ length (span names (u .names + r .b) (r .d)) = name-long names (u .names + r .b) (r .d) k in
-      settled (tabled names strings bits wires) ws r x
-      (ex ∙ ap₂ (λ (n m : ℕ). row (7 ∷ u .names ∷ n ∷ (u .names + n) ∷ m ∷ [])) l m)
-      (record {
-        names-has = rw (append-nil, spans) (has-span names (u .names) (r .b + r .d));
-        strings-has = has-none strings (u .strings);
-        bits-has = has-none bits (u .bits);
-        wires-has = has-none wires (8 * u .wires);
-      })
-      (cell-fine ws (span names (u .names) (r .b)) (span names (u .names + r .b) (r .d)) ∙ rw (name-legal names (u .names) (r .b) h, name-legal names (u .names + r .b) (r .d) k))
-      (record { signals = refl; values = refl; strings = refl; names = omega arith })
-      f ef
+      laid (tabled names strings bits wires) u ws r x _ refl (rw (← l, ← m) ex) (rw (append-nil, spans) (has-span names (u .names) (r .b + r .d))) (has-none _ _) (has-none _ _)
+      (rw (name-legal names (u .names) (r .b) h, name-legal names (u .names + r .b) (r .d) k)) refl (omega arith) f ef
 
 -- ---- parameters
 

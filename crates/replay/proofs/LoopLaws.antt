@@ -3,7 +3,7 @@
 use Prim.Native.Nat.{ℕ, _+_, _*_}
 use mathlib.Core.Path.{_≡_, refl, sym, ap, _∙_, subst}
 use mathlib.Core.List.{List, [], _∷_, flatMap}
-use mathlib.Core.Logic.{_⊎_, ⊎-elim}
+use mathlib.Core.Logic.{⊎-elim}
 use mathlib.Core.Bool.{true, false}
 use native.Mathlib.Omega.{arith}
 use lib.ListN.{length, getD}
@@ -20,7 +20,7 @@ use Rattle.past.specs.Place.{placeOf, closesAt, Bounds}
 use Rattle.past.specs.Sizes.{sumsOf, Within}
 use Rattle.past.specs.declared.place.Place.{Place}
 use Rattle.past.specs.declared.sizes.Sizes.{Sizes}
-use Rattle.past.proofs.PlaceLaws.{bounds, closes-place}
+use Rattle.past.proofs.PlaceLaws.{bounds, closes-place, place-rows}
 use Rattle.replay.specs.Reads.{Tables}
 use Rattle.replay.specs.OneLaws.{next-kind, stored-next}
 use Rattle.replay.specs.Begins.{isStatement, Replays}
@@ -52,8 +52,7 @@ module _ (t : Tables) (rows : List ℕ) (p : Place) (u : Sizes) (d : Done t rows
   ss = d .past
 
   rows-are : length ss ≡ p .rows
-  unfolding placeOf
-  rows-are = ap (λ (q : Place). q .rows) (d .reached .place)
+  rows-are = place-rows ss (d .reached .place)
 
   pub done-ready : Ready p u
   done-ready =
@@ -106,5 +105,4 @@ module _ (t : Tables) (rows : List ℕ) (p : Place) (u : Sizes) (d : Done t rows
       done-next = record { past = next-is .0 ∷ ss; reached = next-is .1 }
 
       pub next-rows : q .rows ≡ p .rows + 1
-      unfolding placeOf
-      next-rows = let z : length (next-is .0 ∷ ss) ≡ q .rows = ap (λ (y : Place). y .rows) (next-is .1 .place) in omega (arith, rows-are)
+      next-rows = omega (arith, rows-are, place-rows (next-is .0 ∷ ss) (next-is .1 .place))

@@ -3,13 +3,13 @@
 use Prim.Native.Nat.{ℕ, _+_, _≤_, _<_}
 use mathlib.Core.Path.{_≡_, sym, _∙_}
 use mathlib.Core.List.{List}
-use mathlib.Core.Bool.{Bool, true, false}
+use mathlib.Core.Bool.{Bool, true, false, _&&_}
 use native.Mathlib.Omega.{arith}
 use lib.Dec.{leb}
 use lib.ListN.{length}
 use lib.Seq.{slice}
 use borrow.Author.Tests.{le-leb, lt-leb, leb-true, leb-false}
-use Rattle.rules.specs.Bytes.{all, within, legal}
+use Rattle.rules.specs.Bytes.{all}
 use Rattle.rules.specs.Signals.{Wires}
 use Rattle.scanner.specs.Laws.{by-test, and-true-left, and-true-right, legal-short}
 use Rattle.replay.specs.Parts.{span, whole, nameStands, partStands, textStands, signalStands}
@@ -25,34 +25,22 @@ whole-by t at n h =
     (λ e. e ∙ sym (whole-in t at n (leb-true (at + n) (length t) e)))
     (λ e. let p : 0 < n = positive n h in e ∙ sym (whole-out t at n p (leb-false (at + n) (length t) e)))
 
+-- a part stands where its span is whole and passes its test
 module _ (t : List ℕ) (at n : ℕ) {b : Bool} (w : b ≡ whole t at n) where
-  pub name-out : b ≡ false → false ≡ nameStands t at n
-  unfolding nameStands
-  name-out e = rw (← w, e)
+  pub part-out : (x : Bool) → b ≡ false → false ≡ (whole t at n && x)
+  part-out x e = rw (← w, e)
 
-  pub name-in : b ≡ true → (m : List ℕ) → m ≡ slice at (at + n) t → {r : Bool} → r ≡ legal m → r ≡ nameStands t at n
-  unfolding nameStands span
-  name-in e m q h = rw (← w, e, ← q) h
-
-  pub text-out : b ≡ false → false ≡ textStands t at n
-  unfolding textStands
-  text-out e = rw (← w, e)
-
-  pub text-in : b ≡ true → {r : Bool} → r ≡ all (within 1 255) (slice at (at + n) t) → r ≡ textStands t at n
-  unfolding textStands span
-  text-in e q = rw (← w, e) q
+  pub part-in : {r x : Bool} → b ≡ true → r ≡ x → r ≡ (whole t at n && x)
+  part-in e q = rw (← w, e) q
 
   -- digits and signals
   module _ (f : ℕ → Bool) where
-    pub part-out : b ≡ false → false ≡ partStands f t at n
-    part-out e = rw (← w, e)
-
     pub part-wide : b ≡ true → 2048 < n → false ≡ partStands f t at n
-    part-wide e h = rw (← w, e, lt-leb n 2048 h)
+    part-wide e h = part-in e (rw (lt-leb n 2048 h))
 
-    pub part-in : b ≡ true → n ≤ 2048 → {r : Bool} → r ≡ all f (slice at (at + n) t) → r ≡ partStands f t at n
+    pub part-all : b ≡ true → n ≤ 2048 → {r : Bool} → r ≡ all f (slice at (at + n) t) → r ≡ partStands f t at n
     unfolding span
-    part-in e h q = rw (← w, e, le-leb n 2048 h) q
+    part-all e h q = part-in e (rw (le-leb n 2048 h) q)
 
 -- a part of no values stands everywhere
 module _ (t : List ℕ) (at n : ℕ) (e : n ≡ 0) where

@@ -2,7 +2,7 @@
 -- Assumes nothing.
 use Prim.Native.Nat.{ℕ, _*_}
 use mathlib.Core.Path.{_≡_, sym, ap, ap₂, _∙_}
-use mathlib.Core.List.{List, [], _∷_, _++_, flatMap, zip, zipWith, append-nil}
+use mathlib.Core.List.{List, [], _∷_, _++_, map, flatMap, zip, zipWith, append-nil}
 use mathlib.Core.Bool.{true, false, cond, _&&_, and-true}
 use native.Mathlib.Omega.{arith}
 use lib.ListN.{length, getD}
@@ -11,11 +11,15 @@ use Rattle.rules.specs.Tokens.{Name}
 use Rattle.rules.specs.Statements.{Sort, Statement, Constant, digitsOf, bytesOf, Kind, contents, holds}
 use Rattle.rules.specs.Signals.{Wires}
 use Rattle.rules.specs.Judgement.{sum, signalSize, valueSize, stringSize, nameSize}
-use Rattle.rules.specs.Layout.{Used, padded, row, nameBytes, stringBytes, bitCodes, wireRows, constantColumns, statementRow}
+use Rattle.rules.specs.Layout.{Used, padded, row, nameBytes, stringBytes, bitCode, bitCodes, wireRows, constantColumns, statementRow}
 use Rattle.admitted.specs.Admitted.{fineConstant, sameLength, fineAlone, fineParts}
+use Rattle.admitted.specs.AdmitLaws.{fine-parts}
+use Rattle.tables.specs.Flat.{flat}
 use Rattle.tables.specs.Row.{words}
 use Rattle.tables.specs.declared.Row.{Row}
+use Rattle.scanner.specs.Lists.{same-at}
 use Rattle.scanner.specs.Laws.{by-test, same-refl, same-eq, and-true-left, and-true-right, never}
+use Rattle.scanner.specs.Elements.{all-first}
 use Rattle.replay.specs.Parts.{span, whole, nameStands}
 use Rattle.netlist.specs.Spans.{Has}
 use Rattle.netlist.specs.Fronts.{Parts}
@@ -48,30 +52,42 @@ pub name-not : {P : Type 0} (names : List ℕ) (at n : ℕ) → nameStands names
 unfolding nameStands
 name-not names at n h e l = never (whole names at n && legal (span names at n)) (rw (long-whole names at n (sym e), l)) h
 
+-- a statement whose first name does not stand is not there
+pub first-not :
+    {P : Type 0} {t : Tables} {u : Used} {ws : Wires} {r : Row} {s : Statement} {ns : List Name} → Reads t u ws r s → nameStands (t .names) (u .names) (r .b) ≡ false →
+    contents s .names ≡ span (t .names) (u .names) (r .b) ∷ ns → getD (statementRow u s) 2 0 ≡ length (span (t .names) (u .names) (r .b)) → P
+unfolding words
+first-not {ws = ws} {s = s} d h e q =
+    name-not _ _ _ h (same-at 2 (d .row) ∙ q) (all-first legal _ _ (ap (all legal) (sym e) ∙ fine-parts ws s (d .fine) .names))
+
+-- the same of a statement without constants
+pub laid :
+    (t : Tables) (u : Used) (ws : Wires) (r x : Row) (s : Statement) → contents s .constants ≡ [] → words x ≡ statementRow u s →
+    Has (t .names) (u .names) (nameBytes s) → Has (t .bits) (u .bits) (flatMap (map bitCode) (contents s .signals)) → Has (t .wires) (8 * u .wires) (flat (wireRows u s)) →
+    fineParts ws s ≡ true → {g n : ℕ} → g ≡ signalSize s → n ≡ nameSize s → (f : Found) → f ≡ cond (same (words r) (words x)) (Found.Statement g 0 0 n) Found.Nothing → Tells t u ws r s f
+unfolding stringBytes bitCodes flatMap valueSize stringSize sum
+laid t u ws r x s e ex hn hb hw w g n f ef =
+    settled t ws r x ex
+    (record { names-has = hn; strings-has = rw e (has-none _ _); bits-has = rw e hb; wires-has = hw })
+    w
+    (record { signals = g; values = rw e; strings = rw e; names = n })
+    f ef
+
 -- ---- a name and nothing else, by the statement's contents
 
 module _ (names : List ℕ) (u : Used) (r : Row) (kind : ℕ) where
   pub named-not : nameStands names (u .names) (r .b) ≡ false → TellsNamed names u r kind Found.Nothing
-  unfolding Tells fineAlone fineParts all holds sameLength words row padded
-  named-not h strings bits wires ws s k e q d =
-      name-not names (u .names) (r .b) h (ap (λ (l : List ℕ). getD l 2 0) (d .row ∙ q)) (simp (e, and-true) at (d .fine))
+  unfolding Tells holds row padded
+  named-not h strings bits wires ws s k e q d = first-not d h (ap (λ c. c .names) e) (same-at 2 q)
 
   pub named-settled :
       nameStands names (u .names) (r .b) ≡ true → (x : Row) → words x ≡ row (kind ∷ u .names ∷ r .b ∷ []) → (f : Found) →
       f ≡ cond (same (words r) (words x)) (Found.Statement 0 0 0 (r .b)) Found.Nothing → TellsNamed names u r kind f
-  unfolding fineAlone fineParts all holds nameBytes stringBytes bitCodes wireRows flatMap zip zipWith sameLength signalSize valueSize stringSize nameSize sum
+  unfolding fineAlone fineParts all holds nameBytes wireRows flatMap zip zipWith sameLength signalSize nameSize sum
   named-settled h x ex f ef strings bits wires ws s k e q =
       let l : r .b ≡ length (span names (u .names) (r .b)) = name-long names (u .names) (r .b) h in
-      settled (tabled names strings bits wires) ws r x (ex ∙ ap (λ (n : ℕ). row (kind ∷ u .names ∷ n ∷ [])) l ∙ sym q)
-      (record {
-        names-has = rw (e, append-nil) (has-span names (u .names) (r .b));
-        strings-has = rw e (has-none strings (u .strings));
-        bits-has = rw e (has-none bits (u .bits));
-        wires-has = rw e (has-none wires (8 * u .wires));
-      })
-      (rw (e, name-legal names (u .names) (r .b) h))
-      (record { signals = rw e; values = rw e; strings = rw e; names = rw e (omega arith) })
-      f ef
+      laid (tabled names strings bits wires) u ws r x s (rw e) (rw (q, ← l) ex) (rw (e, append-nil) (has-span names (u .names) (r .b))) (rw e (has-none _ _)) (rw e (has-none _ _))
+      (rw (e, name-legal names (u .names) (r .b) h)) (rw e) (rw e (omega arith)) f ef
 
 -- ---- a name and a constant
 
@@ -106,10 +122,8 @@ module _ (names strings bits : List ℕ) (u : Used) (r : Row) (kind sort : ℕ) 
     valued-counts v z m ev ez em = record { signals = rw e; values = rw e (omega arith); strings = rw e (omega arith); names = rw e (omega arith) }
 
   pub valued-not : nameStands names (u .names) (r .b) ≡ false → TellsValued names strings bits u r kind sort Found.Nothing
-  unfolding Tells words row padded
-  valued-not h wires ws s k os e q d =
-      name-not names (u .names) (r .b) h (ap (λ (l : List ℕ). getD l 2 0) (d .row ∙ q))
-      (and-true-left _ _ (sym (valued-fine wires ws s k os _ _ e) ∙ d .fine))
+  unfolding Tells holds row padded
+  valued-not h wires ws s k os e q d = first-not d h (ap (λ c. c .names) e) (same-at 2 q)
 
   pub valued-lacks :
       (h : Held) → TellsConstant strings bits u (r .c) (r .d) (r .e) (constantOf strings bits u (r .c) (r .d) (r .e)) h → h ≡ Held.Nothing →

@@ -1,29 +1,28 @@
 -- Bits inside their wires, and wires within the rules, as the words of the table of wires tell it.
 -- Assumes nothing.
-use Prim.Native.Nat.{ℕ, zero, suc, _+_, _-_, _*_, _/_, _≤_, _<_}
+use Prim.Native.Nat.{ℕ, _+_, _-_, _*_, _/_, _≤_, _<_}
 use mathlib.Core.Path.{_≡_, refl, sym, _∙_}
-use mathlib.Core.List.{List, [], _∷_, map, reverse, Option·toList}
-use mathlib.Core.Option.{none, Option·elim}
+use mathlib.Core.List.{List, [], _∷_, Option·toList}
+use mathlib.Core.Option.{Option·elim}
 use mathlib.Core.Bool.{Bool, true, false, not, _&&_, _||_, and-true}
 use native.Mathlib.Omega.{arith}
 use lib.IntN.{pos, _+ℤ_}
 use lib.Dec.{eqb, leb, ltb}
-use lib.ListN.{length, getD, length-reverse}
-use borrow.Author.Tests.{le-leb, lt-leb, ne-eqb}
+use lib.ListN.{getD}
+use borrow.Author.Tests.{le-leb, lt-leb}
 use Rattle.rules.specs.Bytes.{all, any, within}
 use Rattle.rules.specs.Statements.{Wire}
 use Rattle.rules.specs.Signals.{Wires}
 use Rattle.rules.specs.Numbers.{int32}
 use Rattle.rules.specs.Judgement.{portNumbers}
-use Rattle.scanner.specs.Lists.{element-none}
 use Rattle.admitted.specs.Admitted.{fineBit, ownWire, newPorts, fineWire}
 use Rattle.numbers.specs.Kinds.{bitOf, bitAt}
 use Rattle.numbers.specs.Signed.{signedOf}
 use Rattle.numbers.specs.SignedLaws.{signed-int32}
 use Rattle.numbers.specs.declared.kinds.SignalBit.{SignalBit}
 use Rattle.numbers.specs.declared.kinds.WireNumber.{WireNumber}
-use Rattle.wires.specs.Rows.{wordAt, column, portOf, wireOf, wiresFrom}
-use Rattle.wires.specs.RowLaws.{length-wires, wire-numbered}
+use Rattle.wires.specs.Rows.{wordAt, column, wireOf, wiresFrom}
+use Rattle.wires.specs.RowLaws.{port-by, port-none, wire-numbered, wire-past}
 
 -- ---- bits
 
@@ -36,27 +35,13 @@ module _ (c : ℕ) (b : SignalBit) (e : b ≡ bitAt c) where
     pub fits-past : count ≤ w .0 → false ≡ fineBit (wiresFrom names wires first count) (bitOf (bitAt c))
     unfolding fineBit bitOf Option·elim
     fits-past h =
-        let ws = wiresFrom names wires first count in
-        let k : length (reverse ws) ≤ w .0 = omega (arith, length-reverse ws, length-wires names wires first count) in
-        rw (← e, q, element-none (reverse ws) (w .0) k)
+        rw (← e, q, wire-past names wires first (w .0) count h)
 
     pub fits-inside : w .0 < count → (x : ℕ) → x ≡ getD wires (8 * (first + w .0) + 3) 0 → ltb i x ≡ fineBit (wiresFrom names wires first count) (bitOf (bitAt c))
     unfolding fineBit bitOf Option·elim wireOf column wordAt
     fits-inside h x r = rw (← e, q, wire-numbered names wires first (w .0) count h, ← r)
 
 -- ---- wires
-
-no-ports : (d n : ℕ) → (d ≡ 1 → ⊥) → (d ≡ 2 → ⊥) → (d ≡ 3 → ⊥) → portOf d n ≡ none
-unfolding portOf
-no-ports d n h k l = rw (ne-eqb d 1 h, ne-eqb d 2 k, ne-eqb d 3 l)
-
-one-port : (d n : ℕ) → 0 < d → d ≤ 3 → map (λ q. q .1) (Option·toList (portOf d n)) ≡ n ∷ []
-unfolding portOf Option·toList
-one-port zero n h k = absurd (omega arith)
-one-port (suc zero) n h k = refl
-one-port (suc (suc zero)) n h k = refl
-one-port (suc (suc (suc zero))) n h k = refl
-one-port (suc (suc (suc (suc d)))) n h k = absurd (omega arith)
 
 module _ (ws : Wires) (wires : List ℕ) (k width : ℕ) (ew : width ≡ getD wires (8 * k + 3) 0) where
   pub wire-wide : 2048 < width → false ≡ fineWire ws (wireOf wires k)
@@ -75,12 +60,12 @@ module _ (ws : Wires) (wires : List ℕ) (k width : ℕ) (ew : width ≡ getD wi
     module _ (q : b ≡ true) (d : ℕ) (ed : d ≡ getD wires (8 * k + 5) 0 / 4) where
       pub wire-plain : (d ≡ 1 → ⊥) → (d ≡ 2 → ⊥) → (d ≡ 3 → ⊥) → true ≡ fineWire ws (wireOf wires k)
       unfolding newPorts portNumbers wireOf column wordAt all Option·toList
-      wire-plain x y z = sym (wire-by q ∙ rw (← ed, no-ports d (getD wires (8 * k + 6) 0) x y z))
+      wire-plain x y z = sym (wire-by q ∙ rw (← ed, port-none d (getD wires (8 * k + 6) 0) x y z))
 
       module _ (l : 0 < d) (m : d ≤ 3) (port : ℕ) (ep : port ≡ getD wires (8 * k + 6) 0) where
         ports-are : portNumbers (wireOf wires k) ≡ port ∷ []
-        unfolding portNumbers wireOf column wordAt
-        ports-are = rw (← ed, ← ep) (one-port d port l m)
+        unfolding portNumbers wireOf column wordAt Option·toList
+        ports-are = let x = port-by d port l m in rw (← ed, ← ep, x .1)
 
         ported : fineWire ws (wireOf wires k) ≡ within 1 1023 port && not (any (λ v. any (eqb port) (portNumbers (v .1))) ws)
         unfolding newPorts all

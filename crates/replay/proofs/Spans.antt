@@ -3,16 +3,13 @@
 use Prim.Native.Nat.{ℕ, min, _+_, _-_, _≤_, _<_}
 use mathlib.Core.Path.{_≡_, refl, sym, ap, _∙_}
 use mathlib.Core.List.{List, [], _++_}
-use mathlib.Core.Bool.{Bool, true, false}
-use native.Mathlib.Numerals.{add-one}
+use mathlib.Core.Bool.{true, false}
 use native.Mathlib.Omega.{arith}
-use lib.ListN.{length, getD, take, drop, length-take, length-drop}
-use lib.Seq.{slice, slice-cons}
+use lib.ListN.{length, take, drop, length-take, length-drop}
 use borrow.Author.Tests.{eq-eqb, ne-eqb, eqb-true}
-use Rattle.rules.specs.Bytes.{all}
 use Rattle.replay.specs.Parts.{span, whole}
 use Rattle.netlist.specs.Spans.{Has}
-use Rattle.scanner.specs.Parts.{slice-join, slice-none, slice-span, take-taken}
+use Rattle.scanner.specs.Parts.{slice-join, slice-span, take-taken}
 
 pub span-is : (t : List ℕ) (at n : ℕ) → span t at n ≡ take n (drop at t)
 unfolding span
@@ -22,14 +19,6 @@ long : (t : List ℕ) (at n : ℕ) → length (span t at n) ≡ min n (length t 
 long t at n = ap length (span-is t at n) ∙ length-take n (drop at t) ∙ ap (min n) (length-drop at t)
 
 module _ (t : List ℕ) (at : ℕ) where
-  pub whole-none : whole t at 0 ≡ true
-  unfolding whole
-  whole-none = let e : length (span t at 0) ≡ 0 = omega (arith, long t at 0) in eq-eqb (length (span t at 0)) 0 e
-
-  pub whole-in : (n : ℕ) → at + n ≤ length t → whole t at n ≡ true
-  unfolding whole
-  whole-in n h = let e : length (span t at n) ≡ n = omega (arith, long t at n) in eq-eqb (length (span t at n)) n e
-
   pub whole-out : (n : ℕ) → 0 < n → length t < at + n → whole t at n ≡ false
   unfolding whole
   whole-out n p h = ne-eqb (length (span t at n)) n (λ e. omega (arith, long t at n, e))
@@ -42,25 +31,17 @@ module _ (t : List ℕ) (at : ℕ) where
   unfolding whole
   long-whole n e = eq-eqb (length (span t at n)) n e
 
+  pub whole-none : whole t at 0 ≡ true
+  whole-none = long-whole 0 (omega (arith, long t at 0))
+
+  pub whole-in : (n : ℕ) → at + n ≤ length t → whole t at n ≡ true
+  whole-in n h = long-whole n (omega (arith, long t at n))
+
   pub whole-inside : (n : ℕ) → whole t at n ≡ true → 0 < n → at + n ≤ length t
   whole-inside n e p = omega (arith, long t at n, whole-long n e)
 
   pub span-none : span t at 0 ≡ []
   span-none = span-is t at 0
-
--- a test of all values of a span, value by value
-module _ (f : ℕ → Bool) (l : List ℕ) (i to : ℕ) where
-  pub all-more : i < to → to ≤ length l → f (getD l i 0) ≡ true → all f (slice i to l) ≡ all f (slice (i + 1) to l)
-  unfolding all
-  all-more h k e = rw (add-one, slice-cons i to l 0 h k, e)
-
-  pub all-stop : i < to → to ≤ length l → f (getD l i 0) ≡ false → all f (slice i to l) ≡ false
-  unfolding all
-  all-stop h k e = rw (slice-cons i to l 0 h k, e)
-
-  pub all-end : to ≤ i → all f (slice i to l) ≡ true
-  unfolding all
-  all-end h = rw (slice-none i to l h)
 
 -- ---- what a table has
 

@@ -2,11 +2,11 @@
 -- Assumes nothing.
 use Prim.Native.Nat.{ℕ, _+_, _-_, _*_, _≤_, _<_}
 use mathlib.Core.Path.{_≡_, refl, sym, ap, ap₂, _∙_, subst}
-use mathlib.Core.List.{List, _∷_}
-use mathlib.Core.Bool.{Bool, true, false, not}
+use mathlib.Core.List.{List, [], _∷_}
+use mathlib.Core.Bool.{Bool, true, false, not, and-assoc}
 use native.Mathlib.Omega.{arith}
 use lib.Dec.{leb}
-use lib.ListN.{length, getD}
+use lib.ListN.{length}
 use borrow.Author.Tests.{le-leb, leb-true, not-true, not-false}
 use Rattle.rules.specs.Bytes.{any}
 use Rattle.rules.specs.Tokens.{Name}
@@ -18,7 +18,9 @@ use Rattle.admitted.specs.Admitted.{stands, fineParts, admits, admitted}
 use Rattle.admitted.specs.AdmitLaws.{admits-all, admitted-offsets}
 use Rattle.tables.specs.Row.{words, rowAt}
 use Rattle.tables.specs.declared.Row.{Row}
-use Rattle.scanner.specs.Laws.{by-test, and-true-left, and-true-right, never}
+use Rattle.scanner.specs.Lists.{same-at}
+use Rattle.scanner.specs.Elements.{test-at}
+use Rattle.scanner.specs.Laws.{by-test, never}
 use Rattle.wires.specs.Rows.{wiresFrom}
 use Rattle.wires.specs.RowLaws.{RowIs}
 use Rattle.netlist.specs.Rows.{nameAt, namesBetween}
@@ -32,7 +34,7 @@ use Rattle.past.specs.Place.{placeOf, contextOf, Bounds, AfterIs}
 use Rattle.past.specs.Sizes.{sizesBy, sumsOf, plusOf, exceeds, Within, AtMost, KindSizesAre}
 use Rattle.past.specs.declared.place.Place.{Place}
 use Rattle.past.specs.declared.sizes.Sizes.{Sizes}
-use Rattle.past.proofs.PlaceLaws.{context-is}
+use Rattle.past.proofs.PlaceLaws.{context-is, place-rows}
 use Rattle.past.proofs.SizeLaws.{sums-step, exceeds-sums, within-past, sizes-small}
 use Rattle.netlist.specs.Used.{usedBy}
 use Rattle.netlist.specs.Spans.{Has}
@@ -104,13 +106,8 @@ small-of ss s e =
 parts-small : (g v x n : ℕ) → smallParts g v x n ≡ true → (g ≤ 16384) × (v ≤ 16384) × (x ≤ 16384) × (n ≤ 16384)
 unfolding smallParts
 parts-small g v x n e =
-    let a = leb-true g 8192 (and-true-left _ _ e) in
-    let e₁ = and-true-right (leb g 8192) _ e in
-    let b = leb-true v 8192 (and-true-left _ _ e₁) in
-    let e₂ = and-true-right (leb v 8192) _ e₁ in
-    let c = leb-true x 8192 (and-true-left _ _ e₂) in
-    let d = leb-true n 16384 (and-true-right (leb x 8192) _ e₂) in
-    (omega arith, omega arith, omega arith, omega arith)
+    let h = test-at (leb g 8192) (leb v 8192 ∷ leb x 8192 ∷ leb n 16384 ∷ []) (simp (← and-assoc) at e) in
+    (omega (arith, leb-true g 8192 (h 0)), omega (arith, leb-true v 8192 (h 1)), omega (arith, leb-true x 8192 (h 2)), leb-true n 16384 (h 3))
 
 -- sums of two don't wrap
 pub told-small : (k g v x n : ℕ) (d : Sizes) → Told k g v x n → KindSizesAre k g v x n d → smallParts g v x n ≡ true → AtMost 2147483647 d
@@ -123,14 +120,10 @@ told-small k g v x n d h z e =
 
 module _ (names rows : List ℕ) (p : Place) (u : Sizes) (k g v x n : ℕ) (m : Name) (em : m ≡ nameAt names rows (p .rows)) {b : Bool} (eb : b ≡ foundIn names rows p k m) where
   module _ {strings bits wires : List ℕ} (ss : Past) (s : Statement) (at : Reached (tabled names strings bits wires) rows ss p u) (w : Rowed (tabled names strings bits wires) rows ss s k g v x n) where
-    rows-are : length ss ≡ p .rows
-    unfolding placeOf
-    rows-are = ap (λ (q : Place). q .rows) (at .place)
-
     taken-is : takesName ss s ≡ b
     taken-is =
         takes-row ss s (fronts-laid (at .fronts)) (w .row) (w .names)
-        ∙ ap₂ (λ (q : Place) (j : ℕ). foundIn names rows q (code (contents s .kind)) (nameAt names rows j)) (at .place) rows-are
+        ∙ ap₂ (λ (q : Place) (j : ℕ). foundIn names rows q (code (contents s .kind)) (nameAt names rows j)) (at .place) (place-rows ss (at .place))
         ∙ ap₂ (λ (j : ℕ) (y : Name). foundIn names rows p j y) (sym (w .kind)) (sym em)
         ∙ sym eb
 
@@ -204,7 +197,7 @@ module _ (t : Tables) (rows : List ℕ) (p : Place) (u : Sizes) where
   -- the first column is the kind
   kind-read : {ws : Wires} (x : Statement) → Reads t (usedBy p u) ws next x → next .kind ≡ code (contents x .kind)
   unfolding words statementRow row padded rowAt
-  kind-read x d = ap (λ (l : List ℕ). getD l 0 0) (d .row)
+  kind-read x d = same-at 0 (d .row)
 
   pub turn-short : length rows < 8 * p .rows + 8 → TurnIs t rows p u Turn.Nothing
   unfolding TurnIs

@@ -1,16 +1,16 @@
 -- A row and the parts that stand there make one statement only: the one that the row decodes to.
 -- Assumes nothing.
-use Prim.Native.Nat.{ℕ}
 use native.Mathlib.Nat.{zero-add}
-use mathlib.Core.Path.{_≡_, sym, ap, _∙_}
-use mathlib.Core.List.{List, [], _∷_, Option·toList}
+use mathlib.Core.Path.{_≡_, sym, _∙_}
+use mathlib.Core.List.{[], _∷_, Option·toList}
 use mathlib.Core.Option.{none, some, Option·elim}
 use mathlib.Core.Bool.{true, false, false≢true}
-use lib.ListN.{length, getD}
+use lib.ListN.{length}
 use Rattle.rules.specs.Statements.{Statement, Constant, value, integer, string, aProcess, is, contents, holds, code, autoidx-stmt, attr-stmt, module-stmt, param-stmt, wire-stmt, memory-stmt, cell-stmt, cell-param-stmt, cell-conn-stmt, conn-stmt, proc-stmt, end-stmt}
 use Rattle.rules.specs.Signals.{Wires}
 use Rattle.rules.specs.Layout.{Used, padded, row, constantColumns, sortCode, columns, statementRow}
 use Rattle.numbers.specs.Kinds.{signalOf}
+use Rattle.scanner.specs.Lists.{same-at}
 use Rattle.tables.specs.Row.{words}
 use Rattle.tables.specs.declared.Row.{Row}
 use Rattle.wires.specs.Rows.{wordAt, column, spanAt}
@@ -26,14 +26,11 @@ use Rattle.replay.proofs.CodeLaws.{constant-read}
 
 -- where a row's columns are those of a statement, its parts are where the row says
 module _ (t : Tables) (u : Used) (r : Row) where
-  at : {xs : List ℕ} (c : ℕ) → words r ≡ xs → getD (words r) c 0 ≡ getD xs c 0
-  at c e = ap (λ (l : List ℕ). getD l c 0) e
-
   constant-placed : (c : Constant) → constantColumns u c ≡ r .c ∷ r .d ∷ r .e ∷ [] → constantAt (t .strings) (t .bits) (words r) 0 3 ≡ constantOf (t .strings) (t .bits) u (r .c) (r .d) (r .e)
   unfolding constantAt constantOf constantColumns column wordAt words spanAt span
-  constant-placed (value ds) e = rw (sym (ap (λ (l : List ℕ). getD l 0 0) e), sym (ap (λ (l : List ℕ). getD l 1 0) e))
-  constant-placed (integer i) e = rw (sym (ap (λ (l : List ℕ). getD l 0 0) e))
-  constant-placed (string s) e = rw (sym (ap (λ (l : List ℕ). getD l 0 0) e), sym (ap (λ (l : List ℕ). getD l 1 0) e))
+  constant-placed (value ds) e = rw (sym (same-at 0 e), sym (same-at 1 e))
+  constant-placed (integer i) e = rw (sym (same-at 0 e))
+  constant-placed (string s) e = rw (sym (same-at 0 e), sym (same-at 1 e))
 
   constant-there : (c : Constant) → constantColumns u c ≡ r .c ∷ r .d ∷ r .e ∷ [] → optionalAt (t .strings) (t .bits) (words r) 0 3 ≡ optionalOf (t .strings) (t .bits) u (r .c) (r .d) (r .e)
   unfolding optionalAt optionalOf column wordAt words
@@ -45,23 +42,23 @@ module _ (t : Tables) (u : Used) (r : Row) where
 
   placed : (s : Statement) → words r ≡ statementRow u s → is aProcess s ≡ false → statementAt (t .names) (t .strings) (t .bits) (t .wires) (words r) 0 ≡ some (statementOf t u r)
   unfolding statementAt netlist.statementBy statementOf statementBy kindAt nameFrom signalAt signalOf memoryAt memoryOf sortAt spanAt span column wordAt words statementRow columns code contents holds is row padded Option·elim Option·toList
-  placed (autoidx-stmt i) e p = rw (at 0 e)
-  placed (attr-stmt n c) e p = rw (constant-placed c (constant-read u c r 2 (u .names) (length n) 0 (e ∙ sym (row-zero u c 2 (u .names) (length n))) .0), at 0 e, at 1 e)
-  placed (module-stmt n) e p = rw (at 0 e, at 1 e)
-  placed (param-stmt n none) e p = rw (constant-none (at 3 e), at 0 e, at 1 e)
-  placed (param-stmt n (some c)) e p = rw (constant-there c (constant-read u c r 4 (u .names) (length n) 0 (e ∙ sym (row-zero u c 4 (u .names) (length n))) .0), at 0 e, at 1 e)
-  placed (wire-stmt w n) e p = rw (at 0 e, at 1 e, at 3 e)
-  placed (memory-stmt m n) e p = rw (at 0 e, at 1 e)
-  placed (cell-stmt y n) e p = rw (at 0 e, at 1 e, at 3 e, at 2 e)
-  placed (cell-param-stmt o n c) e p = rw (constant-placed c (constant-read u c r 8 (u .names) (length n) (sortCode o) e .0), at 0 e, at 1 e)
-  placed (cell-conn-stmt n x) e p = rw (at 0 e, at 1 e, at 3 e)
-  placed (conn-stmt x y) e p = rw (at 0 e, at 1 e, at 3 e, at 2 e)
+  placed (autoidx-stmt i) e p = rw (same-at 0 e)
+  placed (attr-stmt n c) e p = rw (constant-placed c (constant-read u c r 2 (u .names) (length n) 0 (e ∙ sym (row-zero u c 2 (u .names) (length n))) .0), same-at 0 e, same-at 1 e)
+  placed (module-stmt n) e p = rw (same-at 0 e, same-at 1 e)
+  placed (param-stmt n none) e p = rw (constant-none (same-at 3 e), same-at 0 e, same-at 1 e)
+  placed (param-stmt n (some c)) e p = rw (constant-there c (constant-read u c r 4 (u .names) (length n) 0 (e ∙ sym (row-zero u c 4 (u .names) (length n))) .0), same-at 0 e, same-at 1 e)
+  placed (wire-stmt w n) e p = rw (same-at 0 e, same-at 1 e, same-at 3 e)
+  placed (memory-stmt m n) e p = rw (same-at 0 e, same-at 1 e)
+  placed (cell-stmt y n) e p = rw (same-at 0 e, same-at 1 e, same-at 3 e, same-at 2 e)
+  placed (cell-param-stmt o n c) e p = rw (constant-placed c (constant-read u c r 8 (u .names) (length n) (sortCode o) e .0), same-at 0 e, same-at 1 e)
+  placed (cell-conn-stmt n x) e p = rw (same-at 0 e, same-at 1 e, same-at 3 e)
+  placed (conn-stmt x y) e p = rw (same-at 0 e, same-at 1 e, same-at 3 e, same-at 2 e)
   placed (proc-stmt n) e p = absurd (false≢true (sym p))
-  placed end-stmt e p = rw (at 0 e)
+  placed end-stmt e p = rw (same-at 0 e)
 
 pub read-only : (t : Tables) (u : Used) (ws : Wires) → narrow ws ≡ true → (r : Row) (s : Statement) → Reads t u ws r s → is aProcess s ≡ false → statementOf t u r ≡ s
 unfolding column wordAt
 read-only t u ws wide r s d p =
     let e : statementAt (t .names) (t .strings) (t .bits) (t .wires) (words r) 0 ≡ some s =
-    decodes (t .names) (t .strings) (t .bits) (t .wires) (words r) u ws wide 0 s (d .parts) (λ c l. rw zero-add (at t u r c (d .row))) (d .fine) p in
+    decodes (t .names) (t .strings) (t .bits) (t .wires) (words r) u ws wide 0 s (d .parts) (λ c l. rw zero-add (same-at c (d .row))) (d .fine) p in
     cc (placed t u r s (d .row) p, e)

@@ -2,17 +2,18 @@
 -- Assumes nothing.
 use Prim.Native.Nat.{ℕ, _+_, _*_}
 use mathlib.Core.Path.{_≡_, refl, sym, ap, _∙_, subst}
-use mathlib.Core.List.{List, [], _∷_, _++_, append-nil}
+use mathlib.Core.List.{List, [], _∷_, _++_, reverse, append-nil, reverseAux-eq, reverse-reverse}
 use mathlib.Core.Logic.{_⊎_, inl, inr, ⊎-elim}
 use mathlib.Core.Bool.{true}
 use native.Mathlib.Omega.{arith}
-use lib.ListN.{length, length-append}
+use lib.ListN.{length}
 use Rattle.rules.specs.Bytes.{within}
 use Rattle.rules.specs.Statements.{Statement, Kind, anAutoidx, anAttribute, aModule, aParameter, aWire, aMemory, aCell, aCellParameter, aCellConnection, aConnection, aProcess, anEnd, code, contents}
 use Rattle.rules.specs.Judgement.{Past}
 use Rattle.scanner.specs.Laws.{never}
+use Rattle.scanner.specs.Lists.{first-next, both-begin}
 use Rattle.admitted.specs.Admitted.{admitted}
-use Rattle.admitted.specs.AdmitLaws.{admitted-before}
+use Rattle.admitted.specs.AdmitLaws.{admitted-before, admitted-past}
 use Rattle.wires.specs.Rows.{wordAt, column}
 use Rattle.netlist.specs.Rows.{kindAt}
 use Rattle.netlist.specs.Laid.{roomsOf}
@@ -38,20 +39,6 @@ statement-kind aConnection = refl
 statement-kind aProcess = refl
 statement-kind anEnd = refl
 
-admitted-tail : (l ss : Past) → admitted (l ++ ss) ≡ true → admitted ss ≡ true
-admitted-tail [] ss h = h
-admitted-tail (x ∷ l) ss h = admitted-tail l ss (admitted-before x (l ++ ss) h)
-
--- none stands before these, or one next to them
-first-next : (more ss : Past) → (more ++ ss ≡ ss) ⊎ ((init : Past) × (x : Statement) × (more ++ ss ≡ init ++ x ∷ ss))
-first-next [] ss = inl refl
-first-next (y ∷ l) ss =
-    ⊎-elim (λ e. inr ([], y, ap (λ (m : Past). y ∷ m) e)) (λ q. inr (y ∷ q .0, q .1, ap (λ (m : Past). y ∷ m) (q .2))) (first-next l ss)
-
-both-begin : (qs ss more less : Past) → qs ≡ more ++ ss → ss ≡ less ++ qs → ss ≡ qs
-both-begin qs ss [] less e d = sym e
-both-begin qs ss (x ∷ more) less e d = absurd (omega (arith, ap length e, ap length d, length-append more ss, length-append less qs))
-
 -- a list is these statements, or goes on with one more that the tables begin with too
 abbrev pub GoesOn : Tables → List ℕ → (qs ss : Past) → Type 0
 GoesOn t rows qs ss =
@@ -71,7 +58,7 @@ module _ {t : Tables} {rows : List ℕ} where
       (λ q.
       let e : qs ≡ q .0 ++ q .1 ∷ ss = m ∙ q .2 in
       let f : Fronts (roomsOf (q .1 ∷ ss)) (withRows t rows) = fronts-behind (q .0) (q .1 ∷ ss) (subst (λ (l : Past). Fronts (roomsOf l) (withRows t rows)) e (h .begins .fronts)) in
-      inr (q .0, q .1, e, f, admitted-tail (q .0) (q .1 ∷ ss) (ap admitted (sym e) ∙ h .admits)))
+      inr (q .0, q .1, e, f, admitted-past (reverse (q .0)) (q .1 ∷ ss) (rw (reverseAux-eq, reverse-reverse, ← e) (h .admits))))
       (first-next more ss)
 
   pub stored-begins : (qs ss : Past) → Stored t rows qs → admitted ss ≡ true → Fronts (roomsOf ss) (withRows t rows) → (more : Past) × (qs ≡ more ++ ss)

@@ -1,10 +1,12 @@
 -- Laws of lists: joined and mapped lists, an element by its number, the last elements; the bits of a wire, nothing before the bytes of a string.
 -- Assumes nothing.
 use mathlib.Core.Path.{_≡_, refl, sym, ap, ap₂, _∙_}
+use mathlib.Core.Logic.{_⊎_, inl, inr, ⊎-elim}
 use mathlib.Core.Bool.{Bool, true, false, cond, false≢true}
 use mathlib.Core.List.{List, [], _∷_, _++_, map, flatMap, zip, zipWith, dropLast, reverse, reverseAux, append-assoc, append-nil, map-append, map-id, reverse-cons, reverse-append, reverse-reverse}
 use mathlib.Core.Option.{Option, Option·map, Option·elim, none, some}
 use Prim.Native.Nat.{ℕ, zero, suc, _+_, _≤_, _<_}
+use native.Mathlib.Nat.{add-zero}
 use native.Mathlib.Omega.{arith}
 use lib.Dec.{ltb}
 use lib.ListN.{length, getD, getElem?, take, drop, replicate, length-append, length-reverse, take-append-drop, List·getD-append}
@@ -203,3 +205,34 @@ pub onto-none : (q : Quoted) → quotedOnto [] q ≡ q
 unfolding quotedOnto
 onto-none (closed cs l) = refl
 onto-none broken = refl
+
+-- equal lists have equal numbers
+pub same-at : {xs ys : List ℕ} (i : ℕ) → xs ≡ ys → getD xs i 0 ≡ getD ys i 0
+same-at i e = ap (λ (l : List ℕ). getD l i 0) e
+
+-- the values of consecutive numbers
+abbrev pub up : {A : Type 0} → (ℕ → A) → (many k : ℕ) → List A
+up f zero k = []
+up f (suc l) k = f k ∷ up f l (k + 1)
+
+pub up-same : {A : Type 0} (f g : ℕ → A) → ((j : ℕ) → f j ≡ g j) → (many k : ℕ) → up f many k ≡ up g many k
+up-same f g h zero k = refl
+up-same f g h (suc l) k = ap₂ _∷_ (h k) (up-same f g h l (k + 1))
+
+pub up-last : {A : Type 0} (f : ℕ → A) (l k : ℕ) → up f (suc l) k ≡ up f l k ++ f (k + l) ∷ []
+up-last f zero k = rw add-zero
+up-last f (suc l) k =
+    let e : k + 1 + l ≡ k + suc l = omega arith in
+    ap (λ (x : List _). f k ∷ x) (up-last f l (k + 1) ∙ ap (λ (i : ℕ). up f l (k + 1) ++ f i ∷ []) e)
+
+-- none stands before these, or one next to them
+module _ {A : Type 0} where
+  pub first-next : (more xs : List A) → (more ++ xs ≡ xs) ⊎ ((init : List A) × (x : A) × (more ++ xs ≡ init ++ x ∷ xs))
+  first-next [] xs = inl refl
+  first-next (y ∷ l) xs =
+      ⊎-elim (λ e. inr ([], y, ap (λ (m : List A). y ∷ m) e)) (λ q. inr (y ∷ q .0, q .1, ap (λ (m : List A). y ∷ m) (q .2))) (first-next l xs)
+
+  -- two lists each of which ends with the other
+  pub both-begin : (xs ys more less : List A) → xs ≡ more ++ ys → ys ≡ less ++ xs → ys ≡ xs
+  both-begin xs ys [] less e d = sym e
+  both-begin xs ys (x ∷ more) less e d = absurd (omega (arith, ap length e, ap length d, length-append more ys, length-append less xs))

@@ -1,11 +1,14 @@
 -- Parts of lists: cut out, kept, behind one another.
 -- Assumes nothing.
 use mathlib.Core.Path.{_≡_, sym, ap, ap₂, _∙_}
+use mathlib.Core.Bool.{Bool, true, false}
 use mathlib.Core.List.{List, [], _∷_, _++_}
-use Prim.Native.Nat.{ℕ, zero, suc, _+_, _-_, _≤_}
+use Prim.Native.Nat.{ℕ, zero, suc, _+_, _-_, _≤_, _<_}
+use native.Mathlib.Numerals.{add-one}
 use native.Mathlib.Omega.{arith}
-use lib.ListN.{length, take, drop, length-take, length-drop, drop-of-length-le, take-append-drop}
-use lib.Seq.{slice, take-all, take-length, take-nil, take-take, take-add, take-append-seam, drop-drop, drop-append-seam}
+use lib.ListN.{length, getD, take, drop, length-take, length-drop, drop-of-length-le, take-append-drop}
+use lib.Seq.{slice, slice-cons, take-all, take-length, take-nil, take-take, take-add, take-append-seam, drop-drop, drop-append-seam}
+use Rattle.rules.specs.Bytes.{all}
 
 module _ {A : Type 0} where
   -- a part, as code cuts it and as `slice` does
@@ -61,3 +64,17 @@ module _ {A : Type 0} where
   -- as many elements as were there
   pub take-taken : (n : ℕ) (l : List A) → take (length (take n l)) l ≡ take n l
   take-taken n l = ap (take (length (take n l))) (sym (take-append-drop n l)) ∙ take-append-seam (take n l) (drop n l)
+
+-- a test of all values of a part, value by value
+module _ (f : ℕ → Bool) (l : List ℕ) (i to : ℕ) where
+  pub all-more : i < to → to ≤ length l → f (getD l i 0) ≡ true → all f (slice i to l) ≡ all f (slice (i + 1) to l)
+  unfolding all
+  all-more h k e = rw (add-one, slice-cons i to l 0 h k, e)
+
+  pub all-stop : i < to → to ≤ length l → f (getD l i 0) ≡ false → all f (slice i to l) ≡ false
+  unfolding all
+  all-stop h k e = rw (slice-cons i to l 0 h k, e)
+
+  pub all-end : to ≤ i → all f (slice i to l) ≡ true
+  unfolding all
+  all-end h = rw (slice-none i to l h)

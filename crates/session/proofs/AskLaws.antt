@@ -26,7 +26,7 @@ use Rattle.wire_names.specs.Now as table
 use Rattle.wire_names.specs.declared.Module.{Module}
 use Rattle.reader.specs.Read.{lent}
 use Rattle.standing.specs.Judged.{moduleBy}
-use Rattle.standing.specs.NowLaws.{up}
+use Rattle.scanner.specs.Lists.{up}
 use Rattle.standing.specs.LiesLaws.{names-are, there, missing}
 use Rattle.session.specs.Called.{Called, holding, answer}
 use Rattle.standing.specs.Search.{searchNow}
@@ -80,27 +80,21 @@ module _ {names strings bits wires rows : List ℕ} {renames room : ℕ} {p : Pl
         let q : p .wires ≤ p .rows = rw (← h .place) (bounds (reverse (h .statements)) .wires) in
         rw eo (omega (arith, range-within wires (p .wires) m, hold.few-rows h))
 
-    index-read :
-        index (now (design (h .statements)) (h .renames)) m w bit
-        ≡ Option·elim (wireAt (design (h .statements)) m w) (refused 8) (λ o. indexIn (o .body) bit)
-    unfolding index
-    index-read =
-        ap (λ (o : Option (Object Wire)). Option·elim o (refused 8) (λ o. indexIn (o .body) bit)) (wire-now (design (h .statements)) (h .renames) m w)
-        ∙ body-now (refused 8) (λ (x : Wire). indexIn x bit) (h .renames) m w (wireAt (design (h .statements)) m w)
+    abbrev Indexes : ℕ × ℤ → Type 0
+    Indexes a = Called (lent names strings bits wires rows renames room) (λ e. (e, pos 0)) (λ ss rs. answer (pos 0) (index (now (design ss) rs) m w bit)) a
 
-    pub index-there :
-        (a : ℕ × ℤ) → w < own .count → a ≡ answer (pos 0) (indexIn (wireOf wires (own .first + w)) bit) →
-        Called (lent names strings bits wires rows renames room) (λ e. (e, pos 0)) (λ ss rs. answer (pos 0) (index (now (design ss) rs) m w bit)) a
-    index-there a b ea =
+    -- by the wire of the design as it was read
+    index-says : (v : Verdict ℤ) → Option·elim (wireAt (design (h .statements)) m w) (refused 8) (λ o. indexIn (o .body) bit) ≡ v → (a : ℕ × ℤ) → a ≡ answer (pos 0) v → Indexes a
+    unfolding index
+    index-says v e a ea =
         holding (h .statements) (h .renames) (h .lengths) (h .holds)
         (ea
-        ∙ ap (λ (r : Range). answer (pos 0) (indexIn (wireOf wires (r .first + w)) bit)) eo
-        ∙ ap (answer (pos 0)) (sym (index-read ∙ there (hold.lies h) m w (refused 8) (λ (x : Wire). indexIn x bit) (rw (← eo) b))))
+        ∙ sym (ap (λ (o : Option (Object Wire)). answer (pos 0) (Option·elim o (refused 8) (λ o. indexIn (o .body) bit))) (wire-now (design (h .statements)) (h .renames) m w)
+        ∙ ap (answer (pos 0)) (body-now (refused 8) (λ (x : Wire). indexIn x bit) (h .renames) m w (wireAt (design (h .statements)) m w) ∙ e)))
 
-    pub index-missing :
-        own .count ≤ w →
-        Called (lent names strings bits wires rows renames room) (λ e. (e, pos 0)) (λ ss rs. answer (pos 0) (index (now (design ss) rs) m w bit)) (8, pos 0)
+    pub index-there : (a : ℕ × ℤ) → w < own .count → a ≡ answer (pos 0) (indexIn (wireOf wires (own .first + w)) bit) → Indexes a
+    index-there a b ea = index-says _ (there (hold.lies h) m w (refused 8) (λ (x : Wire). indexIn x bit) (rw (← eo) b)) a (rw (← eo) ea)
+
+    pub index-missing : own .count ≤ w → Indexes (8, pos 0)
     unfolding answer
-    index-missing b =
-        holding (h .statements) (h .renames) (h .lengths) (h .holds)
-        (ap (answer (pos 0)) (sym (index-read ∙ missing (hold.lies h) m w (refused 8) (λ (x : Wire). indexIn x bit) (rw (← eo) b))))
+    index-missing b = index-says (refused 8) (missing (hold.lies h) m w (refused 8) (λ (x : Wire). indexIn x bit) (rw (← eo) b)) (8, pos 0) refl

@@ -22,6 +22,7 @@ use Rattle.standing.specs.RoomLaws.{room-used}
 use Rattle.standing.specs.NowLaws.{last-rename-row}
 use Rattle.held.specs.HeldLaws.{holds-laid}
 use Rattle.held.specs.RenameLaws.{file-last, eights-file}
+use Rattle.held.proofs.RenameTurns.{room-behind}
 use Rattle.session.specs.Called.{Called, holding, wrong-lengths, damaged, after, CalledAs}
 use Rattle.session.specs.Steps.{Holding, NotOpen, wrong-sizes, none-held}
 use Rattle.order.specs.RenamedFine.{undo-last}
@@ -127,8 +128,7 @@ module _ {names strings bits wires rows : List ℕ} {renames room : ℕ} {p : Pl
         rw (← row-is) (last-rename-row R (last .rename) (eights-file (h .statements) (last .before)) l 1 (omega arith))
 
     room-is : room ≡ length (R .names) + length (last .rename .newName)
-    unfolding putRename
-    room-is = sym (used h) ∙ ap (λ (S : Rooms). length (S .names)) rooms-is ∙ length-append (R .names) (last .rename .newName)
+    room-is = sym (used h) ∙ room-behind R (last .rename) (rooms (h .statements) (h .renames)) rooms-is
 
     within : (length (R .names) + length (last .rename .newName) ≤ 16384) × (8 * length (R .rows) + 8 ≤ 8 * 4769)
     within =

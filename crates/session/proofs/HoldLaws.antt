@@ -8,11 +8,11 @@ use lib.ListN.{length, length-reverse}
 use Rattle.rules.specs.Statements.{Statement}
 use Rattle.rules.specs.Session.{Rename}
 use Rattle.rules.specs.Layout.{rooms}
-use Rattle.past.specs.Place.{placeOf}
 use Rattle.past.specs.declared.place.Place.{Place}
+use Rattle.past.proofs.PlaceLaws.{place-rows}
 use Rattle.admitted.specs.AdmitLaws.{admitted-few}
-use Rattle.netlist.specs.Lengths.{sizes-exact}
-use Rattle.reader.specs.Read.{lent, rightLengths}
+use Rattle.netlist.specs.Lengths.{lengths-exact}
+use Rattle.reader.specs.Read.{lent}
 use Rattle.standing.specs.Judged.{Lies}
 use Rattle.held.specs.HeldLaws.{holds-many, holds-room, holds-laid, holds-wired}
 use Rattle.held.specs.RenameLaws.{length-file}
@@ -24,10 +24,7 @@ rooms-rows ss rs = length-file ss rs ∙ ap (λ (n : ℕ). n + length rs) (lengt
 
 module _ {names strings bits wires rows : List ℕ} {renames room : ℕ} {p : Place} (h : Holding (lent names strings bits wires rows renames room) p) where
   pub long : (length names ≡ 16384) × (length rows ≡ 8 * 4769)
-  unfolding rightLengths
-  long =
-      let e = sizes-exact (length names) (length strings) (length bits) (length wires) (length rows) (h .lengths) in
-      (e .0, e .4)
+  long = let e = lengths-exact _ (h .lengths) in (e .0, e .4)
 
   pub standing : length (h .renames) ≡ renames
   standing = holds-many (h .holds)
@@ -36,8 +33,7 @@ module _ {names strings bits wires rows : List ℕ} {renames room : ℕ} {p : Pl
   used = holds-room (h .holds)
 
   pub rows-before : length (h .statements) ≡ p .rows
-  unfolding placeOf
-  rows-before = sym (length-reverse (h .statements)) ∙ ap (λ (q : Place). q .rows) (h .place)
+  rows-before = sym (length-reverse (h .statements)) ∙ place-rows (reverse (h .statements)) (h .place)
 
   pub few-rows : p .rows ≤ 4705
   few-rows = omega (arith, admitted-few (reverse (h .statements)) (h .holds .admitted), length-reverse (h .statements), rows-before)

@@ -49,37 +49,33 @@ lent-eq en et ek em = rw (en, et, ek, em)
 unput : (n : ℕ) (xs ys l : List ℕ) (at k : ℕ) → l ≡ padded n (xs ++ ys) → at ≡ length xs → k ≡ length ys → length xs + length ys ≤ n → store l at (replicate k 0) ≡ padded n xs
 unput n xs ys l at k el ea ek h = rw (el, ea, ek) (padded-unput n xs ys h)
 
-module _ (ss : List Statement) (rs : List Rename) (r : Rename) where
-  length-more : length (rs ++ r ∷ []) ≡ length rs + 1
-  length-more = length-append rs (r ∷ [])
+module _ (ss : List Statement) (rs : List Rename) (r : Rename) (h : Eights (rooms ss rs .rows)) (room : length (rooms ss rs .names) + length (r .newName) ≤ 16384) (few : 8 * length (rooms ss rs .rows) + 8 ≤ 8 * 4769) where
+  pub layout-rename :
+      let m = layout ss rs in
+      let R = rooms ss rs in
+      lent (store (m .names) (length (R .names)) (r .newName)) (m .strings) (m .bits) (m .wires) (store (m .rows) (8 * length (R .rows)) (renameRow (length (R .names)) r)) (length rs + 1) (length (R .names) + length (r .newName))
+      ≡ layout ss (rs ++ r ∷ [])
+  unfolding layout memory putRename
+  layout-rename =
+      let R : Rooms = rooms ss rs in
+      rw file-last
+      (lent-eq (store-padded 16384 (R .names) (r .newName) _ _ refl refl room)
+      (store-row (8 * 4769) (R .rows) (renameRow (length (R .names)) r) _ _ refl refl h (length-rename-row (length (R .names)) r) few)
+      (sym (length-append rs (r ∷ [])))
+      (sym (length-append (R .names) (r .newName))))
 
-  module _ (h : Eights (rooms ss rs .rows)) (room : length (rooms ss rs .names) + length (r .newName) ≤ 16384) (few : 8 * length (rooms ss rs .rows) + 8 ≤ 8 * 4769) where
-    pub layout-rename :
-        let m = layout ss rs in
-        let R = rooms ss rs in
-        lent (store (m .names) (length (R .names)) (r .newName)) (m .strings) (m .bits) (m .wires) (store (m .rows) (8 * length (R .rows)) (renameRow (length (R .names)) r)) (length rs + 1) (length (R .names) + length (r .newName))
-        ≡ layout ss (rs ++ r ∷ [])
-    unfolding layout memory putRename
-    layout-rename =
-        let R : Rooms = rooms ss rs in
-        rw file-last
-        (lent-eq (store-padded 16384 (R .names) (r .newName) _ _ refl refl room)
-        (store-row (8 * 4769) (R .rows) (renameRow (length (R .names)) r) _ _ refl refl h (length-rename-row (length (R .names)) r) few)
-        (sym length-more)
-        (sym (length-append (R .names) (r .newName))))
-
-    pub layout-undo :
-        let m = layout ss (rs ++ r ∷ []) in
-        let R = rooms ss rs in
-        lent (store (m .names) (length (R .names)) (replicate (length (r .newName)) 0)) (m .strings) (m .bits) (m .wires) (store (m .rows) (8 * length (R .rows)) (replicate 8 0)) (length rs) (length (R .names))
-        ≡ layout ss rs
-    unfolding layout memory putRename
-    layout-undo =
-        let R : Rooms = rooms ss rs in
-        let x : List ℕ = renameRow (length (R .names)) r in
-        let e : length (flat (R .rows)) ≡ 8 * length (R .rows) = length-flat (R .rows) h in
-        let k : length x ≡ 8 = length-rename-row (length (R .names)) r in
-        rw file-last
-        (lent-eq (padded-unput 16384 (R .names) (r .newName) room)
-        (unput (8 * 4769) (flat (R .rows)) x (padded (8 * 4769) (flat (R .rows ++ x ∷ []))) (8 * length (R .rows)) 8 (ap (padded (8 * 4769)) (flat-snoc (R .rows) x)) (sym e) (sym k) (omega arith))
-        refl refl)
+  pub layout-undo :
+      let m = layout ss (rs ++ r ∷ []) in
+      let R = rooms ss rs in
+      lent (store (m .names) (length (R .names)) (replicate (length (r .newName)) 0)) (m .strings) (m .bits) (m .wires) (store (m .rows) (8 * length (R .rows)) (replicate 8 0)) (length rs) (length (R .names))
+      ≡ layout ss rs
+  unfolding layout memory putRename
+  layout-undo =
+      let R : Rooms = rooms ss rs in
+      let x : List ℕ = renameRow (length (R .names)) r in
+      let e : length (flat (R .rows)) ≡ 8 * length (R .rows) = length-flat (R .rows) h in
+      let k : length x ≡ 8 = length-rename-row (length (R .names)) r in
+      rw file-last
+      (lent-eq (padded-unput 16384 (R .names) (r .newName) room)
+      (unput (8 * 4769) (flat (R .rows)) x (padded (8 * 4769) (flat (R .rows ++ x ∷ []))) (8 * length (R .rows)) 8 (ap (padded (8 * 4769)) (flat-snoc (R .rows) x)) (sym e) (sym k) (omega arith))
+      refl refl)

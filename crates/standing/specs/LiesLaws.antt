@@ -4,15 +4,17 @@ use Prim.Native.Nat.{ℕ, _+_, _≤_, _<_}
 use mathlib.Core.Path.{_≡_, sym, ap, _∙_}
 use mathlib.Core.List.{List, map, reverse, reverse-reverse}
 use mathlib.Core.Option.{Option·elim}
-use lib.ListN.{length}
+use lib.ListN.{length, getElem?}
 use Rattle.rules.specs.Statements.{Statement, Wire}
 use Rattle.rules.specs.Design.{design}
 use Rattle.rules.specs.Session.{Rename, wiresAt, wireAt, now}
 use Rattle.rules.specs.Layout.{putRenames}
-use Rattle.wires.specs.Rows.{nameOf, wireOf}
+use Rattle.wires.specs.Rows.{nameOf, wireOf, wiresFrom}
+use Rattle.wires.specs.RowLaws.{wire-numbered, wire-past}
 use Rattle.past.specs.Place.{wiresIn, placeOf}
 use Rattle.past.specs.Offsets.{Offsets}
 use Rattle.past.specs.declared.place.Place.{Place}
+use Rattle.past.proofs.PlaceLaws.{place-rows}
 use Rattle.admitted.specs.AdmitLaws.{admitted-standing, admitted-offsets}
 use Rattle.netlist.specs.Laid.{roomsOf, Laid, Wired}
 use Rattle.netlist.specs.LaidLaws.{length-rows, eights-rows}
@@ -21,11 +23,12 @@ use Rattle.netlist.specs.RoomLaws.{rooms-file}
 use Rattle.designs.specs.Modules.{Headed}
 use Rattle.designs.specs.HeadLaws.{standing-headed}
 use Rattle.designs.specs.Ranges.{wireRange}
+use Rattle.designs.specs.declared.Range.{Range}
 use Rattle.designs.specs.Now.{nameNow}
 use Rattle.wire_names.specs.Now as rows
 use Rattle.standing.specs.Judged.{moduleBy, Lies}
 use Rattle.standing.specs.NowLaws.{namesUp, name-now-laid, names-laid}
-use Rattle.standing.specs.TakenLaws.{wire-there, wire-missing}
+use Rattle.standing.specs.TakenLaws.{wire-by}
 
 module _ {names wires t : List ℕ} {p : Place} {standing room : ℕ} {ss : List Statement} {rs : List Rename} (l : Lies names wires t p standing room ss rs) where
   pub headed : Headed (reverse ss)
@@ -46,9 +49,8 @@ module _ {names wires t : List ℕ} {p : Place} {standing room : ℕ} {ss : List
 
   module _ (m : ℕ) where
     pub name-now-is : (j k : ℕ) → nameNow rs m j (nameOf names wires k) ≡ rows.nameNow names wires t (p .rows) standing m j k
-    unfolding placeOf
     name-now-is j k =
-        let e : length (roomsOf (reverse ss) .rows) ≡ p .rows = length-rows (reverse ss) ∙ ap (λ (x : Place). x .rows) (l .place) in
+        let e : length (roomsOf (reverse ss) .rows) ≡ p .rows = length-rows (reverse ss) ∙ place-rows (reverse ss) (l .place) in
         sym (rw (← e, ← l .standing) (name-now-laid wires (roomsOf (reverse ss)) (eights-rows (reverse ss)) m j k rs laid))
 
     pub names-are : map (λ o. o .name) (wiresAt (now (design ss) rs) m) ≡ namesUp names wires t (moduleBy wires p standing m)
@@ -58,13 +60,16 @@ module _ {names wires t : List ℕ} {p : Place} {standing room : ℕ} {ss : List
 
     -- a wire by its number
     module _ (w : ℕ) {C : Type 0} (z : C) (g : Wire → C) where
-      pub there : w < wireRange wires (p .wires) m .count → Option·elim (wireAt (design ss) m w) z (λ o. g (o .body)) ≡ g (wireOf wires (wireRange wires (p .wires) m .first + w))
-      there h =
-          ap (λ (qs : List Statement). Option·elim (wireAt (design qs) m w) z (λ o. g (o .body))) (sym (reverse-reverse ss))
-          ∙ wire-there m w (reverse ss) headed offsets wired z g (rw all-wires h)
-          ∙ ap (λ (i : ℕ). g (wireOf wires (wireRange wires i m .first + w))) all-wires
+      abbrev own : Range
+      own = wireRange wires (p .wires) m
 
-      pub missing : wireRange wires (p .wires) m .count ≤ w → Option·elim (wireAt (design ss) m w) z (λ o. g (o .body)) ≡ z
-      missing h =
-          ap (λ (qs : List Statement). Option·elim (wireAt (design qs) m w) z (λ o. g (o .body))) (sym (reverse-reverse ss))
-          ∙ wire-missing m w (reverse ss) headed offsets wired z g (rw all-wires h)
+      wire-is : Option·elim (wireAt (design ss) m w) z (λ o. g (o .body)) ≡ Option·elim (getElem? (reverse (wiresFrom names wires (own .first) (own .count))) w) z (λ x. g (x .1))
+      wire-is = rw (← reverse-reverse ss, ← all-wires) (wire-by m w (reverse ss) headed offsets wired z g)
+
+      pub there : w < own .count → Option·elim (wireAt (design ss) m w) z (λ o. g (o .body)) ≡ g (wireOf wires (own .first + w))
+      unfolding Option·elim
+      there h = wire-is ∙ rw (wire-numbered names wires (own .first) w (own .count) h)
+
+      pub missing : own .count ≤ w → Option·elim (wireAt (design ss) m w) z (λ o. g (o .body)) ≡ z
+      unfolding Option·elim
+      missing h = wire-is ∙ rw (wire-past names wires (own .first) w (own .count) h)

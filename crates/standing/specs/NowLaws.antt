@@ -32,6 +32,7 @@ use Rattle.wire_names.specs.Now as rows
 use Rattle.wire_names.specs.declared.Module.{Module}
 use Rattle.standing.specs.Judged.{moduleBy}
 use Rattle.netlist.specs.RoomLaws.{put-renames-last, length-rename-row, rename-rows, eights-renames}
+use Rattle.scanner.specs.Lists.{up, up-same, up-last}
 use Rattle.scanner.specs.Parts.{slice-span}
 
 -- what a rename's row holds
@@ -81,21 +82,6 @@ module _ {names t : List ℕ} (wires : List ℕ) (R : Rooms) (h : Eights (R .row
       ap (λ (n : ℕ). rows.nameNow names wires t (length (R .rows)) n m w k) (sym (length-reverse rs))
       ∙ now-back (reverse rs) d
       ∙ ap (λ (qs : List Rename). designs.nameNow qs m w (nameOf names wires k)) e
-
--- VALUES OF CONSECUTIVE NUMBERS
-abbrev pub up : {A : Type 0} → (ℕ → A) → (many k : ℕ) → List A
-up f zero k = []
-up f (suc l) k = f k ∷ up f l (k + 1)
-
-up-same : {A : Type 0} (f g : ℕ → A) → ((j : ℕ) → f j ≡ g j) → (many k : ℕ) → up f many k ≡ up g many k
-up-same f g h zero k = refl
-up-same f g h (suc l) k = ap₂ _∷_ (h k) (up-same f g h l (k + 1))
-
-pub up-last : {A : Type 0} (f : ℕ → A) (l k : ℕ) → up f (suc l) k ≡ up f l k ++ f (k + l) ∷ []
-up-last f zero k = rw add-zero
-up-last f (suc l) k =
-    let e : k + 1 + l ≡ k + suc l = omega arith in
-    ap (λ (x : List _). f k ∷ x) (up-last f l (k + 1) ∙ ap (λ (i : ℕ). up f l (k + 1) ++ f i ∷ []) e)
 
 numbered-up : {A : Type 0} (f : ℕ → A) (g : ℕ → A → A) (many k : ℕ) → designs.numbered (λ i. g (k + i)) (up f many k) ≡ up (λ j. g j (f j)) many k
 unfolding designs.numbered

@@ -1,13 +1,13 @@
 -- A module's wires, and the names that are taken in it now, by the rows of the tables.
 -- Assumes nothing.
-use Prim.Native.Nat.{ℕ, zero, suc, _+_, _≤_, _<_}
+use Prim.Native.Nat.{ℕ, zero, suc, _+_}
 use mathlib.Core.Path.{_≡_, refl, sym, ap, ap₂, _∙_}
 use mathlib.Core.List.{List, [], _∷_, reverse}
-use mathlib.Core.Option.{Option, Option·elim}
+use mathlib.Core.Option.{Option·elim}
 use mathlib.Core.Bool.{Bool, true, false, _||_, or-comm, or-false}
 use native.Mathlib.Omega.{arith}
 use lib.Dec.{eqb}
-use lib.ListN.{length, getElem?, length-reverse}
+use lib.ListN.{length, getElem?}
 use Rattle.rules.specs.Bytes.{same, any, all}
 use Rattle.rules.specs.Tokens.{Name}
 use Rattle.rules.specs.Statements.{Wire, aMemory, aCell, code}
@@ -16,10 +16,9 @@ use Rattle.rules.specs.Signals.{Wires}
 use Rattle.rules.specs.Design.{Object, design}
 use Rattle.rules.specs.Session.{Rename, wiresAt, wireAt, now, taken}
 use Rattle.rules.specs.Layout.{putRenames}
-use Rattle.scanner.specs.Lists.{element-none, elim-map}
+use Rattle.scanner.specs.Lists.{elim-map, up, up-last}
 use Rattle.scanner.specs.Elements.{any-append}
-use Rattle.wires.specs.Rows.{wireOf, wiresFrom}
-use Rattle.wires.specs.RowLaws.{length-wires, wire-numbered}
+use Rattle.wires.specs.Rows.{wiresFrom}
 use Rattle.past.specs.Place.{wiresIn, placeOf}
 use Rattle.past.specs.Offsets.{Offsets}
 use Rattle.netlist.specs.Kinds.{isKind, ofKinds, Tests, hasName, threeKinds}
@@ -34,32 +33,17 @@ use Rattle.designs.specs.RowLaws.{taken-range}
 use Rattle.designs.specs.WireLaws.{design-range}
 use Rattle.wire_names.specs.Now as rows
 use Rattle.standing.specs.Judged.{objectTaken, nameTaken, moduleBy}
-use Rattle.standing.specs.NowLaws.{up, up-last, numbered-laid}
+use Rattle.standing.specs.NowLaws.{numbered-laid}
 
 -- A WIRE BY ITS NUMBER
 module _ {names t : List ℕ} (m w : ℕ) (ss : Past) (headed : Headed ss) (o : Offsets ss) (l : Wired (roomsOf ss) names t) {C : Type 0} (z : C) (g : Wire → C) where
-  wire-by :
+  pub wire-by :
       let r = wireRange t (wiresIn ss) m in
       Option·elim (wireAt (design (reverse ss)) m w) z (λ o. g (o .body)) ≡ Option·elim (getElem? (reverse (wiresFrom names t (r .first) (r .count))) w) z (λ x. g (x .1))
   unfolding wireAt
   wire-by =
       elim-map z (λ x. g (x .1)) (λ (o : Object Wire). (o .name, o .body)) (wiresAt (design (reverse ss)) m) w
       ∙ ap (λ (xs : Wires). Option·elim (getElem? xs w) z (λ x. g (x .1))) (sym (design-range m ss headed l o))
-
-  pub wire-there : let r = wireRange t (wiresIn ss) m in w < r .count → Option·elim (wireAt (design (reverse ss)) m w) z (λ o. g (o .body)) ≡ g (wireOf t (r .first + w))
-  unfolding Option·elim
-  wire-there h =
-      let r = wireRange t (wiresIn ss) m in
-      wire-by ∙ ap (λ (x : Option (Name × Wire)). Option·elim x z (λ y. g (y .1))) (wire-numbered names t (r .first) w (r .count) h)
-
-  pub wire-missing : let r = wireRange t (wiresIn ss) m in r .count ≤ w → Option·elim (wireAt (design (reverse ss)) m w) z (λ o. g (o .body)) ≡ z
-  unfolding Option·elim
-  wire-missing h =
-      let r = wireRange t (wiresIn ss) m in
-      let xs : Wires = wiresFrom names t (r .first) (r .count) in
-      wire-by
-      ∙ ap (λ (x : Option (Name × Wire)). Option·elim x z (λ y. g (y .1)))
-      (element-none (reverse xs) w (omega (arith, length-reverse xs, length-wires names t (r .first) (r .count))))
 
 -- WIRES BY THEIR NAMES NOW, from the last one on
 any-now :

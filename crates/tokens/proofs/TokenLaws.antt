@@ -129,7 +129,7 @@ length-rowWords End = refl
 
 -- rows u of n tokens with a row ws behind them
 module _ (u ws : List ℕ) (n : ℕ) (long : length u ≡ 4 * n) where
-  row-before : (i : ℕ) → i < n → rowOf (u ++ ws) i ≡ rowOf u i
+  pub row-before : (i : ℕ) → i < n → rowOf (u ++ ws) i ≡ rowOf u i
   unfolding rowOf
   row-before i h =
       let at : (j : ℕ) → j < 4 → getD (u ++ ws) (4 * i + j) 0 ≡ getD u (4 * i + j) 0 = λ j k. List·getD-append u ws 0 (4 * i + j) (omega arith) in

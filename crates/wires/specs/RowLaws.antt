@@ -7,16 +7,16 @@ use mathlib.Core.Option.{Option, none, some, Option·elim}
 use mathlib.Core.Bool.{Bool, true, false, cond}
 use native.Mathlib.Omega.{arith}
 use lib.Dec.{eqb, ltb}
-use lib.ListN.{length, getD, getElem?, take, drop}
+use lib.ListN.{length, getD, getElem?, take, drop, length-reverse}
 use lib.Seq.{getD-take, getD-drop}
-use borrow.Author.Tests.{ltb-true, ltb-false}
+use borrow.Author.Tests.{ltb-true, ltb-false, ne-eqb}
 use Rattle.rules.specs.Signals.{Wires}
 use Rattle.rules.specs.Tokens.{Name}
 use Rattle.rules.specs.Statements.{Wire, Direction, input, output, inout}
 use Rattle.rules.specs.Numbers.{int32}
 use Rattle.rules.specs.Layout.{Used, padded, row, directionCode, flags, wireRow}
 use Rattle.scanner.specs.Laws.{by-test}
-use Rattle.scanner.specs.Lists.{element-behind}
+use Rattle.scanner.specs.Lists.{element-none, element-behind}
 use Rattle.scanner.specs.Parts.{slice-span}
 use Rattle.numbers.specs.SignedLaws.{signed-word}
 use Rattle.wires.specs.Rows.{wordAt, column, nameOf, portOf, wireOf, wiresFrom, spanAt}
@@ -95,21 +95,28 @@ bit-weight zero n h = omega arith
 bit-weight (suc zero) n h = omega arith
 bit-weight (suc (suc b)) n h = absurd (omega arith)
 
+-- a direction's code is 1, 2 or 3
+pub port-by : (d n : ℕ) → 0 < d → d ≤ 3 → (x : Direction) × (portOf d n ≡ some (x, n)) × (directionCode x ≡ 4 * d)
+unfolding directionCode portOf
+port-by zero n h k = absurd (omega arith)
+port-by (suc zero) n h k = (input, refl, refl)
+port-by (suc (suc zero)) n h k = (output, refl, refl)
+port-by (suc (suc (suc zero))) n h k = (inout, refl, refl)
+port-by (suc (suc (suc (suc d)))) n h k = absurd (omega arith)
+
+pub port-none : (d n : ℕ) → (d ≡ 1 → ⊥) → (d ≡ 2 → ⊥) → (d ≡ 3 → ⊥) → portOf d n ≡ none
+unfolding portOf
+port-none d n h k l = rw (ne-eqb d 1 h, ne-eqb d 2 k, ne-eqb d 3 l)
+
 direction-back : (d p : ℕ) → d ≤ 3 → Option·elim (portOf d p) 0 (λ q. directionCode (q .0)) ≡ 4 * d
-unfolding Option·elim directionCode portOf
+unfolding Option·elim portOf
 direction-back zero p h = refl
-direction-back (suc zero) p h = refl
-direction-back (suc (suc zero)) p h = refl
-direction-back (suc (suc (suc zero))) p h = refl
-direction-back (suc (suc (suc (suc d)))) p h = absurd (omega arith)
+direction-back (suc d) p h = let x = port-by (suc d) p (omega arith) h in rw (x .1) (x .2)
 
 number-back : (d p : ℕ) → d ≤ 3 → (d ≡ 0 → p ≡ 0) → Option·elim (portOf d p) 0 (λ q. q .1) ≡ p
 unfolding Option·elim portOf
 number-back zero p h e = sym (e refl)
-number-back (suc zero) p h e = refl
-number-back (suc (suc zero)) p h e = refl
-number-back (suc (suc (suc zero))) p h e = refl
-number-back (suc (suc (suc (suc d)))) p h e = absurd (omega arith)
+number-back (suc d) p h e = let x = port-by (suc d) p (omega arith) h in rw (x .1)
 
 module _ (t : List ℕ) (k : ℕ) (h : column t k 5 ≤ 15) where
   pub flags-back : flags (wireOf t k) ≡ column t k 5
@@ -145,3 +152,8 @@ module _ (names t : List ℕ) (first j : ℕ) where
 
   pub wire-numbered : (count : ℕ) → j < count → getElem? (reverse (wiresFrom names t first count)) j ≡ some (nameOf names t (first + j), wireOf t (first + j))
   wire-numbered count h = numbered count [] h
+
+  pub wire-past : (count : ℕ) → count ≤ j → getElem? (reverse (wiresFrom names t first count)) j ≡ none
+  wire-past count h =
+      let ws : Wires = wiresFrom names t first count in
+      element-none (reverse ws) j (omega (arith, length-reverse ws, length-wires names t first count))

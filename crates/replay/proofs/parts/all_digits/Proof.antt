@@ -8,7 +8,7 @@ use lib.Seq.{slice}
 use borrow.Author.Tests.{lt-ltb, le-ltb}
 use Rattle.rules.specs.Bytes.{all}
 use Rattle.replay.specs.Parts.{isDigit}
-use Rattle.replay.proofs.Spans.{all-more, all-stop, all-end}
+use Rattle.scanner.specs.Parts.{all-more, all-stop, all-end}
 use Rattle.replay.proofs.parts.all_digits.Statement.{statement}
 use Rattle.replay.proofs.parts.all_digits.Tie as tie
 

@@ -7,7 +7,7 @@ use native.Mathlib.Omega.{arith}
 use lib.ListN.{getD}
 use lib.Seq.{slice}
 use Rattle.rules.specs.Bytes.{all, within}
-use Rattle.replay.proofs.Spans.{all-more, all-stop, all-end}
+use Rattle.scanner.specs.Parts.{all-more, all-stop, all-end}
 use Rattle.scanner.specs.Laws.{within-yes, within-below}
 use Rattle.replay.proofs.PartLaws.{positive}
 use Rattle.replay.proofs.parts.all_given.Statement.{statement}

@@ -6,7 +6,7 @@ use native.Mathlib.Omega.{arith}
 use borrow.Author.Tests.{not-true, not-false}
 use Rattle.replay.proofs.Spans.{whole-inside}
 use Rattle.replay.specs.Parts.{isDigit, digitsStand}
-use Rattle.replay.proofs.PartLaws.{part-out, part-wide, part-in, part-none}
+use Rattle.replay.proofs.PartLaws.{part-out, part-wide, part-all, part-none}
 use borrow.Author.Needs.{needs}
 use Rattle.replay.proofs.parts.digits_stand.Statement.{statement}
 use Rattle.replay.proofs.parts.digits_stand.Tie as tie
@@ -16,7 +16,7 @@ is-whole-requires c κs = search needs
 
 returns : tie.Need-returns
 unfolding digitsStand
-returns c = part-out _ _ _ (c .before .is-whole .ensures _ refl) isDigit (not-true _ (c .if1 .taken))
+returns c = part-out _ _ _ (c .before .is-whole .ensures _ refl) _ (not-true _ (c .if1 .taken))
 
 returns-2 : tie.Need-returns-2
 unfolding digitsStand
@@ -34,7 +34,7 @@ all-digits-requires c κs = whole-inside (now (c .before .before .before .before
 
 returns-4 : tie.Need-returns-4
 unfolding digitsStand
-returns-4 c = part-in _ _ _ (c .before .before .before .before .is-whole .ensures _ refl) isDigit (not-false _ (c .before .before .before .if1 .left)) (c .before .before .if2 .left) (c .all-digits .ensures)
+returns-4 c = part-all _ _ _ (c .before .before .before .before .is-whole .ensures _ refl) isDigit (not-false _ (c .before .before .before .if1 .left)) (c .before .before .if2 .left) (c .all-digits .ensures)
 
 pub digits-stand-spec : {M : Type 1} → statement M
 digits-stand-spec =

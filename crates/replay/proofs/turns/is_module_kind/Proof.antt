@@ -1,7 +1,7 @@
 -- With attributes before it or without.
 -- Assumes nothing.
 use mathlib.Core.Path.{sym}
-use borrow.Author.Tests.{eq-eqb, ne-eqb}
+use borrow.Author.Tests.{ne-eqb}
 use Rattle.rules.specs.Bytes.{any}
 use Rattle.rules.specs.Statements.{code}
 use Rattle.admitted.specs.Admitted.{kinds}
@@ -20,15 +20,15 @@ returns c = rw (c .before .if1 .taken) (c .is-object .ensures)
 
 returns-2 : tie.Need-returns-2
 unfolding kinds ofKinds any code
-returns-2 c = rw (c .before .if1 .left, eq-eqb 4 _ (sym (c .if2 .taken)))
+returns-2 c = rw (c .before .if1 .left, c .if2 .taken)
 
 returns-3 : tie.Need-returns-3
 unfolding kinds ofKinds any code
-returns-3 c = rw (c .before .before .if1 .left, ne-eqb 4 _ (λ e. c .before .if2 .left (sym e)), eq-eqb 10 _ (sym (c .if3 .taken)))
+returns-3 c = rw (c .before .before .if1 .left, c .if3 .taken)
 
 returns-4 : tie.Need-returns-4
 unfolding kinds ofKinds any code
-returns-4 c = rw (c .before .before .before .if1 .left, ne-eqb 4 _ (λ e. c .before .before .if2 .left (sym e)), ne-eqb 10 _ (λ e. c .before .if3 .left (sym e)), eq-eqb 12 _ (sym (c .if4 .taken)))
+returns-4 c = rw (c .before .before .before .if1 .left, c .if4 .taken)
 
 is-object-requires-2 : tie.Need-is-object-requires-2
 is-object-requires-2 c κs = search needs

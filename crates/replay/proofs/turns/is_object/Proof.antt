@@ -1,7 +1,7 @@
 -- Kind by kind.
 -- Assumes nothing.
 use mathlib.Core.Path.{sym}
-use borrow.Author.Tests.{eq-eqb, ne-eqb}
+use borrow.Author.Tests.{ne-eqb}
 use Rattle.rules.specs.Bytes.{any}
 use Rattle.rules.specs.Statements.{code}
 use Rattle.netlist.specs.Kinds.{ofKinds}
@@ -11,19 +11,19 @@ use Rattle.replay.proofs.turns.is_object.Tie as tie
 
 returns : tie.Need-returns
 unfolding objectKinds ofKinds any code
-returns c = rw (eq-eqb 2 _ (sym (c .if1 .taken)))
+returns c = rw (c .if1 .taken)
 
 returns-2 : tie.Need-returns-2
 unfolding objectKinds ofKinds any code
-returns-2 c = rw (ne-eqb 2 _ (λ e. c .before .if1 .left (sym e)), eq-eqb 5 _ (sym (c .if2 .taken)))
+returns-2 c = rw (c .if2 .taken)
 
 returns-3 : tie.Need-returns-3
 unfolding objectKinds ofKinds any code
-returns-3 c = rw (ne-eqb 2 _ (λ e. c .before .before .if1 .left (sym e)), ne-eqb 5 _ (λ e. c .before .if2 .left (sym e)), eq-eqb 6 _ (sym (c .if3 .taken)))
+returns-3 c = rw (c .if3 .taken)
 
 returns-4 : tie.Need-returns-4
 unfolding objectKinds ofKinds any code
-returns-4 c = rw (ne-eqb 2 _ (λ e. c .before .before .before .if1 .left (sym e)), ne-eqb 5 _ (λ e. c .before .before .if2 .left (sym e)), ne-eqb 6 _ (λ e. c .before .if3 .left (sym e)), eq-eqb 7 _ (sym (c .if4 .taken)))
+returns-4 c = rw (c .if4 .taken)
 
 returns-5 : tie.Need-returns-5
 unfolding objectKinds ofKinds any code

@@ -28,15 +28,15 @@ returns-2 c = rw (ne-eqb _ 0 (c .before .before .before .if1 .left), eq-eqb _ 1 
 
 returns-3 : tie.Need-returns-3
 unfolding standsAt scopeOf kinds ofKinds any code
-returns-3 c = rw (ne-eqb _ 0 (c .before .before .before .if1 .left), ne-eqb _ 1 (c .before .if2 .left), eq-eqb 8 _ (sym (c .if3 .taken)))
+returns-3 c = rw (ne-eqb _ 0 (c .before .before .before .if1 .left), ne-eqb _ 1 (c .before .if2 .left), c .if3 .taken)
 
 returns-4 : tie.Need-returns-4
 unfolding standsAt scopeOf kinds ofKinds any code
-returns-4 c = rw (ne-eqb _ 0 (c .before .before .before .before .if1 .left), ne-eqb _ 1 (c .before .before .if2 .left), ne-eqb 8 _ (λ e. c .before .if3 .left (sym e)), eq-eqb 9 _ (sym (c .if4 .taken)))
+returns-4 c = rw (ne-eqb _ 0 (c .before .before .before .before .if1 .left), ne-eqb _ 1 (c .before .before .if2 .left), c .if4 .taken)
 
 returns-5 : tie.Need-returns-5
 unfolding standsAt scopeOf kinds ofKinds any code
-returns-5 c = rw (ne-eqb _ 0 (c .before .before .before .before .before .if1 .left), ne-eqb _ 1 (c .before .before .before .if2 .left), ne-eqb 8 _ (λ e. c .before .before .if3 .left (sym e)), ne-eqb 9 _ (λ e. c .before .if4 .left (sym e)), eq-eqb 12 _ (sym (c .if5 .taken)))
+returns-5 c = rw (ne-eqb _ 0 (c .before .before .before .before .before .if1 .left), ne-eqb _ 1 (c .before .before .before .if2 .left), c .if5 .taken)
 
 returns-6 : tie.Need-returns-6
 unfolding standsAt scopeOf kinds ofKinds any code

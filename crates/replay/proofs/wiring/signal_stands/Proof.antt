@@ -6,7 +6,7 @@ use native.Mathlib.Omega.{arith}
 use borrow.Author.Tests.{not-true, not-false}
 use Rattle.replay.proofs.Spans.{whole-inside}
 use Rattle.replay.specs.Parts.{signalStands}
-use Rattle.replay.proofs.PartLaws.{part-out, part-wide, part-in, part-none}
+use Rattle.replay.proofs.PartLaws.{part-out, part-wide, part-all, part-none}
 use borrow.Author.Needs.{needs}
 use Rattle.replay.proofs.wiring.signal_stands.Statement.{statement}
 use Rattle.replay.proofs.wiring.signal_stands.Tie as tie
@@ -34,7 +34,7 @@ all-fit-requires c κs = whole-inside (now (c .before .before .before .before .b
 
 returns-4 : tie.Need-returns-4
 unfolding signalStands
-returns-4 c names = part-in _ _ _ (c .before .before .before .before .is-whole .ensures _ refl) _ (not-false _ (c .before .before .before .if1 .left)) (c .before .before .if2 .left) (c .all-fit .ensures names)
+returns-4 c names = part-all _ _ _ (c .before .before .before .before .is-whole .ensures _ refl) _ (not-false _ (c .before .before .before .if1 .left)) (c .before .before .if2 .left) (c .all-fit .ensures names)
 
 pub signal-stands-spec : {M : Type 1} → statement M
 signal-stands-spec =
