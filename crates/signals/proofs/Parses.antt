@@ -20,7 +20,7 @@ use Rattle.tokens.specs.Rows.{front, tokenIn, tokenAt, rowOf, line, Present}
 use Rattle.tokens.specs.declared.Token.{Token}
 use Rattle.tokens.specs.declared.Token.the-variants.{Name, Word, Constant as Constantly, Mark, End}
 use Rattle.tokens.proofs.TokenLaws.{front-token, present, line-end, line-more, line-read, below}
-use Rattle.signals.specs.Reads.{isTheMark, markAt, boundsBehind, slicedOn, membersOn}
+use Rattle.signals.specs.Reads.{isTheMark, markAt, boundsBehind, slicedOn, membersOn, Readable}
 
 -- ---- the token of a row
 
@@ -252,3 +252,7 @@ module _ (f t : List ℕ) (i d : ℕ) where
       by : (k : ℕ) → head k (line f t i) ≡ atom (line f t i)
       by zero = refl
       by (suc k) = either-not t i f "{" (members (signal k)) atom e
+
+-- rows that can be read can be read further on
+pub readable-on : (f t : List ℕ) (i n : ℕ) → Readable f t i → n ≤ length t / 4 → Readable f t n
+readable-on f t i n R h = record { file = R .file; rows = R .rows; here = h; closed = R .closed }

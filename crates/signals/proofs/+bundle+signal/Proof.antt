@@ -9,7 +9,7 @@ use borrow.Author.Tests.{not-true, not-false}
 use denote.Ref.{now}
 use lib.ListN.{length}
 use Rattle.wires.specs.Rows.{wiresFrom}
-use Rattle.signals.proofs.Parses.{mark-below, head-deep, head-bundle, head-atom}
+use Rattle.signals.proofs.Parses.{mark-below, readable-on, head-deep, head-bundle, head-atom}
 use Rattle.signals.proofs.AnswerLaws.{signal-nowhere, signal-no-head, signal-with}
 use Rattle.signals.proofs.BundleLaws.{MembersOn, Place, place-behind, place-end, members-on-start, bundle-closed, bundle-broken, bundle-on}
 use Prim.Native.Nat.{ℕ, _<_}
@@ -78,7 +78,7 @@ bundle-add-put-2 t c = omega (arith, c .before .before .before .before .before .
 bundle-signal-requires : (t : ℕ) → bundle-lts.Need-signal-requires (bundle-calls t) (bundle-at t) bundle.Post bundle-Inv-loop bundle-μ-loop
 bundle-signal-requires t c κs =
     let P : Place (c .before .before .before .before .before .before .before .before .before .before .args .o) (c .before .before .before .before .loop .width) (c .before .if2 .put) = ⊎-elim (λ w. place-behind _ _ _ (w .0 .taken) (w .1)) (λ w. place-end _ _ _ (w .0 .left) (w .1)) (c .before .if2 .came) in
-    (omega (arith, c .before .before .before .before .before .before .before .before .before .before .pre .0), (record { file = c .before .before .before .before .before .before .before .before .before .before .pre .1 .0 .file; rows = c .before .before .before .before .before .before .before .before .before .before .pre .1 .0 .rows; here = c .before .before .before .before .loop .inv .within; closed = c .before .before .before .before .before .before .before .before .before .before .pre .1 .0 .closed }, (omega (arith, c .before .before .before .before .before .before .before .before .before .before .pre .1 .1 .0, c .before .before .before .before .loop .inv .kept .long, P .upto), c .before .before .before .before .before .before .before .before .before .before .pre .1 .1 .1)))
+    (omega (arith, c .before .before .before .before .before .before .before .before .before .before .pre .0), (readable-on _ _ _ _ (c .before .before .before .before .before .before .before .before .before .before .pre .1 .0) (c .before .before .before .before .loop .inv .within), (omega (arith, c .before .before .before .before .before .before .before .before .before .before .pre .1 .1 .0, c .before .before .before .before .loop .inv .kept .long, P .upto), c .before .before .before .before .before .before .before .before .before .before .pre .1 .1 .1)))
 
 bundle-enum-known-m : (t : ℕ) → bundle-lts.Need-enum-known-m (bundle-calls t) (bundle-at t) bundle.Post bundle-Inv-loop bundle-μ-loop
 bundle-enum-known-m t c = search needs
@@ -141,7 +141,7 @@ signal-sub-bundle : (t : ℕ) → signal-lts.Need-sub-bundle (signal-calls t) (s
 signal-sub-bundle t c = omega (arith, c .if2 .left)
 
 signal-bundle-requires : (t : ℕ) → signal-lts.Need-bundle-requires (signal-calls t) (signal-at t) signal.Post
-signal-bundle-requires t c κs = (omega (arith, c .before .before .before .before .before .before .before .before .before .pre .0, c .before .if2 .left), (record { file = c .before .before .before .before .before .before .before .before .before .pre .1 .0 .file; rows = c .before .before .before .before .before .before .before .before .before .pre .1 .0 .rows; here = omega (arith, mark-below _ _ _ (sym (c .before .before .before .is-mark .ensures) ∙ c .before .before .if1 .taken)); closed = c .before .before .before .before .before .before .before .before .before .pre .1 .0 .closed }, (omega (arith, c .before .before .before .before .before .before .before .before .before .pre .1 .1 .0, c .before .if2 .left), c .before .before .before .before .before .before .before .before .before .pre .1 .1 .1)))
+signal-bundle-requires t c κs = (omega (arith, c .before .before .before .before .before .before .before .before .before .pre .0, c .before .if2 .left), (readable-on _ _ _ _ (c .before .before .before .before .before .before .before .before .before .pre .1 .0) (omega (arith, mark-below _ _ _ (sym (c .before .before .before .is-mark .ensures) ∙ c .before .before .if1 .taken))), (omega (arith, c .before .before .before .before .before .before .before .before .before .pre .1 .1 .0, c .before .if2 .left), c .before .before .before .before .before .before .before .before .before .pre .1 .1 .1)))
 
 signal-enum-known-b : (t : ℕ) → signal-lts.Need-enum-known-b (signal-calls t) (signal-at t) signal.Post
 signal-enum-known-b t c = search needs
