@@ -147,20 +147,17 @@ module _ (f : List ℕ) (a b e : ℕ) (ds : List ℕ) (width : ℕ) (part : ds �
     read-good h = rw (← exact h, ← digits, length-map, le-leb width 2048 h)
 
     module _ (h : goodLiteral (literalIn f (constant.Value a b e)) ≡ true) where
-      fits : decimal (slice a b f) ≤ 2048
-      unfolding literalIn goodLiteral
-      fits = leb-true (decimal (slice a b f)) 2048 (and-true-left _ (leb (length (map digit (slice (b + 1) e f))) (decimal (slice a b f))) h)
-
       read-width : width ≡ decimal (slice a b f)
-      unfolding capped
-      read-width = omega (arith, is, fits)
+      unfolding capped literalIn literalWidth
+      read-width = omega (arith, is, value-narrow f a b e h)
 
       pub read-room : (at n : ℕ) → at + literalWidth (literalIn f (constant.Value a b e)) ≤ n → at + width ≤ n
       unfolding literalIn literalWidth
       read-room at n k = omega (arith, read-width)
 
       pub read-few : length bs ≤ width
-      read-few = leb-true (length bs) width (read-good (omega (arith, read-width, fits)) ∙ h)
+      unfolding literalIn literalWidth
+      read-few = leb-true (length bs) width (read-good (omega (arith, read-width, value-narrow f a b e h)) ∙ h)
 
       pub read-literal : value width (map digit bs) ≡ literalIn f (constant.Value a b e)
       unfolding literalIn

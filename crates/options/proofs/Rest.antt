@@ -15,11 +15,11 @@ use Rattle.rules.specs.Tokens.{Name, Literal, Token, name, word, literal, mark}
 use Rattle.rules.specs.Statements.{Opt, Shape}
 use Rattle.rules.specs.Shapes.{whole, wholeBy, of₁, of₂, id, int, one, isId, isWord, give, after, repeat, offers, choice, options, several}
 use Rattle.scanner.specs.Words.{keywordAt}
-use Rattle.tokens.specs.Rows.{integerIn, Present, front, rowOf, tokenAt, line}
+use Rattle.tokens.specs.Rows.{integerIn, Present, front, tokenAt, line}
 use Rattle.tokens.specs.declared.Integer.{Integer}
 use Rattle.tokens.specs.declared.Token.{Token as Row}
 use Rattle.tokens.specs.declared.Token.the-variants as row
-use Rattle.tokens.proofs.TokenLaws.{line-end, line-more, line-read, line-long, below, present, front-token}
+use Rattle.tokens.proofs.TokenLaws.{line-end, line-row, line-read, line-long, below}
 use Rattle.options.specs.Forms.{forms, statement, accepted, isFlag, numberCodes}
 use Rattle.options.specs.Holds.{fits, Holds, noOptions, Took}
 use Rattle.options.specs.Lines.{rest, Next}
@@ -101,7 +101,7 @@ module _ (m : Bool) (t : List ℕ) (i : ℕ) where
         decides (row.Name a b) e tt (λ f os. none)
         (λ f j os.
         rest-name m j os (line f t (i + 1)) (slice a b f)
-        ∙ rw (line-more f t (i + 1) l, front-token f (rowOf t (i + 1)) (line f t (i + 1 + 1)) (present t (i + 1))))
+        ∙ rw (line-row f t (i + 1) l))
 
   -- an option in row i
   module _ (c : ℕ) (e : row.Word c ≡ tokenAt t i) (h : accepted m c ≡ true) where

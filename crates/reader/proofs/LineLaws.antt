@@ -6,7 +6,7 @@ use mathlib.Core.Bool.{Bool, true, false, not, Bool·not-not}
 use mathlib.Core.List.{List, [], _∷_}
 use native.Mathlib.Omega.{arith}
 use lib.Dec.{ltb}
-use lib.ListN.{length, getD, take, drop}
+use lib.ListN.{length, take, drop}
 use lib.Seq.{length-take-le, getD-take}
 use borrow.Author.Tests.{ltb-true}
 use Rattle.rules.specs.Lines as rules
@@ -22,7 +22,7 @@ use Rattle.tokens.specs.Rows.{rowOf, tokenAt, rowsFrom, line}
 use Rattle.tokens.specs.declared.Constant.the-variants as constant
 use Rattle.tokens.specs.declared.Token as row
 use Rattle.tokens.specs.declared.Token.the-variants.{Name, Word, Constant as Constantly, Mark, End}
-use Rattle.tokens.proofs.TokenLaws.{present, front-token}
+use Rattle.tokens.proofs.TokenLaws.{present, front-token, row-same}
 use Rattle.lexer.specs.Lexemes.{Held}
 use Rattle.lexer.specs.Lines.{lexedOf, Among, LexedIs}
 use Rattle.lexer.specs.declared.Lexed.{Lexed}
@@ -56,10 +56,7 @@ module _ (f t : List ℕ) (n : ℕ) (room : 4 * n ≤ length t) where
 
   row-taken : (i : ℕ) → i < n → rowOf rows i ≡ rowOf t i
   unfolding rowOf
-  row-taken i h =
-      let at : (j : ℕ) → j < 4 → getD rows (4 * i + j) 0 ≡ getD t (4 * i + j) 0 = λ j k. getD-take (4 * n) t (4 * i + j) 0 (omega arith) in
-      let first : getD rows (4 * i) 0 ≡ getD t (4 * i) 0 = getD-take (4 * n) t (4 * i) 0 (omega arith) in
-      rw (first, at 1 (omega arith), at 2 (omega arith), at 3 (omega arith))
+  row-taken i h = row-same rows t (4 * i) (4 * i) (λ j k. getD-take (4 * n) t (4 * i + j) 0 (omega arith))
 
   closed : ((k : ℕ) → k < n → Held f (rowOf t k)) → Closed f rows
   unfolding tokenAt
