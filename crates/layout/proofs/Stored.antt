@@ -242,34 +242,22 @@ plain-rest MissingWire o = tt
 -- ---- answers of a name and, if they have one, a constant
 
 module _ (f s : List ℕ) where
+  valued :
+      {r : Statement} {kind : ℕ} {n : Span} {c : Literal} {sort : ℕ} (x : rules.Statement) → statementIn f s r ≡ some x → contents x .names ≡ nameIn f n ∷ [] →
+      contents x .constants ≡ Option·toList (optionalIn f c) → contents x .signals ≡ [] → contents x .wires ≡ [] → GoodOptional f c →
+      ((u : rooms.Used) → statementRow u x ≡ valuedRow u kind (nameIn f n) (optionalIn f c) sort) → ValuedHas f s r kind n c sort
+  valued x e n c k w g q = record { x = x; is = e; names-are = n; constants-are = c; no-signals = k; no-wires = w; good = g; row-is = q }
+
   pub attribute-valued : (r : Statement) (n : Span) (c : Constant) → r ≡ Attribute n c → Sound f r → ValuedHas f s r 2 n (literal.Read c) 0
   unfolding statementIn holds contents valueIn Option·map Option·toList Option·elim statementRow columns code valuedRow optionalColumns
   attribute-valued r n c e g =
-      record {
-        x = attr-stmt (nameIn f n) (constantIn f c);
-        is = ap (statementIn f s) e;
-        names-are = refl;
-        constants-are = refl;
-        no-signals = refl;
-        no-wires = refl;
-        good = rw e at g;
-        row-is = λ u. sym (row-zero u (constantIn f c) 2 (u .names) (length (nameIn f n)));
-      }
+      valued (attr-stmt (nameIn f n) (constantIn f c)) (ap (statementIn f s) e) refl refl refl refl (rw e at g) (λ u. sym (row-zero u (constantIn f c) 2 (u .names) (length (nameIn f n))))
 
   pub cell-parameter-valued : (r : Statement) (z : ℕ) (n : Span) (c : Constant) → r ≡ CellParameter z n c → Sound f r → ValuedHas f s r 8 n (literal.Read c) z
   unfolding statementIn holds contents valueIn Option·map Option·toList Option·elim statementRow columns code valuedRow optionalColumns
   cell-parameter-valued r z n c e g =
       let k : (z ≤ 2) × GoodConstant f c = rw e at g in
-      record {
-        x = cell-param-stmt (sortOf z) (nameIn f n) (constantIn f c);
-        is = ap (statementIn f s) e;
-        names-are = refl;
-        constants-are = refl;
-        no-signals = refl;
-        no-wires = refl;
-        good = k .1;
-        row-is = λ u. rw (sort-code z (k .0));
-      }
+      valued (cell-param-stmt (sortOf z) (nameIn f n) (constantIn f c)) (ap (statementIn f s) e) refl refl refl refl (k .1) (λ u. rw (sort-code z (k .0)))
 
   parameter-row : (u : rooms.Used) (n : Name) (c : Literal) → statementRow u (param-stmt n (optionalIn f c)) ≡ valuedRow u 4 n (optionalIn f c) 0
   unfolding holds contents valueIn Option·map Option·elim statementRow columns code valuedRow optionalColumns row padded
@@ -278,31 +266,11 @@ module _ (f s : List ℕ) where
 
   pub parameter-valued : (r : Statement) (n : Span) (c : Literal) → r ≡ Parameter n c → Sound f r → ValuedHas f s r 4 n c 0
   unfolding statementIn holds contents
-  parameter-valued r n c e g =
-      record {
-        x = param-stmt (nameIn f n) (optionalIn f c);
-        is = ap (statementIn f s) e;
-        names-are = refl;
-        constants-are = refl;
-        no-signals = refl;
-        no-wires = refl;
-        good = rw e at g;
-        row-is = λ u. parameter-row u (nameIn f n) c;
-      }
+  parameter-valued r n c e g = valued (param-stmt (nameIn f n) (optionalIn f c)) (ap (statementIn f s) e) refl refl refl refl (rw e at g) (λ u. parameter-row u (nameIn f n) c)
 
   pub module-valued : (r : Statement) (n : Span) → r ≡ Module n → Sound f r → ValuedHas f s r 3 n literal.Nothing 0
   unfolding statementIn holds contents valueIn Option·map Option·toList Option·elim statementRow columns code valuedRow optionalColumns row padded
-  module-valued r n e g =
-      record {
-        x = module-stmt (nameIn f n);
-        is = ap (statementIn f s) e;
-        names-are = refl;
-        constants-are = refl;
-        no-signals = refl;
-        no-wires = refl;
-        good = tt;
-        row-is = λ u. refl;
-      }
+  module-valued r n e g = valued (module-stmt (nameIn f n)) (ap (statementIn f s) e) refl refl refl refl tt (λ u. refl)
 
 -- what they need
 module _ (f s : List ℕ) (r : Statement) (u : Used) (t : Tables) (h : Storable f s r u t) where

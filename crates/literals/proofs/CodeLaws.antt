@@ -7,7 +7,7 @@ use Prim.Native.Nat.{ℕ, _+_, _-_, _*_, _/_, _%_, _^_, _≤_, _<_}
 use native.Mathlib.Numerals.{add-one}
 use native.Mathlib.Omega.{arith}
 use borrow.Author.Tests.{leb-true, le-leb, lt-leb}
-use lib.ListN.{length, getD, take, drop, replicate, length-append, length-drop, length-map, length-replicate, length-reverse, getD-replicate, List·getD-append}
+use lib.ListN.{length, getD, take, drop, replicate, length-append, length-map, length-replicate, length-reverse, getD-replicate, List·getD-append}
 use lib.Dec.{leb}
 use lib.Seq.{slice, length-take-le, take-all, take-suc, getD-append-add}
 use lib.IntN.{ℤ}
@@ -67,7 +67,7 @@ pub width-small : (f : List ℕ) (c : Constant) → length f ≤ 268435456 → g
 unfolding literalIn goodLiteral literalWidth
 width-small f (constant.Integer z) k h = capped-small 32 (omega arith)
 width-small f (constant.Value a b e) k h = value-capped f a b e h
-width-small f (constant.Text a) k h = capped-small (8 * length (decoded (drop a f))) (omega (arith, decoded-length (drop a f), length-drop a f))
+width-small f (constant.Text a) k h = capped-small (8 * length (decoded (drop a f))) (omega (arith, decoded-length f a))
 
 -- ---- integers
 
