@@ -1,7 +1,7 @@
 -- The width of a constant and the codes of its bits.
 -- Assumes nothing.
 use mathlib.Core.Path.{_≡_, refl, sym, ap, ap₂, _∙_}
-use mathlib.Core.Bool.{Bool, true, false}
+use mathlib.Core.Bool.{true, false}
 use mathlib.Core.List.{List, [], _∷_, _++_, map, map-append, flatMap, reverse, reverse-cons, reverse-append, reverse-reverse, map-map}
 use Prim.Native.Nat.{ℕ, _+_, _-_, _*_, _/_, _%_, _^_, _≤_, _<_}
 use native.Mathlib.Numerals.{add-one}
@@ -71,24 +71,15 @@ width-small f (constant.Text a) k h = capped-small (8 * length (decoded (drop a 
 
 -- ---- integers
 
-module _ (s : Bool) (n : ℕ) where
-  pub capped-fits : int32 (integerOf s (capped n)) ≡ int32 (integerOf s n)
-  unfolding capped
-  capped-fits = capped-int32 s n
-
-  pub capped-word : int32 (integerOf s n) ≡ true → twosComplement (integerOf s (capped n)) ≡ twosComplement (integerOf s n)
-  unfolding capped
-  capped-word h = rw (capped-same s n h)
-
 -- the integer whose digits ds were read, with the cap, as size
 module _ (f : List ℕ) (z : Integer) (ds : List ℕ) (size : ℕ) (part : ds ≡ slice (z .start) (z .end) f) (read : size ≡ capped (decimal ds)) where
   pub read-fits : int32 (integerOf (z .negative) size) ≡ int32 (integerIn f z)
-  unfolding integerIn
-  read-fits = rw (read, part) (capped-fits (z .negative) (decimal (slice (z .start) (z .end) f)))
+  unfolding integerIn capped
+  read-fits = rw (read, part) (capped-int32 (z .negative) (decimal (slice (z .start) (z .end) f)))
 
   pub read-word : int32 (integerIn f z) ≡ true → twosComplement (integerOf (z .negative) size) ≡ twosComplement (integerIn f z)
-  unfolding integerIn
-  read-word h = rw (read, part) (capped-word (z .negative) (decimal (slice (z .start) (z .end) f)) h)
+  unfolding integerIn capped
+  read-word h = rw (read, part, capped-same (z .negative) (decimal (slice (z .start) (z .end) f)) h)
 
 module _ (k w : ℕ) where
   pub word-long : length (wordCodes k w) ≡ k

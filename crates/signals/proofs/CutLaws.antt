@@ -20,10 +20,10 @@ use Rattle.numbers.specs.SignedLaws.{by-half, signed-int32}
 use Rattle.scanner.specs.Laws.{by-test}
 use Rattle.scanner.specs.Parts.{slice-within}
 use Rattle.tables.specs.Store.{store, store-slice}
-use Rattle.signals.specs.Faults.{faults, fault, merge, tooWide, mild}
+use Rattle.signals.specs.Faults.{faults, fault, merge, tooWide}
 use Rattle.signals.specs.Held.{codes, Held, Kept, CutIs}
 use Rattle.signals.specs.declared.Bits.{Bits}
-use Rattle.signals.proofs.FaultLaws.{merge-zero, mild-not, mild-merge, late-merge, too-wide-late, wide-zero, faults-front, own-slice, own-width}
+use Rattle.signals.proofs.FaultLaws.{merge-zero, late-merge, too-wide-late, wide-zero, faults-front, own-slice, own-width}
 use Rattle.signals.proofs.Codes.{length-codes, codes-part}
 use Rattle.signals.proofs.HeldLaws.{sized, held-not, kept-same, kept-store}
 
@@ -113,7 +113,7 @@ module _ (ws : Wires) (s : Sig) (z : Option ℤ) (b : Bits) (high low o : ℕ) (
 
   pub outside-held : (n : ℕ) → n ≡ merge 10 (b .fault) → inside (b .width) (signedOf high) (signedOf low) ≡ false → Held ws cutting o out (sized (b .width) n)
   outside-held n q e =
-      held-not ws cutting o out (b .width) n (outside-fault e ∙ sym q) (ap mild q ∙ mild-merge 10 (b .fault) ∙ rw (mild-not 10 (omega arith) (omega arith)))
+      held-not ws cutting o out (b .width) 10 (b .fault) n (omega arith) (omega arith) q (outside-fault e)
 
   module _ (n x : ℕ) (out′ : List ℕ) (en : n ≡ merge (tooWide (high + 1 - low)) (b .fault)) (ex : x ≡ b .width - 1 - high) (h : high < 2147483648) (k : high < b .width) (l : low ≤ high) (room : o + 2048 ≤ length out) (moved : n ≡ 0 → out′ ≡ store out o (slice (o + x) (o + x + (high + 1 - low)) out)) where
     wide-is : width ws cutting ≡ high + 1 - low
@@ -175,9 +175,7 @@ module _ (b : Bits) (high low o : ℕ) (out : List ℕ) where
 
     pub cut-inside : b .width ≤ 2048 → out′ ≡ store out o (slice (o + x) (o + x + (high + 1 - low)) out) → CutIs b high low o out out′ (sized (high + 1 - low) n)
     cut-inside r moved =
-        let vs : List ℕ = slice (o + x) (o + x + (high + 1 - low)) out in
-        let lv : length vs ≡ high + 1 - low = length-slice (o + x) (o + x + (high + 1 - low)) out (omega arith) ∙ omega arith in
-        cut-so (λ e. moved) (kept-store o out out′ vs moved (omega arith))
+        cut-so (λ e. moved) (kept-store o out out′ _ moved (omega (arith, length-slice (o + x) (o + x + (high + 1 - low)) out (omega arith))))
 
     pub cut-still : (n ≡ 0 → ⊥) → out′ ≡ out → CutIs b high low o out out′ (sized (high + 1 - low) n)
     cut-still z e = cut-so (λ g. absurd (z g)) (record { long = ap length e; below = ap (take o) e })

@@ -6,7 +6,6 @@ use native.Mathlib.Omega.{arith}
 use denote.Ref.{now}
 use Rattle.wires.specs.Found.{foundOf}
 use Rattle.wires.specs.RowLaws.{length-wires}
-use Rattle.signals.proofs.FaultLaws.{mild-not}
 use Rattle.signals.proofs.HeldLaws.{put-not, put-over, wire-width, wire-fault, wire-number, wire-put-fits, wire-nothing}
 use borrow.Author.Needs.{needs}
 use Rattle.signals.proofs.wire_bits.Statement.{statement}
@@ -44,7 +43,7 @@ returns-2 c =
     wire-put-fits _ _ _ _ F _ _ _ (c .before .before .before .before .if1 .left) (c .before .before .before .before .before .before .before .before .before .before .before .before .before .pre .0) (c .before .before .put-wire .ensures)
 
 returns-3 : tie.Need-returns-3
-returns-3 c = put-not _ _ _ _ _ (omega arith) 8 (wire-nothing _ _ (c .before .before .find-wire .ensures ∙ ap foundOf (c .enum-told .given .1))) (mild-not 8 (omega arith) (omega arith))
+returns-3 c = put-not _ _ _ _ _ (omega arith) 8 (wire-nothing _ _ (c .before .before .find-wire .ensures ∙ ap foundOf (c .enum-told .given .1))) (omega arith) (omega arith)
 
 pub wire-bits-spec : {M : Type 1} → statement M
 wire-bits-spec =
