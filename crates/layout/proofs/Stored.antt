@@ -31,9 +31,9 @@ use Rattle.syntax.specs.declared.Statement.the-variants.{Autoidx, Attribute, Mo
 use Rattle.syntax.proofs.Statement.{the-type}
 use Rattle.netlist.specs.Tables.{Tables, tabled}
 use Rattle.layout.specs.Put.{namesPut, bitsPut, rowsPut, Puts, RoomFor, Fits, constantIn, optionalIn, optionalColumns, optionalBytes, optionalDigits, valuedRow, OptionalFits, WireHas, WirePut}
-use Rattle.layout.specs.PartLaws.{no-string, one-string, no-bits, one-value}
+use Rattle.layout.specs.PartLaws.{no-names, no-string, one-string, no-bits, one-value}
 use Rattle.syntax.specs.SignalLaws.{signal-long}
-use Rattle.layout.specs.RoomLaws.{names-same, strings-same, bits-same, wires-same, name-fits, names-fit, string-fits, value-fits, signal-fits, signals-fit, wire-fits, row-fits}
+use Rattle.layout.specs.RoomLaws.{nothing-put, wires-same, name-fits, names-fit, string-fits, value-fits, signal-fits, signals-fit, wire-fits, row-fits}
 use Rattle.layout.specs.Stored.{Storable, PutIs, ValuedHas, Plain, PlainStorable, PlainPut}
 use Rattle.netlist.specs.declared.used.Used.{Used}
 use Rattle.netlist.specs.Used.{usedOf}
@@ -134,9 +134,9 @@ module _ (f s : List ℕ) (r : Statement) (u : Used) (names names′ bits bits�
       puts-is f s r u (tabled names strings bits wires rows) (tabled names′ strings bits′ wires rows′) y e
       (record {
         names-put = en;
-        strings-put = strings-same y strings (u .strings) c;
+        strings-put = nothing-put strings (u .strings) (no-string y c);
         bits-put = eb;
-        wires-put = wires-same y wires (8 * u .wires) (usedOf u) w;
+        wires-put = wires-same wires (8 * u .wires) y (usedOf u) w;
         rows-put = er;
       })
 
@@ -145,11 +145,11 @@ module _ (f s : List ℕ) (r : Statement) (u : Used) (names bits wires rows rows
   unfolding statementIn statementRow columns code holds contents row padded
   autoidx-put w b e q =
       let x : rules.Statement = autoidx-stmt (signedOf w) in
-      plain-is f s r u names names bits bits wires rows rows′ x (ap (statementIn f s) e) refl refl (names-same x names (u .names) refl) (bits-same x bits (u .bits) refl refl) (rw (word-signed w b) q)
+      plain-is f s r u names names bits bits wires rows rows′ x (ap (statementIn f s) e) refl refl (nothing-put names (u .names) (no-names x refl)) (nothing-put bits (u .bits) (no-bits x refl refl)) (rw (word-signed w b) q)
 
   pub end-put : r ≡ End → rows′ ≡ store rows (8 * u .rows) (row (12 ∷ 0 ∷ 0 ∷ 0 ∷ 0 ∷ 0 ∷ 0 ∷ [])) → PlainPut f s r u names names bits bits wires wires rows rows′
   unfolding statementIn statementRow columns code holds contents row padded
-  end-put e q = plain-is f s r u names names bits bits wires rows rows′ end-stmt (ap (statementIn f s) e) refl refl (names-same end-stmt names (u .names) refl) (bits-same end-stmt bits (u .bits) refl refl) q
+  end-put e q = plain-is f s r u names names bits bits wires rows rows′ end-stmt (ap (statementIn f s) e) refl refl (nothing-put names (u .names) (no-names end-stmt refl)) (nothing-put bits (u .bits) (no-bits end-stmt refl refl)) q
 
 module _ (f s : List ℕ) (r : Statement) (u : Used) (names names′ bits wires rows rows′ : List ℕ) where
   pub memory-put :
@@ -158,7 +158,7 @@ module _ (f s : List ℕ) (r : Statement) (u : Used) (names names′ bits wires 
   unfolding statementIn memoryFrom statementRow columns code holds contents row padded
   memory-put n w z t b e en er =
       let x : rules.Statement = memory-stmt (memoryFrom w z t) (nameIn f n) in
-      plain-is f s r u names names′ bits bits wires rows rows′ x (ap (statementIn f s) e) refl refl (name-put x names names′ (u .names) (nameIn f n) refl en) (bits-same x bits (u .bits) refl refl) (rw (word-signed t b) er)
+      plain-is f s r u names names′ bits bits wires rows rows′ x (ap (statementIn f s) e) refl refl (name-put x names names′ (u .names) (nameIn f n) refl en) (nothing-put bits (u .bits) (no-bits x refl refl)) (rw (word-signed t b) er)
 
   pub cell-put :
       (k n : Span) → r ≡ Cell k n → let x = cell-stmt (nameIn f k) (nameIn f n) in
@@ -166,7 +166,7 @@ module _ (f s : List ℕ) (r : Statement) (u : Used) (names names′ bits wires 
   unfolding statementIn holds contents
   cell-put k n e en er =
       let x : rules.Statement = cell-stmt (nameIn f k) (nameIn f n) in
-      plain-is f s r u names names′ bits bits wires rows rows′ x (ap (statementIn f s) e) refl refl en (bits-same x bits (u .bits) refl refl) er
+      plain-is f s r u names names′ bits bits wires rows rows′ x (ap (statementIn f s) e) refl refl en (nothing-put bits (u .bits) (no-bits x refl refl)) er
 
 module _ (f s : List ℕ) (r : Statement) (u : Used) (names names′ bits bits′ wires rows rows′ : List ℕ) where
   pub cell-connection-put :
@@ -182,7 +182,7 @@ module _ (f s : List ℕ) (r : Statement) (u : Used) (names bits bits′ wires r
   unfolding statementIn holds contents
   connection-put a b l e eb er =
       let x : rules.Statement = conn-stmt (signalIn s 0 a) (signalIn s 2048 b) in
-      plain-is f s r u names names bits bits′ wires rows rows′ x (ap (statementIn f s) e) refl refl (names-same x names (u .names) refl) eb er
+      plain-is f s r u names names bits bits′ wires rows rows′ x (ap (statementIn f s) e) refl refl (nothing-put names (u .names) (no-names x refl)) eb er
 
 module _ (f s : List ℕ) (r : Statement) (u : Used) (names names′ bits wires wires′ rows rows′ : List ℕ) where
   pub wire-puts :
@@ -196,8 +196,8 @@ module _ (f s : List ℕ) (r : Statement) (u : Used) (names names′ bits wires 
       puts-is f s r u (tabled names strings bits wires rows) (tabled names′ strings bits wires′ rows′) x (ap (statementIn f s) e)
       (record {
         names-put = z .0;
-        strings-put = strings-same x strings (u .strings) refl;
-        bits-put = bits-same x bits (u .bits) refl refl;
+        strings-put = nothing-put strings (u .strings) (no-string x refl);
+        bits-put = nothing-put bits (u .bits) (no-bits x refl refl);
         wires-put = z .1;
         rows-put = z .2;
       })
@@ -334,6 +334,6 @@ module _ (f s : List ℕ) (r : Statement) (u : Used) (names names′ strings str
         names-put = name-put (v .x) names names′ (u .names) (nameIn f n) (v .names-are) en;
         strings-put = es ∙ bytes-put (v .x) strings (u .strings) (optionalIn f c) (v .constants-are);
         bits-put = eb ∙ digits-put (v .x) bits (u .bits) (optionalIn f c) (v .constants-are) (v .no-signals);
-        wires-put = wires-same (v .x) wires (8 * u .wires) (usedOf u) (v .no-wires);
+        wires-put = wires-same wires (8 * u .wires) (v .x) (usedOf u) (v .no-wires);
         rows-put = er ∙ ap (store rows (8 * u .rows)) (sym (v .row-is (usedOf u)));
       })
