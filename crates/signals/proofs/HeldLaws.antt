@@ -103,7 +103,7 @@ found-below n (x ∷ ws) k w =
 
 module _ (ws : Wires) (n : Name) where
   module _ (k : WireNumber) (w : ℕ) (e : widthFound (find n ws) ≡ foundOf (Found.At k w)) where
-    pub wire-width : width ws (wire n) ≡ w
+    wire-width : width ws (wire n) ≡ w
     unfolding foundOf Option·elim
     wire-width = found-width ws n (Found.At k w) e
 
@@ -111,13 +111,16 @@ module _ (ws : Wires) (n : Name) where
     unfolding foundOf Option·elim
     wire-bits = found-bits ws n (Found.At k w) e
 
-    pub wire-fault : fault ws (wire n) ≡ tooWide w
+    wire-fault : fault ws (wire n) ≡ tooWide w
     unfolding fault parts goodNumbers goodSlice foundOf Option·elim
     wire-fault = own-width ws (wire n) refl (found-declared ws n (Found.At k w) e) refl ∙ ap tooWide wire-width
 
     pub wire-number : k .0 < length ws
     unfolding foundOf
     wire-number = found-below n ws (k .0) w e
+
+    pub wire-over : (o : ℕ) (out : List ℕ) → w < 4294967296 → 2048 < w → Put ws (wire n) o out out (sized w 11)
+    wire-over o out few h = put-over ws (wire n) o out w few wire-fault wire-width h
 
     pub wire-put-fits : (o : ℕ) (out out′ : List ℕ) → w ≤ 2048 → o + 2048 ≤ length out → out′ ≡ store out o (codes (wireBits (k .0) 0 w)) → Put ws (wire n) o out out′ (sized w 0)
     wire-put-fits o out out′ h room c =

@@ -233,9 +233,9 @@ module _ (f t : List ℕ) (i d : ℕ) where
   unfolding head atom one isAtom
   head-deep q e = rw (q, mark-line f t i 123 e)
 
-  pub head-bundle : (k : ℕ) → d ≡ suc k → markAt t i 123 ≡ true → head d (line f t i) ≡ members (signal k) (line f t (i + 1))
+  pub head-bundle : (d ≡ 0 → ⊥) → markAt t i 123 ≡ true → head d (line f t i) ≡ members (signal (d - 1)) (line f t (i + 1))
   unfolding head
-  head-bundle k q e = rw q (either-yes t i f "{" (members (signal k)) atom e)
+  head-bundle h e = ap (λ (k : ℕ). head k (line f t i)) (let q : d ≡ suc (d - 1) = omega (arith, h) in q) ∙ either-yes t i f "{" (members (signal (d - 1))) atom e
 
   pub head-atom : markAt t i 123 ≡ false → head d (line f t i) ≡ atom (line f t i)
   unfolding head
