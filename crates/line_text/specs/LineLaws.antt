@@ -28,9 +28,9 @@ use Rattle.line_text.specs.Options.{piece-options, spread-options}
 use Rattle.line_text.specs.Lines.{statementNow, bodyText}
 use Rattle.scanner.specs.Parts.{slice-le}
 
-pub span-le : (t rows : List ℕ) (k c : ℕ) → length (spanAt t rows k c) ≤ length t
+pub span-le : (t rows w : List ℕ) (k c : ℕ) → w ≡ spanAt t rows k c → length w ≤ length t
 unfolding spanAt
-span-le t rows k c = slice-le (column rows k c) (column rows k c + column rows k (c + 1)) t
+span-le t rows w k c e = rw e (slice-le (column rows k c) (column rows k c + column rows k (c + 1)) t)
 
 -- ---- constants: x is the kind, w the span
 module _ (strings bits rows : List ℕ) (k c x : ℕ) (ex : x ≡ column rows k c) where
