@@ -7,25 +7,25 @@ use mathlib.Core.Option.{Option, none, some}
 use Prim.Native.Nat.{ℕ, _+_, _/_, _<_, _≤_}
 use Prim.Native.String.{String}
 use native.Mathlib.Omega.{arith}
-use lib.Dec.{eqb, ltb}
+use lib.Dec.{eqb}
 use lib.ListN.{length, drop}
-use borrow.Author.Tests.{ltb-true, ltb-false, eq-eqb, ne-eqb}
+use borrow.Author.Tests.{ltb-true, eq-eqb, ne-eqb}
 use Rattle.rules.specs.Bytes.{bytes, same, any}
 use Rattle.rules.specs.Tokens as rules
 use Rattle.rules.specs.Statements.{Shape, Sort}
 use Rattle.rules.specs.Shapes.{Parse, isWord, give, one, of₁, either, choice, orEnd, sort, Scope, top, inModule, inCell, Context, autoidxForm, attributeForm, topForms, objectForms, bodyForms, cellForms, forms, wholeBy, whole, shape}
 use Rattle.rules.specs.Shapes as shapes
 use Rattle.scanner.specs.Words.{keywordNumber, keywordAt, placeIn}
-use Rattle.scanner.specs.Laws.{by-test, and-true-left, and-true-right}
+use Rattle.scanner.specs.Laws.{and-true-left, and-true-right}
 use Rattle.scanner.proofs.WordLaws.{keyword-back, keyword-number}
-use Rattle.tokens.specs.Rows.{line, rowOf, tokenIn}
+use Rattle.tokens.specs.Rows.{line}
 use Rattle.tokens.specs.Parts.{IdIs, IntegerIs, idGives, integerGives}
 use Rattle.tokens.specs.declared.Integer.{Integer}
 use Rattle.tokens.specs.declared.Id.{Id}
 use Rattle.tokens.specs.declared.Id.the-variants as id
 use Rattle.tokens.specs.declared.Slot.{Slot}
 use Rattle.tokens.specs.declared.Slot.the-variants as slot
-use Rattle.tokens.proofs.TokenLaws.{front-token, present, line-end, line-there, line-more}
+use Rattle.tokens.proofs.TokenLaws.{line-end, line-there, line-row, by-line}
 use Rattle.tokens.proofs.Words.{word-is}
 use Rattle.forms.specs.Words.{starts, WordIs, announced, numbered}
 use Rattle.forms.specs.Forms.{ended}
@@ -44,10 +44,6 @@ id-below t i a b r h e = given-below shapes.isId [] t i _ (rw e at (h []))
 pub integer-below : (t : List ℕ) (i : ℕ) (z : Integer) (r : Slot) → IntegerIs t i r → r ≡ slot.Given z → i < length t / 4
 unfolding shapes.int integerGives
 integer-below t i z r h e = given-below shapes.isInteger [] t i _ (rw e at (h []))
-
--- the first of the rows that are left
-pub line-row : (f t : List ℕ) (i : ℕ) → i < length t / 4 → line f t i ≡ tokenIn f (rowOf t i) ∷ line f t (i + 1)
-line-row f t i h = line-more f t i h ∙ front-token f (rowOf t i) (line f t (i + 1)) (present t i)
 
 ended-more : (o : Option Shape) (x : rules.Token) (ts : List rules.Token) → ended o (x ∷ ts) ≡ none
 unfolding ended wholeBy
@@ -91,12 +87,7 @@ either-starts w p q [] = refl
 either-starts w p q (t ∷ ts) = refl
 
 line-drop : (f t : List ℕ) (i : ℕ) → drop 1 (line f t i) ≡ line f t (i + 1)
-line-drop f t i =
-    by-test (ltb i (length t / 4))
-    (λ b. rw (line-row f t i (ltb-true _ _ b)))
-    (λ b.
-    let h : length t / 4 ≤ i = ltb-false i (length t / 4) b in
-    rw (line-end f t i h, line-end f t (i + 1) (omega arith)))
+line-drop f t i = by-line f t i (λ ts. drop 1 ts ≡ line f t (i + 1)) (λ h. sym (line-end f t (i + 1) (omega arith))) (λ h. refl)
 
 -- the row of a keyword in front of a choice of two
 pub either-word : {A : Type 0} (w : String) (p q : Parse A) (f t : List ℕ) (i c : ℕ) → WordIs t i c → rules.isKeyword (bytes w) ≡ true → either (isWord w) p q (line f t i) ≡ cond (eqb c (keywordNumber (bytes w))) (p (line f t (i + 1))) (q (line f t i))

@@ -7,7 +7,7 @@ use mathlib.Core.List.{List}
 use mathlib.Core.Option.{Option, none, some}
 use native.Mathlib.Omega.{arith}
 use lib.Dec.{eqb}
-use lib.ListN.{length, drop, replicate, length-drop, length-replicate}
+use lib.ListN.{length, replicate, length-replicate}
 use Rattle.rules.specs.Statements as rules
 use Rattle.rules.specs.Statements.{statementsOpen, code, contents, ownName}
 use Rattle.rules.specs.Numbers.{goodLiteral}
@@ -15,7 +15,6 @@ use Rattle.rules.specs.Signals.{kept, literalBits, literalWidth}
 use Rattle.rules.specs.Judgement.{sum, signalSize, valueSize, stringSize, nameSize}
 use Rattle.scanner.specs.Numbers.{capped}
 use Rattle.scanner.specs.Parts.{slice-le}
-use Rattle.strings.specs.Decoded.{decoded}
 use Rattle.strings.proofs.StringLaws.{decoded-length}
 use Rattle.tokens.specs.Rows.{literalIn}
 use Rattle.tokens.specs.declared.Constant.the-variants as constant
@@ -124,9 +123,6 @@ pub name-few : (f : List ℕ) (n : Span) → length (nameIn f n) ≤ length f
 unfolding nameIn
 name-few f n = slice-le (n .start) (n .end) f
 
-pub text-few : (f : List ℕ) (at : ℕ) → length (decoded (drop at f)) ≤ length f
-text-few f at = omega (arith, decoded-length (drop at f), length-drop at f)
-
 digits-are : (f : List ℕ) (i j e : ℕ) → digitsIn f (literal.Read (constant.Value i j e)) ≡ length (literalBits (literalIn f (constant.Value i j e)))
 unfolding digitsIn constantsIn valueIn literalIn literalBits kept sum statementsOpen
 digits-are f i j e = omega arith
@@ -148,7 +144,7 @@ unfolding bytesIn constantsIn valueIn literalIn kept sum statementsOpen
 bytes-few f literal.Nothing = omega arith
 bytes-few f (literal.Read (constant.Integer z)) = omega arith
 bytes-few f (literal.Read (constant.Value i j e)) = omega arith
-bytes-few f (literal.Read (constant.Text i)) = omega (arith, text-few f i)
+bytes-few f (literal.Read (constant.Text i)) = omega (arith, decoded-length f i)
 
 -- ---- the statement that an answer stands for has these parts
 

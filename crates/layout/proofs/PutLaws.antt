@@ -13,12 +13,13 @@ use Rattle.rules.specs.Statements.{Statement, Wire, wire-stmt, contents, holds}
 use Rattle.rules.specs.Numbers.{goodLiteral}
 use Rattle.rules.specs.Signals.{literalBits, literalWidth}
 use Rattle.rules.specs.Layout.{Used, row, digitCode, nameBytes, bitCodes, wireRow, wireRows}
-use Rattle.tables.specs.Store.{store, store-slice, store-then}
+use Rattle.tables.specs.Store.{store, store-then}
 use Rattle.tables.specs.Flat.{flat}
 use Rattle.scanner.specs.Numbers.{capped}
 use Rattle.tokens.specs.Rows.{literalIn}
 use Rattle.tokens.specs.declared.Constant.the-variants as constant
 use Rattle.literals.proofs.CodeLaws.{value-few, value-width}
+use Rattle.literals.proofs.Stored.{stored-front}
 use Rattle.syntax.specs.Statements.{signalIn}
 use Rattle.layout.specs.Put.{WireHas}
 use Rattle.syntax.specs.SignalLaws.{signal-words}
@@ -27,9 +28,7 @@ use Rattle.layout.specs.PartLaws.{one-name, two-names, one-signal, two-s
 
 -- values stored highest first, read from the last on
 stored-back : (d t vs : List ℕ) (n : ℕ) → t ≡ store d 0 (reverse vs) → length vs ≡ n → n ≤ length d → reverse (slice 0 n t) ≡ vs
-stored-back d t vs n e en h =
-    let k : n ≡ 0 + length (reverse vs) = omega (arith, length-reverse vs) in
-    ap reverse (ap₂ (slice 0) k e ∙ store-slice d 0 (reverse vs) (omega arith)) ∙ reverse-reverse vs
+stored-back d t vs n e en h = ap reverse (stored-front d t (slice 0 n t) (reverse vs) n (omega (arith, length-reverse vs)) e (omega (arith, length-reverse vs)) refl) ∙ reverse-reverse vs
 
 -- the digits of a value that keeps the number rules
 module _ (f : List ℕ) (a b e : ℕ) (h : goodLiteral (literalIn f (constant.Value a b e)) ≡ true) where

@@ -31,9 +31,9 @@ use Rattle.syntax.specs.declared.Statement.the-variants.{Autoidx, Attribute, Mo
 use Rattle.syntax.proofs.Statement.{the-type}
 use Rattle.netlist.specs.Tables.{Tables, tabled}
 use Rattle.layout.specs.Put.{namesPut, bitsPut, rowsPut, Puts, RoomFor, Fits, constantIn, optionalIn, optionalColumns, optionalBytes, optionalDigits, valuedRow, OptionalFits, WireHas, WirePut}
-use Rattle.layout.specs.PartLaws.{no-string, one-string, no-bits, one-value}
+use Rattle.layout.specs.PartLaws.{no-names, no-string, one-string, no-bits, one-value}
 use Rattle.syntax.specs.SignalLaws.{signal-long}
-use Rattle.layout.specs.RoomLaws.{names-same, strings-same, bits-same, wires-same, name-fits, names-fit, string-fits, value-fits, signal-fits, signals-fit, wire-fits, row-fits}
+use Rattle.layout.specs.RoomLaws.{nothing-put, wires-same, name-fits, names-fit, string-fits, value-fits, signal-fits, signals-fit, wire-fits, row-fits}
 use Rattle.layout.specs.Stored.{Storable, PutIs, ValuedHas, Plain, PlainStorable, PlainPut}
 use Rattle.netlist.specs.declared.used.Used.{Used}
 use Rattle.netlist.specs.Used.{usedOf}
@@ -134,9 +134,9 @@ module _ (f s : List ℕ) (r : Statement) (u : Used) (names names′ bits bits�
       puts-is f s r u (tabled names strings bits wires rows) (tabled names′ strings bits′ wires rows′) y e
       (record {
         names-put = en;
-        strings-put = strings-same y strings (u .strings) c;
+        strings-put = nothing-put strings (u .strings) (no-string y c);
         bits-put = eb;
-        wires-put = wires-same y wires (8 * u .wires) (usedOf u) w;
+        wires-put = wires-same wires (8 * u .wires) y (usedOf u) w;
         rows-put = er;
       })
 
@@ -145,11 +145,11 @@ module _ (f s : List ℕ) (r : Statement) (u : Used) (names bits wires rows rows
   unfolding statementIn statementRow columns code holds contents row padded
   autoidx-put w b e q =
       let x : rules.Statement = autoidx-stmt (signedOf w) in
-      plain-is f s r u names names bits bits wires rows rows′ x (ap (statementIn f s) e) refl refl (names-same x names (u .names) refl) (bits-same x bits (u .bits) refl refl) (rw (word-signed w b) q)
+      plain-is f s r u names names bits bits wires rows rows′ x (ap (statementIn f s) e) refl refl (nothing-put names (u .names) (no-names x refl)) (nothing-put bits (u .bits) (no-bits x refl refl)) (rw (word-signed w b) q)
 
   pub end-put : r ≡ End → rows′ ≡ store rows (8 * u .rows) (row (12 ∷ 0 ∷ 0 ∷ 0 ∷ 0 ∷ 0 ∷ 0 ∷ [])) → PlainPut f s r u names names bits bits wires wires rows rows′
   unfolding statementIn statementRow columns code holds contents row padded
-  end-put e q = plain-is f s r u names names bits bits wires rows rows′ end-stmt (ap (statementIn f s) e) refl refl (names-same end-stmt names (u .names) refl) (bits-same end-stmt bits (u .bits) refl refl) q
+  end-put e q = plain-is f s r u names names bits bits wires rows rows′ end-stmt (ap (statementIn f s) e) refl refl (nothing-put names (u .names) (no-names end-stmt refl)) (nothing-put bits (u .bits) (no-bits end-stmt refl refl)) q
 
 module _ (f s : List ℕ) (r : Statement) (u : Used) (names names′ bits wires rows rows′ : List ℕ) where
   pub memory-put :
@@ -158,7 +158,7 @@ module _ (f s : List ℕ) (r : Statement) (u : Used) (names names′ bits wires 
   unfolding statementIn memoryFrom statementRow columns code holds contents row padded
   memory-put n w z t b e en er =
       let x : rules.Statement = memory-stmt (memoryFrom w z t) (nameIn f n) in
-      plain-is f s r u names names′ bits bits wires rows rows′ x (ap (statementIn f s) e) refl refl (name-put x names names′ (u .names) (nameIn f n) refl en) (bits-same x bits (u .bits) refl refl) (rw (word-signed t b) er)
+      plain-is f s r u names names′ bits bits wires rows rows′ x (ap (statementIn f s) e) refl refl (name-put x names names′ (u .names) (nameIn f n) refl en) (nothing-put bits (u .bits) (no-bits x refl refl)) (rw (word-signed t b) er)
 
   pub cell-put :
       (k n : Span) → r ≡ Cell k n → let x = cell-stmt (nameIn f k) (nameIn f n) in
@@ -166,7 +166,7 @@ module _ (f s : List ℕ) (r : Statement) (u : Used) (names names′ bits wires 
   unfolding statementIn holds contents
   cell-put k n e en er =
       let x : rules.Statement = cell-stmt (nameIn f k) (nameIn f n) in
-      plain-is f s r u names names′ bits bits wires rows rows′ x (ap (statementIn f s) e) refl refl en (bits-same x bits (u .bits) refl refl) er
+      plain-is f s r u names names′ bits bits wires rows rows′ x (ap (statementIn f s) e) refl refl en (nothing-put bits (u .bits) (no-bits x refl refl)) er
 
 module _ (f s : List ℕ) (r : Statement) (u : Used) (names names′ bits bits′ wires rows rows′ : List ℕ) where
   pub cell-connection-put :
@@ -182,7 +182,7 @@ module _ (f s : List ℕ) (r : Statement) (u : Used) (names bits bits′ wires r
   unfolding statementIn holds contents
   connection-put a b l e eb er =
       let x : rules.Statement = conn-stmt (signalIn s 0 a) (signalIn s 2048 b) in
-      plain-is f s r u names names bits bits′ wires rows rows′ x (ap (statementIn f s) e) refl refl (names-same x names (u .names) refl) eb er
+      plain-is f s r u names names bits bits′ wires rows rows′ x (ap (statementIn f s) e) refl refl (nothing-put names (u .names) (no-names x refl)) eb er
 
 module _ (f s : List ℕ) (r : Statement) (u : Used) (names names′ bits wires wires′ rows rows′ : List ℕ) where
   pub wire-puts :
@@ -196,8 +196,8 @@ module _ (f s : List ℕ) (r : Statement) (u : Used) (names names′ bits wires 
       puts-is f s r u (tabled names strings bits wires rows) (tabled names′ strings bits wires′ rows′) x (ap (statementIn f s) e)
       (record {
         names-put = z .0;
-        strings-put = strings-same x strings (u .strings) refl;
-        bits-put = bits-same x bits (u .bits) refl refl;
+        strings-put = nothing-put strings (u .strings) (no-string x refl);
+        bits-put = nothing-put bits (u .bits) (no-bits x refl refl);
         wires-put = z .1;
         rows-put = z .2;
       })
@@ -242,34 +242,22 @@ plain-rest MissingWire o = tt
 -- ---- answers of a name and, if they have one, a constant
 
 module _ (f s : List ℕ) where
+  valued :
+      {r : Statement} {kind : ℕ} {n : Span} {c : Literal} {sort : ℕ} (x : rules.Statement) → statementIn f s r ≡ some x → contents x .names ≡ nameIn f n ∷ [] →
+      contents x .constants ≡ Option·toList (optionalIn f c) → contents x .signals ≡ [] → contents x .wires ≡ [] → GoodOptional f c →
+      ((u : rooms.Used) → statementRow u x ≡ valuedRow u kind (nameIn f n) (optionalIn f c) sort) → ValuedHas f s r kind n c sort
+  valued x e n c k w g q = record { x = x; is = e; names-are = n; constants-are = c; no-signals = k; no-wires = w; good = g; row-is = q }
+
   pub attribute-valued : (r : Statement) (n : Span) (c : Constant) → r ≡ Attribute n c → Sound f r → ValuedHas f s r 2 n (literal.Read c) 0
   unfolding statementIn holds contents valueIn Option·map Option·toList Option·elim statementRow columns code valuedRow optionalColumns
   attribute-valued r n c e g =
-      record {
-        x = attr-stmt (nameIn f n) (constantIn f c);
-        is = ap (statementIn f s) e;
-        names-are = refl;
-        constants-are = refl;
-        no-signals = refl;
-        no-wires = refl;
-        good = rw e at g;
-        row-is = λ u. sym (row-zero u (constantIn f c) 2 (u .names) (length (nameIn f n)));
-      }
+      valued (attr-stmt (nameIn f n) (constantIn f c)) (ap (statementIn f s) e) refl refl refl refl (rw e at g) (λ u. sym (row-zero u (constantIn f c) 2 (u .names) (length (nameIn f n))))
 
   pub cell-parameter-valued : (r : Statement) (z : ℕ) (n : Span) (c : Constant) → r ≡ CellParameter z n c → Sound f r → ValuedHas f s r 8 n (literal.Read c) z
   unfolding statementIn holds contents valueIn Option·map Option·toList Option·elim statementRow columns code valuedRow optionalColumns
   cell-parameter-valued r z n c e g =
       let k : (z ≤ 2) × GoodConstant f c = rw e at g in
-      record {
-        x = cell-param-stmt (sortOf z) (nameIn f n) (constantIn f c);
-        is = ap (statementIn f s) e;
-        names-are = refl;
-        constants-are = refl;
-        no-signals = refl;
-        no-wires = refl;
-        good = k .1;
-        row-is = λ u. rw (sort-code z (k .0));
-      }
+      valued (cell-param-stmt (sortOf z) (nameIn f n) (constantIn f c)) (ap (statementIn f s) e) refl refl refl refl (k .1) (λ u. rw (sort-code z (k .0)))
 
   parameter-row : (u : rooms.Used) (n : Name) (c : Literal) → statementRow u (param-stmt n (optionalIn f c)) ≡ valuedRow u 4 n (optionalIn f c) 0
   unfolding holds contents valueIn Option·map Option·elim statementRow columns code valuedRow optionalColumns row padded
@@ -278,31 +266,11 @@ module _ (f s : List ℕ) where
 
   pub parameter-valued : (r : Statement) (n : Span) (c : Literal) → r ≡ Parameter n c → Sound f r → ValuedHas f s r 4 n c 0
   unfolding statementIn holds contents
-  parameter-valued r n c e g =
-      record {
-        x = param-stmt (nameIn f n) (optionalIn f c);
-        is = ap (statementIn f s) e;
-        names-are = refl;
-        constants-are = refl;
-        no-signals = refl;
-        no-wires = refl;
-        good = rw e at g;
-        row-is = λ u. parameter-row u (nameIn f n) c;
-      }
+  parameter-valued r n c e g = valued (param-stmt (nameIn f n) (optionalIn f c)) (ap (statementIn f s) e) refl refl refl refl (rw e at g) (λ u. parameter-row u (nameIn f n) c)
 
   pub module-valued : (r : Statement) (n : Span) → r ≡ Module n → Sound f r → ValuedHas f s r 3 n literal.Nothing 0
   unfolding statementIn holds contents valueIn Option·map Option·toList Option·elim statementRow columns code valuedRow optionalColumns row padded
-  module-valued r n e g =
-      record {
-        x = module-stmt (nameIn f n);
-        is = ap (statementIn f s) e;
-        names-are = refl;
-        constants-are = refl;
-        no-signals = refl;
-        no-wires = refl;
-        good = tt;
-        row-is = λ u. refl;
-      }
+  module-valued r n e g = valued (module-stmt (nameIn f n)) (ap (statementIn f s) e) refl refl refl refl tt (λ u. refl)
 
 -- what they need
 module _ (f s : List ℕ) (r : Statement) (u : Used) (t : Tables) (h : Storable f s r u t) where
@@ -366,6 +334,6 @@ module _ (f s : List ℕ) (r : Statement) (u : Used) (names names′ strings str
         names-put = name-put (v .x) names names′ (u .names) (nameIn f n) (v .names-are) en;
         strings-put = es ∙ bytes-put (v .x) strings (u .strings) (optionalIn f c) (v .constants-are);
         bits-put = eb ∙ digits-put (v .x) bits (u .bits) (optionalIn f c) (v .constants-are) (v .no-signals);
-        wires-put = wires-same (v .x) wires (8 * u .wires) (usedOf u) (v .no-wires);
+        wires-put = wires-same wires (8 * u .wires) (v .x) (usedOf u) (v .no-wires);
         rows-put = er ∙ ap (store rows (8 * u .rows)) (sym (v .row-is (usedOf u)));
       })

@@ -15,7 +15,7 @@ use Rattle.wires.specs.RowLaws.{length-wire-row}
 use Rattle.netlist.specs.RowLaws.{length-statement-row}
 use Rattle.netlist.specs.Tables.{Tables}
 use Rattle.layout.specs.Put.{tablesOf, Puts, usedAfter, RoomFor, Fits}
-use Rattle.layout.specs.PartLaws.{no-names, one-name, two-names, no-string, one-string, no-bits, one-value, one-signal, two-signals, no-wire, one-wire}
+use Rattle.layout.specs.PartLaws.{one-name, two-names, one-string, one-value, one-signal, two-signals, no-wire, one-wire}
 
 -- ---- what is used
 
@@ -70,19 +70,13 @@ tables-put R s k u t t′ e eu h room p =
 
 -- ---- a table into which a statement puts nothing
 
-module _ (s : Statement) (t : List ℕ) (at : ℕ) where
-  pub names-same : contents s .names ≡ [] → t ≡ store t at (nameBytes s)
-  names-same e = sym (ap (store t at) (no-names s e) ∙ store-none t at)
+module _ (t : List ℕ) (at : ℕ) where
+  pub nothing-put : {vs : List ℕ} → vs ≡ [] → t ≡ store t at vs
+  nothing-put e = sym (ap (store t at) e ∙ store-none t at)
 
-  pub strings-same : contents s .constants ≡ [] → t ≡ store t at (stringBytes s)
-  strings-same e = sym (ap (store t at) (no-string s e) ∙ store-none t at)
-
-  pub bits-same : contents s .constants ≡ [] → contents s .signals ≡ [] → t ≡ store t at (bitCodes s)
-  bits-same e g = sym (ap (store t at) (no-bits s e g) ∙ store-none t at)
-
-  pub wires-same : (u : Used) → contents s .wires ≡ [] → t ≡ store t at (flat (wireRows u s))
+  pub wires-same : (s : Statement) (u : Used) → contents s .wires ≡ [] → t ≡ store t at (flat (wireRows u s))
   unfolding flatMap
-  wires-same u e = sym (ap (λ (rs : List (List ℕ)). store t at (flat rs)) (no-wire s u e) ∙ store-none t at)
+  wires-same s u e = nothing-put (ap flat (no-wire s u e))
 
 -- ---- room for a statement's parts in tables of the stated lengths
 

@@ -3,7 +3,7 @@
 use mathlib.Core.Path.{_≡_, refl, sym, ap, _∙_}
 use mathlib.Core.List.{List, [], _∷_, _++_, append-nil}
 use Prim.Native.Nat.{ℕ, zero, suc, _+_, _-_, _*_, _≤_, _<_}
-use native.Mathlib.Nat.{add-zero}
+use native.Mathlib.Nat.{zero-add}
 use native.Mathlib.Omega.{arith}
 use lib.Dec.{ltb}
 use lib.ListN.{length, getD, take, drop}
@@ -15,7 +15,7 @@ use Rattle.scanner.specs.Parts.{slice-part}
 use Rattle.tables.specs.Store.{store, length-store, store-before, store-inside}
 use Rattle.tokens.specs.Rows.{tokenIn, tokenOf, rowOf, rowWords, rowsFrom, line, Small}
 use Rattle.tokens.specs.declared.Token.{Token}
-use Rattle.tokens.proofs.TokenLaws.{words-back, length-rowWords, put-token-line}
+use Rattle.tokens.proofs.TokenLaws.{words-back, length-rowWords, row-same, put-token-line}
 use Rattle.lexer.specs.Lexemes.{Held, stepOf, StepIs}
 use Rattle.lexer.specs.Lines.{lexedOf, LexedIs}
 use Rattle.lexer.specs.declared.Lexeme.{Lexeme}
@@ -43,18 +43,11 @@ behind-onto ts x (rules.bad l) = refl
 module _ (t ws : List ℕ) (n : ℕ) (long : length ws ≡ 4) (room : 4 * n + 4 ≤ length t) where
   row-before : (k : ℕ) → k < n → rowOf (store t (4 * n) ws) k ≡ rowOf t k
   unfolding rowOf
-  row-before k h =
-      let at : (j : ℕ) → j < 4 → getD (store t (4 * n) ws) (4 * k + j) 0 ≡ getD t (4 * k + j) 0 =
-      λ j l. store-before t (4 * n) ws (4 * k + j) (omega arith) (omega arith) in
-      let first : getD (store t (4 * n) ws) (4 * k) 0 ≡ getD t (4 * k) 0 = store-before t (4 * n) ws (4 * k) (omega arith) (omega arith) in
-      rw (first, at 1 (omega arith), at 2 (omega arith), at 3 (omega arith))
+  row-before k h = row-same (store t (4 * n) ws) t (4 * k) (4 * k) (λ j l. store-before t (4 * n) ws (4 * k + j) (omega arith) (omega arith))
 
   row-at : rowOf (store t (4 * n) ws) n ≡ tokenOf (getD ws 0 0) (getD ws 1 0) (getD ws 2 0) (getD ws 3 0)
   unfolding rowOf
-  row-at =
-      let at : (j : ℕ) → j < 4 → getD (store t (4 * n) ws) (4 * n + j) 0 ≡ getD ws j 0 = λ j l. store-inside t (4 * n) ws j (omega arith) (omega arith) in
-      let first : getD (store t (4 * n) ws) (4 * n) 0 ≡ getD ws 0 0 = ap (λ (k : ℕ). getD (store t (4 * n) ws) k 0) (sym (add-zero (4 * n))) ∙ at 0 (omega arith) in
-      rw (first, at 1 (omega arith), at 2 (omega arith), at 3 (omega arith))
+  row-at = row-same (store t (4 * n) ws) ws (4 * n) 0 (λ j l. rw (zero-add j) (store-inside t (4 * n) ws j (omega arith) (omega arith)))
 
 -- ---- the loop
 
@@ -84,19 +77,15 @@ start f t from end h k =
 pub told : (f : List ℕ) (end i : ℕ) (r q : Lexeme) → StepIs (take (end - 0) (drop 0 f)) i r → r ≡ q → StepIs (take end f) i q
 told f end i r q S e = let T : StepIs (take end f) i r = rw (sym (slice-part 0 end f)) at S in rw e at T
 
--- fuel for one turn more
-less : (k : ℕ) → 0 < k → (j : ℕ) × (k ≡ suc j)
-less zero h = absurd (omega arith)
-less (suc j) h = (j, refl)
-
 module _ (f old t : List ℕ) (from end i n : ℕ) (k : end ≤ length f) (R : Reached f old t from end i n) where
   -- one turn, by what stands at i
   turn : (x : rules.Step) → rules.step (slice i end f) ≡ x → (j : ℕ) → R .fuel ≡ suc j → rules.tokens (slice from end f) ≡ behind (line f (take (4 * n) t) 0) (rules.tokensBy (rules.tokensFrom j) x)
   unfolding rules.tokensFrom
   turn x e j q = R .same ∙ rw (q, e)
 
-  more : i < end → (j : ℕ) × (R .fuel ≡ suc j)
-  more h = less (R .fuel) (omega (arith, R .enough))
+  -- fuel for one turn more
+  more : i < end → R .fuel ≡ suc (R .fuel - 1)
+  more h = omega (arith, R .enough)
 
   ends-by : (m : ℕ) → rules.step (slice i end f) ≡ rules.done → rules.tokensFrom m (slice i end f) ≡ rules.good []
   unfolding rules.tokensFrom rules.tokensBy
@@ -116,9 +105,8 @@ module _ (f old t : List ℕ) (from end i n : ℕ) (k : end ≤ length f) (R : R
   unfolding stepOf lexedOf behind rules.tokensBy
   broke p S =
       let l : p < end = omega (arith, S .lies .1, length-prefix f end k) in
-      let j = more (omega (arith, S .lies .0)) in
       record {
-        is = turn (rules.wrong (slice p end f)) (S .is) (j .0) (j .1);
+        is = turn (rules.wrong (slice p end f)) (S .is) (R .fuel - 1) (more (omega (arith, S .lies .0)));
         among = (omega (arith, R .from, S .lies .0), l);
         kept = R .kept;
       }
@@ -147,20 +135,19 @@ module _ (f old t : List ℕ) (from end i n : ℕ) (k : end ≤ length f) (R : R
       pub step-on : (new : List ℕ) → new ≡ store t (4 * n) (rowWords x) → Reached f old new from end next (n + 1)
       unfolding stepOf rules.tokensBy
       step-on new e =
-          let j = more (omega (arith, within .0, within .1)) in
           let y : rules.Token = tokenIn (take end f) x in
           let rows : line f (take (4 * (n + 1)) new) 0 ≡ line f (take (4 * n) t) 0 ++ tokenIn f x ∷ [] =
           rw e (put-token-line f t n x (held-present (take end f) x (within .2)) room) in
           record {
-            fuel = j .0;
-            enough = omega (arith, R .enough, j .1, within .0);
+            fuel = R .fuel - 1;
+            enough = omega (arith, R .enough, within .0);
             from = omega (arith, R .from, within .0);
             to = within .1;
             kept = rw e (length-store t (4 * n) (rowWords x) ∙ R .kept);
             held = held-by new e;
             same =
-                turn (rules.token y (slice next end f)) (S .is) (j .0) (j .1)
-                ∙ behind-onto (line f (take (4 * n) t) 0) y (rules.tokensFrom (j .0) (slice next end f))
-                ∙ ap (λ (ts : List rules.Token). behind ts (rules.tokensFrom (j .0) (slice next end f)))
+                turn (rules.token y (slice next end f)) (S .is) (R .fuel - 1) (more (omega (arith, within .0, within .1)))
+                ∙ behind-onto (line f (take (4 * n) t) 0) y (rules.tokensFrom (R .fuel - 1) (slice next end f))
+                ∙ ap (λ (ts : List rules.Token). behind ts (rules.tokensFrom (R .fuel - 1) (slice next end f)))
                 (ap (λ (z : rules.Token). line f (take (4 * n) t) 0 ++ z ∷ []) (token-file f end k x (within .2)) ∙ sym rows);
           }

@@ -115,18 +115,18 @@ module _ (s : List ℕ) (at p : ℕ) (e : p ≡ endOf (inClass 3 3) s at) where
 
 module _ (s : List ℕ) (p e : ℕ) where
   module _ (c : Starts s p 7 7) (q : e ≡ endOf (inClass 4 14) s p) (r : Bool) (l : r ≡ legal (take (e - p) (drop p s))) where
-    pub name-legal : r ≡ true → legal (slice p e s) ≡ true
-    name-legal t = ap legal (slice-part p e s) ∙ sym l ∙ t
+    name-legal : legal (slice p e s) ≡ r
+    name-legal = ap legal (slice-part p e s) ∙ sym l
 
     pub name-token : r ≡ true → StepIs s p (lexeme.Token (token.Name p e) e)
     unfolding rules.nameStep stepOf tokenIn front
     name-token t =
         let b = ends-past s p 7 7 4 14 e c (omega arith) (omega arith) q in
-        record { is = at-name s p c e q ∙ rw (name-legal t); lies = (b .0, b .1, (omega (arith, b .0), b .1, name-legal t)) }
+        record { is = at-name s p c e q ∙ rw (name-legal, t); lies = (b .0, b .1, (omega (arith, b .0), b .1, name-legal ∙ t)) }
 
     pub name-wrong : r ≡ false → StepIs s p (lexeme.Wrong p)
     unfolding rules.nameStep
-    name-wrong t = wrong-at s p _ (c .inside) (at-name s p c e q ∙ rw (ap legal (slice-part p e s) ∙ sym l ∙ t))
+    name-wrong t = wrong-at s p _ (c .inside) (at-name s p c e q ∙ rw (name-legal, t))
 
   module _ (c : Starts s p 13 14) (q : e ≡ endOf (inClass 13 14) s p) (k : ℕ) (n : k ≡ keywordNumber (take (e - p) (drop p s))) where
     number : keywordNumber (slice p e s) ≡ k

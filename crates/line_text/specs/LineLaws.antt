@@ -7,7 +7,7 @@ use mathlib.Core.Option.{none, some, Option·map}
 use Prim.Native.Nat.{ℕ, _+_, _-_, _/_, _%_, _≤_}
 use lib.Dec.{eqb}
 use lib.IntN.{ℤ, pos}
-use lib.ListN.{length, length-map}
+use lib.ListN.{length}
 use borrow.Author.Tests.{eq-eqb, ne-eqb}
 use Rattle.rules.specs.Bytes.{bytes}
 use Rattle.rules.specs.Tokens.{Name, Literal, value, integer, string, literal, mark}
@@ -23,21 +23,20 @@ use Rattle.netlist.specs.Rows.{kindAt, nameFrom}
 use Rattle.netlist.specs.Statements.{constantAt, optionalAt, signalAt, memoryAt, statementBy, statementAt}
 use Rattle.wire_names.specs.declared.Module.{Module}
 use Rattle.wire_names.specs.Now.{nameNow, ownNow}
-use Rattle.line_text.specs.Pieces.{spread, Piece, piece-none, piece-name, piece-word, piece-literal, piece-sig, piece-bounds, spread-name, spread-literal, spread-append, spaced-word, spaced-two, spaced-three}
+use Rattle.line_text.specs.Pieces.{spread, Piece, piece-none, piece-name, piece-word, piece-literal, piece-sig, piece-bounds, spread-name, spread-literal, spread-digits, spread-append, spaced-word, spaced-two, spaced-three}
 use Rattle.line_text.specs.Options.{piece-options, spread-options}
 use Rattle.line_text.specs.Lines.{statementNow, bodyText}
 use Rattle.scanner.specs.Parts.{slice-le}
 
-pub span-le : (t rows : List ℕ) (k c : ℕ) → length (spanAt t rows k c) ≤ length t
+pub span-le : (t rows w : List ℕ) (k c : ℕ) → w ≡ spanAt t rows k c → length w ≤ length t
 unfolding spanAt
-span-le t rows k c = slice-le (column rows k c) (column rows k c + column rows k (c + 1)) t
+span-le t rows w k c e = rw e (slice-le (column rows k c) (column rows k c + column rows k (c + 1)) t)
 
 -- ---- constants: x is the kind, w the span
 module _ (strings bits rows : List ℕ) (k c x : ℕ) (ex : x ≡ column rows k c) where
   pub constant-value : (w : List ℕ) → w ≡ spanAt bits rows k (c + 1) → x ≡ 1 → 32 ∷ literalText (value (length w) (reverse (map digitOf w))) ≡ spread (literal (literalOf (constantAt strings bits rows k c)) ∷ [])
   unfolding constantAt literalOf
-  constant-value w ew e =
-      sym (spread-literal (literalOf (constantAt strings bits rows k c)) ∙ rw (← ex, e, ← ew) (ap (λ (n : ℕ). 32 ∷ literalText (value n (reverse (map digitOf w)))) (length-map w digitOf)))
+  constant-value w ew e = rw (← ex, e, ← ew) (spread-digits w)
 
   pub constant-integer : (y : ℕ) → y ≡ column rows k (c + 1) → x ≡ 2 → 32 ∷ integerText (signedOf y) ≡ spread (literal (literalOf (constantAt strings bits rows k c)) ∷ [])
   unfolding constantAt literalOf literalText

@@ -6,16 +6,14 @@ use mathlib.Core.List.{List, [], _∷_, _++_, map, append-assoc, append-nil, Opt
 use mathlib.Core.Option.{Option, none, some}
 use Prim.Native.Nat.{ℕ, _-_}
 use native.Mathlib.Omega.{arith}
-use lib.Dec.{ltb}
-use lib.IntN.{ℤ, pos, negsuc}
-use borrow.Author.Tests.{le-leb, lt-leb}
-use Rattle.rules.specs.Bytes.{within}
+use lib.IntN.{ℤ}
 use Rattle.rules.specs.Tokens.{Token, word}
 use Rattle.rules.specs.Statements.{Opt}
 use Rattle.rules.specs.Numbers.{inRange}
 use Rattle.rules.specs.Text.{numberToken, optionTokens}
-use Rattle.scanner.specs.Laws.{by-test}
+use Rattle.scanner.specs.Laws.{within-above}
 use Rattle.numbers.specs.Signed.{signedOf}
+use Rattle.numbers.specs.SignedLaws.{by-half}
 use Rattle.line_text.specs.Pieces.{spread, Piece, piece-none, piece-word, piece-literal, piece-append, spread-append}
 
 option-piece : (w : List ℕ) (o : Option ℤ) → Piece (word w ∷ map numberToken (Option·toList o))
@@ -40,11 +38,5 @@ spread-options os ps = ap spread (options-append os ps) ∙ spread-append (piece
 
 -- an offset is 0 just where its word is
 pub offset-there : (w : ℕ) → (w ≡ 0 → ⊥) → inRange 0 0 (signedOf w) ≡ false
-unfolding signedOf inRange within
-offset-there w h = by-test (ltb w 2147483648) (λ e. rw e (some-number w h)) (λ e. rw e (below w))
-  where
-    some-number : (n : ℕ) → (n ≡ 0 → ⊥) → inRange 0 0 (pos n) ≡ false
-    some-number n k = rw (le-leb 0 n (omega arith), lt-leb n 0 (omega (arith, k)))
-
-    below : (n : ℕ) → inRange 0 0 (negsuc (4294967295 - n)) ≡ false
-    below n = refl
+unfolding inRange
+offset-there w h = by-half (λ z. inRange 0 0 z ≡ false) w (λ b. within-above 0 0 w (omega (arith, h))) (λ b. refl)

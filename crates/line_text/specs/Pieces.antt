@@ -2,14 +2,16 @@
 -- Assumes nothing.
 use mathlib.Core.Path.{_≡_, refl, sym, ap, _∙_}
 use mathlib.Core.Bool.{Bool, false, cond, _||_}
-use mathlib.Core.List.{List, [], _∷_, _++_, append-assoc, append-nil}
+use mathlib.Core.List.{List, [], _∷_, _++_, map, reverse, append-assoc, append-nil}
 use mathlib.Core.Option.{Option, none, some}
 use Prim.Native.Nat.{ℕ}
 use lib.IntN.{ℤ}
-use Rattle.rules.specs.Tokens.{Literal, Token, name, word, literal, mark}
+use lib.ListN.{length, length-map}
+use Rattle.rules.specs.Tokens.{Literal, value, Token, name, word, literal, mark}
 use Rattle.rules.specs.Statements.{Sig, Sigs, constant, wire, slice, bundle, nothing, _below_}
 use Rattle.rules.specs.Shapes.{isMark}
 use Rattle.rules.specs.Text.{tight, behind, spaced, literalText, tokenText, numberToken, lowTokens, sigTokens, sigsTokens}
+use Rattle.numbers.specs.Kinds.{digitOf}
 
 -- tokens behind a word
 unfoldable pub spread : List Token → List ℕ
@@ -98,6 +100,9 @@ spread-name n = append-nil (32 ∷ n)
 pub spread-literal : (c : Literal) → spread (literal c ∷ []) ≡ 32 ∷ literalText c
 unfolding spread behind tight tokenText
 spread-literal c = append-nil (32 ∷ literalText c)
+
+pub spread-digits : (w : List ℕ) → 32 ∷ literalText (value (length w) (reverse (map digitOf w))) ≡ spread (literal (value (length (map digitOf w)) (reverse (map digitOf w))) ∷ [])
+spread-digits w = sym (spread-literal _ ∙ ap (λ (n : ℕ). 32 ∷ literalText (value n (reverse (map digitOf w)))) (length-map w digitOf))
 
 -- a line's first word, and the pieces behind it
 pub spaced-word : (w : List ℕ) {ts : List Token} → Piece ts → spaced (word w ∷ ts) ≡ w ++ spread ts

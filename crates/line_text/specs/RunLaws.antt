@@ -1,15 +1,15 @@
 -- The runs of a signal from its highest bit down, and their text.
 -- Assumes nothing.
 use mathlib.Core.Path.{_≡_, refl, sym, ap, _∙_}
-use mathlib.Core.Bool.{true, false, _&&_, false≢true}
+use mathlib.Core.Bool.{true, false, cond, _&&_}
 use mathlib.Core.List.{List, [], _∷_, _++_, map, reverse}
 use Prim.Native.Nat.{ℕ, zero, suc, _+_, _-_, _/_, _%_, _≤_, _<_}
 use native.Mathlib.Numerals.{add-one}
 use native.Mathlib.Omega.{arith}
 use lib.Dec.{eqb, ltb}
-use lib.ListN.{length, getD, take, drop, drop-of-length-le, length-map}
+use lib.ListN.{length, getD, take, drop, length-drop}
 use lib.Seq.{drop-cons, getD-drop, drop-length}
-use borrow.Author.Tests.{ltb-true, ltb-false, lt-ltb, le-ltb}
+use borrow.Author.Tests.{lt-ltb, le-ltb}
 use Rattle.rules.specs.Statements.{Bit, digit, bit, bundle}
 use Rattle.rules.specs.Tokens.{value, mark}
 use Rattle.rules.specs.Shapes.{isMark, sigs}
@@ -17,7 +17,7 @@ use Rattle.rules.specs.Signals.{Wires}
 use Rattle.rules.specs.Text.{Run, digits, span, join, runs, cut, runSig, runsSig, sig, sigTokens, sigsTokens, behind, tight, tokenText, literalText}
 use Rattle.scanner.specs.Laws.{by-test}
 use Rattle.numbers.specs.Kinds.{digitOf, bitOf, bitAt, signalOf}
-use Rattle.line_text.specs.Pieces.{spread, spread-literal, spread-append, piece-append, piece-sig, piece-sigs, piece-open, piece-close}
+use Rattle.line_text.specs.Pieces.{spread, spread-digits, spread-append, piece-append, piece-sig, piece-sigs, piece-open, piece-close}
 use Rattle.line_text.specs.Runs.{joint, firstRun, runsText, Apart, Lowest}
 
 -- one bit
@@ -26,24 +26,19 @@ unfolding runs join signalOf bitOf bitAt firstRun
 run-one c = by-test (ltb c 6) (λ e. rw e) (λ e. rw e)
 
 module _ (c d : ℕ) (ds : List ℕ) (n : ℕ) (rest : List Run) (h : runs (signalOf (d ∷ ds)) ≡ firstRun (d ∷ ds) n ∷ rest) where
-  -- a bit more below a run
-  run-longer : joint c d ≡ true → runs (signalOf (c ∷ d ∷ ds)) ≡ firstRun (c ∷ d ∷ ds) (n + 1) ∷ rest
+  -- a bit below a run joins it or begins a new one
+  run-joined : runs (signalOf (c ∷ d ∷ ds)) ≡ cond (joint c d) (firstRun (c ∷ d ∷ ds) (n + 1) ∷ rest) (firstRun (c ∷ d ∷ ds) 1 ∷ firstRun (d ∷ ds) n ∷ rest)
   unfolding runs join signalOf bitOf bitAt firstRun joint
-  run-longer t =
+  run-joined =
       ap (join (bitOf (bitAt c))) h
-      ∙ by-test (ltb c 6) (λ e. let q : ltb d 6 ≡ true = rw e at t in rw (e, q, add-one n))
-      (λ e. by-test (ltb d 6) (λ q. absurd (false≢true (rw (e, q) at t)))
-      (λ q. let j : eqb ((c - 6) / 2048) ((d - 6) / 2048) && eqb ((c - 6) % 2048 + 1) ((d - 6) % 2048) ≡ true = rw (e, q) at t in rw (e, q, j)))
+      ∙ by-test (ltb c 6) (λ e. by-test (ltb d 6) (λ q. rw (e, q, add-one n)) (λ q. rw (e, q)))
+      (λ e. by-test (ltb d 6) (λ q. rw (e, q)) (λ q. rw (e, q)))
 
-  -- a bit below a run that it does not join
+  run-longer : joint c d ≡ true → runs (signalOf (c ∷ d ∷ ds)) ≡ firstRun (c ∷ d ∷ ds) (n + 1) ∷ rest
+  run-longer t = run-joined ∙ rw t
+
   run-new : joint c d ≡ false → runs (signalOf (c ∷ d ∷ ds)) ≡ firstRun (c ∷ d ∷ ds) 1 ∷ runs (signalOf (d ∷ ds))
-  unfolding runs join signalOf bitOf bitAt firstRun joint
-  run-new t =
-      ap (join (bitOf (bitAt c))) h
-      ∙ by-test (ltb c 6) (λ e. let q : ltb d 6 ≡ false = rw e at t in rw (e, q))
-      (λ e. by-test (ltb d 6) (λ q. rw (e, q))
-      (λ q. let j : eqb ((c - 6) / 2048) ((d - 6) / 2048) && eqb ((c - 6) % 2048 + 1) ((d - 6) % 2048) ≡ false = rw (e, q) at t in rw (e, q, j)))
-      ∙ ap (λ (l : List Run). firstRun (c ∷ d ∷ ds) 1 ∷ l) (sym h)
+  run-new t = run-joined ∙ rw (t, h)
 
 -- the lowest run of bits begins with the first
 pub record Begins (s : List ℕ) : Type 0 where
@@ -71,11 +66,7 @@ run-top s i j e h a =
     let z : i + 0 ≡ i = omega arith in
     let y : i - 1 ≡ j = omega arith in
     rw (q, drop-cons s j 0 (omega arith), ← e1)
-    (run-below (getD s j 0) (drop i s) (λ l. rw (getD-drop i s 0 0, z) (rw y at (a (omega arith) (longer l)))))
-  where
-    longer : 0 < length (drop i s) → i < length s
-    longer l = by-test (ltb i (length s)) (λ t. ltb-true i (length s) t)
-        (λ t. let n : length (drop i s) ≡ 0 = ap length (drop-of-length-le s (ltb-false i (length s) t)) in absurd (omega arith))
+    (run-below (getD s j 0) (drop i s) (λ l. rw (getD-drop i s 0 0, z) (rw y at (a (omega arith) (omega (arith, length-drop i s))))))
 
 -- a bit more below the run from j up to i
 pub run-more : (s : List ℕ) (i j k : ℕ) → j ≡ k + 1 → j < i → i ≤ length s → joint (getD s k 0) (getD s j 0) ≡ true → runs (signalOf (drop j s)) ≡ firstRun (drop j s) (i - j) ∷ runs (signalOf (drop i s)) → runs (signalOf (drop k s)) ≡ firstRun (drop k s) (i - k) ∷ runs (signalOf (drop i s))
@@ -161,9 +152,7 @@ module _ (s : List ℕ) (i j : ℕ) where
   pub run-digits : (ws : Wires) → getD s j 0 < 6 → 32 ∷ literalText (value (length (take (i - j) (drop j s))) (reverse (map digitOf (take (i - j) (drop j s))))) ≡ spread (sigTokens (runSig ws (firstRun (drop j s) (i - j))))
   unfolding firstRun runSig sigTokens
   run-digits ws h =
-      rw (first-code, lt-ltb (getD s j 0) 6 h)
-      (sym (spread-literal (value (length (map digitOf (take (i - j) (drop j s)))) (reverse (map digitOf (take (i - j) (drop j s)))))
-      ∙ ap (λ (n : ℕ). 32 ∷ literalText (value n (reverse (map digitOf (take (i - j) (drop j s)))))) (length-map (take (i - j) (drop j s)) digitOf)))
+      rw (first-code, lt-ltb (getD s j 0) 6 h) (spread-digits (take (i - j) (drop j s)))
 
   pub run-wire : (ws : Wires) (many : ℕ) → length ws ≡ many → 6 ≤ getD s j 0 → cut (drop (many - ((getD s j 0 - 6) / 2048 + 1)) ws) ((getD s j 0 - 6) % 2048) (i - j) ≡ runSig ws (firstRun (drop j s) (i - j))
   unfolding firstRun runSig

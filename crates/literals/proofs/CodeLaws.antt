@@ -1,13 +1,13 @@
 -- The width of a constant and the codes of its bits.
 -- Assumes nothing.
 use mathlib.Core.Path.{_≡_, refl, sym, ap, ap₂, _∙_}
-use mathlib.Core.Bool.{Bool, true, false}
+use mathlib.Core.Bool.{true, false}
 use mathlib.Core.List.{List, [], _∷_, _++_, map, map-append, flatMap, reverse, reverse-cons, reverse-append, reverse-reverse, map-map}
 use Prim.Native.Nat.{ℕ, _+_, _-_, _*_, _/_, _%_, _^_, _≤_, _<_}
 use native.Mathlib.Numerals.{add-one}
 use native.Mathlib.Omega.{arith}
 use borrow.Author.Tests.{leb-true, le-leb, lt-leb}
-use lib.ListN.{length, getD, take, drop, replicate, length-append, length-drop, length-map, length-replicate, length-reverse, getD-replicate, List·getD-append}
+use lib.ListN.{length, getD, take, drop, replicate, length-append, length-map, length-replicate, length-reverse, getD-replicate, List·getD-append}
 use lib.Dec.{leb}
 use lib.Seq.{slice, length-take-le, take-all, take-suc, getD-append-add}
 use lib.IntN.{ℤ}
@@ -67,28 +67,19 @@ pub width-small : (f : List ℕ) (c : Constant) → length f ≤ 268435456 → g
 unfolding literalIn goodLiteral literalWidth
 width-small f (constant.Integer z) k h = capped-small 32 (omega arith)
 width-small f (constant.Value a b e) k h = value-capped f a b e h
-width-small f (constant.Text a) k h = capped-small (8 * length (decoded (drop a f))) (omega (arith, decoded-length (drop a f), length-drop a f))
+width-small f (constant.Text a) k h = capped-small (8 * length (decoded (drop a f))) (omega (arith, decoded-length f a))
 
 -- ---- integers
-
-module _ (s : Bool) (n : ℕ) where
-  pub capped-fits : int32 (integerOf s (capped n)) ≡ int32 (integerOf s n)
-  unfolding capped
-  capped-fits = capped-int32 s n
-
-  pub capped-word : int32 (integerOf s n) ≡ true → twosComplement (integerOf s (capped n)) ≡ twosComplement (integerOf s n)
-  unfolding capped
-  capped-word h = rw (capped-same s n h)
 
 -- the integer whose digits ds were read, with the cap, as size
 module _ (f : List ℕ) (z : Integer) (ds : List ℕ) (size : ℕ) (part : ds ≡ slice (z .start) (z .end) f) (read : size ≡ capped (decimal ds)) where
   pub read-fits : int32 (integerOf (z .negative) size) ≡ int32 (integerIn f z)
-  unfolding integerIn
-  read-fits = rw (read, part) (capped-fits (z .negative) (decimal (slice (z .start) (z .end) f)))
+  unfolding integerIn capped
+  read-fits = rw (read, part) (capped-int32 (z .negative) (decimal (slice (z .start) (z .end) f)))
 
   pub read-word : int32 (integerIn f z) ≡ true → twosComplement (integerOf (z .negative) size) ≡ twosComplement (integerIn f z)
-  unfolding integerIn
-  read-word h = rw (read, part) (capped-word (z .negative) (decimal (slice (z .start) (z .end) f)) h)
+  unfolding integerIn capped
+  read-word h = rw (read, part, capped-same (z .negative) (decimal (slice (z .start) (z .end) f)) h)
 
 module _ (k w : ℕ) where
   pub word-long : length (wordCodes k w) ≡ k
@@ -147,20 +138,17 @@ module _ (f : List ℕ) (a b e : ℕ) (ds : List ℕ) (width : ℕ) (part : ds �
     read-good h = rw (← exact h, ← digits, length-map, le-leb width 2048 h)
 
     module _ (h : goodLiteral (literalIn f (constant.Value a b e)) ≡ true) where
-      fits : decimal (slice a b f) ≤ 2048
-      unfolding literalIn goodLiteral
-      fits = leb-true (decimal (slice a b f)) 2048 (and-true-left _ (leb (length (map digit (slice (b + 1) e f))) (decimal (slice a b f))) h)
-
       read-width : width ≡ decimal (slice a b f)
-      unfolding capped
-      read-width = omega (arith, is, fits)
+      unfolding capped literalIn literalWidth
+      read-width = omega (arith, is, value-narrow f a b e h)
 
       pub read-room : (at n : ℕ) → at + literalWidth (literalIn f (constant.Value a b e)) ≤ n → at + width ≤ n
       unfolding literalIn literalWidth
       read-room at n k = omega (arith, read-width)
 
       pub read-few : length bs ≤ width
-      read-few = leb-true (length bs) width (read-good (omega (arith, read-width, fits)) ∙ h)
+      unfolding literalIn literalWidth
+      read-few = leb-true (length bs) width (read-good (omega (arith, read-width, value-narrow f a b e h)) ∙ h)
 
       pub read-literal : value width (map digit bs) ≡ literalIn f (constant.Value a b e)
       unfolding literalIn

@@ -1,2 +1,2 @@
-mod Stored
+pub mod Stored
 pub mod CodeLaws

@@ -1,21 +1,20 @@
 -- Integers and their words, and the numbers that options give.
 -- Assumes nothing.
 use mathlib.Core.Path.{_≡_, refl, sym, ap, _∙_}
-use mathlib.Core.Bool.{Bool, true, false, not, _&&_, and-true, and-false, false≢true}
+use mathlib.Core.Bool.{Bool, true, false, not, _&&_, and-true, false≢true}
 use mathlib.Core.List.{List, [], _∷_, Option·toList}
 use mathlib.Core.Option.{Option, none, some, Option·getD}
 use Prim.Native.Nat.{ℕ, _<_}
 use Prim.Native.String.{String}
 use native.Mathlib.Omega.{arith}
 use lib.IntN.{ℤ, pos, negsuc, natAbs}
-use lib.Dec.{leb}
-use borrow.Author.Tests.{ltb-true, ltb-false, lt-leb}
+use borrow.Author.Tests.{ltb-true, ltb-false}
 use Rattle.rules.specs.Bytes.{bytes, same, all, within}
 use Rattle.rules.specs.Statements.{Opt}
 use Rattle.rules.specs.Numbers.{int32, inRange, has, numberOr, goodOptions}
 use Rattle.rules.specs.Signals.{twosComplement}
 use Rattle.scanner.specs.Words.{keywordAt}
-use Rattle.scanner.specs.Laws.{by-test, and-true-left, and-true-right}
+use Rattle.scanner.specs.Laws.{by-test, and-true-left, and-true-right, within-above}
 use Rattle.tokens.specs.Rows.{integerIn}
 use Rattle.tokens.specs.declared.Slot.{Slot}
 use Rattle.tokens.specs.declared.Slot.the-variants.{Given, Absent}
@@ -28,13 +27,13 @@ use Rattle.options.proofs.Held.{any-first}
 -- ---- a range of integers is one of words
 
 pub range-word : (lo hi : ℕ) (z : ℤ) {w : ℕ} → hi < 2147483648 → int32 z ≡ true → twosComplement z ≡ w → inRange lo hi z ≡ within lo hi w
-unfolding inRange within twosComplement int32
+unfolding inRange twosComplement int32
 range-word lo hi (pos n) k h e = rw e
-range-word lo hi (negsuc n) {w} k h e = rw (lt-leb w hi (omega (arith, ltb-true n 2147483648 h))) (sym (and-false (leb lo w)))
+range-word lo hi (negsuc n) {w} k h e = sym (within-above lo hi w (omega (arith, ltb-true n 2147483648 h)))
 
 pub range-outside : (lo hi : ℕ) (z : ℤ) → hi < 2147483648 → int32 z ≡ false → inRange lo hi z ≡ false
-unfolding inRange within int32
-range-outside lo hi (pos n) k h = rw (lt-leb n hi (omega (arith, ltb-false n 2147483648 h))) (and-false (leb lo n))
+unfolding inRange int32
+range-outside lo hi (pos n) k h = within-above lo hi n (omega (arith, ltb-false n 2147483648 h))
 range-outside lo hi (negsuc n) k h = refl
 
 pub range-abs : (lo hi : ℕ) (z : ℤ) → inRange lo hi z ≡ true → natAbs z ≡ twosComplement z

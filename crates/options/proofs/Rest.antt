@@ -12,20 +12,20 @@ use lib.ListN.{length}
 use lib.Seq.{slice}
 use Rattle.rules.specs.Bytes.{any}
 use Rattle.rules.specs.Tokens.{Name, Literal, Token, name, word, literal, mark}
-use Rattle.rules.specs.Statements.{Opt}
-use Rattle.rules.specs.Shapes.{whole, wholeBy, of₁, of₂, id, int, one, isId, give, after, repeat, offers, choice, options, several}
+use Rattle.rules.specs.Statements.{Opt, Shape}
+use Rattle.rules.specs.Shapes.{whole, wholeBy, of₁, of₂, id, int, one, isId, isWord, give, after, repeat, offers, choice, options, several}
 use Rattle.scanner.specs.Words.{keywordAt}
-use Rattle.tokens.specs.Rows.{integerIn, Present, front, rowOf, tokenAt, line}
+use Rattle.tokens.specs.Rows.{integerIn, Present, front, tokenAt, line}
 use Rattle.tokens.specs.declared.Integer.{Integer}
 use Rattle.tokens.specs.declared.Token.{Token as Row}
 use Rattle.tokens.specs.declared.Token.the-variants as row
-use Rattle.tokens.proofs.TokenLaws.{line-end, line-more, line-read, line-long, below, present, front-token}
+use Rattle.tokens.proofs.TokenLaws.{line-end, line-row, line-read, line-long, below}
 use Rattle.options.specs.Forms.{forms, statement, accepted, isFlag, numberCodes}
 use Rattle.options.specs.Holds.{fits, Holds, noOptions, Took}
 use Rattle.options.specs.Lines.{rest, Next}
 use Rattle.options.specs.declared.Options.{Options}
 use Rattle.options.proofs.Held.{holds-none, holds-more}
-use Rattle.options.proofs.Words.{accepted-option, offers-word, offers-name, offers-literal, offers-mark, choice-word, parsed}
+use Rattle.options.proofs.Words.{accepted-option, offers-word, offers-not, choice-word, parsed}
 
 module _ (m : Bool) (k : ℕ) (os : List Opt) (ts : List Token) where
   -- an option, with its number, and without
@@ -56,16 +56,16 @@ module _ (m : Bool) (k : ℕ) (os : List Opt) (ts : List Token) where
   rest-other c h = rest-by (word (keywordAt c)) (offers-word m c ∙ h)
 
   pub rest-literal : (v : Literal) → rest m (suc k) os (literal v ∷ ts) ≡ none
-  unfolding of₁ id one isId after whole
-  rest-literal v = rest-by (literal v) (offers-literal m v)
+  unfolding of₁ id one isId isWord after whole
+  rest-literal v = rest-by (literal v) (offers-not m (literal v) (λ w. refl))
 
   pub rest-mark : (b : ℕ) → rest m (suc k) os (mark b ∷ ts) ≡ none
-  unfolding of₁ id one isId after whole
-  rest-mark b = rest-by (mark b) (offers-mark m b)
+  unfolding of₁ id one isId isWord after whole
+  rest-mark b = rest-by (mark b) (offers-not m (mark b) (λ w. refl))
 
   pub rest-name : (n : Name) → rest m (suc k) os (name n ∷ ts) ≡ wholeBy (statement m os n) ts
-  unfolding of₁ id one isId after whole give
-  rest-name n = rest-by (name n) (offers-name m n)
+  unfolding of₁ id one isId isWord after whole give
+  rest-name n = rest-by (name n) (offers-not m (name n) (λ w. refl))
 
 rest-nothing : (m : Bool) (k : ℕ) (os : List Opt) → rest m k os [] ≡ none
 unfolding rest repeat of₁ after whole id one
@@ -79,10 +79,10 @@ grow P zero h f = absurd (omega arith)
 grow P (suc j) h f = f j
 
 module _ (m : Bool) (t : List ℕ) (i : ℕ) where
-  pub refuses : (x : Row) → x ≡ tokenAt t i → Present x → ((f : List ℕ) (j : ℕ) (os : List Opt) → rest m (suc j) os (front f x (line f t (i + 1))) ≡ none) → (f : List ℕ) (k : ℕ) (os : List Opt) → length t / 4 - i ≤ k → rest m k os (line f t i) ≡ none
-  refuses x e p q f k os h =
+  pub decides : (x : Row) → x ≡ tokenAt t i → Present x → (r : List ℕ → List Opt → Option Shape) → ((f : List ℕ) (j : ℕ) (os : List Opt) → rest m (suc j) os (front f x (line f t (i + 1))) ≡ r f os) → (f : List ℕ) (k : ℕ) (os : List Opt) → length t / 4 - i ≤ k → rest m k os (line f t i) ≡ r f os
+  decides x e p r q f k os h =
       let b : i < length t / 4 = below t i x e p in
-      rw (line-read f t i x e) (grow (λ k. rest m k os (front f x (line f t (i + 1))) ≡ none) k (omega arith) (λ j. q f j os))
+      rw (line-read f t i x e) (grow (λ k. rest m k os (front f x (line f t (i + 1))) ≡ r f os) k (omega arith) (λ j. q f j os))
 
   pub refuses-end : row.End ≡ tokenAt t i → (f : List ℕ) (k : ℕ) (os : List Opt) → length t / 4 - i ≤ k → rest m k os (line f t i) ≡ none
   unfolding front
@@ -91,19 +91,17 @@ module _ (m : Bool) (t : List ℕ) (i : ℕ) where
   module _ (a b : ℕ) (e : row.Name a b ≡ tokenAt t i) where
     pub ends : length t / 4 ≤ i + 1 → (f : List ℕ) (k : ℕ) (os : List Opt) → length t / 4 - i ≤ k → rest m k os (line f t i) ≡ some (statement m os (slice a b f))
     unfolding front wholeBy
-    ends l f k os h =
-        let q : i < length t / 4 = below t i (row.Name a b) e tt in
-        rw (line-read f t i (row.Name a b) e)
-        (grow (λ k. rest m k os (name (slice a b f) ∷ line f t (i + 1)) ≡ some (statement m os (slice a b f))) k (omega arith)
-        (λ j. rest-name m j os (line f t (i + 1)) (slice a b f) ∙ rw (line-end f t (i + 1) l)))
+    ends l =
+        decides (row.Name a b) e tt (λ f os. some (statement m os (slice a b f)))
+        (λ f j os. rest-name m j os (line f t (i + 1)) (slice a b f) ∙ rw (line-end f t (i + 1) l))
 
     pub goes-on : i + 1 < length t / 4 → (f : List ℕ) (k : ℕ) (os : List Opt) → length t / 4 - i ≤ k → rest m k os (line f t i) ≡ none
     unfolding front wholeBy
     goes-on l =
-        refuses (row.Name a b) e tt
+        decides (row.Name a b) e tt (λ f os. none)
         (λ f j os.
         rest-name m j os (line f t (i + 1)) (slice a b f)
-        ∙ rw (line-more f t (i + 1) l, front-token f (rowOf t (i + 1)) (line f t (i + 1 + 1)) (present t (i + 1))))
+        ∙ rw (line-row f t (i + 1) l))
 
   -- an option in row i
   module _ (c : ℕ) (e : row.Word c ≡ tokenAt t i) (h : accepted m c ≡ true) where

@@ -5,18 +5,19 @@ use mathlib.Core.Bool.{Bool, true, false, cond}
 use mathlib.Core.List.{List, [], _∷_}
 use mathlib.Core.Option.{Option, none, some}
 use Prim.Native.Nat.{ℕ, zero, suc, _+_, _<_, _≤_}
+use Prim.Native.String.{String}
 use native.Mathlib.Omega.{arith}
 use lib.Dec.{eqb, ltb}
 use borrow.Author.Tests.{lt-ltb, le-ltb, ne-eqb, eqb-true, eqb-false}
 use Rattle.rules.specs.Bytes.{any, bytesOpen}
-use Rattle.rules.specs.Tokens.{Name, Literal, Token, name, word, literal, mark, keywords}
+use Rattle.rules.specs.Tokens.{Token, word, keywords}
 use Rattle.rules.specs.Statements.{Opt}
 use Rattle.rules.specs.Shapes.{offers, choice, of₁, int, isWord, wireOptionForms, memoryOptionForms, numbered, flag, shapesOpen}
 use Rattle.scanner.specs.Words.{keywordAt}
 use Rattle.scanner.specs.Laws.{by-test}
 use Rattle.tokens.proofs.Words.{word-is}
 use Rattle.options.specs.Forms.{forms, codes, accepted, isFlag, numberCodes, optionCodes, isOption}
-use Rattle.scanner.specs.Elements.{_then_, by-any}
+use Rattle.scanner.specs.Elements.{_then_, by-any, each-all, none-any}
 
 pub offers-word : (m : Bool) (c : ℕ) → offers (forms m) (word (keywordAt c)) ≡ accepted m c
 unfolding offers any forms accepted codes wireOptionForms memoryOptionForms numbered flag keywords keywordAt
@@ -50,20 +51,9 @@ accepted-option true = by-any (λ c. isOption c ≡ true) (codes true) (refl the
 accepted-option false = by-any (λ c. isOption c ≡ true) (codes false) (refl then refl then refl then refl then refl then refl then refl then tt)
 
 -- an option starts with a word
-pub offers-name : (m : Bool) (n : Name) → offers (forms m) (name n) ≡ false
-unfolding offers any forms wireOptionForms memoryOptionForms numbered flag isWord
-offers-name true n = refl
-offers-name false n = refl
-
-pub offers-literal : (m : Bool) (v : Literal) → offers (forms m) (literal v) ≡ false
-unfolding offers any forms wireOptionForms memoryOptionForms numbered flag isWord
-offers-literal true v = refl
-offers-literal false v = refl
-
-pub offers-mark : (m : Bool) (b : ℕ) → offers (forms m) (mark b) ≡ false
-unfolding offers any forms wireOptionForms memoryOptionForms numbered flag isWord
-offers-mark true b = refl
-offers-mark false b = refl
+pub offers-not : (m : Bool) (t : Token) → ((w : String) → isWord w t ≡ false) → offers (forms m) t ≡ false
+unfolding offers
+offers-not m t h = none-any _ (forms m) (each-all _ (λ c. h (c .0)) (forms m))
 
 -- numbers that follow one another
 abbrev from : ℕ → ℕ → List ℕ

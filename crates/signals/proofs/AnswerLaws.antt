@@ -58,7 +58,7 @@ module _ (f t : List ℕ) (ws : Wires) (i d o : ℕ) (out : List ℕ) where
   pub signal-nowhere : head d (line f t i) ≡ none → SignalIs f t ws i d o out out NoShape
   signal-nowhere e = record { kept = kept-same o out; read = signal-none f t i d e }
 
-  module _ (parse : Option (Sig × List rules.Token)) (j : ℕ) (out₁ : List ℕ) (e : head d (line f t i) ≡ parse) (l : i ≤ j) where
+  module _ (parse : Option (Sig × List rules.Token)) (j : ℕ) (out₁ : List ℕ) (e : head d (line f t i) ≡ parse) where
     pub signal-no-head : AnswerIs f t ws parse j o out out₁ NoShape → SignalIs f t ws i d o out out₁ NoShape
     signal-no-head A = record { kept = A .kept; read = signal-none f t i d (e ∙ A .read) }
 
@@ -66,8 +66,8 @@ module _ (f t : List ℕ) (ws : Wires) (i d o : ℕ) (out : List ℕ) where
       sliced-is : signal d (line f t i) ≡ slicedOn (A .read .3 .sig) (length (line f t n)) [] (line f t n)
       sliced-is = signal-sliced f t i d (A .read .3 .sig) n (e ∙ A .read .3 .is)
 
-      pub signal-with : (out₂ : List ℕ) (r : Answer) → SlicesIs f t n o out₁ b out₂ r → SignalIs f t ws i d o out out₂ r
-      signal-with out₂ r S = record { kept = kept-on o out out₁ out₂ (A .kept) (S .kept); read = by r (S .read) }
+      pub signal-with : (out₂ : List ℕ) (r : Answer) → SlicesIs f t n o out₁ b out₂ r → i ≤ j → SignalIs f t ws i d o out out₂ r
+      signal-with out₂ r S l = record { kept = kept-on o out out₁ out₂ (A .kept) (S .kept); read = by r (S .read) }
         where
           by : (r : Answer) → SlicesRead f t n o out₁ b out₂ r → AnswerRead f t ws (signal d (line f t i)) i o out₂ r
           by (Read m b′) R =

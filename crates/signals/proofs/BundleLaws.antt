@@ -21,7 +21,7 @@ use Rattle.signals.specs.Held.{codes, Held, Kept}
 use Rattle.signals.specs.Reads.{markAt, membersOn, SignalIs, BundleIs}
 use Rattle.signals.specs.declared.Bits.{Bits}
 use Rattle.signals.specs.declared.Answer.the-variants.{Read, NoShape}
-use Rattle.signals.proofs.FaultLaws.{merge-zero, mild-merge, late-merge, too-wide-late, too-wide-zero, faults-append, faults-front, own-width}
+use Rattle.signals.proofs.FaultLaws.{merge-zero, mild-merge, late-merge, too-wide-late, wide-zero, faults-none, faults-append, faults-front, own-width}
 use Rattle.signals.proofs.Codes.{codes-append}
 use Rattle.signals.proofs.HeldLaws.{sized, kept-same}
 use Rattle.signals.proofs.SliceLaws.{kept-on}
@@ -57,12 +57,8 @@ place-behind o width put h e = record { from = omega arith; upto = omega arith; 
 pub place-end : (o width put : ℕ) → 2048 ≤ width → put ≡ o + 2048 → Place o width put
 place-end o width put h e = record { from = omega arith; upto = omega arith; behind = λ k. omega arith }
 
-none-faults : (ws : Wires) → faults ws (partsOf (sigs [])) ≡ 0
-unfolding faults partsOf sigs Rattle.rules.specs.Bytes.all Rattle.rules.specs.Judgement.lowest
-none-faults ws = refl
-
 pub members-on-start : (f t : List ℕ) (ws : Wires) (i d o : ℕ) (out : List ℕ) → i ≤ length t / 4 → MembersOn f t ws i d o out out i 0 0
-unfolding sigs widths bitsOf codes
+unfolding sigs partsOf widths bitsOf codes
 members-on-start f t ws i d o out h =
     record {
       from = omega arith;
@@ -73,7 +69,7 @@ members-on-start f t ws i d o out h =
       fuel = length (line f t i);
       enough = omega (arith, line-long f t i);
       is = members-start (signal d) (line f t i);
-      held = record { refused = none-faults ws; wide = λ e. refl; coded = λ e l. ap (λ (k : ℕ). slice o k out) (add-zero o) ∙ slice-empty o out };
+      held = record { refused = faults-none ws; wide = λ e. refl; coded = λ e l. ap (λ (k : ℕ). slice o k out) (add-zero o) ∙ slice-empty o out };
     }
 
 -- one member more
@@ -120,15 +116,12 @@ module _ (ws : Wires) (ss : List Sig) (o : ℕ) (out : List ℕ) (w n r : ℕ) (
   unfolding width
   bundle-wide e = M .wide (and-true-right (mild (tooWide w)) _ (sym (mild-merge (tooWide w) n) ∙ ap mild (sym er) ∙ e))
 
-  bundle-zero : r ≡ 0 → (w ≤ 2048) × (n ≡ 0)
-  bundle-zero e = let z = merge-zero (tooWide w) n (sym er ∙ e) in (too-wide-zero w (z .0), z .1)
-
   bundle-coded : r ≡ 0 → slice o (o + w) out ≡ codes (bits ws (bundle (sigs ss)))
   unfolding bits
-  bundle-coded e = let z = bundle-zero e in M .coded (z .1) (z .0)
+  bundle-coded e = let z = wide-zero w n r er e in M .coded (z .1) (z .0)
 
   pub bundle-held : Held ws (bundle (sigs ss)) o out (sized w r)
-  bundle-held = record { refused = bundle-refused; wide = bundle-wide; small = λ e. bundle-zero e .0; coded = bundle-coded }
+  bundle-held = record { refused = bundle-refused; wide = bundle-wide; small = λ e. wide-zero w n r er e .0; coded = bundle-coded }
 
 -- ---- what `bundle` promises
 

@@ -1,17 +1,16 @@
 -- The codes of bits, and of a wire from the top; words moved down.
 -- Assumes nothing.
-use mathlib.Core.Path.{_≡_, refl, sym, ap, ap₂, _∙_}
-use mathlib.Core.List.{List, [], _∷_, _++_, map, reverse, append-assoc, reverse-append, map-append}
+use mathlib.Core.Path.{_≡_, sym, ap, _∙_}
+use mathlib.Core.List.{List, _++_, map, reverse, append-assoc, reverse-append, map-append}
 use Prim.Native.Nat.{ℕ, zero, suc, _+_, _-_, _<_, _≤_}
-use native.Mathlib.Nat.{add-zero}
 use native.Mathlib.Omega.{arith}
 use lib.ListN.{length, take, drop, getD, set, length-drop, length-reverse, length-map, take-append-drop}
 use lib.Seq.{slice, length-take-le, length-slice, take-at, drop-at, getD-take, getD-drop}
-use Rattle.rules.specs.Statements.{bit, Signal}
+use Rattle.rules.specs.Statements.{Bit, bit, Signal}
 use Rattle.rules.specs.Signals.{wireBits}
 use Rattle.rules.specs.Layout.{bitCode}
 use Rattle.tables.specs.Store.{store, store-behind, filled}
-use Rattle.scanner.specs.Lists.{length-wire}
+use Rattle.scanner.specs.Lists.{length-wire, map-at, getD-reverse}
 use Rattle.signals.specs.Held.{codes}
 
 -- ---- codes
@@ -40,27 +39,19 @@ codes-part xs l n h =
 
 -- ---- a wire's bits from the top
 
-abbrev wireCodes : ℕ → ℕ → List ℕ
-wireCodes n zero = []
-wireCodes n (suc w) = bitCode (bit n w) ∷ wireCodes n w
-
-wire-snoc : (n i k : ℕ) → wireBits n i (suc k) ≡ wireBits n i k ++ bit n (i + k) ∷ []
+wire-at : (n i w k : ℕ) (d : Bit) → k < w → getD (wireBits n i w) k d ≡ bit n (i + k)
 unfolding wireBits
-wire-snoc n i zero = ap (λ (j : ℕ). bit n j ∷ []) (sym (add-zero i))
-wire-snoc n i (suc k) = ap (λ (y : Signal). bit n i ∷ y) (wire-snoc n (i + 1) k ∙ ap (λ (j : ℕ). wireBits n (i + 1) k ++ bit n j ∷ []) (omega arith))
+wire-at n i zero k d h = absurd (omega arith)
+wire-at n i (suc w) zero d h = ap (bit n) (omega arith)
+wire-at n i (suc w) (suc k) d h = wire-at n (i + 1) w k d (omega arith) ∙ ap (bit n) (omega arith)
 
-wire-codes : (n w : ℕ) → codes (wireBits n 0 w) ≡ wireCodes n w
-unfolding codes wireBits
-wire-codes n zero = refl
-wire-codes n (suc w) =
-    ap codes (wire-snoc n 0 w)
-    ∙ codes-append (wireBits n 0 w) (bit n (0 + w) ∷ [])
-    ∙ ap₂ (λ (j : ℕ) (y : List ℕ). bitCode (bit n j) ∷ y) (omega arith) (wire-codes n w)
-
-wire-code-at : (n w k : ℕ) → k < w → getD (wireCodes n w) k 0 ≡ bitCode (bit n (w - 1 - k))
-wire-code-at n zero k h = absurd (omega arith)
-wire-code-at n (suc w) zero h = ap (λ (j : ℕ). bitCode (bit n j)) (omega arith)
-wire-code-at n (suc w) (suc k) h = wire-code-at n w k (omega arith) ∙ ap (λ (j : ℕ). bitCode (bit n j)) (omega arith)
+wire-code-at : (n w k : ℕ) → k < w → getD (codes (wireBits n 0 w)) k 0 ≡ bitCode (bit n (w - 1 - k))
+unfolding codes
+wire-code-at n w k h =
+    let bs : Signal = wireBits n 0 w in
+    getD-reverse (map bitCode bs) k (w - 1 - k) 0 (omega (arith, length-map bs bitCode, length-wire n 0 w))
+    ∙ map-at bitCode bs (w - 1 - k) 0 (bit n 0) (omega (arith, length-wire n 0 w))
+    ∙ ap bitCode (wire-at n 0 w (w - 1 - k) (bit n 0) (omega arith) ∙ ap (bit n) (omega arith))
 
 pub length-wire-codes : (n w : ℕ) → length (codes (wireBits n 0 w)) ≡ w
 length-wire-codes n w = length-codes (wireBits n 0 w) ∙ length-wire n 0 w
@@ -68,8 +59,7 @@ length-wire-codes n w = length-codes (wireBits n 0 w) ∙ length-wire n 0 w
 -- one bit of a wire more
 pub wire-put : (d l : List ℕ) (o n w k v : ℕ) → l ≡ store d o (take k (codes (wireBits n 0 w))) → k < w → v ≡ bitCode (bit n (w - 1 - k)) → set l (o + k) v ≡ store d o (take (k + 1) (codes (wireBits n 0 w)))
 wire-put d l o n w k v e h ev =
-    let c : v ≡ getD (codes (wireBits n 0 w)) k 0 = sym (ap (λ (y : List ℕ). getD y k 0) (wire-codes n w) ∙ wire-code-at n w k h ∙ sym ev) in
-    filled d l (codes (wireBits n 0 w)) o k e v (omega (arith, length-wire-codes n w)) c
+    filled d l (codes (wireBits n 0 w)) o k e v (omega (arith, length-wire-codes n w)) (ev ∙ sym (wire-code-at n w k h))
 
 -- one word more moved down
 pub move-put : (d l : List ℕ) (from count o k : ℕ) → l ≡ store d o (take k (slice from (from + count) d)) → k < count → o ≤ from → from + count ≤ length d → set l (o + k) (getD l (from + k) 0) ≡ store d o (take (k + 1) (slice from (from + count) d))

@@ -20,10 +20,10 @@ use Rattle.numbers.specs.SignedLaws.{by-half, signed-int32}
 use Rattle.scanner.specs.Laws.{by-test}
 use Rattle.scanner.specs.Parts.{slice-within}
 use Rattle.tables.specs.Store.{store, store-slice}
-use Rattle.signals.specs.Faults.{faults, fault, merge, tooWide, mild}
+use Rattle.signals.specs.Faults.{faults, fault, merge, tooWide}
 use Rattle.signals.specs.Held.{codes, Held, Kept, CutIs}
 use Rattle.signals.specs.declared.Bits.{Bits}
-use Rattle.signals.proofs.FaultLaws.{merge-zero, mild-not, mild-merge, late-merge, too-wide-late, too-wide-zero, faults-front, own-slice, own-width}
+use Rattle.signals.proofs.FaultLaws.{merge-zero, late-merge, too-wide-late, wide-zero, faults-front, own-slice, own-width}
 use Rattle.signals.proofs.Codes.{length-codes, codes-part}
 use Rattle.signals.proofs.HeldLaws.{sized, held-not, kept-same, kept-store}
 
@@ -113,9 +113,9 @@ module _ (ws : Wires) (s : Sig) (z : Option ℤ) (b : Bits) (high low o : ℕ) (
 
   pub outside-held : (n : ℕ) → n ≡ merge 10 (b .fault) → inside (b .width) (signedOf high) (signedOf low) ≡ false → Held ws cutting o out (sized (b .width) n)
   outside-held n q e =
-      held-not ws cutting o out (b .width) n (outside-fault e ∙ sym q) (ap mild q ∙ mild-merge 10 (b .fault) ∙ rw (mild-not 10 (omega arith) (omega arith)))
+      held-not ws cutting o out (b .width) 10 (b .fault) n (omega arith) (omega arith) q (outside-fault e)
 
-  module _ (n m x : ℕ) (out′ : List ℕ) (en : n ≡ merge m (b .fault)) (em : m ≡ tooWide (high + 1 - low)) (ex : x ≡ b .width - 1 - high) (h : high < 2147483648) (k : high < b .width) (l : low ≤ high) (room : o + 2048 ≤ length out) (moved : n ≡ 0 → out′ ≡ store out o (slice (o + x) (o + x + (high + 1 - low)) out)) where
+  module _ (n x : ℕ) (out′ : List ℕ) (en : n ≡ merge (tooWide (high + 1 - low)) (b .fault)) (ex : x ≡ b .width - 1 - high) (h : high < 2147483648) (k : high < b .width) (l : low ≤ high) (room : o + 2048 ≤ length out) (moved : n ≡ 0 → out′ ≡ store out o (slice (o + x) (o + x + (high + 1 - low)) out)) where
     wide-is : width ws cutting ≡ high + 1 - low
     wide-is = cutting-width ∙ span-is (b .width) high low h l
 
@@ -131,11 +131,8 @@ module _ (ws : Wires) (s : Sig) (z : Option ℤ) (b : Bits) (high low o : ℕ) (
         ∙ codes-part (bits ws s) low (high + 1 - low) (omega arith)
         ∙ ap codes (sym (cutting-bits ∙ ap₂ (λ (a c : ℕ). take a (drop c (bits ws s))) (span-is (b .width) high low h l) (ap natAbs (low-is (b .width) high low h l))))
 
-    zero : n ≡ 0 → (m ≡ 0) × (b .fault ≡ 0)
-    zero e = merge-zero m (b .fault) (sym en ∙ e)
-
-    tight : n ≡ 0 → high + 1 - low ≤ 2048
-    tight e = too-wide-zero (high + 1 - low) (sym em ∙ zero e .0)
+    zero : n ≡ 0 → (high + 1 - low ≤ 2048) × (b .fault ≡ 0)
+    zero = wide-zero (high + 1 - low) (b .fault) n en
 
     cut-moved : n ≡ 0 → slice o (o + (high + 1 - low)) out′ ≡ codes (bits ws cutting)
     cut-moved e =
@@ -148,9 +145,9 @@ module _ (ws : Wires) (s : Sig) (z : Option ℤ) (b : Bits) (high low o : ℕ) (
     pub inside-held : Held ws cutting o out′ (sized (high + 1 - low) n)
     inside-held =
         record {
-          refused = inside-fault (inside-so (b .width) high low h l k) ∙ ap (λ (w : ℕ). merge (tooWide w) (b .fault)) wide-is ∙ ap (λ (y : ℕ). merge y (b .fault)) (sym em) ∙ sym en;
+          refused = inside-fault (inside-so (b .width) high low h l k) ∙ ap (λ (w : ℕ). merge (tooWide w) (b .fault)) wide-is ∙ sym en;
           wide = λ e. wide-is;
-          small = tight;
+          small = λ e. zero e .0;
           coded = cut-moved;
         }
 
@@ -166,21 +163,19 @@ module _ (b : Bits) (high low o : ℕ) (out : List ℕ) where
         small = λ g. absurd (let w : 10 ≡ 0 = merge-zero 10 (b .fault) (sym q ∙ g) .0 in omega arith);
       }
 
-  module _ (n m x : ℕ) (out′ : List ℕ) (en : n ≡ merge m (b .fault)) (em : m ≡ tooWide (high + 1 - low)) (ex : x ≡ b .width - 1 - high) (h : high < 2147483648) (k : high < b .width) (l : low ≤ high) (room : o + 2048 ≤ length out) where
+  module _ (n x : ℕ) (out′ : List ℕ) (en : n ≡ merge (tooWide (high + 1 - low)) (b .fault)) (ex : x ≡ b .width - 1 - high) (h : high < 2147483648) (k : high < b .width) (l : low ≤ high) (room : o + 2048 ≤ length out) where
     cut-so : (n ≡ 0 → out′ ≡ store out o (slice (o + x) (o + x + (high + 1 - low)) out)) → Kept o out out′ → CutIs b high low o out out′ (sized (high + 1 - low) n)
     cut-so moved kept =
         record {
-          held = λ ws s z el ez H. inside-held ws s z b high low o out el ez H n m x out′ en em ex h k l room moved;
+          held = λ ws s z el ez H. inside-held ws s z b high low o out el ez H n x out′ en ex h k l room moved;
           kept = kept;
           few = omega arith;
-          small = λ e. too-wide-zero (high + 1 - low) (sym em ∙ merge-zero m (b .fault) (sym en ∙ e) .0);
+          small = λ e. wide-zero (high + 1 - low) (b .fault) n en e .0;
         }
 
     pub cut-inside : b .width ≤ 2048 → out′ ≡ store out o (slice (o + x) (o + x + (high + 1 - low)) out) → CutIs b high low o out out′ (sized (high + 1 - low) n)
     cut-inside r moved =
-        let vs : List ℕ = slice (o + x) (o + x + (high + 1 - low)) out in
-        let lv : length vs ≡ high + 1 - low = length-slice (o + x) (o + x + (high + 1 - low)) out (omega arith) ∙ omega arith in
-        cut-so (λ e. moved) (kept-store o out out′ vs moved (omega arith))
+        cut-so (λ e. moved) (kept-store o out out′ _ moved (omega (arith, length-slice (o + x) (o + x + (high + 1 - low)) out (omega arith))))
 
     pub cut-still : (n ≡ 0 → ⊥) → out′ ≡ out → CutIs b high low o out out′ (sized (high + 1 - low) n)
     cut-still z e = cut-so (λ g. absurd (z g)) (record { long = ap length e; below = ap (take o) e })

@@ -13,7 +13,7 @@ use Rattle.rules.specs.Statements.{Sig}
 use Rattle.rules.specs.Signals.{Wires, width, declaredWire, goodSlice}
 use Rattle.rules.specs.Numbers.{goodNumbers}
 use Rattle.rules.specs.Judgement.{lowest}
-use Rattle.scanner.specs.Laws.{by-cond, by-test}
+use Rattle.scanner.specs.Laws.{by-cond, by-test, never}
 use Rattle.scanner.specs.Elements.{all-split}
 use Rattle.signals.specs.Faults.{faults, merge, tooWide, mild}
 
@@ -57,14 +57,9 @@ unfolding mild
 mild-none n e = rw e
 
 pub not-mild : (n : ℕ) → mild n ≡ false → (0 < n) × (n ≤ 10)
-unfolding mild
 not-mild n e =
-    by-test (eqb n 0) (λ h. let z : _≡_ {A = ℕ} 0 1 = absurd-true (rw h at e) in absurd (omega arith))
-    (λ h. by-test (ltb 10 n) (λ l. let z : _≡_ {A = ℕ} 0 1 = absurd-true (rw (h, l) at e) in absurd (omega arith))
-    (λ l. (omega (arith, eqb-false n 0 h), ltb-false 10 n l)))
-  where
-    absurd-true : true ≡ false → _≡_ {A = ℕ} 0 1
-    absurd-true z = cc
+    by-test (eqb n 0) (λ h. never (mild n) (mild-none n (eqb-true n 0 h)) e)
+    (λ h. by-test (ltb 10 n) (λ l. never (mild n) (mild-over n (ltb-true 10 n l)) e) (λ l. (omega (arith, eqb-false n 0 h), ltb-false 10 n l)))
 
 pub mild-merge : (a b : ℕ) → mild (merge a b) ≡ mild a && mild b
 mild-merge a b =
@@ -87,9 +82,12 @@ pub too-wide-late : (w : ℕ) → 0 < tooWide w → 10 ≤ tooWide w
 unfolding tooWide
 too-wide-late w = by-cond (λ (x : ℕ). 0 < x → 10 ≤ x) (ltb 2048 w) (λ e h. omega arith) (λ e h. absurd (omega arith))
 
-pub too-wide-zero : (w : ℕ) → tooWide w ≡ 0 → w ≤ 2048
+-- no number of a width and another: the width is small, and the other is none
+pub wide-zero : (w f n : ℕ) → n ≡ merge (tooWide w) f → n ≡ 0 → (w ≤ 2048) × (f ≡ 0)
 unfolding tooWide
-too-wide-zero w e = by-test (ltb 2048 w) (λ t. let z : 11 ≡ 0 = rw t at e in absurd (omega arith)) (λ t. ltb-false 2048 w t)
+wide-zero w f n q e =
+    let z = merge-zero (tooWide w) f (sym q ∙ e) in
+    (by-test (ltb 2048 w) (λ t. let z : 11 ≡ 0 = rw t at (z .0) in absurd (omega arith)) (λ t. ltb-false 2048 w t), z .1)
 
 -- ---- the numbers of parts
 
@@ -150,6 +148,10 @@ module _ (ws : Wires) where
       faults-are (xs ++ ys)
       ∙ rw (not-all goodNumbers xs ys, not-all (declaredWire ws) xs ys, not-all (goodSlice ws) xs ys, not-all (λ p. leb (width ws p) 2048) xs ys)
       (sym (ap₂ merge (faults-are xs) (faults-are ys) ∙ merge-numbered _ _ _ _ _ _ _ _))
+
+  pub faults-none : faults ws [] ≡ 0
+  unfolding faults lowest all
+  faults-none = refl
 
   -- one part in front
   pub faults-front : (p : Sig) (ps : List Sig) → faults ws (p ∷ ps) ≡ merge (faults ws (p ∷ [])) (faults ws ps)

@@ -23,10 +23,10 @@ use Rattle.wires.specs.FoundLaws.{found-declared, found-width, found-bits}
 use Rattle.wires.specs.declared.Found.{Found}
 use Rattle.literals.specs.Codes as literal
 use Rattle.literals.proofs.CodeLaws.{codes-long}
-use Rattle.signals.specs.Faults.{fault, tooWide, mild}
+use Rattle.signals.specs.Faults.{fault, merge, tooWide, mild}
 use Rattle.signals.specs.Held.{codes, Held, Kept, Put}
 use Rattle.signals.specs.declared.Bits.{Bits}
-use Rattle.signals.proofs.FaultLaws.{mild-none, own-number, own-wire, own-width}
+use Rattle.signals.proofs.FaultLaws.{merge-none, mild-not, mild-none, mild-merge, own-number, own-wire, own-width}
 use Rattle.signals.proofs.Codes.{length-wire-codes}
 
 pub kept-same : (o : ℕ) (out : List ℕ) → Kept o out out
@@ -41,11 +41,12 @@ abbrev pub sized : ℕ → ℕ → Bits
 sized w n = record { width = w; fault = n }
 
 module _ (ws : Wires) (s : Sig) (o : ℕ) (out : List ℕ) (w : ℕ) where
-  -- a rule other than that of the width is broken
-  pub held-not : (n : ℕ) → fault ws s ≡ n → mild n ≡ false → Held ws s o out (sized w n)
-  held-not n e m =
+  -- a rule k other than that of the width is broken
+  pub held-not : (k f n : ℕ) → 0 < k → k ≤ 10 → n ≡ merge k f → fault ws s ≡ merge k f → Held ws s o out (sized w n)
+  held-not k f n h l q e =
+      let m : mild n ≡ false = ap mild q ∙ mild-merge k f ∙ rw (mild-not k h l) in
       record {
-        refused = e;
+        refused = e ∙ sym q;
         wide = λ t. never (mild n) t m;
         small = λ t. never (mild n) (mild-none n t) m;
         coded = λ t. never (mild n) (mild-none n t) m;
@@ -74,8 +75,8 @@ module _ (ws : Wires) (s : Sig) (o : ℕ) (out : List ℕ) (w : ℕ) where
         }
 
 module _ (ws : Wires) (s : Sig) (o : ℕ) (out : List ℕ) (w : ℕ) (few : w < 4294967296) where
-  pub put-not : (n : ℕ) → fault ws s ≡ n → mild n ≡ false → Put ws s o out out (sized w n)
-  put-not n e m = record { held = held-not ws s o out w n e m; kept = kept-same o out; few = few }
+  pub put-not : (n : ℕ) → fault ws s ≡ n → 0 < n → n ≤ 10 → Put ws s o out out (sized w n)
+  put-not n e h l = record { held = held-not ws s o out w n 0 n h l (sym (merge-none n)) (e ∙ sym (merge-none n)); kept = kept-same o out; few = few }
 
   module _ (e : fault ws s ≡ tooWide w) (q : width ws s ≡ w) where
     pub put-over : 2048 < w → Put ws s o out out (sized w 11)
@@ -102,7 +103,7 @@ found-below n (x ∷ ws) k w =
 
 module _ (ws : Wires) (n : Name) where
   module _ (k : WireNumber) (w : ℕ) (e : widthFound (find n ws) ≡ foundOf (Found.At k w)) where
-    pub wire-width : width ws (wire n) ≡ w
+    wire-width : width ws (wire n) ≡ w
     unfolding foundOf Option·elim
     wire-width = found-width ws n (Found.At k w) e
 
@@ -110,13 +111,16 @@ module _ (ws : Wires) (n : Name) where
     unfolding foundOf Option·elim
     wire-bits = found-bits ws n (Found.At k w) e
 
-    pub wire-fault : fault ws (wire n) ≡ tooWide w
+    wire-fault : fault ws (wire n) ≡ tooWide w
     unfolding fault parts goodNumbers goodSlice foundOf Option·elim
     wire-fault = own-width ws (wire n) refl (found-declared ws n (Found.At k w) e) refl ∙ ap tooWide wire-width
 
     pub wire-number : k .0 < length ws
     unfolding foundOf
     wire-number = found-below n ws (k .0) w e
+
+    pub wire-over : (o : ℕ) (out : List ℕ) → w < 4294967296 → 2048 < w → Put ws (wire n) o out out (sized w 11)
+    wire-over o out few h = put-over ws (wire n) o out w few wire-fault wire-width h
 
     pub wire-put-fits : (o : ℕ) (out out′ : List ℕ) → w ≤ 2048 → o + 2048 ≤ length out → out′ ≡ store out o (codes (wireBits (k .0) 0 w)) → Put ws (wire n) o out out′ (sized w 0)
     wire-put-fits o out out′ h room c =

@@ -1,7 +1,7 @@
 pub mod FaultLaws
 pub mod Codes
 mod HeldLaws
-mod Parses
+pub mod Parses
 mod CutLaws
 mod SliceLaws
 mod AnswerLaws

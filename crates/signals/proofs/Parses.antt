@@ -19,8 +19,8 @@ use Rattle.scanner.specs.Laws.{by-test}
 use Rattle.tokens.specs.Rows.{front, tokenIn, tokenAt, rowOf, line, Present}
 use Rattle.tokens.specs.declared.Token.{Token}
 use Rattle.tokens.specs.declared.Token.the-variants.{Name, Word, Constant as Constantly, Mark, End}
-use Rattle.tokens.proofs.TokenLaws.{front-token, present, line-end, line-more, line-read, below}
-use Rattle.signals.specs.Reads.{isTheMark, markAt, boundsBehind, slicedOn, membersOn}
+use Rattle.tokens.proofs.TokenLaws.{present, line-end, line-row, by-line, line-read, below}
+use Rattle.signals.specs.Reads.{isTheMark, markAt, boundsBehind, slicedOn, membersOn, Readable}
 
 -- ---- the token of a row
 
@@ -51,48 +51,40 @@ module _ (t : List ℕ) (i : ℕ) where
   mark-other a b e h = ap (isTheMark b) (sym (the-mark a (tokenAt t i) e)) ∙ ne-eqb a b h
 
   module _ (f : List ℕ) where
-    -- the first token of the rows from i on, which is the mark c just where the row holds it
-    line-token : i < length t / 4 → (x : rules.Token) × (line f t i ≡ x ∷ line f t (i + 1)) × ((c : Char) → isMark c x ≡ markAt t i (byte c))
-    unfolding markAt tokenAt
-    line-token h = (
-      tokenIn f (rowOf t i),
-      line-more f t i h ∙ front-token f (rowOf t i) (line f t (i + 1)) (present t i),
-      λ c. same-mark f (rowOf t i) c (present t i) ∙ sym (rw (lt-ltb i (length t / 4) h)),
-    )
-
     module _ (c : Char) where
+      -- the first token of the rows from i on is the mark c just where the row holds it
+      token-mark : i < length t / 4 → isMark c (tokenIn f (rowOf t i)) ≡ markAt t i (byte c)
+      unfolding markAt tokenAt
+      token-mark h = same-mark f (rowOf t i) c (present t i) ∙ sym (rw (lt-ltb i (length t / 4) h))
+
       module _ {A : Type 0} (p q : Parse A) where
         pub either-yes : markAt t i (byte c) ≡ true → either (isMark c) p q (line f t i) ≡ p (line f t (i + 1))
         unfolding either
-        either-yes e = let L = line-token (mark-below (byte c) e) in rw (L .1, L .2 c, e)
+        either-yes e = let h = mark-below (byte c) e in rw (line-row f t i h, token-mark h, e)
 
         pub either-not : markAt t i (byte c) ≡ false → either (isMark c) p q (line f t i) ≡ q (line f t i)
         unfolding either
-        either-not e =
-            by-test (ltb i (length t / 4)) (λ h. let L = line-token (ltb-true i (length t / 4) h) in rw (L .1, L .2 c, e))
-            (λ h. rw (line-end f t i (ltb-false i (length t / 4) h)))
+        either-not e = by-line f t i (λ ts. either (isMark c) p q ts ≡ q ts) (λ h. refl) (λ h. rw (token-mark h, e))
 
       module _ {A : Type 0} (p : Parse A) (as′ : List A) where
         pub repeat-yes : (k : ℕ) → markAt t i (byte c) ≡ true → repeat (isMark c) p (suc k) as′ (line f t i) ≡ after (p (line f t i)) (λ a. repeat (isMark c) p k (a ∷ as′))
         unfolding repeat
-        repeat-yes k e = let L = line-token (mark-below (byte c) e) in rw (L .1, L .2 c, e)
+        repeat-yes k e = let h = mark-below (byte c) e in rw (line-row f t i h, token-mark h, e)
 
         pub repeat-not : (k : ℕ) → markAt t i (byte c) ≡ false → repeat (isMark c) p k as′ (line f t i) ≡ some (as′, line f t i)
         unfolding repeat
         repeat-not zero e = refl
-        repeat-not (suc k) e =
-            by-test (ltb i (length t / 4)) (λ h. let L = line-token (ltb-true i (length t / 4) h) in rw (L .1, L .2 c, e))
-            (λ h. rw (line-end f t i (ltb-false i (length t / 4) h)))
+        repeat-not (suc k) e = by-line f t i (λ ts. repeat (isMark c) p (suc k) as′ ts ≡ some (as′, ts)) (λ h. refl) (λ h. rw (token-mark h, e))
 
         -- up to a mark
         pub until-yes : (k : ℕ) → markAt t i (byte c) ≡ true → repeat (λ x. not (isMark c x)) p k as′ (line f t i) ≡ some (as′, line f t i)
         unfolding repeat
         until-yes zero e = refl
-        until-yes (suc k) e = let L = line-token (mark-below (byte c) e) in rw (L .1, L .2 c, e)
+        until-yes (suc k) e = let h = mark-below (byte c) e in rw (line-row f t i h, token-mark h, e)
 
         pub until-not : (k : ℕ) → markAt t i (byte c) ≡ false → i < length t / 4 → repeat (λ x. not (isMark c x)) p (suc k) as′ (line f t i) ≡ after (p (line f t i)) (λ a. repeat (λ x. not (isMark c x)) p k (a ∷ as′))
         unfolding repeat
-        until-not k e h = let L = line-token h in rw (L .1, L .2 c, e)
+        until-not k e h = rw (line-row f t i h, token-mark h, e)
 
         pub until-end : (k : ℕ) → length t / 4 ≤ i → repeat (λ x. not (isMark c x)) p k as′ (line f t i) ≡ some (as′, line f t i)
         unfolding repeat
@@ -241,9 +233,9 @@ module _ (f t : List ℕ) (i d : ℕ) where
   unfolding head atom one isAtom
   head-deep q e = rw (q, mark-line f t i 123 e)
 
-  pub head-bundle : (k : ℕ) → d ≡ suc k → markAt t i 123 ≡ true → head d (line f t i) ≡ members (signal k) (line f t (i + 1))
+  pub head-bundle : (d ≡ 0 → ⊥) → markAt t i 123 ≡ true → head d (line f t i) ≡ members (signal (d - 1)) (line f t (i + 1))
   unfolding head
-  head-bundle k q e = rw q (either-yes t i f "{" (members (signal k)) atom e)
+  head-bundle h e = ap (λ (k : ℕ). head k (line f t i)) (let q : d ≡ suc (d - 1) = omega (arith, h) in q) ∙ either-yes t i f "{" (members (signal (d - 1))) atom e
 
   pub head-atom : markAt t i 123 ≡ false → head d (line f t i) ≡ atom (line f t i)
   unfolding head
@@ -252,3 +244,7 @@ module _ (f t : List ℕ) (i d : ℕ) where
       by : (k : ℕ) → head k (line f t i) ≡ atom (line f t i)
       by zero = refl
       by (suc k) = either-not t i f "{" (members (signal k)) atom e
+
+-- rows that can be read can be read further on
+pub readable-on : (f t : List ℕ) (i n : ℕ) → Readable f t i → n ≤ length t / 4 → Readable f t n
+readable-on f t i n R h = record { file = R .file; rows = R .rows; here = h; closed = R .closed }

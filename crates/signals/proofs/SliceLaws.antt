@@ -19,13 +19,13 @@ use Rattle.tokens.specs.Rows.{line, integerIn}
 use Rattle.tokens.proofs.TokenLaws.{line-long}
 use Rattle.tokens.specs.declared.Integer.{Integer}
 use Rattle.tokens.specs.declared.Slot.{Slot}
-use Rattle.signals.specs.Faults.{fault, merge, mild}
+use Rattle.signals.specs.Faults.{fault, merge}
 use Rattle.signals.specs.Held.{Held, Kept, CutIs}
 use Rattle.signals.specs.Reads.{markAt, slotIn, slicedOn, SliceIs, BoundsIs, SlicesIs}
 use Rattle.signals.specs.declared.Bits.{Bits}
 use Rattle.signals.specs.declared.Answer.the-variants as answer
 use Rattle.signals.specs.declared.Bounds.the-variants as bound
-use Rattle.signals.proofs.FaultLaws.{merge-zero, mild-not, mild-merge, faults-front, own-number}
+use Rattle.signals.proofs.FaultLaws.{merge-zero, faults-front, own-number}
 use Rattle.signals.proofs.HeldLaws.{sized, held-not, kept-same}
 use Rattle.signals.proofs.Parses.{mark-below, slices-end, slices-none, slices-next}
 
@@ -43,7 +43,7 @@ module _ (b : Bits) (o : ℕ) (out : List ℕ) where
   numbers-broken : (h : ℤ) (z : Option ℤ) (n : ℕ) → n ≡ merge 7 (b .fault) → int32 h && all int32 (Option·toList z) ≡ false → SliceIs b h z o out out (sized (b .width) n)
   numbers-broken h z n q e =
       record {
-        held = λ ws s H. held-not ws (Sig.slice s h z) o out (b .width) n (number-fault ws s h z e ∙ ap (merge 7) (H .refused) ∙ sym q) (ap mild q ∙ mild-merge 7 (b .fault) ∙ rw (mild-not 7 (omega arith) (omega arith)));
+        held = λ ws s H. held-not ws (Sig.slice s h z) o out (b .width) 7 (b .fault) n (omega arith) (omega arith) q (number-fault ws s h z e ∙ ap (merge 7) (H .refused));
         kept = kept-same o out;
         few = omega arith;
         small = λ g. absurd (let w : 7 ≡ 0 = merge-zero 7 (b .fault) (sym q ∙ g) .0 in omega arith);
@@ -126,8 +126,8 @@ module _ (f t : List ℕ) (i o : ℕ) (out₀ : List ℕ) (b₀ : Bits) where
         }
 
     module _ (e : markAt t at 91 ≡ true) where
-      more : (ws : Wires) (s : Sig) (R : Reached f t i o ws s out at b) → R .fuel ≡ suc (R .fuel - 1)
-      more ws s R = omega (arith, mark-below t at 91 e, R .enough)
+      more : (ws : Wires) (s : Sig) (R : Reached f t i o ws s out at b) → slicedOn s (length (line f t i)) [] (line f t i) ≡ slicedOn s (suc (R .fuel - 1)) (R .cuts) (line f t at)
+      more ws s R = R .is ∙ ap (λ (k : ℕ). slicedOn s k (R .cuts) (line f t at)) (omega (arith, mark-below t at 91 e, R .enough))
 
       pub slices-broken : BoundsIs t (at + 1) bound.NoShape → SlicesIs f t i o out₀ b₀ out answer.NoShape
       slices-broken B =
@@ -135,7 +135,7 @@ module _ (f t : List ℕ) (i o : ℕ) (out₀ : List ℕ) (b₀ : Bits) where
             kept = S .kept;
             read = λ ws s H.
                 let R = S .reached ws s H in
-                R .is ∙ ap (λ (k : ℕ). slicedOn s k (R .cuts) (line f t at)) (more ws s R) ∙ slices-none f t at s (R .cuts) (R .fuel - 1) e (B f);
+                more ws s R ∙ slices-none f t at s (R .cuts) (R .fuel - 1) e (B f);
           }
 
       module _ (h : Integer) (l : Slot) (n : ℕ) (B : BoundsIs t (at + 1) (bound.Read h l n)) where
@@ -154,7 +154,7 @@ module _ (f t : List ℕ) (i o : ℕ) (out₀ : List ℕ) (b₀ : Bits) where
                     cuts = (integerIn f h, slotIn f l) ∷ R .cuts;
                     fuel = R .fuel - 1;
                     enough = omega (arith, R .enough, B .0);
-                    is = R .is ∙ ap (λ (k : ℕ). slicedOn s k (R .cuts) (line f t at)) (more ws s R) ∙ slices-next f t at s (R .cuts) (R .fuel - 1) e (integerIn f h, slotIn f l) n (B .2 f);
+                    is = more ws s R ∙ slices-next f t at s (R .cuts) (R .fuel - 1) e (integerIn f h, slotIn f l) n (B .2 f);
                     held = C .held ws (sliced s (R .cuts)) (R .held);
                   };
             }

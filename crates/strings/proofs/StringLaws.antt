@@ -5,7 +5,7 @@ use mathlib.Core.Bool.{true}
 use mathlib.Core.List.{List, [], _∷_}
 use Prim.Native.Nat.{ℕ, suc, _+_, _<_, _≤_}
 use native.Mathlib.Omega.{arith}
-use lib.ListN.{length, drop, length-append}
+use lib.ListN.{length, drop, length-append, length-drop}
 use Rattle.rules.specs.Bytes.{within}
 use Rattle.rules.specs.Tokens.{Inside, plain, Turn, goes, ends, breaks, turn, Quoted, closed, broken, quotedOnto, quotedBy, quoted}
 use Rattle.strings.specs.declared.Close.{Close}
@@ -45,12 +45,13 @@ few-bytes n broken f = omega arith
 pub quoted-bytes : (j : Inside) (l ds r : List ℕ) → quoted j l ≡ closed ds r → AllBytes ds
 quoted-bytes j l ds r e = let f : FineQuoted (length l + held j) (closed ds r) = rw e at (quoted-fine j l) in f .1
 
-module _ (l : List ℕ) where
-  -- a string stands for no more bytes than are written
-  pub decoded-length : length (decoded l) ≤ length l
-  unfolding decoded decodedBy held
-  decoded-length = omega (arith, few-bytes (length l + held plain) (quoted plain l) (quoted-fine plain l))
+-- a string stands for no more bytes than are written
+pub decoded-length : (l : List ℕ) (at : ℕ) → length (decoded (drop at l)) ≤ length l
+unfolding decoded decodedBy held
+decoded-length l at =
+    omega (arith, few-bytes (length (drop at l) + held plain) (quoted plain (drop at l)) (quoted-fine plain (drop at l)), length-drop at l)
 
+module _ (l : List ℕ) where
   pub broken-decoded : quoted plain l ≡ broken → decoded l ≡ []
   unfolding decoded decodedBy bytesOf
   broken-decoded e = rw e

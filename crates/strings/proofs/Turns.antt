@@ -1,29 +1,24 @@
 -- One turn of the machine gives few bytes, and none of them is 0.
 -- Assumes nothing.
 use mathlib.Core.Path.{_≡_, refl}
-use mathlib.Core.Bool.{true, false, not, cond}
+use mathlib.Core.Bool.{true, not, cond}
 use mathlib.Core.List.{List, [], _∷_}
-use Prim.Native.Nat.{ℕ, _+_, _*_, _-_, _<_, _≤_}
+use Prim.Native.Nat.{ℕ, _+_, _*_, _-_, _≤_}
 use native.Mathlib.Omega.{arith}
 use lib.ListN.{length}
-use lib.Dec.{leb, ltb, eqb}
-use borrow.Author.Tests.{leb-true, le-leb, lt-leb}
+use lib.Dec.{ltb, eqb}
 use Rattle.rules.specs.Bytes.{byte, all, within, isOctal, isLineEnd, isStringByte}
 use Rattle.rules.specs.Tokens.{Inside, plain, escape, octal, Turn, goes, ends, breaks, plainTurn, escapeTurn, onto, octalByte, octalTurn, turn}
-use Rattle.scanner.specs.Laws.{by-cond, and-true-left, within-yes}
+use Rattle.scanner.specs.Laws.{by-cond, and-true-left, within-yes, within-low}
 
 -- a digit of an octal can be counted from `0`
 pub octal-digit : (b : ℕ) → isOctal b ≡ true → byte "0" ≤ b
-unfolding isOctal within
-octal-digit b e = leb-true 48 b (and-true-left (leb 48 b) (leb b 55) e)
+unfolding isOctal
+octal-digit b e = within-low (byte "0") (byte "7") b e
 
--- a byte that is not 0, and a number that is no byte
+-- a byte that is not 0
 pub byte-in : (n : ℕ) → (n ≡ 0 → ⊥) → n ≤ 255 → within 1 255 n ≡ true
 byte-in n h k = within-yes 1 255 n (omega arith) k
-
-pub byte-above : (n : ℕ) → 255 < n → within 1 255 n ≡ false
-unfolding within
-byte-above n h = rw (le-leb 1 n (omega arith), lt-leb n 255 h)
 
 -- how many bytes may still come beyond one for each byte read: an octal's own
 unfoldable pub held : Inside → ℕ

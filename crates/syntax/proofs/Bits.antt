@@ -1,14 +1,14 @@
 -- The bits of a signal whose parts are at most 2,048 wide are those of their codes.
 -- Assumes nothing.
 use Prim.Native.Nat.{ℕ, zero, suc, _+_, _≤_}
-use mathlib.Core.Path.{_≡_, refl, sym, _∙_}
+use mathlib.Core.Path.{_≡_, refl, _∙_}
 use mathlib.Core.List.{List, [], _∷_, map, reverse-reverse}
 use mathlib.Core.Option.{Option, none, some, Option·getD, Option·elim}
-use mathlib.Core.Bool.{Bool, true, false, not, _&&_}
+use mathlib.Core.Bool.{Bool, true, false, not}
 use native.Mathlib.Omega.{arith}
 use lib.Dec.{leb}
 use lib.IntN.{natAbs}
-use lib.ListN.{take, drop}
+use lib.ListN.{take, drop, take-append-drop}
 use borrow.Author.Tests.{leb-true}
 use Rattle.rules.specs.Bytes.{all}
 use Rattle.rules.specs.Tokens.{Digit}
@@ -18,7 +18,7 @@ use Rattle.rules.specs.Signals.{Wires, find, lower, span, literalBits, wireBits
 use Rattle.rules.specs.Judgement.{lowest}
 use Rattle.rules.specs.Layout.{bitCode}
 use Rattle.scanner.specs.Laws.{and-true-left, and-true-right}
-use Rattle.scanner.specs.Elements.{all-split, Each, each-append}
+use Rattle.scanner.specs.Elements.{all-left, all-right, Each, each-front, each-back, each-append, each-all, each-through}
 use Rattle.scanner.specs.Parts.{slice-kept}
 use Rattle.numbers.specs.Kinds.{bitOf, bitAt}
 use Rattle.numbers.specs.KindLaws as kinds
@@ -33,20 +33,12 @@ use Rattle.syntax.specs.Statements.{signalIn}
 abbrev Coded : Signal → Type 0
 Coded bs = Each (λ b. bitOf (bitAt (bitCode b)) ≡ b) bs
 
-coded-take : (n : ℕ) (xs : Signal) → Coded xs → Coded (take n xs)
-coded-take zero xs h = tt
-coded-take (suc n) [] h = tt
-coded-take (suc n) (x ∷ xs) h = (h .0, coded-take n xs (h .1))
-
-coded-drop : (n : ℕ) (xs : Signal) → Coded xs → Coded (drop n xs)
-coded-drop zero xs h = h
-coded-drop (suc n) [] h = tt
-coded-drop (suc n) (x ∷ xs) h = coded-drop n xs (h .1)
+coded-part : (l n : ℕ) (xs : Signal) → Coded xs → Coded (take n (drop l xs))
+coded-part l n xs h = each-front _ (take n (drop l xs)) (drop n (drop l xs)) (rw (take-append-drop n (drop l xs)) (each-back _ (take l xs) (drop l xs) (rw (take-append-drop l xs) h)))
 
 coded-digits : (ds : List Digit) → Coded (map digit ds)
 unfolding Within
-coded-digits [] = tt
-coded-digits (d ∷ ds) = (bit-back 0 (digit d) tt, coded-digits ds)
+coded-digits ds = each-through _ digit _ (λ d h. h) ds (each-all _ (λ d. bit-back 0 (digit d) tt) ds)
 
 coded-wire : (n i k : ℕ) → i + k ≤ 2048 → Coded (wireBits n i k)
 unfolding wireBits Within
@@ -71,14 +63,13 @@ module _ (ws : Wires) where
     coded (constant c) h = coded-digits (literalBits c)
     coded (wire n) h = coded-found (find n ws) (leb-true _ _ (and-true-left _ _ h))
     coded (rules.slice s i l) h =
-        coded-take (span i (lower i l)) (drop (natAbs (lower i l)) (bits ws s)) (coded-drop (natAbs (lower i l)) (bits ws s) (coded s (and-true-right (narrow (rules.slice s i l)) _ h)))
+        coded-part (natAbs (lower i l)) (span i (lower i l)) (bits ws s) (coded s (and-true-right (narrow (rules.slice s i l)) _ h))
     coded (bundle ss) h = coded-of ss (and-true-right (narrow (bundle ss)) _ h)
 
     coded-of : (ss : Sigs) → all narrow (partsOf ss) ≡ true → Coded (bitsOf ws ss)
     coded-of nothing h = tt
     coded-of (s below ss) h =
-        let e : all narrow (parts s) && all narrow (partsOf ss) ≡ true = sym (all-split narrow (parts s) (partsOf ss)) ∙ h in
-        each-append _ (bits ws s) (bitsOf ws ss) (coded s (and-true-left _ _ e)) (coded-of ss (and-true-right (all narrow (parts s)) _ e))
+        each-append _ (bits ws s) (bitsOf ws ss) (coded s (all-left narrow (parts s) (partsOf ss) h)) (coded-of ss (all-right narrow (parts s) (partsOf ss) h))
 
   -- where no rule is broken all parts are narrow
   last-holds : (a b c d : Bool) → Option·getD (lowest ((7, a) ∷ (8, b) ∷ (10, c) ∷ (11, not d) ∷ [])) 0 ≡ 0 → d ≡ true

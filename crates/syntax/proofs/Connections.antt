@@ -18,7 +18,7 @@ use Rattle.forms.specs.declared.Span.{Span}
 use Rattle.signals.specs.Faults.{faults, fault, merge, mild}
 use Rattle.signals.specs.Held.{Held}
 use Rattle.signals.specs.declared.Bits.{Bits}
-use Rattle.signals.proofs.FaultLaws.{faults-append, merge-none, merge-zero, mild-merge, late-merge}
+use Rattle.signals.proofs.FaultLaws.{faults-none, faults-append, merge-none, merge-zero, mild-merge, late-merge}
 use Rattle.syntax.specs.Statements.{numberOf, lateOf, early, late, statementIn, kindIn, namesIn, Judged, Says, judged, faulted}
 use Rattle.syntax.specs.declared.Statement.{Statement}
 use Rattle.syntax.specs.declared.Statement.the-variants as statement
@@ -74,13 +74,9 @@ module _ (ws : Wires) (f s : List ℕ) (sh : Shape) where
 -- ---- the parts of one signal and of two
 
 module _ (ws : Wires) where
-  no-parts : faults ws [] ≡ 0
-  unfolding faults lowest all
-  no-parts = refl
-
   one-signal : (a : Sig) → faults ws (flatMap parts (a ∷ [])) ≡ fault ws a
   unfolding flatMap fault
-  one-signal a = faults-append ws (parts a) [] ∙ ap (merge (faults ws (parts a))) no-parts ∙ merge-none (faults ws (parts a))
+  one-signal a = faults-append ws (parts a) [] ∙ ap (merge (faults ws (parts a))) (faults-none ws) ∙ merge-none (faults ws (parts a))
 
   two-signals : (a b : Sig) → faults ws (flatMap parts (a ∷ b ∷ [])) ≡ merge (fault ws a) (fault ws b)
   unfolding flatMap fault

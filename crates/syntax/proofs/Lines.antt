@@ -1,10 +1,9 @@
 -- The shape of a `connect` line, part by part.
 -- Assumes nothing.
-use Prim.Native.Nat.{ℕ, _/_, _≤_}
+use Prim.Native.Nat.{ℕ}
 use mathlib.Core.Path.{_≡_}
 use mathlib.Core.List.{List}
 use mathlib.Core.Option.{none, some}
-use lib.ListN.{length}
 use Rattle.rules.specs.Tokens.{Name}
 use Rattle.rules.specs.Statements.{Sig, conn-stmt, cell-conn-stmt}
 use Rattle.rules.specs.Shapes.{id, signal, sigspec, of₂, of₁, after, give, whole}
@@ -12,7 +11,6 @@ use Rattle.tokens.specs.Rows.{line}
 use Rattle.forms.specs.Forms.{kindOf, cellKindOf, ended}
 use Rattle.forms.specs.declared.Kind.the-variants as kind
 use Rattle.forms.specs.declared.CellKind.the-variants as cellKind
-use Rattle.signals.specs.Reads.{Readable}
 
 unfoldable connectOpen : Unit {0}
 unfolding kindOf cellKindOf ended of₂ of₁ after give whole sigspec
@@ -46,7 +44,3 @@ module _ (f t : List ℕ) where
     pub named-read : (a : Sig) (n : ℕ) → signal 16 (line f t 2) ≡ some (a, line f t n) → cellKindOf f t cellKind.Connect ≡ ended (some (cell-conn-stmt x a)) (line f t n)
     unfolding connectOpen
     named-read a n g = rw (e, g)
-
--- rows that can be read can be read further on
-pub readable-on : (f t : List ℕ) (i n : ℕ) → Readable f t i → n ≤ length t / 4 → Readable f t n
-readable-on f t i n R h = record { file = R .file; rows = R .rows; here = h; closed = R .closed }

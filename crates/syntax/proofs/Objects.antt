@@ -4,7 +4,7 @@ use Prim.Native.Nat.{ℕ, _+_, _*_, _≤_, _<_}
 use mathlib.Core.Path.{_≡_, refl}
 use mathlib.Core.List.{List, [], Option·toList}
 use mathlib.Core.Option.{Option, none, some, Option·elim}
-use mathlib.Core.Bool.{Bool, true, false, not, cond, _&&_}
+use mathlib.Core.Bool.{true, false, not, cond, _&&_}
 use native.Mathlib.Omega.{arith}
 use lib.Dec.{eqb}
 use Rattle.rules.specs.Bytes.{any, all}
@@ -19,8 +19,9 @@ use Rattle.wires.specs.Rows.{column, wordAt}
 use Rattle.wires.specs.RowLaws.{row-wire, port-small}
 use Rattle.forms.specs.Forms.{nameIn}
 use Rattle.forms.specs.declared.Span.{Span}
-use Rattle.options.specs.Limits.{portNumber, WireGood, MemoryGood}
+use Rattle.options.specs.Limits.{portNumber, flagBits, WireGood, MemoryGood}
 use Rattle.options.proofs.Ports.{code-range}
+use Rattle.options.proofs.Meaning.{bits-most}
 use Rattle.syntax.specs.Statements.{wireFrom, memoryFrom, Judged}
 use Rattle.syntax.specs.declared.Statement.the-variants as statement
 use Rattle.numbers.specs.SignedLaws.{number-back}
@@ -35,12 +36,6 @@ wire-back x h =
     row-wire _ 0 u [] x (λ c l. let q : 8 * 0 + c ≡ c = omega arith in rw q) h
 
 -- the flags tell whether there is a port
-flag-small : (a b : Bool) → cond a 1 0 + cond b 2 0 ≤ 3
-flag-small true true = omega arith
-flag-small true false = omega arith
-flag-small false true = omega arith
-flag-small false false = omega arith
-
 no-port : (k : ℕ) (q : Option (Direction × ℕ)) → k + Option·elim q 0 (λ p. directionCode (p .0)) ≤ 3 → q ≡ none
 unfolding Option·elim
 no-port k none h = refl
@@ -61,11 +56,11 @@ module _ (ws : Wires) (os : List Opt) {w t k p : ℕ} (G : WireGood os w t k p) 
       rw (no-port (cond (x .upto) 1 0 + cond (x .signed) 2 0) (x .port) g)
 
   pub port-new : 3 < k → newPort ws os ≡ not (any (λ v. any (eqb p) (portNumbers (v .1))) ws) && true
-  unfolding newPort portNumbers flags all Option·toList
+  unfolding newPort portNumbers flags flagBits all Option·toList
   port-new h =
       let x = wireOf os in
       let g : 3 < flags x = rw (G .flags) h in
-      let q = a-port (cond (x .upto) 1 0 + cond (x .signed) 2 0) (x .port) (flag-small (x .upto) (x .signed)) g in
+      let q = a-port (cond (x .upto) 1 0 + cond (x .signed) 2 0) (x .port) (bits-most (x .upto) (x .signed) refl) g in
       rw (q .1, G .port)
 
 -- ---- judged
@@ -87,12 +82,12 @@ wire-means : (os : List Opt) {w t k p : ℕ} → WireGood os w t k p → wireFro
 wire-means os G = rw (← G .width, ← G .offset, ← G .flags, ← G .port) (wire-back (wireOf os) (good-offset os (G .good)))
 
 wire-sound : (os : List Opt) {w t k p : ℕ} → WireGood os w t k p → (k < 16) × (k < 4 → p ≡ 0)
-unfolding flags Option·elim
+unfolding flags flagBits Option·elim
 wire-sound os G =
     let x = wireOf os in
     let bits = cond (x .upto) 1 0 + cond (x .signed) 2 0 in
     let e = G .flags in (
-      omega (arith, e, flag-small (x .upto) (x .signed), port-small (x .port)),
+      omega (arith, e, bits-most (x .upto) (x .signed) {n = bits} refl, port-small (x .port)),
       λ h. let g : flags x ≤ 3 = omega (arith, e) in rw (← G .port, no-port bits (x .port) g),
     )
 

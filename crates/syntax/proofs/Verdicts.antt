@@ -14,7 +14,6 @@ use Rattle.rules.specs.Judgement.{Past, wires, Verdict, verdict, lowest, meanin
 use Rattle.rules.specs.Reading.{shaped}
 use Rattle.syntax.specs.Statements.{numberOf, lateOf, early, late, Sound, Judged, Says, no-shape, judged}
 use Rattle.syntax.specs.declared.Statement.{Statement}
-use Rattle.syntax.specs.declared.Statement.the-variants as statement
 
 -- three tests, and those behind them
 three : (p a b : Bool) → List (ℕ × Bool) → Option ℕ

@@ -4,7 +4,7 @@ use mathlib.Core.Path.{_≡_, refl, sym, ap, ap₂, _∙_}
 use mathlib.Core.Bool.{Bool, true, false, cond}
 use mathlib.Core.List.{List, [], _∷_, _++_}
 use Prim.Native.Nat.{ℕ, zero, suc, _+_, _-_, _*_, _/_, _<_, _≤_}
-use native.Mathlib.Nat.{add-zero}
+use native.Mathlib.Nat.{add-zero, zero-add}
 use native.Mathlib.Omega.{arith}
 use lib.Dec.{eqb, ltb}
 use lib.ListN.{length, getD, take, drop, length-append, List·getD-append}
@@ -62,6 +62,16 @@ module _ (f t : List ℕ) (i : ℕ) where
   pub line-more : i < length t / 4 → line f t i ≡ front f (rowOf t i) (line f t (i + 1))
   unfolding line rowsFrom
   line-more h = let e : length t / 4 - i ≡ suc (length t / 4 - (i + 1)) = omega arith in rw e
+
+  -- the first of the rows that are left
+  pub line-row : i < length t / 4 → line f t i ≡ tokenIn f (rowOf t i) ∷ line f t (i + 1)
+  line-row h = line-more h ∙ front-token f (rowOf t i) (line f t (i + 1)) (present t i)
+
+  -- a proof by whether a row is left
+  pub by-line : (P : List rules.Token → Type 0) → (length t / 4 ≤ i → P []) → (i < length t / 4 → P (tokenIn f (rowOf t i) ∷ line f t (i + 1))) → P (line f t i)
+  by-line P p q =
+      by-test (ltb i (length t / 4)) (λ b. let h = ltb-true i (length t / 4) b in rw (line-row h) (q h))
+      (λ b. let h = ltb-false i (length t / 4) b in rw (line-end h) (p h))
 
   line-by : (b : Bool) → b ≡ ltb i (length t / 4) → line f t i ≡ front f (cond b (rowOf t i) End) (line f t (i + 1))
   unfolding front
@@ -127,21 +137,19 @@ length-rowWords (Constantly (constant.Text a)) = refl
 length-rowWords (Mark b) = refl
 length-rowWords End = refl
 
+-- four words that are the same are the same row
+pub row-same : (t u : List ℕ) (a b : ℕ) → ((j : ℕ) → j < 4 → getD t (a + j) 0 ≡ getD u (b + j) 0) → tokenOf (getD t a 0) (getD t (a + 1) 0) (getD t (a + 2) 0) (getD t (a + 3) 0) ≡ tokenOf (getD u b 0) (getD u (b + 1) 0) (getD u (b + 2) 0) (getD u (b + 3) 0)
+row-same t u a b e = rw (rw (add-zero a, add-zero b) at (e 0 (omega arith)), e 1 (omega arith), e 2 (omega arith), e 3 (omega arith))
+
 -- rows u of n tokens with a row ws behind them
 module _ (u ws : List ℕ) (n : ℕ) (long : length u ≡ 4 * n) where
   pub row-before : (i : ℕ) → i < n → rowOf (u ++ ws) i ≡ rowOf u i
   unfolding rowOf
-  row-before i h =
-      let at : (j : ℕ) → j < 4 → getD (u ++ ws) (4 * i + j) 0 ≡ getD u (4 * i + j) 0 = λ j k. List·getD-append u ws 0 (4 * i + j) (omega arith) in
-      let first : getD (u ++ ws) (4 * i) 0 ≡ getD u (4 * i) 0 = List·getD-append u ws 0 (4 * i) (omega arith) in
-      rw (first, at 1 (omega arith), at 2 (omega arith), at 3 (omega arith))
+  row-before i h = row-same (u ++ ws) u (4 * i) (4 * i) (λ j k. List·getD-append u ws 0 (4 * i + j) (omega arith))
 
   row-behind : rowOf (u ++ ws) n ≡ wordsToken ws
   unfolding rowOf
-  row-behind =
-      let at : (j : ℕ) → getD (u ++ ws) (4 * n + j) 0 ≡ getD ws j 0 = λ j. ap (λ (k : ℕ). getD (u ++ ws) (k + j) 0) (sym long) ∙ getD-append-add u ws j 0 in
-      let first : getD (u ++ ws) (4 * n) 0 ≡ getD ws 0 0 = ap (λ (k : ℕ). getD (u ++ ws) k 0) (sym (add-zero (4 * n))) ∙ at 0 in
-      rw (first, at 1, at 2, at 3)
+  row-behind = row-same (u ++ ws) ws (4 * n) 0 (λ j k. rw (← long, zero-add j) (getD-append-add u ws j 0))
 
   rows-snoc : (f : List ℕ) (k i : ℕ) → i + k ≡ n → rowsFrom f (u ++ ws) (suc k) i ≡ rowsFrom f u k i ++ front f (rowOf (u ++ ws) n) []
   unfolding rowsFrom

@@ -6,7 +6,7 @@ use Rattle.rules.specs.Judgement.{sum}
 use Rattle.tokens.specs.Rows.{literalIn}
 use Rattle.forms.specs.Forms.{valueIn}
 use Rattle.judgement.specs.Parts.{constantsIn, bytesIn}
-use Rattle.judgement.proofs.PartLaws.{text-few}
+use Rattle.strings.proofs.StringLaws.{decoded-length}
 use borrow.Author.Needs.{needs}
 use Rattle.judgement.proofs.string_bytes.Statement.{statement}
 use Rattle.judgement.proofs.string_bytes.Tie as tie
@@ -34,7 +34,7 @@ string-size-requires : tie.Need-string-size-requires
 string-size-requires c κs = search needs
 
 cast-result : tie.Need-cast-result
-cast-result c = omega (arith, c .string-size .ensures, text-few (c .before .before .before .before .before .before .before .before .args .f .now) (c .before .before .c .given .0 .0), c .before .before .before .before .before .before .before .before .pre)
+cast-result c = omega (arith, c .string-size .ensures, decoded-length (c .before .before .before .before .before .before .before .before .args .f .now) (c .before .before .c .given .0 .0), c .before .before .before .before .before .before .before .before .pre)
 
 returns-2 : tie.Need-returns-2
 unfolding bytesIn constantsIn valueIn literalIn kept sum statementsOpen

@@ -1,7 +1,6 @@
 -- The word, the name, the signal.
 -- Assumes nothing.
 use mathlib.Core.Path.{refl, ap}
-use lib.ListN.{length}
 use Rattle.rules.specs.Text.{sig}
 use Rattle.text.specs.Written.{written-most, written-then, written-as}
 use Rattle.wire_names.specs.Now.{wiresIn}
@@ -28,7 +27,7 @@ words-at-requires : tie.Need-words-at-requires
 words-at-requires c κs = search needs
 
 put-signal-requires : tie.Need-put-signal-requires
-put-signal-requires c κs = (written-most (c .before .before .before .before .put-token .ensures), omega (arith, span-le (now (c .before .before .before .before .before .before .before .before .before .before .before .before .before .before .before .before .before .args .bits)) (now (c .before .before .before .before .before .before .before .before .before .before .before .before .before .before .before .before .before .args .rows)) (c .before .before .before .before .before .before .before .before .before .before .before .before .before .before .before .before .before .args .row) 3, ap length (c .before .words-at .ensures)))
+put-signal-requires c κs = (written-most (c .before .before .before .before .put-token .ensures), omega (arith, span-le _ _ _ _ _ (c .before .words-at .ensures)))
 
 returns : tie.Need-returns
 returns c = written-as (written-then (c .before .before .before .before .before .before .before .before .before .before .before .before .put-bytes .ensures) (written-then (c .before .before .before .before .before .before .before .put-token .ensures) (c .before .before .put-signal .ensures))) (line-cell-connection _ _ (span-name (now (c .before .before .before .before .before .before .before .before .before .before .before .before .before .before .before .before .before .before .before .before .args .names)) (now (c .before .before .before .before .before .before .before .before .before .before .before .before .before .before .before .before .before .before .before .before .args .rows)) _ (c .before .before .before .before .before .before .before .before .before .before .before .before .before .before .before .before .before .before .before .before .args .row) 1 (c .before .before .before .before .before .before .before .before .bytes-at .ensures)) _ _ (ap (sig (wiresIn (now (c .before .before .before .before .before .before .before .before .before .before .before .before .before .before .before .before .before .before .before .before .args .names)) (now (c .before .before .before .before .before .before .before .before .before .before .before .before .before .before .before .before .before .before .before .before .args .wires)) (now (c .before .before .before .before .before .before .before .before .before .before .before .before .before .before .before .before .before .before .before .before .args .rows)) (c .before .before .before .before .before .before .before .before .before .before .before .before .before .before .before .before .before .before .before .before .args .m))) (span-signal (now (c .before .before .before .before .before .before .before .before .before .before .before .before .before .before .before .before .before .before .before .before .args .bits)) (now (c .before .before .before .before .before .before .before .before .before .before .before .before .before .before .before .before .before .before .before .before .args .rows)) _ (c .before .before .before .before .before .before .before .before .before .before .before .before .before .before .before .before .before .before .before .before .args .row) 3 (c .before .before .before .before .words-at .ensures))))

@@ -1,8 +1,5 @@
 -- A space, then the constant by its kind.
 -- Assumes nothing.
-use mathlib.Core.Path.{ap}
-use Prim.Native.Nat.{_+_}
-use lib.ListN.{length}
 use Rattle.text.specs.Written.{written-most, written-then, written-as}
 use Rattle.line_text.specs.LineLaws.{span-le, constant-value, constant-integer, constant-string}
 use native.Mathlib.Omega.{arith}
@@ -24,7 +21,7 @@ words-at-requires : tie.Need-words-at-requires
 words-at-requires c κs = search needs
 
 put-value-requires : tie.Need-put-value-requires
-put-value-requires c κs = (written-most (c .before .before .before .before .before .before .put-byte .ensures), omega (arith, span-le (now (c .before .before .before .before .before .before .before .before .before .before .before .before .args .bits)) (now (c .before .before .before .before .before .before .before .before .before .before .before .before .args .rows)) (c .before .before .before .before .before .before .before .before .before .before .before .before .args .row) (c .before .before .before .before .before .before .before .before .before .before .before .before .args .c + 1), ap length (c .words-at .ensures)))
+put-value-requires c κs = (written-most (c .before .before .before .before .before .before .put-byte .ensures), omega (arith, span-le _ _ _ _ _ (c .words-at .ensures)))
 
 returns : tie.Need-returns
 returns c = written-as (written-then (c .before .before .before .before .before .before .before .before .before .put-byte .ensures) (c .before .before .put-value .ensures)) (constant-value (now (c .before .before .before .before .before .before .before .before .before .before .before .before .before .before .before .args .strings)) (now (c .before .before .before .before .before .before .before .before .before .before .before .before .before .before .before .args .bits)) (now (c .before .before .before .before .before .before .before .before .before .before .before .before .before .before .before .args .rows)) (c .before .before .before .before .before .before .before .before .before .before .before .before .before .before .before .args .row) (c .before .before .before .before .before .before .before .before .before .before .before .before .before .before .before .args .c) (c .before .before .before .before .before .before .column .result) (c .before .before .before .before .before .before .column .ensures) _ (c .before .before .before .words-at .ensures) (c .before .before .before .before .before .if1 .taken))

@@ -6,7 +6,7 @@ use borrow.Author.Tests.{not-true, not-false}
 use Rattle.tokens.specs.Rows.{front}
 use Rattle.tokens.specs.Parts.{integerGives}
 use Rattle.tokens.proofs.TokenLaws.{below}
-use Rattle.options.proofs.Rest.{refuses, refuses-end, ends, goes-on, flag-next, number-next, rest-short, rest-other, rest-literal, rest-mark}
+use Rattle.options.proofs.Rest.{decides, refuses-end, ends, goes-on, flag-next, number-next, rest-short, rest-other, rest-literal, rest-mark}
 use borrow.Author.Needs.{needs}
 use Rattle.options.proofs.option.Statement.{statement}
 use Rattle.options.proofs.option.Tie as tie
@@ -28,7 +28,7 @@ offered-requires c κs = tt
 
 returns : tie.Need-returns
 unfolding front
-returns c = refuses _ _ _ _ (sym (c .before .before .before .c .given .1) ∙ c .before .before .before .before .before .token-at .ensures) tt (λ f j os. rest-other _ j os _ _ (sym (c .before .offered .ensures) ∙ not-true _ (c .if2 .taken)))
+returns c = decides _ _ _ _ (sym (c .before .before .before .c .given .1) ∙ c .before .before .before .before .before .token-at .ensures) tt _ (λ f j os. rest-other _ j os _ _ (sym (c .before .offered .ensures) ∙ not-true _ (c .if2 .taken)))
 
 flag-requires : tie.Need-flag-requires
 flag-requires c κs = tt
@@ -54,7 +54,7 @@ returns-3 : tie.Need-returns-3
 unfolding front integerGives
 returns-3 c =
     let g = sym (c .before .before .before .before .flag .ensures) ∙ c .before .before .before .if3 .left in
-    refuses _ _ _ _ (sym (c .before .before .before .before .before .before .before .before .c .given .1) ∙ c .before .before .before .before .before .before .before .before .before .before .token-at .ensures) tt (λ f j os. rest-short _ j os _ _ (sym (c .before .before .before .before .before .before .offered .ensures) ∙ not-false _ (c .before .before .before .before .before .if2 .left)) g (c .before .before .integer-at .ensures f ∙ rw (c .enum-told .given .1)))
+    decides _ _ _ _ (sym (c .before .before .before .before .before .before .before .before .c .given .1) ∙ c .before .before .before .before .before .before .before .before .before .before .token-at .ensures) tt _ (λ f j os. rest-short _ j os _ _ (sym (c .before .before .before .before .before .before .offered .ensures) ∙ not-false _ (c .before .before .before .before .before .if2 .left)) g (c .before .before .integer-at .ensures f ∙ rw (c .enum-told .given .1)))
 
 enum-told-2 : tie.Need-enum-told-2
 enum-told-2 c = search needs
@@ -79,11 +79,11 @@ returns-6 c =
 
 returns-7 : tie.Need-returns-7
 unfolding front
-returns-7 c = refuses _ _ _ _ (sym (c .enum-told2 .given .1) ∙ c .before .before .token-at .ensures) tt (λ f j os. rest-literal _ j os _ _)
+returns-7 c = decides _ _ _ _ (sym (c .enum-told2 .given .1) ∙ c .before .before .token-at .ensures) tt _ (λ f j os. rest-literal _ j os _ _)
 
 returns-8 : tie.Need-returns-8
 unfolding front
-returns-8 c = refuses _ _ _ _ (sym (c .enum-told3 .given .1) ∙ c .before .before .token-at .ensures) tt (λ f j os. rest-mark _ j os _ _)
+returns-8 c = decides _ _ _ _ (sym (c .enum-told3 .given .1) ∙ c .before .before .token-at .ensures) tt _ (λ f j os. rest-mark _ j os _ _)
 
 returns-9 : tie.Need-returns-9
 returns-9 c = refuses-end _ _ _ (sym (c .enum-told4 .given .1) ∙ c .before .before .token-at .ensures)

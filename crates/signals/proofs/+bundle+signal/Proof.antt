@@ -1,18 +1,16 @@
 -- `signal` and `bundle` meet their contracts. The depth falls from a signal to its bundle, and a bundle's members have its own. The loop's
 -- invariant: the members from row i on are those that were read and those from row `at` on. Assumes nothing.
-use mathlib.Core.Path.{_≡_, sym, _∙_}
+use mathlib.Core.Path.{sym, _∙_}
 use mathlib.Core.Logic.{⊎-elim}
-use Prim.Native.Nat.{suc, _+_, _-_, _*_, _/_, _≤_}
+use Prim.Native.Nat.{ℕ, _+_, _-_, _*_, _/_, _<_}
 use native.Mathlib.Omega.{arith}
 use borrow.Author.Needs.{needs}
 use borrow.Author.Tests.{not-true, not-false}
-use denote.Ref.{now}
 use lib.ListN.{length}
 use Rattle.wires.specs.Rows.{wiresFrom}
-use Rattle.signals.proofs.Parses.{mark-below, head-deep, head-bundle, head-atom}
+use Rattle.signals.proofs.Parses.{mark-below, readable-on, head-deep, head-bundle, head-atom}
 use Rattle.signals.proofs.AnswerLaws.{signal-nowhere, signal-no-head, signal-with}
 use Rattle.signals.proofs.BundleLaws.{MembersOn, Place, place-behind, place-end, members-on-start, bundle-closed, bundle-broken, bundle-on}
-use Prim.Native.Nat.{ℕ, _<_}
 use borrow.Fn.Kinds.{In}
 use borrow.Fn.PlainCycle.{Measures, is, falls, and}
 use Rattle.signals.proofs.bundle.Reads as bundle
@@ -78,7 +76,7 @@ bundle-add-put-2 t c = omega (arith, c .before .before .before .before .before .
 bundle-signal-requires : (t : ℕ) → bundle-lts.Need-signal-requires (bundle-calls t) (bundle-at t) bundle.Post bundle-Inv-loop bundle-μ-loop
 bundle-signal-requires t c κs =
     let P : Place (c .before .before .before .before .before .before .before .before .before .before .args .o) (c .before .before .before .before .loop .width) (c .before .if2 .put) = ⊎-elim (λ w. place-behind _ _ _ (w .0 .taken) (w .1)) (λ w. place-end _ _ _ (w .0 .left) (w .1)) (c .before .if2 .came) in
-    (omega (arith, c .before .before .before .before .before .before .before .before .before .before .pre .0), (record { file = c .before .before .before .before .before .before .before .before .before .before .pre .1 .0 .file; rows = c .before .before .before .before .before .before .before .before .before .before .pre .1 .0 .rows; here = c .before .before .before .before .loop .inv .within; closed = c .before .before .before .before .before .before .before .before .before .before .pre .1 .0 .closed }, (omega (arith, c .before .before .before .before .before .before .before .before .before .before .pre .1 .1 .0, c .before .before .before .before .loop .inv .kept .long, P .upto), c .before .before .before .before .before .before .before .before .before .before .pre .1 .1 .1)))
+    (omega (arith, c .before .before .before .before .before .before .before .before .before .before .pre .0), (readable-on _ _ _ _ (c .before .before .before .before .before .before .before .before .before .before .pre .1 .0) (c .before .before .before .before .loop .inv .within), (omega (arith, c .before .before .before .before .before .before .before .before .before .before .pre .1 .1 .0, c .before .before .before .before .loop .inv .kept .long, P .upto), c .before .before .before .before .before .before .before .before .before .before .pre .1 .1 .1)))
 
 bundle-enum-known-m : (t : ℕ) → bundle-lts.Need-enum-known-m (bundle-calls t) (bundle-at t) bundle.Post bundle-Inv-loop bundle-μ-loop
 bundle-enum-known-m t c = search needs
@@ -141,7 +139,7 @@ signal-sub-bundle : (t : ℕ) → signal-lts.Need-sub-bundle (signal-calls t) (s
 signal-sub-bundle t c = omega (arith, c .if2 .left)
 
 signal-bundle-requires : (t : ℕ) → signal-lts.Need-bundle-requires (signal-calls t) (signal-at t) signal.Post
-signal-bundle-requires t c κs = (omega (arith, c .before .before .before .before .before .before .before .before .before .pre .0, c .before .if2 .left), (record { file = c .before .before .before .before .before .before .before .before .before .pre .1 .0 .file; rows = c .before .before .before .before .before .before .before .before .before .pre .1 .0 .rows; here = omega (arith, mark-below _ _ _ (sym (c .before .before .before .is-mark .ensures) ∙ c .before .before .if1 .taken)); closed = c .before .before .before .before .before .before .before .before .before .pre .1 .0 .closed }, (omega (arith, c .before .before .before .before .before .before .before .before .before .pre .1 .1 .0, c .before .if2 .left), c .before .before .before .before .before .before .before .before .before .pre .1 .1 .1)))
+signal-bundle-requires t c κs = (omega (arith, c .before .before .before .before .before .before .before .before .before .pre .0, c .before .if2 .left), (readable-on _ _ _ _ (c .before .before .before .before .before .before .before .before .before .pre .1 .0) (omega (arith, mark-below _ _ _ (sym (c .before .before .before .is-mark .ensures) ∙ c .before .before .if1 .taken))), (omega (arith, c .before .before .before .before .before .before .before .before .before .pre .1 .1 .0, c .before .if2 .left), c .before .before .before .before .before .before .before .before .before .pre .1 .1 .1)))
 
 signal-enum-known-b : (t : ℕ) → signal-lts.Need-enum-known-b (signal-calls t) (signal-at t) signal.Post
 signal-enum-known-b t c = search needs
@@ -153,11 +151,7 @@ signal-same-length : (t : ℕ) → signal-lts.Need-same-length (signal-calls t) 
 signal-same-length t c = c .before .before .before .before .bundle .ensures .kept .long
 
 signal-returns-2 : (t : ℕ) → signal-lts.Need-returns-2 (signal-calls t) (signal-at t) signal.Post
-signal-returns-2 t c =
-    let k : c .before .before .before .before .before .before .before .before .before .before .before .before .before .before .args .depth ≡ suc (c .before .before .before .before .before .before .before .before .before .before .before .before .before .before .args .depth - 1) = omega (arith, c .before .before .before .before .before .before .if2 .left) in
-    let e = head-bundle (now (c .before .before .before .before .before .before .before .before .before .before .before .before .before .before .args .f)) (now (c .before .before .before .before .before .before .before .before .before .before .before .before .before .before .args .tokens)) (c .before .before .before .before .before .before .before .before .before .before .before .before .before .before .args .i) (c .before .before .before .before .before .before .before .before .before .before .before .before .before .before .args .depth) (c .before .before .before .before .before .before .before .before .before .before .before .before .before .before .args .depth - 1) k (sym (c .before .before .before .before .before .before .before .before .is-mark .ensures) ∙ c .before .before .before .before .before .before .before .if1 .taken) in
-    let l : c .before .before .before .before .before .before .before .before .before .before .before .before .before .before .args .i ≤ c .before .before .before .before .before .before .before .before .before .before .before .before .before .before .args .i + 1 = omega arith in
-    signal-no-head _ _ _ _ _ _ _ _ _ _ e l (rw (c .enum-told .given .1) at (c .before .before .before .before .bundle .ensures))
+signal-returns-2 t c = signal-no-head _ _ _ _ _ _ _ _ _ _ (head-bundle _ _ _ _ (c .before .before .before .before .before .before .if2 .left) (sym (c .before .before .before .before .before .before .before .before .is-mark .ensures) ∙ c .before .before .before .before .before .before .before .if1 .taken)) (rw (c .enum-told .given .1) at (c .before .before .before .before .bundle .ensures))
 
 signal-slices-requires : (t : ℕ) → signal-lts.Need-slices-requires (signal-calls t) (signal-at t) signal.Post
 signal-slices-requires t c κs =
@@ -168,11 +162,7 @@ signal-same-length-2 : (t : ℕ) → signal-lts.Need-same-length-2 (signal-calls
 signal-same-length-2 t c = c .before .before .slices .ensures .kept .long ∙ c .before .before .before .before .before .before .before .before .before .bundle .ensures .kept .long
 
 signal-returns-3 : (t : ℕ) → signal-lts.Need-returns-3 (signal-calls t) (signal-at t) signal.Post
-signal-returns-3 t c =
-    let k : c .before .before .before .before .before .before .before .before .before .before .before .before .before .before .before .before .before .before .before .args .depth ≡ suc (c .before .before .before .before .before .before .before .before .before .before .before .before .before .before .before .before .before .before .before .args .depth - 1) = omega (arith, c .before .before .before .before .before .before .before .before .before .before .before .if2 .left) in
-    let e = head-bundle (now (c .before .before .before .before .before .before .before .before .before .before .before .before .before .before .before .before .before .before .before .args .f)) (now (c .before .before .before .before .before .before .before .before .before .before .before .before .before .before .before .before .before .before .before .args .tokens)) (c .before .before .before .before .before .before .before .before .before .before .before .before .before .before .before .before .before .before .before .args .i) (c .before .before .before .before .before .before .before .before .before .before .before .before .before .before .before .before .before .before .before .args .depth) (c .before .before .before .before .before .before .before .before .before .before .before .before .before .before .before .before .before .before .before .args .depth - 1) k (sym (c .before .before .before .before .before .before .before .before .before .before .before .before .before .is-mark .ensures) ∙ c .before .before .before .before .before .before .before .before .before .before .before .before .if1 .taken) in
-    let l : c .before .before .before .before .before .before .before .before .before .before .before .before .before .before .before .before .before .before .before .args .i ≤ c .before .before .before .before .before .before .before .before .before .before .before .before .before .before .before .before .before .before .before .args .i + 1 = omega arith in
-    signal-with _ _ _ _ _ _ _ _ _ _ e l _ _ (rw (c .before .before .before .before .before .b .given .1) at (c .before .before .before .before .before .before .before .before .before .bundle .ensures)) _ _ (c .before .before .slices .ensures)
+signal-returns-3 t c = signal-with _ _ _ _ _ _ _ _ _ _ (head-bundle _ _ _ _ (c .before .before .before .before .before .before .before .before .before .before .before .if2 .left) (sym (c .before .before .before .before .before .before .before .before .before .before .before .before .before .is-mark .ensures) ∙ c .before .before .before .before .before .before .before .before .before .before .before .before .if1 .taken)) _ _ (rw (c .before .before .before .before .before .b .given .1) at (c .before .before .before .before .before .before .before .before .before .bundle .ensures)) _ _ (c .before .before .slices .ensures) (omega arith)
 
 signal-atom-requires : (t : ℕ) → signal-lts.Need-atom-requires (signal-calls t) (signal-at t) signal.Post
 signal-atom-requires t c κs = (c .before .before .before .before .before .before .before .before .pre .1 .0, (omega (arith, c .before .before .before .before .before .before .before .before .pre .1 .1 .0), c .before .before .before .before .before .before .before .before .pre .1 .1 .1))
@@ -187,10 +177,7 @@ signal-same-length-3 : (t : ℕ) → signal-lts.Need-same-length-3 (signal-calls
 signal-same-length-3 t c = c .before .before .before .before .atom .ensures .kept .long
 
 signal-returns-4 : (t : ℕ) → signal-lts.Need-returns-4 (signal-calls t) (signal-at t) signal.Post
-signal-returns-4 t c =
-    let e = head-atom (now (c .before .before .before .before .before .before .before .before .before .before .before .before .before .args .f)) (now (c .before .before .before .before .before .before .before .before .before .before .before .before .before .args .tokens)) (c .before .before .before .before .before .before .before .before .before .before .before .before .before .args .i) (c .before .before .before .before .before .before .before .before .before .before .before .before .before .args .depth) (sym (c .before .before .before .before .before .before .before .is-mark .ensures) ∙ c .before .before .before .before .before .before .if1 .left) in
-    let l : c .before .before .before .before .before .before .before .before .before .before .before .before .before .args .i ≤ c .before .before .before .before .before .before .before .before .before .before .before .before .before .args .i = omega arith in
-    signal-no-head _ _ _ _ _ _ _ _ _ _ e l (rw (c .enum-told2 .given .1) at (c .before .before .before .before .atom .ensures))
+signal-returns-4 t c = signal-no-head _ _ _ _ _ _ _ _ _ _ (head-atom _ _ _ _ (sym (c .before .before .before .before .before .before .before .is-mark .ensures) ∙ c .before .before .before .before .before .before .if1 .left)) (rw (c .enum-told2 .given .1) at (c .before .before .before .before .atom .ensures))
 
 signal-slices-requires-2 : (t : ℕ) → signal-lts.Need-slices-requires-2 (signal-calls t) (signal-at t) signal.Post
 signal-slices-requires-2 t c κs =
@@ -201,10 +188,7 @@ signal-same-length-4 : (t : ℕ) → signal-lts.Need-same-length-4 (signal-calls
 signal-same-length-4 t c = c .before .before .slices2 .ensures .kept .long ∙ c .before .before .before .before .before .before .before .before .before .atom .ensures .kept .long
 
 signal-returns-5 : (t : ℕ) → signal-lts.Need-returns-5 (signal-calls t) (signal-at t) signal.Post
-signal-returns-5 t c =
-    let e = head-atom (now (c .before .before .before .before .before .before .before .before .before .before .before .before .before .before .before .before .before .before .args .f)) (now (c .before .before .before .before .before .before .before .before .before .before .before .before .before .before .before .before .before .before .args .tokens)) (c .before .before .before .before .before .before .before .before .before .before .before .before .before .before .before .before .before .before .args .i) (c .before .before .before .before .before .before .before .before .before .before .before .before .before .before .before .before .before .before .args .depth) (sym (c .before .before .before .before .before .before .before .before .before .before .before .before .is-mark .ensures) ∙ c .before .before .before .before .before .before .before .before .before .before .before .if1 .left) in
-    let l : c .before .before .before .before .before .before .before .before .before .before .before .before .before .before .before .before .before .before .args .i ≤ c .before .before .before .before .before .before .before .before .before .before .before .before .before .before .before .before .before .before .args .i = omega arith in
-    signal-with _ _ _ _ _ _ _ _ _ _ e l _ _ (rw (c .before .before .before .before .before .a .given .1) at (c .before .before .before .before .before .before .before .before .before .atom .ensures)) _ _ (c .before .before .slices2 .ensures)
+signal-returns-5 t c = signal-with _ _ _ _ _ _ _ _ _ _ (head-atom _ _ _ _ (sym (c .before .before .before .before .before .before .before .before .before .before .before .before .is-mark .ensures) ∙ c .before .before .before .before .before .before .before .before .before .before .before .if1 .left)) _ _ (rw (c .before .before .before .before .before .a .given .1) at (c .before .before .before .before .before .before .before .before .before .atom .ensures)) _ _ (c .before .before .slices2 .ensures) (omega arith)
 
 pub +bundle+signal-spec : {M : Type 1} → statement M
 +bundle+signal-spec = close μ-bundle μ-signal (λ t. bundle-lts.spec (bundle-calls t)

@@ -1,13 +1,9 @@
 -- `bounds_at` meets its contract: a law of the grammar for each return.
 -- Assumes nothing.
-use mathlib.Core.Path.{sym, ap, _∙_}
-use Prim.Native.Nat.{_+_}
+use mathlib.Core.Path.{sym, _∙_}
 use native.Mathlib.Omega.{arith}
-use denote.Ref.{now}
 use borrow.Author.Tests.{not-true, not-false}
 use Rattle.tokens.specs.Parts.{integerGives}
-use Rattle.tokens.specs.Rows.{line}
-use Rattle.tokens.specs.declared.Slot.{Slot}
 use Rattle.signals.specs.Reads.{slotIn}
 use Rattle.signals.proofs.Parses.{mark-below, bounds-no-high, bounds-one, bounds-open, bounds-no-low, bounds-unclosed, bounds-two}
 use borrow.Author.Needs.{needs}
@@ -25,7 +21,7 @@ enum-told c = search needs
 
 returns : tie.Need-returns
 unfolding integerGives
-returns c f = bounds-no-high f _ _ (c .before .before .integer-at .ensures f ∙ ap (λ (x : Slot). integerGives f x (line f (now (c .before .before .before .before .args .tokens)) (c .before .before .before .before .args .i + 1))) (c .enum-told .given .1))
+returns c f = bounds-no-high f _ _ (rw (c .enum-told .given .1) at (c .before .before .integer-at .ensures f))
 
 add-is-mark : tie.Need-add-is-mark
 add-is-mark c = search needs
@@ -41,7 +37,7 @@ unfolding integerGives slotIn
 returns-2 c =
     let m = sym (c .before .is-mark .ensures) ∙ c .if1 .taken in
     let b = mark-below _ _ _ m in
-    (omega arith, omega arith, λ f. bounds-one f _ _ _ (c .before .before .before .before .before .integer-at .ensures f ∙ ap (λ (x : Slot). integerGives f x (line f (now (c .before .before .before .before .before .before .before .args .tokens)) (c .before .before .before .before .before .before .before .args .i + 1))) (c .before .before .before .high .given .1)) m)
+    (omega arith, omega arith, λ f. bounds-one f _ _ _ (rw (c .before .before .before .high .given .1) at (c .before .before .before .before .before .integer-at .ensures f)) m)
 
 add-is-mark-2 : tie.Need-add-is-mark-2
 add-is-mark-2 c = search needs
@@ -51,7 +47,7 @@ is-mark-requires-2 c κs = tt
 
 returns-3 : tie.Need-returns-3
 unfolding integerGives
-returns-3 c f = bounds-open f _ _ _ (c .before .before .before .before .before .before .before .integer-at .ensures f ∙ ap (λ (x : Slot). integerGives f x (line f (now (c .before .before .before .before .before .before .before .before .before .args .tokens)) (c .before .before .before .before .before .before .before .before .before .args .i + 1))) (c .before .before .before .before .before .high .given .1)) (sym (c .before .before .before .is-mark .ensures) ∙ c .before .before .if1 .left) (sym (c .before .is-mark2 .ensures) ∙ not-true _ (c .if2 .taken))
+returns-3 c f = bounds-open f _ _ _ (rw (c .before .before .before .before .before .high .given .1) at (c .before .before .before .before .before .before .before .integer-at .ensures f)) (sym (c .before .before .before .is-mark .ensures) ∙ c .before .before .if1 .left) (sym (c .before .is-mark2 .ensures) ∙ not-true _ (c .if2 .taken))
 
 add-integer-at : tie.Need-add-integer-at
 add-integer-at c = search needs
@@ -67,7 +63,7 @@ enum-told-2 c = search needs
 
 returns-4 : tie.Need-returns-4
 unfolding integerGives
-returns-4 c f = bounds-no-low f _ _ _ (c .before .before .before .before .before .before .before .before .before .before .integer-at .ensures f ∙ ap (λ (x : Slot). integerGives f x (line f (now (c .before .before .before .before .before .before .before .before .before .before .before .before .args .tokens)) (c .before .before .before .before .before .before .before .before .before .before .before .before .args .i + 1))) (c .before .before .before .before .before .before .before .before .high .given .1)) (sym (c .before .before .before .before .is-mark2 .ensures) ∙ not-false _ (c .before .before .before .if2 .left)) (c .before .before .integer-at2 .ensures f ∙ ap (λ (x : Slot). integerGives f x (line f (now (c .before .before .before .before .before .before .before .before .before .before .before .before .args .tokens)) (c .before .before .before .before .before .before .before .before .before .before .before .before .args .i + 2 + 1))) (c .enum-told2 .given .1))
+returns-4 c f = bounds-no-low f _ _ _ (rw (c .before .before .before .before .before .before .before .before .high .given .1) at (c .before .before .before .before .before .before .before .before .before .before .integer-at .ensures f)) (sym (c .before .before .before .before .is-mark2 .ensures) ∙ not-false _ (c .before .before .before .if2 .left)) (rw (c .enum-told2 .given .1) at (c .before .before .integer-at2 .ensures f))
 
 add-is-mark-3 : tie.Need-add-is-mark-3
 add-is-mark-3 c = search needs
@@ -77,7 +73,7 @@ is-mark-requires-3 c κs = tt
 
 returns-5 : tie.Need-returns-5
 unfolding integerGives
-returns-5 c f = bounds-unclosed f _ _ _ (c .before .before .before .before .before .before .before .before .before .before .before .before .before .integer-at .ensures f ∙ ap (λ (x : Slot). integerGives f x (line f (now (c .before .before .before .before .before .before .before .before .before .before .before .before .before .before .before .args .tokens)) (c .before .before .before .before .before .before .before .before .before .before .before .before .before .before .before .args .i + 1))) (c .before .before .before .before .before .before .before .before .before .before .before .high .given .1)) (sym (c .before .before .before .before .before .before .before .is-mark2 .ensures) ∙ not-false _ (c .before .before .before .before .before .before .if2 .left)) _ (c .before .before .before .before .before .integer-at2 .ensures f ∙ ap (λ (x : Slot). integerGives f x (line f (now (c .before .before .before .before .before .before .before .before .before .before .before .before .before .before .before .args .tokens)) (c .before .before .before .before .before .before .before .before .before .before .before .before .before .before .before .args .i + 2 + 1))) (c .before .before .before .low .given .1)) (sym (c .before .is-mark3 .ensures) ∙ not-true _ (c .if3 .taken))
+returns-5 c f = bounds-unclosed f _ _ _ (rw (c .before .before .before .before .before .before .before .before .before .before .before .high .given .1) at (c .before .before .before .before .before .before .before .before .before .before .before .before .before .integer-at .ensures f)) (sym (c .before .before .before .before .before .before .before .is-mark2 .ensures) ∙ not-false _ (c .before .before .before .before .before .before .if2 .left)) _ (rw (c .before .before .before .low .given .1) at (c .before .before .before .before .before .integer-at2 .ensures f)) (sym (c .before .is-mark3 .ensures) ∙ not-true _ (c .if3 .taken))
 
 add-t7 : tie.Need-add-t7
 add-t7 c = search needs
@@ -87,7 +83,7 @@ unfolding integerGives slotIn
 returns-6 c =
     let m = sym (c .before .is-mark3 .ensures) ∙ not-false _ (c .if3 .left) in
     let b = mark-below _ _ _ m in
-    (omega arith, omega arith, λ f. bounds-two f _ _ _ (c .before .before .before .before .before .before .before .before .before .before .before .before .before .integer-at .ensures f ∙ ap (λ (x : Slot). integerGives f x (line f (now (c .before .before .before .before .before .before .before .before .before .before .before .before .before .before .before .args .tokens)) (c .before .before .before .before .before .before .before .before .before .before .before .before .before .before .before .args .i + 1))) (c .before .before .before .before .before .before .before .before .before .before .before .high .given .1)) (sym (c .before .before .before .before .before .before .before .is-mark2 .ensures) ∙ not-false _ (c .before .before .before .before .before .before .if2 .left)) _ (c .before .before .before .before .before .integer-at2 .ensures f ∙ ap (λ (x : Slot). integerGives f x (line f (now (c .before .before .before .before .before .before .before .before .before .before .before .before .before .before .before .args .tokens)) (c .before .before .before .before .before .before .before .before .before .before .before .before .before .before .before .args .i + 2 + 1))) (c .before .before .before .low .given .1)) m)
+    (omega arith, omega arith, λ f. bounds-two f _ _ _ (rw (c .before .before .before .before .before .before .before .before .before .before .before .high .given .1) at (c .before .before .before .before .before .before .before .before .before .before .before .before .before .integer-at .ensures f)) (sym (c .before .before .before .before .before .before .before .is-mark2 .ensures) ∙ not-false _ (c .before .before .before .before .before .before .if2 .left)) _ (rw (c .before .before .before .low .given .1) at (c .before .before .before .before .before .integer-at2 .ensures f)) m)
 
 pub bounds-at-spec : {M : Type 1} → statement M
 bounds-at-spec =

@@ -58,10 +58,10 @@ same-length : tie.Need-same-length
 same-length c = search needs
 
 returns-4 : tie.Need-returns-4
-returns-4 c = cut-inside _ _ _ _ _ _ _ _ _ (c .before .before .before .before .before .merge4 .ensures) (c .before .before .before .before .before .before .too-wide .ensures) refl (c .before .before .before .before .before .before .before .before .before .if1 .left) (c .before .before .before .before .before .before .before .before .if2 .left) (c .before .before .before .before .before .before .before .if3 .left) (c .before .before .before .before .before .before .before .before .before .before .before .pre .0) (c .before .before .before .before .before .before .before .before .before .before .before .pre .1 (merge-zero _ _ (sym (c .before .before .before .before .before .merge4 .ensures) ∙ c .before .before .before .before .if4 .taken) .1)) (c .before .before .move-down .ensures)
+returns-4 c = cut-inside _ _ _ _ _ _ _ _ (rw (c .before .before .before .before .before .before .too-wide .ensures) at (c .before .before .before .before .before .merge4 .ensures)) refl (c .before .before .before .before .before .before .before .before .before .if1 .left) (c .before .before .before .before .before .before .before .before .if2 .left) (c .before .before .before .before .before .before .before .if3 .left) (c .before .before .before .before .before .before .before .before .before .before .before .pre .0) (c .before .before .before .before .before .before .before .before .before .before .before .pre .1 (merge-zero _ _ (sym (c .before .before .before .before .before .merge4 .ensures) ∙ c .before .before .before .before .if4 .taken) .1)) (c .before .before .move-down .ensures)
 
 returns-5 : tie.Need-returns-5
-returns-5 c = cut-still _ _ _ _ _ _ _ _ _ (c .before .merge4 .ensures) (c .before .before .too-wide .ensures) refl (c .before .before .before .before .before .if1 .left) (c .before .before .before .before .if2 .left) (c .before .before .before .if3 .left) (c .before .before .before .before .before .before .before .pre .0) (c .if4 .left) refl
+returns-5 c = cut-still _ _ _ _ _ _ _ _ (rw (c .before .before .too-wide .ensures) at (c .before .merge4 .ensures)) refl (c .before .before .before .before .before .if1 .left) (c .before .before .before .before .if2 .left) (c .before .before .before .if3 .left) (c .before .before .before .before .before .before .before .pre .0) (c .if4 .left) refl
 
 pub cut-spec : {M : Type 1} → statement M
 cut-spec =

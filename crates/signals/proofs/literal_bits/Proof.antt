@@ -6,7 +6,6 @@ use native.Mathlib.Omega.{arith}
 use denote.Ref.{now}
 use borrow.Author.Tests.{not-true, not-false}
 use Rattle.literals.proofs.CodeLaws.{width-small}
-use Rattle.signals.proofs.FaultLaws.{mild-not}
 use Rattle.signals.proofs.HeldLaws.{put-not, put-over, constant-bad, constant-width, constant-fault, constant-put}
 use borrow.Author.Needs.{needs}
 use Rattle.signals.proofs.literal_bits.Statement.{statement}
@@ -16,7 +15,7 @@ good-literal-requires : tie.Need-good-literal-requires
 good-literal-requires c κs = tt
 
 returns : tie.Need-returns
-returns c ws = put-not ws _ _ _ _ (omega arith) 7 (constant-bad ws _ (sym (c .before .good-literal .ensures) ∙ not-true _ (c .if1 .taken))) (mild-not 7 (omega arith) (omega arith))
+returns c ws = put-not ws _ _ _ _ (omega arith) 7 (constant-bad ws _ (sym (c .before .good-literal .ensures) ∙ not-true _ (c .if1 .taken))) (omega arith) (omega arith)
 
 literal-width-requires : tie.Need-literal-width-requires
 literal-width-requires c κs = tt

@@ -1,13 +1,11 @@
 -- `wire_bits` meets its contract: by what the search for the name answers.
 -- Assumes nothing.
 use mathlib.Core.Path.{ap, _∙_}
-use Prim.Native.Nat.{_<_}
 use native.Mathlib.Omega.{arith}
 use denote.Ref.{now}
 use Rattle.wires.specs.Found.{foundOf}
 use Rattle.wires.specs.RowLaws.{length-wires}
-use Rattle.signals.proofs.FaultLaws.{mild-not}
-use Rattle.signals.proofs.HeldLaws.{put-not, put-over, wire-width, wire-fault, wire-number, wire-put-fits, wire-nothing}
+use Rattle.signals.proofs.HeldLaws.{put-not, wire-number, wire-over, wire-put-fits, wire-nothing}
 use borrow.Author.Needs.{needs}
 use Rattle.signals.proofs.wire_bits.Statement.{statement}
 use Rattle.signals.proofs.wire_bits.Tie as tie
@@ -22,10 +20,7 @@ cast-width : tie.Need-cast-width
 cast-width c = search needs
 
 returns : tie.Need-returns
-returns c =
-    let F = c .before .before .before .before .find-wire .ensures ∙ ap foundOf (c .before .before .number .given .1) in
-    let few : c .before .before .number .given .0 .1 .0 < 4294967296 = omega arith in
-    put-over _ _ _ _ _ few (wire-fault _ _ _ _ F) (wire-width _ _ _ _ F) (c .if1 .taken)
+returns c = wire-over _ _ _ _ (c .before .before .before .before .find-wire .ensures ∙ ap foundOf (c .before .before .number .given .1)) _ _ (omega arith) (c .if1 .taken)
 
 put-wire-requires : tie.Need-put-wire-requires
 put-wire-requires c κs =
@@ -39,12 +34,10 @@ same-length : tie.Need-same-length
 same-length c = search needs
 
 returns-2 : tie.Need-returns-2
-returns-2 c =
-    let F = c .before .before .before .before .before .before .before .before .find-wire .ensures ∙ ap foundOf (c .before .before .before .before .before .before .number .given .1) in
-    wire-put-fits _ _ _ _ F _ _ _ (c .before .before .before .before .if1 .left) (c .before .before .before .before .before .before .before .before .before .before .before .before .before .pre .0) (c .before .before .put-wire .ensures)
+returns-2 c = wire-put-fits _ _ _ _ (c .before .before .before .before .before .before .before .before .find-wire .ensures ∙ ap foundOf (c .before .before .before .before .before .before .number .given .1)) _ _ _ (c .before .before .before .before .if1 .left) (c .before .before .before .before .before .before .before .before .before .before .before .before .before .pre .0) (c .before .before .put-wire .ensures)
 
 returns-3 : tie.Need-returns-3
-returns-3 c = put-not _ _ _ _ _ (omega arith) 8 (wire-nothing _ _ (c .before .before .find-wire .ensures ∙ ap foundOf (c .enum-told .given .1))) (mild-not 8 (omega arith) (omega arith))
+returns-3 c = put-not _ _ _ _ _ (omega arith) 8 (wire-nothing _ _ (c .before .before .find-wire .ensures ∙ ap foundOf (c .enum-told .given .1))) (omega arith) (omega arith)
 
 pub wire-bits-spec : {M : Type 1} → statement M
 wire-bits-spec =

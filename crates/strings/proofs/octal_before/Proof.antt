@@ -3,7 +3,8 @@ use borrow.Author.Needs.{needs}
 use Rattle.rules.specs.Tokens.{octalByte, onto, plainTurn}
 use Rattle.rules.specs.Bytes.{within}
 use Rattle.strings.specs.Machine.{machineOpen}
-use Rattle.strings.proofs.Turns.{byte-in, byte-above}
+use Rattle.scanner.specs.Laws.{within-above}
+use Rattle.strings.proofs.Turns.{byte-in}
 use Rattle.strings.proofs.octal_before.Statement.{statement}
 use Rattle.strings.proofs.octal_before.Tie as tie
 
@@ -13,7 +14,7 @@ returns c = rw (c .if1 .taken)
 
 returns-2 : tie.Need-returns-2
 unfolding octalByte onto plainTurn machineOpen
-returns-2 c = rw (byte-above _ (c .if2 .taken))
+returns-2 c = rw (within-above 1 255 _ (c .if2 .taken))
 
 cast-t4 : tie.Need-cast-t4
 cast-t4 c = search needs

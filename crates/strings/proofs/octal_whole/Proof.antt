@@ -2,7 +2,8 @@ use borrow.Author.Needs.{needs}
 use Rattle.rules.specs.Tokens.{octalByte, onto}
 use Rattle.rules.specs.Bytes.{within}
 use Rattle.strings.specs.Machine.{machineOpen}
-use Rattle.strings.proofs.Turns.{byte-in, byte-above}
+use Rattle.scanner.specs.Laws.{within-above}
+use Rattle.strings.proofs.Turns.{byte-in}
 use Rattle.strings.proofs.octal_whole.Statement.{statement}
 use Rattle.strings.proofs.octal_whole.Tie as tie
 
@@ -12,7 +13,7 @@ returns c = rw (c .if1 .taken)
 
 returns-2 : tie.Need-returns-2
 unfolding octalByte onto machineOpen
-returns-2 c = rw (byte-above _ (c .if2 .taken))
+returns-2 c = rw (within-above 1 255 _ (c .if2 .taken))
 
 cast-t3 : tie.Need-cast-t3
 cast-t3 c = search needs

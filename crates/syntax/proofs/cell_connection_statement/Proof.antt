@@ -5,7 +5,8 @@ use Rattle.tokens.specs.Parts.{idGives}
 use Rattle.forms.specs.Forms.{nameIn}
 use Rattle.forms.proofs.LineLaws.{id-below, rows-left, no-rows}
 use Rattle.syntax.proofs.Connections.{cell-connected}
-use Rattle.syntax.proofs.Lines.{no-name, no-signal, named-read, readable-on}
+use Rattle.signals.proofs.Parses.{readable-on}
+use Rattle.syntax.proofs.Lines.{no-name, no-signal, named-read}
 use borrow.Author.Needs.{needs}
 use Rattle.syntax.proofs.cell_connection_statement.Statement.{statement}
 use Rattle.syntax.proofs.cell_connection_statement.Tie as tie

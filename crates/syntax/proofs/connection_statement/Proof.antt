@@ -3,7 +3,8 @@ use mathlib.Core.Path.{_∙_}
 use native.Mathlib.Omega.{arith}
 use Rattle.forms.proofs.LineLaws.{rows-left, no-rows}
 use Rattle.syntax.proofs.Bits.{held-kept}
-use Rattle.syntax.proofs.Lines.{no-left, no-right, both-read, readable-on}
+use Rattle.signals.proofs.Parses.{readable-on}
+use Rattle.syntax.proofs.Lines.{no-left, no-right, both-read}
 use borrow.Author.Needs.{needs}
 use Rattle.syntax.proofs.connection_statement.Statement.{statement}
 use Rattle.syntax.proofs.connection_statement.Tie as tie
