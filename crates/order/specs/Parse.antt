@@ -19,7 +19,7 @@ use Rattle.scanner.specs.Lists.{flatMap-append}
 use Rattle.admitted.specs.CountLaws.{context-scope}
 use Rattle.order.specs.Nesting.{CellEntry, parameter-entry, port-entry, Entry, param-entry, wire-entry, memory-entry, cell-entry, connection-entry, File, settings, lineIn, linesOf, linesOfFile, nestingOpen}
 use Rattle.order.specs.Tally.{Through}
-use Rattle.order.specs.Places.{fits}
+use Rattle.order.specs.Places.{fits, object-fits}
 
 -- What is read: whole modules; and if a module or a cell is open, its attributes, its name and its entries so far. Last the attributes that
 -- wait for an object
@@ -64,7 +64,7 @@ top-kinds s false a e = or-true-right (is anAutoidx s) _ e
 module-kinds :
     (s : Statement) (f a : Bool) → fits inModule f a s ≡ true → of (aParameter ∷ aConnection ∷ anEnd ∷ anAttribute ∷ aWire ∷ aMemory ∷ aCell ∷ []) s ≡ true
 unfolding kinds among any
-module-kinds s f true e = or-true-right (is aParameter s) _ (or-true-right (is aConnection s) _ (or-true-right (is anEnd s) _ e))
+module-kinds s f true e = object-fits s e f false
 module-kinds s f false e = e
 
 -- where an attribute waits, no parameter, connection or end stands

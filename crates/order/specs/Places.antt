@@ -9,11 +9,12 @@ use native.Mathlib.Omega.{arith}
 use lib.IntN.{ℤ}
 use Rattle.rules.specs.Bytes.{any}
 use Rattle.rules.specs.Tokens.{Name}
-use Rattle.rules.specs.Statements.{Constant, Signal, Wire, Memory, Statement, anAttribute, is, autoidx-stmt, attr-stmt, module-stmt, param-stmt, wire-stmt, memory-stmt, cell-stmt, cell-param-stmt, cell-conn-stmt, conn-stmt, end-stmt, statementsOpen}
+use Rattle.rules.specs.Statements.{Constant, Statement, anAttribute, aParameter, aConnection, anEnd, is, autoidx-stmt, attr-stmt, module-stmt, param-stmt, wire-stmt, memory-stmt, cell-stmt, cell-param-stmt, cell-conn-stmt, conn-stmt, end-stmt, statementsOpen}
 use Rattle.rules.specs.Shapes.{Scope, top, inModule, inCell}
 use Rattle.rules.specs.Judgement.{Past, outer, scope, context, among}
 use Rattle.rules.specs.Reading.{isTop}
 use Rattle.rules.specs.Design.{Setting, Object}
+use Rattle.scanner.specs.Laws.{or-true-right}
 use Rattle.scanner.specs.Elements.{each-all}
 use Rattle.admitted.specs.Admitted.{kinds, stands, closes}
 use Rattle.admitted.specs.CountLaws.{context-scope}
@@ -43,13 +44,18 @@ stands-free :
 unfolding stands
 stands-free z p s e f h = rw (context-scope p, e, f) (h (context p .first))
 
+-- what may stand behind an attribute may stand where none waits
+pub object-fits : (s : Statement) → fits inModule false true s ≡ true → (f a : Bool) → fits inModule f a s ≡ true
+unfolding kinds among any
+object-fits s h f true = h
+object-fits s h f false = or-true-right (is aParameter s) _ (or-true-right (is aConnection s) _ (or-true-right (is anEnd s) _ h))
+
 -- attributes wait for an object
 attribute-at : (z : Scope) → (z ≡ inCell → ⊥) → (n : Name) (c : Constant) (first attributed : Bool) → fits z first attributed (attr-stmt n c) ≡ true
 unfolding kinds among any statementsOpen
 attribute-at top h n c true a = refl
 attribute-at top h n c false a = refl
-attribute-at inModule h n c f true = refl
-attribute-at inModule h n c f false = refl
+attribute-at inModule h n c f a = object-fits (attr-stmt n c) refl f a
 attribute-at inCell h n c f a = absurd (h refl)
 
 scope-attribute : (n : Name) (c : Constant) (p : Past) → scope (attr-stmt n c ∷ p) ≡ scope p
@@ -75,45 +81,10 @@ unfolding context
 next-free {z} {y} {p} s a h k e =
     record { at = record { standing = (stands-free z p s (a .at .scope) (a .free) h, a .at .standing); scope = k (a .at .scope) }; free = e }
 
-ready-parameter : (n : Name) (c : Option Constant) (p : Past) → Ready inModule p → Ready inModule (param-stmt n c ∷ p)
-unfolding scope kinds among any statementsOpen
-ready-parameter n c p a = next-free (param-stmt n c) a (λ f. refl) (λ e. e) refl
-
-ready-connection : (x y : Signal) (p : Past) → Ready inModule p → Ready inModule (conn-stmt x y ∷ p)
-unfolding scope kinds among any statementsOpen
-ready-connection x y p a = next-free (conn-stmt x y) a (λ f. refl) (λ e. e) refl
-
-wire-fits : (w : Wire) (n : Name) (f a : Bool) → fits inModule f a (wire-stmt w n) ≡ true
-unfolding kinds among any statementsOpen
-wire-fits w n f true = refl
-wire-fits w n f false = refl
-
-memory-fits : (m : Memory) (n : Name) (f a : Bool) → fits inModule f a (memory-stmt m n) ≡ true
-unfolding kinds among any statementsOpen
-memory-fits w n f true = refl
-memory-fits w n f false = refl
-
-cell-fits : (t n : Name) (f a : Bool) → fits inModule f a (cell-stmt t n) ≡ true
-unfolding kinds among any statementsOpen
-cell-fits t n f true = refl
-cell-fits t n f false = refl
-
 module-fits : (n : Name) (f a : Bool) → fits top f a (module-stmt n) ≡ true
 unfolding kinds among any statementsOpen
 module-fits n true a = refl
 module-fits n false a = refl
-
-ready-wire : (w : Wire) (n : Name) (p : Past) → At inModule p → Ready inModule (wire-stmt w n ∷ p)
-unfolding scope statementsOpen
-ready-wire w n p a = next (wire-stmt w n) a (wire-fits w n) (λ e. e) refl
-
-ready-memory : (m : Memory) (n : Name) (p : Past) → At inModule p → Ready inModule (memory-stmt m n ∷ p)
-unfolding scope statementsOpen
-ready-memory m n p a = next (memory-stmt m n) a (memory-fits m n) (λ e. e) refl
-
-ready-cell : (t n : Name) (p : Past) → At inModule p → Ready inCell (cell-stmt t n ∷ p)
-unfolding scope statementsOpen
-ready-cell t n p a = next (cell-stmt t n) a (cell-fits t n) (λ e. refl) refl
 
 ready-module : (n : Name) (p : Past) → At top p → Ready inModule (module-stmt n ∷ p)
 unfolding scope statementsOpen
@@ -135,16 +106,22 @@ in-module e = let z : _≡_ {A = ℕ} 0 1 = cc in omega arith
 at-top : top ≡ inCell → ⊥
 at-top e = let z : _≡_ {A = ℕ} 0 1 = cc in omega arith
 
+-- an object with its attributes
+object-ready :
+    {y : Scope} (at : List Setting) (s : Statement) (p : Past) → fits inModule false true s ≡ true → (scope (reverseAux (settings at) p) ≡ inModule → scope (s ∷ reverseAux (settings at) p) ≡ y) →
+    is anAttribute s ≡ false → Ready inModule p → Ready y (s ∷ reverseAux (settings at) p)
+object-ready at s p h k e a = next s (settings-at inModule in-module at p (a .at)) (object-fits s h) k e
+
 entry-ready : (e : Entry) (p : Past) → Unit {0} → Ready inModule p → Ready inModule (reverseAux (linesOf e) p)
-unfolding linesOf
-entry-ready (param-entry n c) p u a = ready-parameter n c p a
+unfolding linesOf scope kinds among any statementsOpen
+entry-ready (param-entry n c) p u a = next-free (param-stmt n c) a (λ f. refl) (λ e. e) refl
 entry-ready (wire-entry o) p u a =
-    rw (reverseAux-append (settings (o .attributes))) (ready-wire (o .body) (o .name) _ (settings-at inModule in-module (o .attributes) p (a .at)))
+    rw (reverseAux-append (settings (o .attributes))) (object-ready (o .attributes) (wire-stmt (o .body) (o .name)) p refl (λ e. e) refl a)
 entry-ready (memory-entry o) p u a =
-    rw (reverseAux-append (settings (o .attributes))) (ready-memory (o .body) (o .name) _ (settings-at inModule in-module (o .attributes) p (a .at)))
+    rw (reverseAux-append (settings (o .attributes))) (object-ready (o .attributes) (memory-stmt (o .body) (o .name)) p refl (λ e. e) refl a)
 entry-ready (cell-entry at t n es) p u a =
-    rw (reverseAux-append (settings at)) (cell-lines es (cell-stmt t n ∷ reverseAux (settings at) p) (ready-cell t n _ (settings-at inModule in-module at p (a .at))))
-entry-ready (connection-entry x y) p u a = ready-connection x y p a
+    rw (reverseAux-append (settings at)) (cell-lines es (cell-stmt t n ∷ reverseAux (settings at) p) (object-ready at (cell-stmt t n) p refl (λ e. refl) refl a))
+entry-ready (connection-entry x y) p u a = next-free (conn-stmt x y) a (λ f. refl) (λ e. e) refl
 
 module-ready : (o : Object (List Entry)) (p : Past) → Unit {0} → Ready top p → Ready top (reverseAux (linesOfModule o) p)
 unfolding linesOfModule
