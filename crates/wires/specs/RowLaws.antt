@@ -6,16 +6,15 @@ use mathlib.Core.List.{List, [], reverse, reverseAux}
 use mathlib.Core.Option.{Option, none, some, Option·elim}
 use mathlib.Core.Bool.{Bool, true, false, cond}
 use native.Mathlib.Omega.{arith}
-use lib.Dec.{eqb, ltb}
+use lib.Dec.{eqb}
 use lib.ListN.{length, getD, getElem?, take, drop}
 use lib.Seq.{getD-take, getD-drop}
-use borrow.Author.Tests.{ltb-true, ltb-false}
 use Rattle.rules.specs.Signals.{Wires}
 use Rattle.rules.specs.Tokens.{Name}
 use Rattle.rules.specs.Statements.{Wire, Direction, input, output, inout}
 use Rattle.rules.specs.Numbers.{int32}
 use Rattle.rules.specs.Layout.{Used, padded, row, directionCode, flags, wireRow}
-use Rattle.scanner.specs.Laws.{by-test}
+use Rattle.scanner.specs.Laws.{by-order}
 use Rattle.scanner.specs.Lists.{element-behind}
 use Rattle.scanner.specs.Parts.{slice-span}
 use Rattle.numbers.specs.SignedLaws.{signed-word}
@@ -139,9 +138,9 @@ module _ (names t : List ℕ) (first j : ℕ) where
   unfolding wiresFrom
   numbered zero r h = absurd (omega arith)
   numbered (suc k) r h =
-      by-test (ltb j k) (λ e. numbered k _ (ltb-true j k e))
-      (λ e. let q : j ≡ k = omega (arith, ltb-false j k e) in
-      element-behind (wiresFrom names t first k) _ 0 j (omega (arith, length-wires names t first k)) ∙ rw q)
+      by-order k j
+      (λ e. let q : j ≡ k = omega arith in element-behind (wiresFrom names t first k) _ 0 j (omega (arith, length-wires names t first k)) ∙ rw q)
+      (numbered k _)
 
   pub wire-numbered : (count : ℕ) → j < count → getElem? (reverse (wiresFrom names t first count)) j ≡ some (nameOf names t (first + j), wireOf t (first + j))
   wire-numbered count h = numbered count [] h
