@@ -12,9 +12,8 @@ use Rattle.rules.specs.Bytes.{same, any, all}
 use Rattle.rules.specs.Tokens.{Name}
 use Rattle.rules.specs.Statements.{Statement, Kind, aModule, code, contents, is, ownName}
 use Rattle.rules.specs.Judgement.{Past, only, sum, among, count, ofModule}
-use Rattle.rules.specs.Layout.{used, statementRow}
+use Rattle.rules.specs.Layout.{used}
 use Rattle.wires.specs.Rows.{column}
-use Rattle.wires.specs.RowLaws.{RowIs}
 use Rattle.scanner.specs.Laws.{by-test, by-order}
 use Rattle.scanner.specs.Lists.{until-take}
 use Rattle.past.proofs.KindLaws.{count-one}
@@ -22,7 +21,7 @@ use Rattle.netlist.specs.Rows.{kindAt, namesBetween}
 use Rattle.netlist.specs.Kinds.{Tests, hasName}
 use Rattle.netlist.specs.RowLaws.{row-kind}
 use Rattle.netlist.specs.Laid.{roomsOf, Laid}
-use Rattle.netlist.specs.LaidLaws.{length-rows, eights-rows, laid-row, laid-before}
+use Rattle.netlist.specs.LaidLaws.{laid-last, laid-before}
 use Rattle.netlist.specs.NameLaws.{ownNames, names-laid}
 use Rattle.designs.specs.Modules.{statementsOf, moduleCount, upTo}
 use Rattle.designs.specs.PastLaws.{module-counts, other-counts, count-step, module-first, module-more, none-below, module-past, no-module, up-to-by, up-to-all, up-to-holds, up-to-le}
@@ -33,19 +32,12 @@ module _ {names rows : List ℕ} where
   laid-up-to : (m : ℕ) (ss : Past) → Laid (roomsOf ss) names rows → Laid (roomsOf (upTo m ss)) names rows
   laid-up-to m ss l = up-to-holds (λ qs. Laid (roomsOf qs) names rows) laid-before m ss l
 
-  -- the kind of the last statement, in its row; and so the module lines
-  last-kind : (s : Statement) (ss : Past) (k : ℕ) → k ≡ length ss → Laid (roomsOf (s ∷ ss)) names rows → column rows k 0 ≡ code (contents s .kind)
-  unfolding roomsOf kindAt
-  last-kind s ss k e l =
-      let q : k ≡ length (roomsOf ss .rows) = e ∙ sym (length-rows ss) in
-      let r : RowIs rows k (statementRow (used (roomsOf ss)) s) = rw q (laid-row (roomsOf ss) s (eights-rows ss) l) in
-      row-kind rows k (used (roomsOf ss)) s r
-
+  -- the module lines, by the kind in each row
   lines-laid : (ss : Past) → Laid (roomsOf ss) names rows → linesIn rows (length ss) ≡ moduleCount ss
-  unfolding rowsWhere sum code
+  unfolding rowsWhere kindAt sum code
   lines-laid [] l = refl
   lines-laid (s ∷ ss) l =
-      let e : column rows (length ss) 0 ≡ code (contents s .kind) = last-kind s ss (length ss) refl l in
+      let e : column rows (length ss) 0 ≡ code (contents s .kind) = row-kind rows (length ss) (used (roomsOf ss)) s (laid-last s ss (length ss) refl l) in
       rw e (omega (arith, lines-laid ss (laid-before s ss l), count-one s aModule))
 
   -- where a module ends, and where its line stands

@@ -14,6 +14,7 @@ use Rattle.rules.specs.Design.{Setting, settingIn, Object, object, Cell, Module
 use Rattle.rules.specs.Session.{Rename, now}
 use Rattle.rules.specs.Text.{text}
 use Rattle.scanner.specs.Laws.{by-test}
+use Rattle.scanner.specs.Lists.{flatMap-same, flatMap-map}
 use Rattle.past.specs.Forms.{by-form}
 use Rattle.designs.specs.DesignLaws.{only-attribute, items-until, wires-pairs}
 use Rattle.designs.specs.Now.{numbered, nameNow, wireNow, moduleNow, designNow}
@@ -35,9 +36,7 @@ module _ (l : ℕ) (ws : Wires) where
   lines-only k (s ∷ ss) = by-test (is k s) (λ e. rw (e, lines-only k ss)) (λ e. rw (e, lines-only k ss))
 
   lines-map : {A : Type 0} (f : A → Statement) (g : A → List ℕ) → ((x : A) → g x ≡ lineOf l ws (f x)) → (xs : List A) → flatMap g xs ≡ flatMap (lineOf l ws) (map f xs)
-  unfolding flatMap
-  lines-map f g h [] = refl
-  lines-map f g h (x ∷ xs) = ap₂ _++_ (h x) (lines-map f g h xs)
+  lines-map f g h xs = flatMap-same g _ h xs ∙ sym (flatMap-map (lineOf l ws) f xs)
 
   -- those of some parts, whose statements are those of a kind
   lines-kind : {A : Type 0} (f : A → Statement) (g : A → List ℕ) → ((x : A) → g x ≡ lineOf l ws (f x)) → (k : Kind) (xs : List A) (ss : List Statement) → map f xs ≡ only (is k) ss → kindLines k l ws ss ≡ flatMap g xs

@@ -2,6 +2,7 @@
 -- Assumes nothing.
 use Prim.Native.Nat.{ℕ, _*_}
 use mathlib.Core.Path.{_≡_, refl, sym}
+use Rattle.scanner.specs.Lists.{keeps-behind}
 use mathlib.Core.List.{List, [], _∷_, _++_, zip, zipWith, flatMap, append-nil}
 use native.Mathlib.Omega.{arith}
 use lib.ListN.{length}
@@ -106,8 +107,7 @@ module _ {t : Tables} where
     fronts-kind f = row-kind (t .rows) (length ss) (used (roomsOf ss)) s (fronts-row f)
 
   pub fronts-behind : (xs ss : Past) → Fronts (roomsOf (xs ++ ss)) t → Fronts (roomsOf ss) t
-  fronts-behind [] ss f = f
-  fronts-behind (x ∷ xs) ss f = fronts-behind xs ss (fronts-before x (xs ++ ss) f)
+  fronts-behind = keeps-behind (λ qs. Fronts (roomsOf qs) t) fronts-before
 
   -- a wire's row of the table of statements holds the number of its row of the table of wires
   pub fronts-wire : (w : Wire) (n : Name) (ss : Past) → Fronts (roomsOf (wire-stmt w n ∷ ss)) t → column (t .rows) (length ss) 3 ≡ length (roomsOf ss .wires)

@@ -1,7 +1,7 @@
 -- What lies in the tables: in padded tables, before one statement more and before renames, and what the last statement left.
 -- Assumes nothing.
 use Prim.Native.Nat.{ℕ}
-use mathlib.Core.Path.{_≡_, refl, ap, _∙_}
+use mathlib.Core.Path.{_≡_, refl, sym, ap, _∙_}
 use mathlib.Core.List.{List, [], _∷_, _++_, reverse, reverse-cons, foldl-append}
 use native.Mathlib.Omega.{arith}
 use lib.ListN.{length, length-append}
@@ -66,6 +66,11 @@ module _ {names rows : List ℕ} (R : Rooms) where
 pub laid-before : {names rows : List ℕ} (s : Statement) (ss : Past) → Laid (roomsOf (s ∷ ss)) names rows → Laid (roomsOf ss) names rows
 unfolding roomsOf
 laid-before s ss l = laid-put (roomsOf ss) s l
+
+-- the row of the last of the statements so far
+pub laid-last : {names rows : List ℕ} (s : Statement) (ss : Past) (k : ℕ) → k ≡ length ss → Laid (roomsOf (s ∷ ss)) names rows → RowIs rows k (statementRow (used (roomsOf ss)) s)
+unfolding roomsOf
+laid-last s ss k e l = let q : k ≡ length (roomsOf ss .rows) = e ∙ sym (length-rows ss) in rw q (laid-row (roomsOf ss) s (eights-rows ss) l)
 
 pub laid-renames : {names rows : List ℕ} (R : Rooms) (rs : List Rename) → Laid (putRenames R rs) names rows → Laid R names rows
 unfolding putRenames

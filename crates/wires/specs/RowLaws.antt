@@ -29,6 +29,11 @@ pub length-wire-row : (u : Used) (x : Name × Wire) → length (wireRow u x) ≡
 unfolding wireRow row padded
 length-wire-row u x = refl
 
+-- what stands in a table from a place on, where two columns say where and how much
+pub span-has : (t rows : List ℕ) (k c at : ℕ) (xs : List ℕ) → column rows k c ≡ at → column rows k (c + 1) ≡ length xs → take (length xs) (drop at t) ≡ xs → spanAt t rows k c ≡ xs
+unfolding spanAt
+span-has t rows k c at xs ea en e = rw (ea, en) (slice-span at (length xs) t ∙ e)
+
 -- row k of a table has these eight columns
 abbrev pub RowIs : List ℕ → ℕ → List ℕ → Type 0
 RowIs t k r = (c : ℕ) → c < 8 → column t k c ≡ getD r c 0
@@ -84,8 +89,8 @@ module _ (t : List ℕ) (k : ℕ) (u : Used) (n : Name) (w : Wire) (h : RowIs t 
       rw (h 3 (omega arith), h 4 (omega arith), h 6 (omega arith), flags-are, f .0, f .1, f .2, bool-code (w .upto), bool-code (w .signed), port-back, signed-word (w .offset) o)
 
   pub row-name : (names : List ℕ) → take (length n) (drop (u .names) names) ≡ n → nameOf names t k ≡ n
-  unfolding wireRow row padded nameOf spanAt
-  row-name names e = rw (h 1 (omega arith), h 2 (omega arith)) (slice-span (u .names) (length n) names ∙ e)
+  unfolding wireRow row padded nameOf
+  row-name names e = span-has names t k 1 (u .names) n (h 1 (omega arith)) (h 2 (omega arith)) e
 
 -- ---- from a row's columns to its wire's parts: the flags and the port's number are the columns again
 
