@@ -8,11 +8,11 @@ use mathlib.Core.Bool.{Bool, true, false, cond, _||_, or-assoc}
 use lib.ListN.{getD, getElem?, List·getD-map}
 use Rattle.rules.specs.Bytes.{same, any}
 use Rattle.rules.specs.Tokens.{Name}
-use Rattle.rules.specs.Statements.{Statement, Wire, Kind, anAttribute, aModule, aMemory, aCell, autoidx-stmt, attr-stmt, module-stmt, param-stmt, wire-stmt, memory-stmt, cell-stmt, cell-param-stmt, cell-conn-stmt, conn-stmt, proc-stmt, end-stmt, contents, is, ownName, statementsOpen}
+use Rattle.rules.specs.Statements.{Statement, Wire, Kind, anAttribute, aModule, aMemory, aCell, contents, is, ownName, statementsOpen}
 use Rattle.rules.specs.Judgement.{until, only, among}
 use Rattle.rules.specs.Design.{Setting, Object, object, Module, Item, Inside, settingIn, items, blocks, objectsIn, pair, each, cellOf, moduleOf, Design, design}
 use Rattle.rules.specs.Session.{wiresAt, names, taken}
-use Rattle.past.specs.Forms.{by-form}
+use Rattle.past.specs.Forms.{by-form, by-attribute}
 use Rattle.scanner.specs.Laws.{by-test}
 use Rattle.scanner.specs.Lists.{zip-none, flatMap-same, elim-at, elim-map, flatMap-only, map-flatMap}
 use Rattle.scanner.specs.Elements.{any-append}
@@ -28,18 +28,7 @@ pub record OnlyAttribute (s : Statement) : Type 0 where
 
 pub only-attribute : (s : Statement) → is anAttribute s ≡ true → OnlyAttribute s
 unfolding statementsOpen
-only-attribute (autoidx-stmt i) e = record { no-module = refl; no-cell = refl; no-wires = refl; no-memories = refl }
-only-attribute (attr-stmt n c) e = record { no-module = refl; no-cell = refl; no-wires = refl; no-memories = refl }
-only-attribute (module-stmt n) e = record { no-module = cc; no-cell = refl; no-wires = refl; no-memories = refl }
-only-attribute (param-stmt n c) e = record { no-module = refl; no-cell = refl; no-wires = refl; no-memories = refl }
-only-attribute (wire-stmt w n) e = record { no-module = refl; no-cell = refl; no-wires = cc; no-memories = refl }
-only-attribute (memory-stmt m n) e = record { no-module = refl; no-cell = refl; no-wires = refl; no-memories = cc }
-only-attribute (cell-stmt t n) e = record { no-module = refl; no-cell = cc; no-wires = refl; no-memories = refl }
-only-attribute (cell-param-stmt o n c) e = record { no-module = refl; no-cell = refl; no-wires = refl; no-memories = refl }
-only-attribute (cell-conn-stmt n x) e = record { no-module = refl; no-cell = refl; no-wires = refl; no-memories = refl }
-only-attribute (conn-stmt x y) e = record { no-module = refl; no-cell = refl; no-wires = refl; no-memories = refl }
-only-attribute (proc-stmt n) e = record { no-module = refl; no-cell = refl; no-wires = refl; no-memories = refl }
-only-attribute end-stmt e = record { no-module = refl; no-cell = refl; no-wires = refl; no-memories = refl }
+only-attribute = by-attribute OnlyAttribute (λ n c. record { no-module = refl; no-cell = refl; no-wires = refl; no-memories = refl })
 
 -- THE ITEMS OF A BLOCK are those of the statements behind the line that opens it
 pub items-until : (f : Statement → Bool) → ((s : Statement) → is anAttribute s ≡ true → f s ≡ false) → (at : List Setting) (ss : List Statement) → until (λ j. f (j .statement)) (items at ss) ≡ items at (until f ss)
@@ -71,7 +60,7 @@ module _ {A : Type 0} (g : Module → List A) (h : List Item → List A) (none :
       ∙ List·getD-map (λ qs. h (items [] qs)) (modulesIn ss) m []
 
 -- WHAT STATEMENTS GIVE TO ITEMS. What an attribute has no part in is taken from the statements themselves
-each-items : {A : Type 0} (f : Statement → List A) → ((s : Statement) → is anAttribute s ≡ true → f s ≡ []) → (at : List Setting) (ss : List Statement) → each f (items at ss) ≡ flatMap f ss
+pub each-items : {A : Type 0} (f : Statement → List A) → ((s : Statement) → is anAttribute s ≡ true → f s ≡ []) → (at : List Setting) (ss : List Statement) → each f (items at ss) ≡ flatMap f ss
 unfolding each items flatMap
 each-items f h at [] = refl
 each-items f h at (s ∷ ss) =

@@ -15,7 +15,7 @@ use Rattle.rules.specs.Session.{Rename, now}
 use Rattle.rules.specs.Text.{text}
 use Rattle.scanner.specs.Laws.{by-test}
 use Rattle.scanner.specs.Lists.{flatMap-same, flatMap-map}
-use Rattle.past.specs.Forms.{by-form}
+use Rattle.past.specs.Forms.{by-form, by-attribute}
 use Rattle.designs.specs.DesignLaws.{only-attribute, items-until, wires-pairs}
 use Rattle.designs.specs.Now.{numbered, nameNow, wireNow, moduleNow, designNow}
 use Rattle.designs.specs.NowLaws.{numbered-same, map-numbered, now-is}
@@ -72,8 +72,7 @@ module _ {A : Type 0} where
 -- an attribute statement is the line of its setting
 is-attribute : (s : Statement) → is anAttribute s ≡ true → s ∷ [] ≡ settings (settingIn s)
 unfolding designOpen statementsOpen
-is-attribute =
-    by-form _ (λ i e. cc) (λ n c e. refl) (λ n e. cc) (λ n c e. cc) (λ w n e. cc) (λ m n e. cc) (λ t n e. cc) (λ o n c e. cc) (λ n x e. cc) (λ x y e. cc) (λ n e. cc) (λ e. cc)
+is-attribute = by-attribute _ (λ n c. refl)
 
 -- A PASS prints the objects that the items give, if it does so at each item
 abbrev Steps : {A : Type 0} → Kind → Print → (List Item → List A) → (ℕ → A → List ℕ) → ℕ → List Setting → Statement → Type 0

@@ -3,7 +3,7 @@
 use Prim.Native.Nat.{ℕ, _*_}
 use mathlib.Core.Path.{_≡_, refl, sym}
 use Rattle.scanner.specs.Lists.{keeps-behind}
-use mathlib.Core.List.{List, [], _∷_, _++_, zip, zipWith, flatMap, append-nil}
+use mathlib.Core.List.{List, _∷_, _++_, zip, zipWith, flatMap, append-nil}
 use native.Mathlib.Omega.{arith}
 use lib.ListN.{length}
 use Rattle.rules.specs.Tokens.{Name}
@@ -17,7 +17,7 @@ use Rattle.wires.specs.RowLaws.{length-wire-row, RowIs}
 use Rattle.netlist.specs.Rows.{kindAt}
 use Rattle.netlist.specs.RowLaws.{length-statement-row, row-kind}
 use Rattle.netlist.specs.Laid.{roomsOf, Laid, Wired}
-use Rattle.netlist.specs.LaidLaws.{length-rows, eights-rows}
+use Rattle.netlist.specs.LaidLaws.{length-rows, eights-rows, without-renames}
 use Rattle.netlist.specs.WireLaws.{eights-wires}
 use Rattle.netlist.specs.Spans.{starts-first, starts-has, starts-more, starts-padded, has-columns}
 use Rattle.netlist.specs.Tables.{Tables, tablesIn}
@@ -51,9 +51,7 @@ module _ {t : Tables} where
       }
 
   pub fronts-renames : (R : Rooms) (rs : List Rename) → Fronts (putRenames R rs) t → Fronts R t
-  unfolding putRenames
-  fronts-renames R [] f = f
-  fronts-renames R (r ∷ rs) f = fronts-rename R r (fronts-renames (putRename R r) rs f)
+  fronts-renames = without-renames (λ R. Fronts R t) fronts-rename
 
   -- the last of the statements so far
   module _ (s : Statement) (ss : Past) where

@@ -72,7 +72,11 @@ pub laid-last : {names rows : List ℕ} (s : Statement) (ss : Past) (k : ℕ) �
 unfolding roomsOf
 laid-last s ss k e l = let q : k ≡ length (roomsOf ss .rows) = e ∙ sym (length-rows ss) in rw q (laid-row (roomsOf ss) s (eights-rows ss) l)
 
-pub laid-renames : {names rows : List ℕ} (R : Rooms) (rs : List Rename) → Laid (putRenames R rs) names rows → Laid R names rows
+-- what holds of rooms with renames, and so without the last one, holds without them
+pub without-renames : (P : Rooms → Type 0) → ((R : Rooms) (r : Rename) → P (putRename R r) → P R) → (R : Rooms) (rs : List Rename) → P (putRenames R rs) → P R
 unfolding putRenames
-laid-renames R [] l = l
-laid-renames R (r ∷ rs) l = laid-rename R r (laid-renames (putRename R r) rs l)
+without-renames P h R [] p = p
+without-renames P h R (r ∷ rs) p = h R r (without-renames P h (putRename R r) rs p)
+
+pub laid-renames : {names rows : List ℕ} (R : Rooms) (rs : List Rename) → Laid (putRenames R rs) names rows → Laid R names rows
+laid-renames = without-renames (λ R. Laid R _ _) laid-rename

@@ -3,7 +3,7 @@
 use Prim.Native.Nat.{ℕ, zero, suc, _+_, _/_, _≤_, _<_}
 use mathlib.Core.Path.{_≡_, sym}
 use mathlib.Core.List.{List, map, Option·toList}
-use mathlib.Core.Bool.{Bool, true, false, or-false}
+use mathlib.Core.Bool.{Bool, true, false, _||_, or-false}
 use mathlib.Core.Option.{some}
 use native.Mathlib.Omega.{arith}
 use lib.Dec.{eqb}
@@ -29,13 +29,9 @@ module _ (names t : List ℕ) (first k j : ℕ) (e : k ≡ suc j) where
     unfolding find wiresFrom
     find-before h = rw (e, row-same, h)
 
-  pub taken-last : (p : ℕ) → hasPort p (wireOf t (first + j)) ≡ true → any (λ v. any (eqb p) (portNumbers (v .1))) (wiresFrom names t first k) ≡ true
+  pub taken-turn : (p : ℕ) (b : Bool) → hasPort p (wireOf t (first + j)) ≡ b → any (λ v. any (eqb p) (portNumbers (v .1))) (wiresFrom names t first k) ≡ b || any (λ v. any (eqb p) (portNumbers (v .1))) (wiresFrom names t first j)
   unfolding any wiresFrom hasPort
-  taken-last p h = rw (e, h)
-
-  pub taken-before : (p : ℕ) → hasPort p (wireOf t (first + j)) ≡ false → any (λ v. any (eqb p) (portNumbers (v .1))) (wiresFrom names t first k) ≡ any (λ v. any (eqb p) (portNumbers (v .1))) (wiresFrom names t first j)
-  unfolding any wiresFrom hasPort
-  taken-before p h = rw (e, h)
+  taken-turn p b h = rw (e, h)
 
 by-code : (d n p : ℕ) → 0 < d → d ≤ 3 → any (eqb p) (map (λ q. q .1) (Option·toList (portOf d n))) ≡ eqb p n
 unfolding portOf any Option·toList
