@@ -2,20 +2,21 @@
 -- Assumes nothing.
 use Prim.Native.Nat.{ℕ, suc, _+_, _≤_, _<_}
 use mathlib.Core.Path.{_≡_, refl, sym, ap, _∙_}
-use mathlib.Core.List.{List, [], _∷_, _++_, reverse, reverse-cons, reverse-reverse}
-use mathlib.Core.Bool.{Bool, true, _||_, or-assoc, or-comm}
+use mathlib.Core.List.{List, [], _∷_, reverse, reverse-reverse}
+use mathlib.Core.Bool.{Bool, true}
 use native.Mathlib.Omega.{arith}
 use lib.Dec.{leb}
 use lib.ListN.{length, take}
 use borrow.Author.Tests.{eq-eqb, ne-eqb}
 use Rattle.rules.specs.Bytes.{same, any, all}
 use Rattle.rules.specs.Tokens.{Name}
-use Rattle.rules.specs.Statements.{Statement, Kind, aModule, code, contents, is, ownName}
-use Rattle.rules.specs.Judgement.{Past, only, sum, among, count, ofModule}
+use Rattle.rules.specs.Statements.{Statement, Kind, aModule, code, contents, is}
+use Rattle.rules.specs.Judgement.{Past, only, sum, count, ofModule}
 use Rattle.rules.specs.Layout.{used}
 use Rattle.wires.specs.Rows.{column}
 use Rattle.scanner.specs.Laws.{by-test, by-order}
 use Rattle.scanner.specs.Lists.{until-take}
+use Rattle.scanner.specs.Elements.{any-reverse}
 use Rattle.past.proofs.KindLaws.{count-one}
 use Rattle.netlist.specs.Rows.{kindAt, namesBetween}
 use Rattle.netlist.specs.Kinds.{Tests, hasName}
@@ -24,6 +25,7 @@ use Rattle.netlist.specs.Laid.{roomsOf, Laid}
 use Rattle.netlist.specs.LaidLaws.{laid-last, laid-before}
 use Rattle.netlist.specs.NameLaws.{ownNames, names-laid}
 use Rattle.designs.specs.Modules.{statementsOf, moduleCount, upTo}
+use Rattle.designs.specs.DesignLaws.{any-own}
 use Rattle.designs.specs.PastLaws.{module-counts, other-counts, count-step, module-first, module-more, none-below, module-past, no-module, up-to-by, up-to-all, up-to-holds, up-to-le}
 use Rattle.designs.specs.Ranges.{rowsWhere, linesIn, lineOf, rowRange}
 use Rattle.designs.specs.RangeLaws.{line-le, line-all, line-back}
@@ -99,24 +101,8 @@ module _ {names rows : List ℕ} where
         ∙ ap (ownNames ks) (sym (until-take (is aModule) q) ∙ sym (reverse-reverse (ofModule q)) ∙ ap reverse (sym (module-past ss m b))))
 
 -- whether some name passes a test doesn't depend on the order
-module _ (f : Name → Bool) (ks : List Kind) where
-  any-names : (xs ys : List Statement) → any f (ownNames ks (xs ++ ys)) ≡ any f (ownNames ks xs) || any f (ownNames ks ys)
-  unfolding only any
-  any-names [] ys = refl
-  any-names (x ∷ xs) ys =
-      by-test (among ks x)
-      (λ e. rw (e, any-names xs ys) (sym (or-assoc (f (ownName (contents x .names))) (any f (ownNames ks xs)) (any f (ownNames ks ys)))))
-      (λ e. rw e (any-names xs ys))
-
-  pub any-names-back : (xs : List Statement) → any f (ownNames ks (reverse xs)) ≡ any f (ownNames ks xs)
-  unfolding only any
-  any-names-back [] = refl
-  any-names-back (x ∷ xs) =
-      ap (λ (l : List Statement). any f (ownNames ks l)) (reverse-cons x xs)
-      ∙ any-names (reverse xs) (x ∷ [])
-      ∙ or-comm (any f (ownNames ks (reverse xs))) (any f (ownNames ks (x ∷ [])))
-      ∙ ap (λ (b : Bool). any f (ownNames ks (x ∷ [])) || b) (any-names-back xs)
-      ∙ sym (any-names (x ∷ []) xs)
+pub any-names-back : (f : Name → Bool) (ks : List Kind) (xs : List Statement) → any f (ownNames ks (reverse xs)) ≡ any f (ownNames ks xs)
+any-names-back f ks xs = any-own f ks (reverse xs) ∙ any-reverse _ xs ∙ sym (any-own f ks xs)
 
 -- so a search for a name in the range is one among the module's statements
 pub taken-range :

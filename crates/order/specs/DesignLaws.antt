@@ -13,7 +13,7 @@ use Rattle.rules.specs.Judgement.{until}
 use Rattle.rules.specs.Design.{Setting, Object, object, Cell, Module, Design, Item, settingIn, items, blocks, objectsIn, parameterIn, portIn, pair, connectionIn, cellParameterIn, each, cellOf, moduleOf, design, flatten, objects, cellLines, moduleLines, designOpen}
 use Rattle.scanner.specs.Laws.{and-true-left, and-true-right}
 use Rattle.scanner.specs.Lists.{flatMap-append, flatMap-same, flatMap-map, flatMap-flatMap, flatMap-none, flatMap-one, flatMap-self}
-use Rattle.scanner.specs.Elements.{all-append, all-map, all-each, map-back, each-all, all-flatMap}
+use Rattle.scanner.specs.Elements.{until-none, all-append, all-map, all-each, map-back, each-all, all-flatMap}
 use Rattle.order.specs.Nesting.{CellEntry, parameter-entry, port-entry, Entry, param-entry, wire-entry, memory-entry, cell-entry, connection-entry, File, settings, lineIn, linesOf, linesOfModule, linesOfFile, parameterOf, portOf, parametersOf, wiresOf, memoriesOf, cellBody, cellsOf, connectionsOf, bodyOf, moduleIn, designOf, cellEntries, entries, asFile, fileOf, nestingOpen}
 
 none-of : {A B : Type 0} (xs : List A) → flatMap {B = B} (λ (x : A). []) xs ≡ []
@@ -141,12 +141,6 @@ module _ (opens : Statement → Bool) where
   blocks-none (i ∷ is′) js e =
       rw (not-true (opens (i .statement)) (and-true-left _ _ e)) (blocks-none is′ js (and-true-right (closed i) _ e))
 
-  until-none : (is′ js : List Item) → all closed is′ ≡ true → until (λ j. opens (j .statement)) (is′ ++ js) ≡ is′ ++ until (λ j. opens (j .statement)) js
-  unfolding until all
-  until-none [] js e = refl
-  until-none (i ∷ is′) js e =
-      rw (not-true (opens (i .statement)) (and-true-left _ _ e)) (ap (λ (l : List Item). i ∷ l) (until-none is′ js (and-true-right (closed i) _ e)))
-
 -- no entry opens a module
 entry-in-module : (e : Entry) → all (closed (is aModule)) (itemsOf e) ≡ true
 unfolding all itemsOf statementsOpen
@@ -173,7 +167,7 @@ unfolding blocks flatMap moduleItems statementsOpen
 blocks-modules [] = refl
 blocks-modules (o ∷ os) =
     let h = all-in-module (o .body) in
-    let u = until-none (is aModule) (inModule (o .body)) (flatMap moduleItems os) h in
+    let u = until-none (λ j. is aModule (j .statement)) (inModule (o .body)) (flatMap moduleItems os) h in
     let b = blocks-none (is aModule) (inModule (o .body)) (flatMap moduleItems os) h in
     rw (u, until-modules os, append-nil, b) (ap (λ (l : List (Item × List Item)). blockOf o ∷ l) (blocks-modules os))
 
@@ -282,7 +276,7 @@ cells-in (cell-entry at t n cs ∷ es) =
     let inside : List Item = inCell plain cs in
     let h = cell-in-cell cs in
     let a = append-assoc inside (flatMap itemsOf es) (plain end-stmt ∷ []) in
-    let u = until-none (is aCell) inside (flatMap itemsOf es ++ plain end-stmt ∷ []) h in
+    let u = until-none (λ j. is aCell (j .statement)) inside (flatMap itemsOf es ++ plain end-stmt ∷ []) h in
     let b = blocks-none (is aCell) inside (flatMap itemsOf es ++ plain end-stmt ∷ []) h in
     rw (a, u, b, cell-block at t n cs es) (ap (λ (l : List (Object Cell)). cellAt at t n cs ∷ l) (cells-in es))
 cells-in (connection-entry x y ∷ es) = cells-in es

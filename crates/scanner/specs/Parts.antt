@@ -5,7 +5,7 @@ use mathlib.Core.List.{List, [], _∷_, _++_}
 use Prim.Native.Nat.{ℕ, zero, suc, _+_, _-_, _≤_}
 use native.Mathlib.Omega.{arith}
 use lib.ListN.{length, take, drop, length-take, length-drop, drop-of-length-le, take-append-drop}
-use lib.Seq.{slice, take-all, take-length, take-nil, take-take, take-add, take-append-seam, drop-drop, drop-append-seam}
+use lib.Seq.{length-take-le, slice, take-all, take-length, take-nil, take-take, take-add, take-append-seam, drop-drop, drop-append-seam}
 
 module _ {A : Type 0} where
   -- a part, as code cuts it and as `slice` does
@@ -61,3 +61,6 @@ module _ {A : Type 0} where
   -- as many elements as were there
   pub take-taken : (n : ℕ) (l : List A) → take (length (take n l)) l ≡ take n l
   take-taken n l = ap (take (length (take n l))) (sym (take-append-drop n l)) ∙ take-append-seam (take n l) (drop n l)
+
+  pub length-part : (xs : List A) (l n : ℕ) → l + n ≤ length xs → length (take n (drop l xs)) ≡ n
+  length-part xs l n h = length-take-le n (drop l xs) (omega (arith, length-drop l xs))
