@@ -16,6 +16,7 @@ use Rattle.rules.specs.Numbers.{int32}
 use Rattle.rules.specs.Signals.{Wires}
 use Rattle.rules.specs.Judgement.{Past, until, ofModule, wires, portNumbers, takesName, exceedsSize}
 use Rattle.scanner.specs.Laws.{by-test, and-true-left, and-true-right}
+use Rattle.scanner.specs.Lists.{keeps-before}
 use Rattle.scanner.specs.Elements.{all-append, all-implied, test-at}
 use Rattle.past.specs.Sizes.{sumsOf, Within}
 use Rattle.past.specs.Offsets.{fitsOffset, Offsets, no-offsets, more-offsets}
@@ -90,8 +91,7 @@ module _ (s : Statement) (ss : Past) (e : admitted (s ∷ ss) ≡ true) where
 
 -- the statements behind which others were admitted
 pub admitted-past : (more : List Statement) (ss : Past) → admitted (reverseAux more ss) ≡ true → admitted ss ≡ true
-admitted-past [] ss a = a
-admitted-past (s ∷ more) ss a = admitted-before s ss (admitted-past more (s ∷ ss) a)
+admitted-past = keeps-before (λ qs. admitted qs ≡ true) admitted-before
 
 -- a test that the wires of each statement with fine parts pass
 module _ (f : Name × Wire → Bool) (one : (ws : Wires) (s : Statement) → FineParts ws s → all f (zip (contents s .names) (contents s .wires)) ≡ true) where

@@ -16,6 +16,7 @@ use Rattle.rules.specs.Judgement.{Past, sum, scope, context, among, count}
 use Rattle.past.specs.Place.{scopeCode, scopeAfter}
 use Rattle.past.specs.Sizes.{sizesBy, sumsOf, Within}
 use Rattle.scanner.specs.Laws.{by-test, and-true-left, and-true-right}
+use Rattle.scanner.specs.Elements.{test-at}
 use Rattle.past.proofs.KindLaws.{count-one, count-two}
 use Rattle.past.proofs.PlaceLaws.{scope-step}
 use Rattle.admitted.specs.Admitted.{kinds, stands}
@@ -121,13 +122,12 @@ module _ (s : Statement) (ss : Past) where
   unfolding counts sizeCounts context code
   count-step e c =
       let n = code (contents s .kind) in
-      let h = stands-counts ss s e in
-      let a : Bool = eqb (one 1 n + sizeCounts n + one 12 n) 1 in
-      let b : Bool = leb (one 1 n) (cond (context ss .first) 1 0) in
-      let t = and-true-left (a && b) _ h in
-      let total : one 1 n + sizeCounts n + one 12 n ≡ 1 = eqb-true _ 1 (and-true-left a b t) in
-      let early : one 1 n ≤ cond (context ss .first) 1 0 = leb-true _ _ (and-true-right a b t) in
-      let closed : one 12 n + scopeAfter (scopeCode (scope ss)) n ≡ one 3 n + one 7 n + scopeCode (scope ss) = eqb-true _ _ (and-true-right (a && b) _ h) in
+      let z = scopeCode (scope ss) in
+      let h =
+      test-at (eqb (one 1 n + sizeCounts n + one 12 n) 1) (leb (one 1 n) (cond (context ss .first) 1 0) ∷ eqb (one 12 n + scopeAfter z n) (one 3 n + one 7 n + z) ∷ []) (stands-counts ss s e) in
+      let total : one 1 n + sizeCounts n + one 12 n ≡ 1 = eqb-true _ 1 (h 0) in
+      let early : one 1 n ≤ cond (context ss .first) 1 0 = leb-true _ _ (h 1) in
+      let closed : one 12 n + scopeAfter (scopeCode (scope ss)) n ≡ one 3 n + one 7 n + scopeCode (scope ss) = eqb-true _ _ (h 2) in
       record {
         all =
             omega (

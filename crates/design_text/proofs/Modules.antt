@@ -156,8 +156,7 @@ until-beyond [] base = refl
 until-beyond (s ∷ qs) base = by-test (is aModule s) (λ e. rw e) (λ e. rw e (until-beyond qs (s ∷ base)))
 
 count-onto : (xs : List Statement) (base : Past) → moduleCount base ≤ moduleCount (reverseAux xs base)
-count-onto [] base = omega arith
-count-onto (x ∷ xs) base = omega (arith, count-onto xs (x ∷ base), count-step x base .0)
+count-onto xs base = omega (arith, sum-behind (count (aModule ∷ [])) xs base)
 
 count-until : (qs : List Statement) (base : Past) → moduleCount (reverseAux (until (is aModule) qs) base) ≡ moduleCount base
 unfolding until

@@ -2,7 +2,8 @@
 -- Assumes nothing.
 use Prim.Native.Nat.{ℕ, zero, suc, _+_}
 use mathlib.Core.Path.{_≡_, refl, sym, ap, ap₂, _∙_}
-use mathlib.Core.List.{List, [], _∷_, reverseAux}
+use mathlib.Core.List.{List, _∷_, reverseAux}
+use Rattle.scanner.specs.Lists.{keeps-before}
 use lib.ListN.{length}
 use Rattle.rules.specs.Tokens.{Name}
 use Rattle.rules.specs.Statements.{Statement, Wire}
@@ -24,8 +25,7 @@ use Rattle.standing.specs.NowLaws.{name-now-laid}
 
 module _ {t : Tables} where
   pub fronts-past : (qs : List Statement) (ps : Past) → Fronts (roomsOf (reverseAux qs ps)) t → Fronts (roomsOf ps) t
-  fronts-past [] ps f = f
-  fronts-past (s ∷ qs) ps f = fronts-before s ps (fronts-past qs (s ∷ ps) f)
+  fronts-past = keeps-before (λ ps. Fronts (roomsOf ps) t) fronts-before
 
 -- THE NAME NOW of a wire: that of its last rename, else the one read
 module _ {t : Tables} (R : Rooms) (h : Eights (R .rows)) where

@@ -5,10 +5,9 @@ use mathlib.Core.Path.{_≡_, refl, sym, ap, _∙_}
 use mathlib.Core.List.{List, [], _∷_, _++_, flatMap, zip, zipWith, reverse, reverse-cons, reverseAux-eq}
 use mathlib.Core.Option.{some}
 use mathlib.Core.Bool.{not, cond}
-use native.Mathlib.Omega.{arith}
-use lib.ListN.{length, getElem?, length-map, length-append}
+use lib.ListN.{length, getElem?, length-map}
 use Rattle.rules.specs.Tokens.{Name}
-use Rattle.rules.specs.Statements.{Statement, Wire, wire-stmt, anAttribute, aModule, contents, is, statementsOpen}
+use Rattle.rules.specs.Statements.{Statement, Wire, wire-stmt, anAttribute, aModule, is, statementsOpen}
 use Rattle.rules.specs.Judgement.{Past, until, wires, ofModule, ofObject}
 use Rattle.rules.specs.Design.{Setting, Object, object, Item, settingIn, items, objectsIn, design}
 use Rattle.rules.specs.Session.{wireAt}
@@ -17,6 +16,7 @@ use Rattle.scanner.specs.Lists.{element-at, flatMap-append, flatMap-back}
 use Rattle.designs.specs.Modules.{statementsOf, wiresOf, moduleCount}
 use Rattle.designs.specs.DesignLaws.{only-attribute, wires-pairs, wires-at}
 use Rattle.designs.specs.PastLaws.{module-open}
+use Rattle.designs.specs.WireLaws.{length-wires-back}
 
 -- the attributes that wait behind statements for the next object
 unfoldable waiting : List Setting → List Statement → List Setting
@@ -51,13 +51,6 @@ waiting-past (s ∷ ps) =
     (λ e. rw e)
 
 -- a wire's statement among those of its module
-length-wires-back : (ps : Past) → length (wiresOf (reverse ps)) ≡ length (wiresOf ps)
-unfolding flatMap
-length-wires-back [] = refl
-length-wires-back (s ∷ ps) =
-    ap length (flatMap-back (λ s. zip (contents s .names) (contents s .wires)) s ps)
-    ∙ simp length-append (let e : length (wiresOf (reverse ps)) ≡ length (wiresOf ps) = length-wires-back ps in omega arith)
-
 module _ (w : Wire) (n : Name) (ps : Past) (rs : List Statement) where
   wire-items : flatMap (objectsIn (λ c. c .wires)) (items [] (reverse ps ++ wire-stmt w n ∷ rs)) ≡ flatMap (objectsIn (λ c. c .wires)) (items [] (reverse ps)) ++ object (settingsBefore ps) n w ∷ flatMap (objectsIn (λ c. c .wires)) (items [] rs)
   unfolding items flatMap objectsIn zip zipWith statementsOpen

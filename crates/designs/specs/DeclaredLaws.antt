@@ -5,22 +5,20 @@ use mathlib.Core.Path.{_≡_, refl, sym, ap, _∙_}
 use mathlib.Core.List.{List, [], _∷_, _++_, flatMap, reverse, reverse-append, reverse-cons, append-assoc}
 use mathlib.Core.Option.{some}
 use native.Mathlib.Omega.{arith}
-use lib.Dec.{ltb}
-use lib.ListN.{length, length-reverse}
-use borrow.Author.Tests.{ltb-true, ltb-false}
+use lib.ListN.{length}
 use Rattle.rules.specs.Tokens.{Name}
 use Rattle.rules.specs.Statements.{Statement, Wire, wire-stmt, aModule, is, statementsOpen}
 use Rattle.rules.specs.Judgement.{Past, ofModule, wires}
 use Rattle.rules.specs.Design.{object, design}
 use Rattle.rules.specs.Session.{wireAt}
-use Rattle.scanner.specs.Laws.{by-test}
+use Rattle.scanner.specs.Laws.{by-test, by-order}
 use Rattle.past.specs.Place.{wiresIn, placeOf}
 use Rattle.past.proofs.PlaceLaws.{length-all-wires, wires-none, wires-one, wires-reset}
 use Rattle.netlist.specs.Laid.{roomsOf, Wired}
 use Rattle.designs.specs.Modules.{statementsOf, wiresOf, moduleCount, upTo, Headed}
-use Rattle.designs.specs.PastLaws.{other-counts, none-counts, module-past, no-module, up-to-split, up-to-count}
+use Rattle.designs.specs.PastLaws.{other-counts, none-below, module-past, no-module, up-to-split, up-to-count}
 use Rattle.designs.specs.AttributeLaws.{settingsBefore, wire-in-file}
-use Rattle.designs.specs.WireLaws.{Adds, a-wire, no-wire, adds, wires-back, range-number}
+use Rattle.designs.specs.WireLaws.{Adds, a-wire, no-wire, adds, length-wires-back, range-number}
 use Rattle.designs.specs.Ranges.{wireRange}
 
 -- where wire w of module m is declared: the statements before its own and those behind it, the last one first
@@ -57,12 +55,11 @@ module _ (m w : ℕ) where
       moduleCount (s ∷ ss) ≡ suc m → w < length (wires (s ∷ ss)) → Declared (s ∷ ss) m w
   declared-step s ss earlier (a-wire b n) e h =
       let c : moduleCount ss ≡ suc m = sym (wire-counts b n ss) ∙ e in
-      by-test (ltb w (length (wires ss)))
-      (λ q. declared-more (wire-stmt b n ∷ []) ss m w (earlier c (ltb-true w (length (wires ss)) q)))
+      by-order (length (wires ss)) w
       (λ q.
       let l : length (wires (wire-stmt b n ∷ ss)) ≡ suc (length (wires ss)) = ap length (wires-one b n ss) in
-      let k : length (wires ss) ≡ w = omega (arith, ltb-false w (length (wires ss)) q) in
-      record { before = ss; behind = []; body = b; name = n; all = refl; module-is = c; number-is = k })
+      record { before = ss; behind = []; body = b; name = n; all = refl; module-is = c; number-is = omega arith })
+      (λ q. declared-more (wire-stmt b n ∷ []) ss m w (earlier c q))
   declared-step s ss earlier (no-wire y z) e h =
       by-test (is aModule s)
       (λ q. absurd (let k : length (wires (s ∷ ss)) ≡ 0 = ap length (wires-reset s ss q) in omega arith))
@@ -71,7 +68,7 @@ module _ (m w : ℕ) where
       declared-more (s ∷ []) ss m w (earlier (sym (other-counts s ss q) ∙ e) (omega arith)))
 
   declared-open : (ss : Past) → moduleCount ss ≡ suc m → w < length (wires ss) → Declared ss m w
-  declared-open [] e h = absurd (let z : moduleCount [] ≡ 0 = none-counts in omega arith)
+  declared-open [] e h = none-below {m = m} (omega arith)
   declared-open (s ∷ ss) e h = declared-step s ss (declared-open ss) (adds s) e h
 
 -- A WIRE OF A MODULE IS DECLARED
@@ -79,9 +76,7 @@ module _ (ss : Past) (m w : ℕ) where
   module-wires : m < moduleCount ss → length (wiresOf (statementsOf m (reverse ss))) ≡ length (wires (upTo m ss))
   unfolding wires
   module-wires b =
-      ap (λ (qs : List Statement). length (wiresOf qs)) (module-past ss m b)
-      ∙ ap length (sym (wires-back (ofModule (upTo m ss))))
-      ∙ length-reverse (wiresOf (ofModule (upTo m ss)))
+      ap (λ (qs : List Statement). length (wiresOf qs)) (module-past ss m b) ∙ length-wires-back (ofModule (upTo m ss))
 
   no-module-wires : moduleCount ss ≤ m → length (wiresOf (statementsOf m (reverse ss))) ≡ 0
   unfolding flatMap
@@ -89,13 +84,12 @@ module _ (ss : Past) (m w : ℕ) where
 
   pub wire-declared : w < length (wiresOf (statementsOf m (reverse ss))) → Declared ss m w
   wire-declared h =
-      by-test (ltb m (moduleCount ss))
-      (λ e.
-      let b : m < moduleCount ss = ltb-true m (moduleCount ss) e in
+      by-order (moduleCount ss) m
+      (λ b. absurd (omega (arith, no-module-wires b)))
+      (λ b.
       let x = up-to-split m ss in
       let d : Declared (upTo m ss) m w = declared-open m w (upTo m ss) (up-to-count m ss b) (omega (arith, module-wires b)) in
       rw (x .1) (declared-more (x .0) (upTo m ss) m w d))
-      (λ e. absurd (omega (arith, no-module-wires (ltb-false m (moduleCount ss) e))))
 
   -- and it is the design's, with the attributes right before its statement
   pub declared-wire : (d : Declared ss m w) → wireAt (design (reverse ss)) m w ≡ some (object (settingsBefore (d .before)) (d .name) (d .body))

@@ -1,7 +1,7 @@
 -- A row of tables that begin with admitted statements decodes to its statement.
 -- Assumes nothing.
 use Prim.Native.Nat.{ℕ, _+_}
-use mathlib.Core.Path.{_≡_, refl, sym, ap, ap₂, _∙_}
+use mathlib.Core.Path.{_≡_, refl, sym, ap, ap₂, subst, _∙_}
 use mathlib.Core.List.{List, [], _∷_, _++_, map, flatMap, append-nil, Option·toList}
 use mathlib.Core.Option.{Option, none, some, Option·elim}
 use mathlib.Core.Bool.{true, false, _&&_, false≢true}
@@ -16,14 +16,14 @@ use Rattle.rules.specs.Numbers.{int32}
 use Rattle.rules.specs.Judgement.{Past, wires}
 use Rattle.rules.specs.Layout.{Used, padded, row, digitCode, bitCode, nameBytes, stringBytes, bitCodes, constantColumns, sortCode, columns, statementRow, used}
 use Rattle.scanner.specs.Laws.{and-true-left, and-true-right}
-use Rattle.scanner.specs.Parts.{slice-span}
 use Rattle.numbers.specs.Kinds.{digitOf, signalOf}
 use Rattle.numbers.specs.Signed.{signedOf}
 use Rattle.numbers.specs.SignedLaws.{signed-word}
 use Rattle.numbers.specs.KindLaws.{sort-back}
-use Rattle.wires.specs.Rows.{column, wireOf, spanAt}
-use Rattle.wires.specs.RowLaws.{RowIs, row-wire}
+use Rattle.wires.specs.Rows.{column, wireOf}
+use Rattle.wires.specs.RowLaws.{RowIs, span-has, row-wire}
 use Rattle.netlist.specs.Rows.{kindAt, nameFrom}
+use Rattle.netlist.specs.RowLaws.{row-zero}
 use Rattle.netlist.specs.Statements.{constantAt, optionalAt, signalAt, memoryAt, sortAt, statementBy, statementAt}
 use Rattle.admitted.specs.Admitted.{fineConstant, fineMemory, fineSignal, fineParts, admitted}
 use Rattle.admitted.specs.CountLaws.{never-process}
@@ -35,17 +35,6 @@ use Rattle.netlist.specs.Fronts.{Fronts, Parts}
 use Rattle.netlist.specs.FrontLaws.{fronts-stand, fronts-row, parts-wire}
 use Rattle.designs.specs.CodeLaws.{digits-back, narrow, narrow-past, signal-back}
 
--- ---- what a table has from a place on
-
-module _ (t rows : List ℕ) (k c at n : ℕ) (xs : List ℕ) (ea : column rows k c ≡ at) (en : column rows k (c + 1) ≡ n) (e : n ≡ length xs) (h : Has t at xs) where
-  span-has : spanAt t rows k c ≡ xs
-  unfolding spanAt Has
-  span-has = rw (ea, en, e) (slice-span at (length xs) t ∙ h)
-
-  pub name-has : nameFrom t rows k c ≡ xs
-  unfolding nameFrom
-  name-has = span-has
-
 -- ---- a constant, in the columns from the third on
 
 abbrev Columned : List ℕ → ℕ → Used → Constant → Type 0
@@ -54,27 +43,24 @@ Columned rows k u (integer i) = (column rows k 3 ≡ 2) × (column rows k 4 ≡ 
 Columned rows k u (string s) = (column rows k 3 ≡ 3) × (column rows k 4 ≡ u .strings) × (column rows k 5 ≡ length s)
 
 module _ (rows : List ℕ) (k : ℕ) (u : Used) (kind a b : ℕ) where
-  columned : (c : Constant) → RowIs rows k (row (kind ∷ a ∷ b ∷ constantColumns u c)) → Columned rows k u c
-  unfolding row padded constantColumns
-  columned (value ds) h = (h 3 (omega arith), h 4 (omega arith), h 5 (omega arith))
-  columned (integer i) h = (h 3 (omega arith), h 4 (omega arith), h 5 (omega arith))
-  columned (string s) h = (h 3 (omega arith), h 4 (omega arith), h 5 (omega arith))
-
   columned-more : (c : Constant) (x : ℕ) → RowIs rows k (row (kind ∷ a ∷ b ∷ constantColumns u c ++ x ∷ [])) → Columned rows k u c × (column rows k 6 ≡ x)
   unfolding row padded constantColumns
   columned-more (value ds) x h = ((h 3 (omega arith), h 4 (omega arith), h 5 (omega arith)), h 6 (omega arith))
   columned-more (integer i) x h = ((h 3 (omega arith), h 4 (omega arith), h 5 (omega arith)), h 6 (omega arith))
   columned-more (string s) x h = ((h 3 (omega arith), h 4 (omega arith), h 5 (omega arith)), h 6 (omega arith))
 
+  columned : (c : Constant) → RowIs rows k (row (kind ∷ a ∷ b ∷ constantColumns u c)) → Columned rows k u c
+  columned c h = columned-more c 0 (subst (RowIs rows k) (sym (row-zero u c kind a b)) h) .0
+
 module _ (strings bits rows : List ℕ) (k : ℕ) (u : Used) where
   constant-is :
       (c : Constant) → Columned rows k u c → Has strings (u .strings) (bytesOf c) → Has bits (u .bits) (map digitCode (digitsOf c)) → fineConstant c ≡ true →
       constantAt strings bits rows k 3 ≡ c
-  unfolding constantAt bytesOf digitsOf fineConstant
+  unfolding constantAt bytesOf digitsOf fineConstant Has
   constant-is (value ds) h hs hb f =
-      rw (h .0) (ap value (ap (map digitOf) (span-has bits rows k 4 (u .bits) (length ds) (map digitCode ds) (h .1) (h .2) (sym (length-map ds digitCode)) hb) ∙ digits-back ds))
+      rw (h .0) (ap value (ap (map digitOf) (span-has bits rows k 4 (u .bits) (map digitCode ds) (h .1) (h .2 ∙ sym (length-map ds digitCode)) hb) ∙ digits-back ds))
   constant-is (integer i) h hs hb f = rw (h .0, h .1) (ap integer (signed-word i f))
-  constant-is (string s) h hs hb f = rw (h .0) (ap string (span-has strings rows k 4 (u .strings) (length s) s (h .1) (h .2) refl hs))
+  constant-is (string s) h hs hb f = rw (h .0) (ap string (span-has strings rows k 4 (u .strings) s (h .1) (h .2) hs))
 
   constant-there : (c : Constant) → Columned rows k u c → eqb (column rows k 3) 0 ≡ false
   constant-there (value ds) h = rw (h .0)
@@ -92,12 +78,13 @@ module _ (names strings bits wires rows : List ℕ) (u : Used) (ws : Wires) (wid
   by-kind n e = ap (statementBy names strings bits wires rows k) e
 
   first-name : (n : Name) → column rows k 1 ≡ u .names → column rows k 2 ≡ length n → Has names (u .names) (n ++ []) → nameFrom names rows k 1 ≡ n
-  first-name n a l p = name-has names rows k 1 (u .names) (length n) n a l refl (rw append-nil at p)
+  unfolding nameFrom Has
+  first-name n a l p = span-has names rows k 1 (u .names) n a l (rw append-nil at p)
 
   signal-is : (c at : ℕ) (x : Signal) → column rows k c ≡ at → column rows k (c + 1) ≡ length x → Has bits at (map bitCode x) → fineSignal ws x ≡ true → signalAt bits rows k c ≡ x
-  unfolding signalAt
+  unfolding signalAt Has
   signal-is c at x ea en h f =
-      ap signalOf (span-has bits rows k c at (length x) (map bitCode x) ea en (sym (length-map x bitCode)) h) ∙ signal-back ws wide x f
+      ap signalOf (span-has bits rows k c at (map bitCode x) ea (en ∙ sym (length-map x bitCode)) h) ∙ signal-back ws wide x f
 
   valued : (c : Constant) → Columned rows k u c → Has strings (u .strings) (bytesOf c ++ []) → Has bits (u .bits) ((map digitCode (digitsOf c) ++ []) ++ []) → fineConstant c ≡ true → constantAt strings bits rows k 3 ≡ c
   valued c h hs hb f = constant-is strings bits rows k u c h (rw append-nil at hs) (rw (append-nil, append-nil) at hb) f
@@ -107,7 +94,7 @@ module _ (names strings bits wires rows : List ℕ) (u : Used) (ws : Wires) (wid
   memory-is m w z e = λ i. record { width = w i; size = z i; offset = e i }
 
   pub decodes : (s : Statement) → Parts names strings bits wires u s → RowIs rows k (statementRow u s) → fineParts ws s ≡ true → is aProcess s ≡ false → statementAt names strings bits wires rows k ≡ some s
-  unfolding statementBy statementRow columns code contents holds is row padded nameBytes stringBytes bitCodes flatMap optionalAt Option·elim Option·toList all fineMemory kindAt
+  unfolding statementBy statementRow columns code contents holds is row padded nameBytes stringBytes bitCodes flatMap optionalAt Option·elim Option·toList all fineMemory kindAt nameFrom Has
   decodes (autoidx-stmt i) d r g p =
       let f = fine-parts ws (autoidx-stmt i) g in
       by-kind 1 (r 0 (omega arith)) ∙ ap (λ z. some (autoidx-stmt z)) (ap signedOf (r 1 (omega arith)) ∙ signed-word i (and-true-left (int32 i) true (f .integers)))
@@ -141,8 +128,8 @@ module _ (names strings bits wires rows : List ℕ) (u : Used) (ws : Wires) (wid
   decodes (cell-stmt y n) d r g p =
       by-kind 7 (r 0 (omega arith))
       ∙ ap₂ (λ (x z : Name). some (cell-stmt x z))
-      (name-has names rows k 1 (u .names) (length y) y (r 1 (omega arith)) (r 2 (omega arith)) refl (has-first names (u .names) y (n ++ []) (d .names-has)))
-      (name-has names rows k 3 (u .names + length y) (length n) n (r 3 (omega arith)) (r 4 (omega arith)) refl (rw append-nil at (has-second names (u .names) y (n ++ []) (u .names + length y) refl (d .names-has))))
+      (span-has names rows k 1 (u .names) y (r 1 (omega arith)) (r 2 (omega arith)) (has-first names (u .names) y (n ++ []) (d .names-has)))
+      (span-has names rows k 3 (u .names + length y) n (r 3 (omega arith)) (r 4 (omega arith)) (rw append-nil at (has-second names (u .names) y (n ++ []) (u .names + length y) refl (d .names-has))))
   decodes (cell-param-stmt o n c) d r g p =
       let f = fine-parts ws (cell-param-stmt o n c) g in
       let h = columned-more rows k u 8 (u .names) (length n) c (sortCode o) r in

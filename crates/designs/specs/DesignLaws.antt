@@ -1,21 +1,21 @@
 -- A module of a design, by the statements behind its line: its wires, the names of its memories and cells, and which names are taken.
 -- Assumes nothing.
 use Prim.Native.Nat.{ℕ}
-use mathlib.Core.Path.{_≡_, refl, sym, ap, _∙_}
+use mathlib.Core.Path.{_≡_, refl, sym, ap, ap₂, _∙_}
 use mathlib.Core.List.{List, [], _∷_, _++_, map, map-map, map-id, map-congr-left, flatMap, zip, zipWith}
 use mathlib.Core.Option.{Option, none, some, Option·elim}
-use mathlib.Core.Bool.{Bool, true, false, cond, _||_, or-assoc}
+use mathlib.Core.Bool.{Bool, true, false, cond, _&&_, _||_, or-false, or-assoc, and-or-distrib-right}
 use lib.ListN.{getD, getElem?, List·getD-map}
 use Rattle.rules.specs.Bytes.{same, any}
 use Rattle.rules.specs.Tokens.{Name}
-use Rattle.rules.specs.Statements.{Statement, Wire, Kind, anAttribute, aModule, aMemory, aCell, autoidx-stmt, attr-stmt, module-stmt, param-stmt, wire-stmt, memory-stmt, cell-stmt, cell-param-stmt, cell-conn-stmt, conn-stmt, proc-stmt, end-stmt, contents, is, ownName, statementsOpen}
+use Rattle.rules.specs.Statements.{Statement, Wire, Kind, anAttribute, aModule, aMemory, aCell, contents, is, ownName, statementsOpen}
 use Rattle.rules.specs.Judgement.{until, only, among}
 use Rattle.rules.specs.Design.{Setting, Object, object, Module, Item, Inside, settingIn, items, blocks, objectsIn, pair, each, cellOf, moduleOf, Design, design}
 use Rattle.rules.specs.Session.{wiresAt, names, taken}
-use Rattle.past.specs.Forms.{by-form}
+use Rattle.past.specs.Forms.{by-form, by-attribute}
 use Rattle.scanner.specs.Laws.{by-test}
 use Rattle.scanner.specs.Lists.{zip-none, flatMap-same, elim-at, elim-map, flatMap-only, map-flatMap}
-use Rattle.scanner.specs.Elements.{any-append}
+use Rattle.scanner.specs.Elements.{each-all, any-append, any-same, any-only, any-map, any-or}
 use Rattle.netlist.specs.NameLaws.{ownNames}
 use Rattle.designs.specs.Modules.{modulesIn, statementsOf, wiresOf, memoriesAt, cellsAt}
 
@@ -28,18 +28,7 @@ pub record OnlyAttribute (s : Statement) : Type 0 where
 
 pub only-attribute : (s : Statement) → is anAttribute s ≡ true → OnlyAttribute s
 unfolding statementsOpen
-only-attribute (autoidx-stmt i) e = record { no-module = refl; no-cell = refl; no-wires = refl; no-memories = refl }
-only-attribute (attr-stmt n c) e = record { no-module = refl; no-cell = refl; no-wires = refl; no-memories = refl }
-only-attribute (module-stmt n) e = record { no-module = cc; no-cell = refl; no-wires = refl; no-memories = refl }
-only-attribute (param-stmt n c) e = record { no-module = refl; no-cell = refl; no-wires = refl; no-memories = refl }
-only-attribute (wire-stmt w n) e = record { no-module = refl; no-cell = refl; no-wires = cc; no-memories = refl }
-only-attribute (memory-stmt m n) e = record { no-module = refl; no-cell = refl; no-wires = refl; no-memories = cc }
-only-attribute (cell-stmt t n) e = record { no-module = refl; no-cell = cc; no-wires = refl; no-memories = refl }
-only-attribute (cell-param-stmt o n c) e = record { no-module = refl; no-cell = refl; no-wires = refl; no-memories = refl }
-only-attribute (cell-conn-stmt n x) e = record { no-module = refl; no-cell = refl; no-wires = refl; no-memories = refl }
-only-attribute (conn-stmt x y) e = record { no-module = refl; no-cell = refl; no-wires = refl; no-memories = refl }
-only-attribute (proc-stmt n) e = record { no-module = refl; no-cell = refl; no-wires = refl; no-memories = refl }
-only-attribute end-stmt e = record { no-module = refl; no-cell = refl; no-wires = refl; no-memories = refl }
+only-attribute = by-attribute OnlyAttribute (λ n c. record { no-module = refl; no-cell = refl; no-wires = refl; no-memories = refl })
 
 -- THE ITEMS OF A BLOCK are those of the statements behind the line that opens it
 pub items-until : (f : Statement → Bool) → ((s : Statement) → is anAttribute s ≡ true → f s ≡ false) → (at : List Setting) (ss : List Statement) → until (λ j. f (j .statement)) (items at ss) ≡ items at (until f ss)
@@ -71,7 +60,7 @@ module _ {A : Type 0} (g : Module → List A) (h : List Item → List A) (none :
       ∙ List·getD-map (λ qs. h (items [] qs)) (modulesIn ss) m []
 
 -- WHAT STATEMENTS GIVE TO ITEMS. What an attribute has no part in is taken from the statements themselves
-each-items : {A : Type 0} (f : Statement → List A) → ((s : Statement) → is anAttribute s ≡ true → f s ≡ []) → (at : List Setting) (ss : List Statement) → each f (items at ss) ≡ flatMap f ss
+pub each-items : {A : Type 0} (f : Statement → List A) → ((s : Statement) → is anAttribute s ≡ true → f s ≡ []) → (at : List Setting) (ss : List Statement) → each f (items at ss) ≡ flatMap f ss
 unfolding each items flatMap
 each-items f h at [] = refl
 each-items f h at (s ∷ ss) =
@@ -140,27 +129,19 @@ cell-names at qs =
     ∙ flatMap-same _ _ cell-name qs
     ∙ flatMap-only (among (aCell ∷ [])) (λ s. ownName (contents s .names)) qs
 
--- names of two kinds
-or-both : (a b c : Bool) → a || (b || c) ≡ (a || b) || (a || c)
-or-both true b c = refl
-or-both false b c = refl
+-- whether some name of some kinds passes a test; names of two kinds
+pub any-own : (f : Name → Bool) (ks : List Kind) (qs : List Statement) → any f (ownNames ks qs) ≡ any (λ s. among ks s && f (ownName (contents s .names))) qs
+any-own f ks qs = any-map f _ (only (among ks) qs) ∙ sym (any-only (among ks) _ qs)
 
-or-later : (a b c : Bool) → a || (b || c) ≡ b || (a || c)
-or-later true true c = refl
-or-later true false c = refl
-or-later false b c = refl
-
-module _ (f : Name → Bool) (k l : Kind) where
-  pub any-kinds : (qs : List Statement) → any f (ownNames (k ∷ l ∷ []) qs) ≡ any f (ownNames (k ∷ []) qs) || any f (ownNames (l ∷ []) qs)
-  unfolding only among any
-  any-kinds [] = refl
-  any-kinds (s ∷ qs) =
-      let a : Bool = f (ownName (contents s .names)) in
-      let x : Bool = any f (ownNames (k ∷ []) qs) in
-      let y : Bool = any f (ownNames (l ∷ []) qs) in
-      by-test (is k s)
-      (λ e. by-test (is l s) (λ h. rw (e, h, any-kinds qs) (or-both a x y)) (λ h. rw (e, h, any-kinds qs) (sym (or-assoc a x y))))
-      (λ e. by-test (is l s) (λ h. rw (e, h, any-kinds qs) (or-later a x y)) (λ h. rw (e, h) (any-kinds qs)))
+pub any-kinds : (f : Name → Bool) (k l : Kind) (qs : List Statement) → any f (ownNames (k ∷ l ∷ []) qs) ≡ any f (ownNames (k ∷ []) qs) || any f (ownNames (l ∷ []) qs)
+unfolding among any
+any-kinds f k l qs =
+    any-own f (k ∷ l ∷ []) qs
+    ∙ any-same _ _ qs
+    (each-all _
+    (λ s. ap (λ (b : Bool). (b || (is l s || false)) && f (ownName (contents s .names))) (sym (or-false (is k s))) ∙ and-or-distrib-right (is k s || false) (is l s || false) (f (ownName (contents s .names)))) qs)
+    ∙ any-or _ _ qs
+    ∙ ap₂ _||_ (sym (any-own f (k ∷ []) qs)) (sym (any-own f (l ∷ []) qs))
 
 -- THE MODULE OF A NUMBER
 module _ (ss : List Statement) (m : ℕ) where

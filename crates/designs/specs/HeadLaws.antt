@@ -1,52 +1,41 @@
 -- Where each statement stands after those before it, no wire stands before the first module line.
 -- Assumes nothing.
-use Prim.Native.Nat.{_*_, _≤_, _<_}
+use Prim.Native.Nat.{ℕ, _*_, _≤_, _<_}
 use mathlib.Core.Path.{_≡_, refl, sym, ap, _∙_}
 use mathlib.Core.List.{[], _∷_}
-use mathlib.Core.Bool.{Bool, true, false, _||_}
+use mathlib.Core.Bool.{Bool, true, false, not, _||_, or-false}
 use native.Mathlib.Omega.{arith}
-use Rattle.rules.specs.Bytes.{any}
-use Rattle.rules.specs.Tokens.{Name}
-use Rattle.rules.specs.Statements.{Statement, Wire, wire-stmt, cell-stmt, aModule, aWire, aCell, anEnd, is, statementsOpen}
+use lib.Dec.{eqb}
+use borrow.Author.Tests.{eqb-true}
+use Rattle.rules.specs.Bytes.{all}
+use Rattle.rules.specs.Statements.{Statement, aModule, aWire, aCell, anEnd, is, code, contents}
 use Rattle.rules.specs.Shapes.{Scope, top, inModule, inCell}
-use Rattle.rules.specs.Judgement.{Past, outer, scope, context, among}
+use Rattle.rules.specs.Judgement.{Past, outer, scope, context}
 use Rattle.scanner.specs.Laws.{by-test, or-true-right, or-true-left}
 use Rattle.past.specs.Place.{scopeCode}
-use Rattle.past.specs.Forms.{by-form}
 use Rattle.admitted.specs.Admitted.{kinds, stands}
-use Rattle.admitted.specs.CountLaws.{Standing, none-stand, one-stands, context-scope}
+use Rattle.admitted.specs.CountLaws.{Standing, none-stand, one-stands, context-scope, among-test}
 use Rattle.designs.specs.Modules.{moduleCount, Headed, none-headed, one-headed}
 use Rattle.designs.specs.PastLaws.{module-counts, count-step}
 
 -- a wire and a cell stand in a module
-data Inner : Statement → Type 0 where
-  a-wire : (w : Wire) (n : Name) → Inner (wire-stmt w n)
-  a-cell : (t n : Name) → Inner (cell-stmt t n)
-  neither : {s : Statement} → is aWire s || is aCell s ≡ false → Inner s
+abbrev fitsIn : Scope → ℕ → Bool
+fitsIn z n = eqb (scopeCode z) 1 || not (eqb 5 n || eqb 7 n)
 
-inner-of : (s : Statement) → Inner s
-unfolding statementsOpen
-inner-of =
-    by-form Inner (λ i. neither refl) (λ n c. neither refl) (λ n. neither refl) (λ n c. neither refl) a-wire (λ m n. neither refl)
-    a-cell (λ o n c. neither refl) (λ n x. neither refl) (λ x y. neither refl) (λ n. neither refl) (neither refl)
-
-in-module : (z : Scope) (first attributed : Bool) (s : Statement) → Inner s → among (kinds z first attributed) s ≡ true → is aWire s || is aCell s ≡ true → scopeCode z ≡ 1
-unfolding kinds among any scopeCode statementsOpen
-in-module inModule first attributed s o e h = refl
-in-module top true attributed s (a-wire w n) e h = cc
-in-module top true attributed s (a-cell t n) e h = cc
-in-module top true attributed s (neither q) e h = cc
-in-module top false attributed s (a-wire w n) e h = cc
-in-module top false attributed s (a-cell t n) e h = cc
-in-module top false attributed s (neither q) e h = cc
-in-module inCell first attributed s (a-wire w n) e h = cc
-in-module inCell first attributed s (a-cell t n) e h = cc
-in-module inCell first attributed s (neither q) e h = cc
+inner-kinds : (z : Scope) (first attributed : Bool) → all (λ k. fitsIn z (code k)) (kinds z first attributed) ≡ true
+unfolding all kinds code scopeCode
+inner-kinds top true a = refl
+inner-kinds top false a = refl
+inner-kinds inModule f true = refl
+inner-kinds inModule f false = refl
+inner-kinds inCell f a = refl
 
 stands-inside : (ss : Past) (s : Statement) → stands ss s ≡ true → is aWire s || is aCell s ≡ true → scopeCode (scope ss) ≡ 1
-unfolding stands
+unfolding stands is code
 stands-inside ss s e h =
-    ap scopeCode (sym (context-scope ss)) ∙ in-module (context ss .scope) (context ss .first) (context ss .attributed) s (inner-of s) e h
+    let z = context ss .scope in
+    let q : fitsIn z (code (contents s .kind)) ≡ true = among-test (fitsIn z) _ s (inner-kinds z (context ss .first) (context ss .attributed)) e in
+    ap scopeCode (sym (context-scope ss)) ∙ eqb-true (scopeCode z) 1 (rw (h, or-false) at q)
 
 -- so a module was opened
 outer-le : (z : Scope) → scopeCode (outer z) ≤ scopeCode z

@@ -3,11 +3,11 @@ pub mod DesignLaws
 pub mod Now
 pub mod NowLaws
 pub mod PastLaws
-pub mod AttributeLaws
 pub mod Ranges
 pub mod RangeLaws
 pub mod RowLaws
 pub mod WireLaws
+pub mod AttributeLaws
 pub mod HeadLaws
 pub mod DeclaredLaws
 pub mod CodeLaws

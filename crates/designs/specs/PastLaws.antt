@@ -5,13 +5,11 @@ use mathlib.Core.Path.{_≡_, refl, sym, ap, _∙_}
 use mathlib.Core.List.{List, [], _∷_, _++_, reverse, reverseAux, append-assoc}
 use mathlib.Core.Bool.{true, false}
 use native.Mathlib.Omega.{arith}
-use lib.Dec.{leb}
 use lib.ListN.{length, getD}
-use borrow.Author.Tests.{leb-true, leb-false}
 use Rattle.rules.specs.Bytes.{any}
 use Rattle.rules.specs.Statements.{Statement, aModule, is}
 use Rattle.rules.specs.Judgement.{Past, until, sum, among, count, ofModule}
-use Rattle.scanner.specs.Laws.{by-test}
+use Rattle.scanner.specs.Laws.{by-test, by-le}
 use Rattle.designs.specs.Modules.{modulesIn, statementsOf, moduleCount, upTo}
 
 module _ (s : Statement) (ss : Past) where
@@ -71,22 +69,28 @@ module-open (s ∷ ps) rs m e =
     (λ h. rw h (behind-modules ps (s ∷ rs) 0 m (omega (arith, module-counts s ps h)) ∙ rw (first-module s rs h)))
     (λ h. module-open ps (s ∷ rs) m (sym (other-counts s ps h) ∙ e) ∙ rw h)
 
+-- no module is there without a statement
+pub none-below : {P : Type 0} {m : ℕ} → m < moduleCount [] → P
+none-below h = absurd (let z : moduleCount [] ≡ 0 = none-counts in omega arith)
+
+-- THE STATEMENTS UP TO A MODULE'S END: all of them, if no module is behind it; else those before the last
+pub up-to-by :
+    (P : Past → Type 0) (m : ℕ) (s : Statement) (ss : Past) → (moduleCount (s ∷ ss) ≤ suc m → P (s ∷ ss)) → (suc m < moduleCount (s ∷ ss) → P (upTo m ss)) →
+    P (upTo m (s ∷ ss))
+unfolding upTo
+up-to-by P m s ss = by-le P (moduleCount (s ∷ ss)) (suc m)
+
 -- the module of a number: those since its line, as they stood at its end
 module-back :
     (ss : Past) (rs : List Statement) (m : ℕ) → m < moduleCount ss → (moduleCount ss ≤ suc m → until (is aModule) rs ≡ []) →
     statementsOf m (reverseAux ss rs) ≡ reverse (ofModule (upTo m ss))
-unfolding upTo
-module-back [] rs m h l = absurd (let z : moduleCount [] ≡ 0 = none-counts in omega arith)
+module-back [] rs m h l = none-below h
 module-back (s ∷ ss) rs m h l =
-    by-test (leb (moduleCount (s ∷ ss)) (suc m))
-    (λ e. rw e
-    (let b : moduleCount (s ∷ ss) ≤ suc m = leb-true _ _ e in
-    module-open (s ∷ ss) rs m (omega arith) ∙ ap (reverseAux (ofModule (s ∷ ss))) (l b)))
-    (λ e. rw e
-    (let b : suc m < moduleCount (s ∷ ss) = omega (arith, leb-false (moduleCount (s ∷ ss)) (suc m) e) in
-    by-test (is aModule s)
+    up-to-by (λ qs. statementsOf m (reverseAux (s ∷ ss) rs) ≡ reverse (ofModule qs)) m s ss
+    (λ b. module-open (s ∷ ss) rs m (omega arith) ∙ ap (reverseAux (ofModule (s ∷ ss))) (l b))
+    (λ b. by-test (is aModule s)
     (λ q. module-back ss (s ∷ rs) m (omega (arith, module-counts s ss q)) (λ t. until-first s rs q))
-    (λ q. module-back ss (s ∷ rs) m (omega (arith, other-counts s ss q)) (λ t. absurd (omega (arith, other-counts s ss q))))))
+    (λ q. module-back ss (s ∷ rs) m (omega (arith, other-counts s ss q)) (λ t. absurd (omega (arith, other-counts s ss q)))))
 
 pub module-past : (ss : Past) (m : ℕ) → m < moduleCount ss → statementsOf m (reverse ss) ≡ reverse (ofModule (upTo m ss))
 unfolding until
@@ -96,25 +100,19 @@ pub no-module : (ss : Past) (m : ℕ) → moduleCount ss ≤ m → statementsOf 
 unfolding statementsOf modulesIn
 no-module ss m h = behind-modules ss [] (m - moduleCount ss) m (omega arith)
 
--- THE STATEMENTS UP TO A MODULE'S END: all of them, if no module is behind it; else those before the last
 pub up-to-all : (m : ℕ) (ss : Past) → moduleCount ss ≤ suc m → upTo m ss ≡ ss
 unfolding upTo
 up-to-all m [] h = refl
-up-to-all m (s ∷ ss) h = by-test (leb (moduleCount (s ∷ ss)) (suc m)) (λ e. rw e) (λ e. absurd (omega (arith, leb-false (moduleCount (s ∷ ss)) (suc m) e)))
+up-to-all m (s ∷ ss) h = up-to-by (λ qs. qs ≡ s ∷ ss) m s ss (λ b. refl) (λ b. absurd (omega arith))
 
 pub up-to-back : (m : ℕ) (s : Statement) (ss : Past) → suc m < moduleCount (s ∷ ss) → upTo m (s ∷ ss) ≡ upTo m ss
-unfolding upTo
-up-to-back m s ss h = by-test (leb (moduleCount (s ∷ ss)) (suc m)) (λ e. absurd (omega (arith, leb-true (moduleCount (s ∷ ss)) (suc m) e))) (λ e. rw e)
+up-to-back m s ss h = up-to-by (λ qs. qs ≡ upTo m ss) m s ss (λ b. absurd (omega arith)) (λ b. refl)
 
 -- what holds of the statements so far, and so of those before the last, holds of them
 pub up-to-holds : (P : Past → Type 0) → ((s : Statement) (ss : Past) → P (s ∷ ss) → P ss) → (m : ℕ) (ss : Past) → P ss → P (upTo m ss)
-up-to-holds P back m [] p = rw (up-to-all m [] (let z : moduleCount [] ≡ 0 = none-counts in omega arith)) p
-up-to-holds P back m (s ∷ ss) p =
-    by-test (leb (moduleCount (s ∷ ss)) (suc m))
-    (λ e. let q : P (upTo m (s ∷ ss)) = rw (up-to-all m (s ∷ ss) (leb-true _ _ e)) p in q)
-    (λ e.
-    let b : suc m < moduleCount (s ∷ ss) = omega (arith, leb-false (moduleCount (s ∷ ss)) (suc m) e) in
-    rw (up-to-back m s ss b) (up-to-holds P back m ss (back s ss p)))
+unfolding upTo
+up-to-holds P back m [] p = p
+up-to-holds P back m (s ∷ ss) p = up-to-by P m s ss (λ b. p) (λ b. up-to-holds P back m ss (back s ss p))
 
 pub up-to-le : (m : ℕ) (ss : Past) → length (upTo m ss) ≤ length ss
 up-to-le m ss = up-to-holds (λ qs. length qs ≤ length ss) (λ s qs h. omega arith) m ss (omega arith)
@@ -124,10 +122,6 @@ pub up-to-split : (m : ℕ) (ss : Past) → (xs : Past) × (ss ≡ xs ++ upTo m 
 up-to-split m ss = up-to-holds (λ qs. (xs : Past) × (ss ≡ xs ++ qs)) (λ s qs p. (p .0 ++ s ∷ [], p .1 ∙ sym (append-assoc (p .0) (s ∷ []) qs))) m ss ([], refl)
 
 pub up-to-count : (m : ℕ) (ss : Past) → m < moduleCount ss → moduleCount (upTo m ss) ≡ suc m
-up-to-count m [] h = absurd (let z : moduleCount [] ≡ 0 = none-counts in omega arith)
+up-to-count m [] h = none-below h
 up-to-count m (s ∷ ss) h =
-    by-test (leb (moduleCount (s ∷ ss)) (suc m))
-    (λ e. let b : moduleCount (s ∷ ss) ≤ suc m = leb-true _ _ e in rw (up-to-all m (s ∷ ss) b) (omega arith))
-    (λ e.
-    let b : suc m < moduleCount (s ∷ ss) = omega (arith, leb-false (moduleCount (s ∷ ss)) (suc m) e) in
-    rw (up-to-back m s ss b) (up-to-count m ss (omega (arith, count-step s ss))))
+    up-to-by (λ qs. moduleCount qs ≡ suc m) m s ss (λ b. omega arith) (λ b. up-to-count m ss (omega (arith, count-step s ss)))

@@ -4,15 +4,13 @@ use Prim.Native.Nat.{ℕ, zero, suc, _+_, _-_, _≤_, _<_}
 use mathlib.Core.Path.{_≡_, refl, sym, ap, _∙_}
 use mathlib.Core.List.{List}
 use mathlib.Core.Bool.{Bool, cond}
+use native.Mathlib.Numerals.{lt-of-le-of-ne}
 use native.Mathlib.Omega.{arith}
-use lib.Dec.{eqb, leb, ltb}
-use borrow.Author.Tests.{eq-eqb, ne-eqb, leb-true, leb-false, eqb-true, eqb-false, ltb-true, ltb-false}
+use lib.Dec.{eqb, ltb}
+use borrow.Author.Tests.{eq-eqb, ne-eqb, eqb-true, eqb-false, ltb-true, ltb-false}
 use Rattle.wires.specs.Rows.{column}
-use Rattle.scanner.specs.Laws.{by-cond, by-test, one-le}
+use Rattle.scanner.specs.Laws.{by-test, by-le, by-order, one-le}
 use Rattle.designs.specs.Ranges.{rowsWhere, linesIn, lineOf, rowRange}
-
-below-of-other : {a b : ℕ} → a ≤ b → (a ≡ b → ⊥) → a < b
-below-of-other {a} {b} h n = by-test (ltb a b) (λ e. ltb-true a b e) (λ e. absurd (n (omega (arith, ltb-false a b e))))
 
 -- one row more, and all of them
 pub where-more : (f : ℕ → Bool) (t : List ℕ) (k : ℕ) → rowsWhere f t (k + 1) ≡ rowsWhere f t k + cond (f (column t k 0)) 1 0
@@ -57,17 +55,16 @@ module _ (rows : List ℕ) where
   pub line-le : (k m : ℕ) → lineOf rows k m ≤ k
   unfolding lineOf
   line-le zero m = omega arith
-  line-le (suc k) m = by-cond (λ (n : ℕ). n ≤ suc k) (leb (linesIn rows (suc k)) m) (λ e. omega arith) (λ e. omega (arith, line-le k m))
+  line-le (suc k) m = by-le (λ (n : ℕ). n ≤ suc k) (linesIn rows (suc k)) m (λ e. omega arith) (λ e. omega (arith, line-le k m))
 
   pub line-all : (k m : ℕ) → linesIn rows k ≤ m → lineOf rows k m ≡ k
   unfolding lineOf
   line-all zero m h = refl
-  line-all (suc k) m h =
-      by-test (leb (linesIn rows (suc k)) m) (λ e. rw e) (λ e. absurd (omega (arith, leb-false (linesIn rows (suc k)) m e)))
+  line-all (suc k) m h = by-le (λ (n : ℕ). n ≡ suc k) (linesIn rows (suc k)) m (λ e. refl) (λ e. absurd (omega arith))
 
   pub line-back : (k m : ℕ) → m < linesIn rows (suc k) → lineOf rows (suc k) m ≡ lineOf rows k m
   unfolding lineOf
-  line-back k m h = by-test (leb (linesIn rows (suc k)) m) (λ e. absurd (omega (arith, leb-true (linesIn rows (suc k)) m e))) (λ e. rw e)
+  line-back k m h = by-le (λ (n : ℕ). n ≡ lineOf rows k m) (linesIn rows (suc k)) m (λ e. absurd (omega arith)) (λ e. refl)
 
   lines-grow : (k j : ℕ) → linesIn rows k ≤ linesIn rows (j + k)
   lines-grow k zero = let e : 0 + k ≡ k = omega arith in rw e (omega arith)
@@ -91,26 +88,24 @@ module _ (rows : List ℕ) where
   line-lines : (k m : ℕ) → linesIn rows (lineOf rows k m) ≤ m
   unfolding lineOf
   line-lines zero m = no-lines m
-  line-lines (suc k) m = by-cond (λ (n : ℕ). linesIn rows n ≤ m) (leb (linesIn rows (suc k)) m) (λ e. leb-true _ _ e) (λ e. line-lines k m)
+  line-lines (suc k) m = by-le (λ (n : ℕ). linesIn rows n ≤ m) (linesIn rows (suc k)) m (λ e. e) (λ e. line-lines k m)
 
   pub line-before : (k m : ℕ) → m < linesIn rows k → lineOf rows k m < k
   line-before k m h =
       by-test (eqb (lineOf rows k m) k)
       (λ e. absurd (omega (arith, ap (linesIn rows) (eqb-true (lineOf rows k m) k e), line-lines k m)))
-      (λ e. below-of-other (line-le k m) (eqb-false (lineOf rows k m) k e))
+      (λ e. lt-of-le-of-ne (line-le k m) (eqb-false (lineOf rows k m) k e))
 
   pub line-next : (k m : ℕ) → lineOf rows k m < k → lineOf rows k m < lineOf rows k (suc m)
   line-next zero m h = absurd (omega arith)
   line-next (suc k) m h =
-      by-test (leb (linesIn rows (suc k)) m)
-      (λ e. absurd (omega (arith, line-all (suc k) m (leb-true _ _ e))))
-      (λ e.
-      let b : m < linesIn rows (suc k) = omega (arith, leb-false (linesIn rows (suc k)) m e) in
+      by-order (linesIn rows (suc k)) m
+      (λ b. absurd (omega (arith, line-all (suc k) m b)))
+      (λ b.
       let q : lineOf rows (suc k) m ≡ lineOf rows k m = line-back k m b in
-      by-test (leb (linesIn rows (suc k)) (suc m))
-      (λ f. omega (arith, line-all (suc k) (suc m) (leb-true _ _ f)))
-      (λ f.
-      let d : suc m < linesIn rows (suc k) = omega (arith, leb-false (linesIn rows (suc k)) (suc m) f) in
+      by-order (linesIn rows (suc k)) (suc m)
+      (λ d. omega (arith, line-all (suc k) (suc m) d))
+      (λ d.
       let far : lineOf rows k m < k = line-before k m (omega (arith, lines-more k .1)) in
       omega (arith, q, line-back k (suc m) d, line-next k m far)))
 
@@ -138,7 +133,7 @@ module _ (rows : List ℕ) where
 
     pub rows-fit : (line + 1 ≤ end) × (line + 1 ≤ total)
     rows-fit =
-        let b : lineOf rows total m < total = below-of-other (line-le total m) (λ d. s (e ∙ d)) in
+        let b : lineOf rows total m < total = lt-of-le-of-ne (line-le total m) (λ d. s (e ∙ d)) in
         (omega (arith, line-next total m b, next-is), omega arith)
 
     pub rows-some : record { first = line + 1; count = end - (line + 1) } ≡ rowRange rows total m

@@ -2,30 +2,31 @@
 -- Assumes nothing.
 use Prim.Native.Nat.{ℕ, suc, _+_, _≤_, _<_}
 use mathlib.Core.Path.{_≡_, refl, sym, ap, _∙_}
-use mathlib.Core.List.{List, [], _∷_, _++_, reverse, reverse-cons, reverse-reverse}
-use mathlib.Core.Bool.{Bool, true, _||_, or-assoc, or-comm}
+use mathlib.Core.List.{List, [], _∷_, reverse, reverse-reverse}
+use mathlib.Core.Bool.{Bool, true}
 use native.Mathlib.Omega.{arith}
-use lib.Dec.{leb, ltb}
+use lib.Dec.{leb}
 use lib.ListN.{length, take}
-use borrow.Author.Tests.{eq-eqb, ne-eqb, leb-true, leb-false, ltb-true, ltb-false}
+use borrow.Author.Tests.{eq-eqb, ne-eqb}
 use Rattle.rules.specs.Bytes.{same, any, all}
 use Rattle.rules.specs.Tokens.{Name}
-use Rattle.rules.specs.Statements.{Statement, Kind, aModule, code, contents, is, ownName}
-use Rattle.rules.specs.Judgement.{Past, only, sum, among, count, ofModule}
-use Rattle.rules.specs.Layout.{used, statementRow}
+use Rattle.rules.specs.Statements.{Statement, Kind, aModule, code, contents, is}
+use Rattle.rules.specs.Judgement.{Past, only, sum, count, ofModule}
+use Rattle.rules.specs.Layout.{used}
 use Rattle.wires.specs.Rows.{column}
-use Rattle.wires.specs.RowLaws.{RowIs}
-use Rattle.scanner.specs.Laws.{by-test}
+use Rattle.scanner.specs.Laws.{by-test, by-order}
 use Rattle.scanner.specs.Lists.{until-take}
+use Rattle.scanner.specs.Elements.{any-reverse}
 use Rattle.past.proofs.KindLaws.{count-one}
 use Rattle.netlist.specs.Rows.{kindAt, namesBetween}
 use Rattle.netlist.specs.Kinds.{Tests, hasName}
 use Rattle.netlist.specs.RowLaws.{row-kind}
 use Rattle.netlist.specs.Laid.{roomsOf, Laid}
-use Rattle.netlist.specs.LaidLaws.{length-rows, eights-rows, laid-row, laid-before}
+use Rattle.netlist.specs.LaidLaws.{laid-last, laid-before}
 use Rattle.netlist.specs.NameLaws.{ownNames, names-laid}
 use Rattle.designs.specs.Modules.{statementsOf, moduleCount, upTo}
-use Rattle.designs.specs.PastLaws.{module-counts, other-counts, count-step, module-first, module-more, none-counts, module-past, no-module, up-to-all, up-to-back, up-to-holds, up-to-le}
+use Rattle.designs.specs.DesignLaws.{any-own}
+use Rattle.designs.specs.PastLaws.{module-counts, other-counts, count-step, module-first, module-more, none-below, module-past, no-module, up-to-by, up-to-all, up-to-holds, up-to-le}
 use Rattle.designs.specs.Ranges.{rowsWhere, linesIn, lineOf, rowRange}
 use Rattle.designs.specs.RangeLaws.{line-le, line-all, line-back}
 
@@ -33,19 +34,12 @@ module _ {names rows : List ℕ} where
   laid-up-to : (m : ℕ) (ss : Past) → Laid (roomsOf ss) names rows → Laid (roomsOf (upTo m ss)) names rows
   laid-up-to m ss l = up-to-holds (λ qs. Laid (roomsOf qs) names rows) laid-before m ss l
 
-  -- the kind of the last statement, in its row; and so the module lines
-  last-kind : (s : Statement) (ss : Past) (k : ℕ) → k ≡ length ss → Laid (roomsOf (s ∷ ss)) names rows → column rows k 0 ≡ code (contents s .kind)
-  unfolding roomsOf kindAt
-  last-kind s ss k e l =
-      let q : k ≡ length (roomsOf ss .rows) = e ∙ sym (length-rows ss) in
-      let r : RowIs rows k (statementRow (used (roomsOf ss)) s) = rw q (laid-row (roomsOf ss) s (eights-rows ss) l) in
-      row-kind rows k (used (roomsOf ss)) s r
-
+  -- the module lines, by the kind in each row
   lines-laid : (ss : Past) → Laid (roomsOf ss) names rows → linesIn rows (length ss) ≡ moduleCount ss
-  unfolding rowsWhere sum code
+  unfolding rowsWhere kindAt sum code
   lines-laid [] l = refl
   lines-laid (s ∷ ss) l =
-      let e : column rows (length ss) 0 ≡ code (contents s .kind) = last-kind s ss (length ss) refl l in
+      let e : column rows (length ss) 0 ≡ code (contents s .kind) = row-kind rows (length ss) (used (roomsOf ss)) s (laid-last s ss (length ss) refl l) in
       rw e (omega (arith, lines-laid ss (laid-before s ss l), count-one s aModule))
 
   -- where a module ends, and where its line stands
@@ -58,25 +52,21 @@ module _ {names rows : List ℕ} where
       (by-test (leb (moduleCount (s ∷ ss)) (suc m)) (λ h. rw h) (λ h. rw h (end-laid m ss (laid-before s ss l))))
 
   line-laid : (m : ℕ) (ss : Past) → Laid (roomsOf ss) names rows → m < moduleCount ss → suc (lineOf rows (length ss) m) + length (ofModule (upTo m ss)) ≡ length (upTo m ss)
-  line-laid m [] l h = absurd (let z : moduleCount [] ≡ 0 = none-counts in omega arith)
+  line-laid m [] l h = none-below h
   line-laid m (s ∷ ss) l h =
       let e : linesIn rows (suc (length ss)) ≡ moduleCount (s ∷ ss) = lines-laid (s ∷ ss) l in
       let d : linesIn rows (length ss) ≡ moduleCount ss = lines-laid ss (laid-before s ss l) in
       let k : lineOf rows (suc (length ss)) m ≡ lineOf rows (length ss) m = line-back rows (length ss) m (omega arith) in
-      by-test (leb (moduleCount (s ∷ ss)) (suc m))
-      (λ q.
-      let b : moduleCount (s ∷ ss) ≤ suc m = leb-true _ _ q in
-      rw (up-to-all m (s ∷ ss) b, k)
-      (by-test (is aModule s)
+      rw k
+      (up-to-by (λ qs. suc (lineOf rows (length ss) m) + length (ofModule qs) ≡ length qs) m s ss
+      (λ b. by-test (is aModule s)
       (λ f. rw (module-first s ss f, line-all rows (length ss) m (omega (arith, module-counts s ss f))) (omega arith))
       (λ f.
       let c : moduleCount (s ∷ ss) ≡ moduleCount ss = other-counts s ss f in
       let i : suc (lineOf rows (length ss) m) + length (ofModule (upTo m ss)) ≡ length (upTo m ss) = line-laid m ss (laid-before s ss l) (omega arith) in
       let j : suc (lineOf rows (length ss) m) + length (ofModule ss) ≡ length ss = rw (up-to-all m ss (omega arith)) at i in
-      rw (module-more s ss f) (omega arith))))
-      (λ q.
-      let b : suc m < moduleCount (s ∷ ss) = omega (arith, leb-false (moduleCount (s ∷ ss)) (suc m) q) in
-      rw (up-to-back m s ss b, k) (line-laid m ss (laid-before s ss l) (omega (arith, count-step s ss))))
+      rw (module-more s ss f) (omega arith)))
+      (λ b. line-laid m ss (laid-before s ss l) (omega (arith, count-step s ss))))
 
   -- THE RANGE OF A MODULE ends where it ends, and has as many rows as statements stand behind its line
   module _ (m : ℕ) (ss : Past) (l : Laid (roomsOf ss) names rows) where
@@ -101,37 +91,18 @@ module _ {names rows : List ℕ} where
     unfolding ofModule namesBetween only
     names-range ks h test t =
         let r = rowRange rows (length ss) m in
-        by-test (ltb m (moduleCount ss))
-        (λ e.
-        let b : m < moduleCount ss = ltb-true m (moduleCount ss) e in
+        by-order (moduleCount ss) m
+        (λ b. ap (namesBetween names rows test (r .first)) (range-none b .1) ∙ ap (λ (qs : List Statement). ownNames ks (reverse qs)) (sym (no-module ss m b)))
+        (λ b.
         let q : Past = upTo m ss in
         let p = range-there b in
         names-laid ks h test t q (laid-up-to m ss l) (r .first) (r .count) (p .0)
         ∙ ap (λ (n : ℕ). ownNames ks (take n q)) (p .1)
         ∙ ap (ownNames ks) (sym (until-take (is aModule) q) ∙ sym (reverse-reverse (ofModule q)) ∙ ap reverse (sym (module-past ss m b))))
-        (λ e.
-        let b : moduleCount ss ≤ m = ltb-false m (moduleCount ss) e in
-        ap (namesBetween names rows test (r .first)) (range-none b .1) ∙ ap (λ (qs : List Statement). ownNames ks (reverse qs)) (sym (no-module ss m b)))
 
 -- whether some name passes a test doesn't depend on the order
-module _ (f : Name → Bool) (ks : List Kind) where
-  any-names : (xs ys : List Statement) → any f (ownNames ks (xs ++ ys)) ≡ any f (ownNames ks xs) || any f (ownNames ks ys)
-  unfolding only any
-  any-names [] ys = refl
-  any-names (x ∷ xs) ys =
-      by-test (among ks x)
-      (λ e. rw (e, any-names xs ys) (sym (or-assoc (f (ownName (contents x .names))) (any f (ownNames ks xs)) (any f (ownNames ks ys)))))
-      (λ e. rw e (any-names xs ys))
-
-  pub any-names-back : (xs : List Statement) → any f (ownNames ks (reverse xs)) ≡ any f (ownNames ks xs)
-  unfolding only any
-  any-names-back [] = refl
-  any-names-back (x ∷ xs) =
-      ap (λ (l : List Statement). any f (ownNames ks l)) (reverse-cons x xs)
-      ∙ any-names (reverse xs) (x ∷ [])
-      ∙ or-comm (any f (ownNames ks (reverse xs))) (any f (ownNames ks (x ∷ [])))
-      ∙ ap (λ (b : Bool). any f (ownNames ks (x ∷ [])) || b) (any-names-back xs)
-      ∙ sym (any-names (x ∷ []) xs)
+pub any-names-back : (f : Name → Bool) (ks : List Kind) (xs : List Statement) → any f (ownNames ks (reverse xs)) ≡ any f (ownNames ks xs)
+any-names-back f ks xs = any-own f ks (reverse xs) ∙ any-reverse _ xs ∙ sym (any-own f ks xs)
 
 -- so a search for a name in the range is one among the module's statements
 pub taken-range :

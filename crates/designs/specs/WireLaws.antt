@@ -5,8 +5,9 @@ use mathlib.Core.Path.{_≡_, refl, sym, ap, ap₂, _∙_}
 use mathlib.Core.List.{List, [], _∷_, _++_, map, flatMap, zip, zipWith, reverse, reverse-append, reverse-reverse}
 use mathlib.Core.Bool.{Bool, true, false, cond, _&&_, true≢false}
 use native.Mathlib.Omega.{arith}
-use lib.Dec.{eqb, leb, ltb}
-use borrow.Author.Tests.{eq-eqb, ne-eqb, lt-ltb, le-ltb, leb-true, leb-false, ltb-true, ltb-false}
+use lib.Dec.{eqb, ltb}
+use lib.ListN.{length, length-reverse}
+use borrow.Author.Tests.{eq-eqb, ne-eqb, lt-ltb, le-ltb}
 use Rattle.rules.specs.Bytes.{any}
 use Rattle.rules.specs.Tokens.{Name}
 use Rattle.rules.specs.Statements.{Statement, Wire, wire-stmt, aModule, aWire, code, contents, is, statementsOpen}
@@ -17,8 +18,9 @@ use Rattle.rules.specs.Session.{wiresAt}
 use Rattle.rules.specs.Layout.{used, padded, row, wireRow}
 use Rattle.past.specs.Forms.{by-form, by-wire, is-other}
 use Rattle.wires.specs.Rows.{column, wiresFrom}
-use Rattle.scanner.specs.Laws.{by-test}
-use Rattle.scanner.specs.Lists.{flatMap-back}
+use Rattle.scanner.specs.Laws.{by-test, by-order}
+use Rattle.scanner.specs.Lists.{flatMap-back, keeps-behind}
+use Rattle.scanner.specs.Sums.{sum-append}
 use Rattle.past.specs.Place.{wiresIn, placeOf}
 use Rattle.past.specs.Offsets.{Offsets, more-offsets}
 use Rattle.netlist.specs.Laid.{roomsOf, Wired}
@@ -26,7 +28,7 @@ use Rattle.netlist.specs.WireLaws.{eights-wires, wired-put, wired-row, wires-la
 use Rattle.netlist.specs.UsedLaws.{used-wires, used-modules}
 use Rattle.designs.specs.Modules.{statementsOf, wiresOf, moduleCount, upTo, Headed, none-headed, one-headed}
 use Rattle.designs.specs.DesignLaws.{pairs-at}
-use Rattle.designs.specs.PastLaws.{module-counts, other-counts, count-step, module-first, module-more, none-counts, module-past, no-module, up-to-all, up-to-back, up-to-holds}
+use Rattle.designs.specs.PastLaws.{module-counts, other-counts, count-step, module-first, module-more, none-below, module-past, no-module, up-to-by, up-to-all, up-to-holds}
 use Rattle.designs.specs.Ranges.{rowsWhere, wireRange}
 use Rattle.designs.specs.RangeLaws.{where-next}
 
@@ -101,17 +103,11 @@ module _ {names t : List ℕ} (m : ℕ) where
   below-laid [] l = rw (none-up-to m) (where-none (λ c. ltb c (suc m)) t ∙ sym none-wires)
   below-laid (s ∷ ss) l =
       let i : rowsWhere (λ c. ltb c (suc m)) t (wiresIn ss) ≡ wiresIn (upTo m ss) = below-laid ss (wired-before s ss l) in
-      by-test (leb (moduleCount (s ∷ ss)) (suc m))
-      (λ e.
-      let b : moduleCount (s ∷ ss) ≤ suc m = leb-true _ _ e in
+      up-to-by (λ qs. rowsWhere (λ c. ltb c (suc m)) t (wiresIn (s ∷ ss)) ≡ wiresIn qs) m s ss
+      (λ b.
       let j : rowsWhere (λ c. ltb c (suc m)) t (wiresIn ss) ≡ wiresIn ss = rw (up-to-all m ss (omega (arith, count-step s ss))) at i in
-      rw (up-to-all m (s ∷ ss) b)
-      (where-one (λ c. ltb c (suc m)) s ss l (lt-ltb (moduleCount ss - 1) (suc m) (omega (arith, count-step s ss)))
-      ∙ (omega (arith, wires-more s ss))))
-      (λ e.
-      let b : suc m < moduleCount (s ∷ ss) = omega (arith, leb-false (moduleCount (s ∷ ss)) (suc m) e) in
-      rw (up-to-back m s ss b)
-      (where-same (λ c. ltb c (suc m)) s ss l (λ w q. le-ltb (moduleCount ss - 1) (suc m) (omega (arith, other-counts s ss q))) ∙ i))
+      where-one (λ c. ltb c (suc m)) s ss l (lt-ltb (moduleCount ss - 1) (suc m) (omega (arith, count-step s ss))) ∙ (omega (arith, wires-more s ss)))
+      (λ b. where-same (λ c. ltb c (suc m)) s ss l (λ w q. le-ltb (moduleCount ss - 1) (suc m) (omega (arith, other-counts s ss q))) ∙ i)
 
   -- the wires of a module that there isn't yet, and of one that there is
   none-laid : (ss : Past) → Headed ss → Wired (roomsOf ss) names t → moduleCount ss ≤ m → rowsWhere (λ c. eqb c m) t (wiresIn ss) ≡ 0
@@ -122,14 +118,11 @@ module _ {names t : List ℕ} (m : ℕ) where
       ∙ none-laid ss q (wired-before s ss l) (omega (arith, count-step s ss))
 
   own-laid : (ss : Past) → Headed ss → Wired (roomsOf ss) names t → m < moduleCount ss → rowsWhere (λ c. eqb c m) t (wiresIn ss) ≡ wiresIn (ofModule (upTo m ss))
-  own-laid [] none-headed l h = absurd (let z : moduleCount [] ≡ 0 = none-counts in omega arith)
+  own-laid [] none-headed l h = none-below h
   own-laid (s ∷ ss) (one-headed p q) l h =
       let l′ = wired-before s ss l in
-      by-test (leb (moduleCount (s ∷ ss)) (suc m))
-      (λ e.
-      let b : moduleCount (s ∷ ss) ≤ suc m = leb-true _ _ e in
-      rw (up-to-all m (s ∷ ss) b)
-      (by-test (is aModule s)
+      up-to-by (λ qs. rowsWhere (λ c. eqb c m) t (wiresIn (s ∷ ss)) ≡ wiresIn (ofModule qs)) m s ss
+      (λ b. by-test (is aModule s)
       (λ f.
       let c : moduleCount (s ∷ ss) ≡ suc (moduleCount ss) = module-counts s ss f in
       rw (module-first s ss f)
@@ -139,12 +132,10 @@ module _ {names t : List ℕ} (m : ℕ) where
       let i : rowsWhere (λ c. eqb c m) t (wiresIn ss) ≡ wiresIn (ofModule (upTo m ss)) = own-laid ss q l′ (omega arith) in
       let j : rowsWhere (λ c. eqb c m) t (wiresIn ss) ≡ wiresIn (ofModule ss) = rw (up-to-all m ss (omega arith)) at i in
       rw (module-more s ss f)
-      (where-one (λ c. eqb c m) s ss l (eq-eqb (moduleCount ss - 1) m (omega arith)) ∙ (omega (arith, wires-more s (ofModule ss)))))))
-      (λ e.
-      let b : suc m < moduleCount (s ∷ ss) = omega (arith, leb-false (moduleCount (s ∷ ss)) (suc m) e) in
-      rw (up-to-back m s ss b)
-      (where-same (λ c. eqb c m) s ss l (λ w n. ne-eqb (moduleCount ss - 1) m (λ d. omega (arith, other-counts s ss n)))
-      ∙ own-laid ss q l′ (omega (arith, count-step s ss))))
+      (where-one (λ c. eqb c m) s ss l (eq-eqb (moduleCount ss - 1) m (omega arith)) ∙ (omega (arith, wires-more s (ofModule ss))))))
+      (λ b.
+      where-same (λ c. eqb c m) s ss l (λ w n. ne-eqb (moduleCount ss - 1) m (λ d. omega (arith, other-counts s ss n)))
+      ∙ own-laid ss q l′ (omega (arith, count-step s ss)))
 
 offsets-before : (s : Statement) (ss : Past) → Offsets (s ∷ ss) → Offsets ss
 offsets-before s ss (more-offsets h o) = o
@@ -161,6 +152,9 @@ wires-back (s ∷ qs) =
     let f : Statement → Wires = λ s. zip (contents s .names) (contents s .wires) in
     reverse-append (f s) (flatMap f qs) ∙ ap₂ _++_ (wires-back qs) (zip-back s) ∙ sym (flatMap-back f s qs)
 
+pub length-wires-back : (qs : List Statement) → length (wiresOf (reverse qs)) ≡ length (wiresOf qs)
+length-wires-back qs = ap length (sym (wires-back qs)) ∙ length-reverse (wiresOf qs)
+
 -- THE RANGE OF A MODULE'S WIRES
 module _ {names t : List ℕ} (m : ℕ) (ss : Past) (headed : Headed ss) (l : Wired (roomsOf ss) names t) where
   pub wire-range-there : m < moduleCount ss → let r = wireRange t (wiresIn ss) m in (r .first + r .count ≡ wiresIn (upTo m ss)) × (r .count ≡ wiresIn (ofModule (upTo m ss)))
@@ -175,9 +169,9 @@ module _ {names t : List ℕ} (m : ℕ) (ss : Past) (headed : Headed ss) (l : Wi
   unfolding placeOf wires wiresFrom flatMap
   wires-range o =
       let r = wireRange t (wiresIn ss) m in
-      by-test (ltb m (moduleCount ss))
-      (λ e.
-      let b : m < moduleCount ss = ltb-true m (moduleCount ss) e in
+      by-order (moduleCount ss) m
+      (λ b. ap (wiresFrom names t (r .first)) (wire-range-none b) ∙ ap (λ (qs : List Statement). wiresOf (reverse qs)) (sym (no-module ss m b)))
+      (λ b.
       let q : Past = upTo m ss in
       let p = wire-range-there b in
       let first : r .first ≡ wiresIn q - wiresIn (ofModule q) = omega arith in
@@ -185,9 +179,6 @@ module _ {names t : List ℕ} (m : ℕ) (ss : Past) (headed : Headed ss) (l : Wi
       ap₂ (wiresFrom names t) first count
       ∙ wires-laid names t q (up-to-holds Offsets offsets-before m ss o) (up-to-holds (λ qs. Wired (roomsOf qs) names t) wired-before m ss l)
       ∙ ap wiresOf (sym (reverse-reverse (ofModule q)) ∙ ap reverse (sym (module-past ss m b))))
-      (λ e.
-      let b : moduleCount ss ≤ m = ltb-false m (moduleCount ss) e in
-      ap (wiresFrom names t (r .first)) (wire-range-none b) ∙ ap (λ (qs : List Statement). wiresOf (reverse qs)) (sym (no-module ss m b)))
 
   -- in the order of the file they are the module's of the design
   pub pairs-range : Offsets ss → let r = wireRange t (wiresIn ss) m in reverse (wiresFrom names t (r .first) (r .count)) ≡ wiresOf (statementsOf m (reverse ss))
@@ -197,25 +188,16 @@ module _ {names t : List ℕ} (m : ℕ) (ss : Past) (headed : Headed ss) (l : Wi
   pub design-range : Offsets ss → let r = wireRange t (wiresIn ss) m in reverse (wiresFrom names t (r .first) (r .count)) ≡ map (λ o. (o .name, o .body)) (wiresAt (design (reverse ss)) m)
   design-range o = pairs-range o ∙ sym (pairs-at (reverse ss) m)
 
+headed-before : (s : Statement) (ss : Past) → Headed (s ∷ ss) → Headed ss
+headed-before s ss (one-headed p q) = q
+
 -- the wires before a module's own, as they stood in it and as they stand at the end
-count-behind : (m : ℕ) (before : Past) → m < moduleCount before → (xs : Past) → m < moduleCount (xs ++ before)
-count-behind m before h [] = h
-count-behind m before h (x ∷ xs) = omega (arith, count-behind m before h xs, count-step x (xs ++ before))
-
-headed-behind : (before xs : Past) → Headed (xs ++ before) → Headed before
-headed-behind before [] q = q
-headed-behind before (x ∷ xs) (one-headed p q) = headed-behind before xs q
-
 module _ {names t : List ℕ} (m : ℕ) (before : Past) (h : m < moduleCount before) where
   first-behind : (xs : Past) → Wired (roomsOf (xs ++ before)) names t → rowsWhere (λ c. ltb c m) t (wiresIn (xs ++ before)) ≡ rowsWhere (λ c. ltb c m) t (wiresIn before)
   first-behind [] l = refl
   first-behind (x ∷ xs) l =
-      where-same (λ c. ltb c m) x (xs ++ before) l (λ w q. le-ltb (moduleCount (xs ++ before) - 1) m (omega (arith, count-behind m before h xs)))
+      where-same (λ c. ltb c m) x (xs ++ before) l (λ w q. le-ltb (moduleCount (xs ++ before) - 1) m (omega (arith, sum-append (count (aModule ∷ [])) xs before)))
       ∙ first-behind xs (wired-before x (xs ++ before) l)
-
-  wired-behind : (xs : Past) → Wired (roomsOf (xs ++ before)) names t → Wired (roomsOf before) names t
-  wired-behind [] l = l
-  wired-behind (x ∷ xs) l = wired-behind xs (wired-before x (xs ++ before) l)
 
   -- so the next wire's row is its number in the module behind the first of the range
   pub range-number :
@@ -223,8 +205,8 @@ module _ {names t : List ℕ} (m : ℕ) (before : Past) (h : m < moduleCount bef
       wiresIn before ≡ wireRange t (wiresIn (xs ++ before)) m .first + wiresIn (ofModule before)
   unfolding wireRange
   range-number e xs q l =
-      let b = wired-behind xs l in
+      let b = keeps-behind (λ qs. Wired (roomsOf qs) names t) wired-before xs before l in
       let a : upTo m before ≡ before = up-to-all m before (omega arith) in
       let whole : rowsWhere (λ c. ltb c (suc m)) t (wiresIn before) ≡ wiresIn before = rw a at (below-laid m before b) in
-      let own : rowsWhere (λ c. eqb c m) t (wiresIn before) ≡ wiresIn (ofModule before) = rw a at (own-laid m before (headed-behind before xs q) b h) in
+      let own : rowsWhere (λ c. eqb c m) t (wiresIn before) ≡ wiresIn (ofModule before) = rw a at (own-laid m before (keeps-behind Headed headed-before xs before q) b h) in
       omega (arith, where-next t m (wiresIn before), first-behind xs l)

@@ -7,9 +7,9 @@ use mathlib.Core.Option.{none, some, Option·elim}
 use mathlib.Core.Bool.{Bool, true, cond, _&&_}
 use native.Mathlib.Omega.{arith}
 use lib.IntN.{pos}
-use lib.Dec.{eqb, ltb, leb}
+use lib.Dec.{eqb, leb}
 use lib.ListN.{length, take, drop, length-append, length-reverse, length-map}
-use borrow.Author.Tests.{eqb-true, ltb-true, ltb-false, lt-ltb, le-leb, leb-true}
+use borrow.Author.Tests.{eqb-true, lt-ltb, le-leb, leb-true}
 use Rattle.rules.specs.Bytes.{all}
 use Rattle.rules.specs.Tokens.{Digit}
 use Rattle.rules.specs.Statements.{Sig, Sigs, wire, slice, bundle, digit, Signal}
@@ -18,7 +18,7 @@ use Rattle.rules.specs.Numbers.{int32, goodLiteral, goodNumbers}
 use Rattle.rules.specs.Signals.{Wires, literalWidth, wireBits, inside, span, width, widths, bits, bitsOf, declaredWire, goodSlice, parts, partsOf}
 use Rattle.rules.specs.Text.{Run, digits, runs, cut, runSig, runsSig, sig}
 use Rattle.admitted.specs.Admitted.{fineSignal}
-use Rattle.scanner.specs.Laws.{by-test, by-cond, and-true-left, and-true-right}
+use Rattle.scanner.specs.Laws.{by-order, by-cond, and-true-left, and-true-right}
 use Rattle.scanner.specs.Lists.{length-wire, element-none}
 use Rattle.scanner.specs.Elements.{all-append, Each}
 use Rattle.meaning.specs.Wires.{Sound, Located, located}
@@ -116,10 +116,9 @@ module _ (ws : Wires) (sound : Sound ws) where
   there : (w : ℕ) → 0 < widthAt ws w → w < length ws
   unfolding widthAt Option·elim
   there w h =
-      by-test (ltb w (length ws)) (λ t. ltb-true w (length ws) t)
-      (λ t. let p : length (reverse ws) ≤ w = omega (arith, ltb-false w (length ws) t, length-reverse ws) in
-      let e : widthAt ws w ≡ 0 = rw (element-none (reverse ws) w p) in
-      absurd (omega arith))
+      by-order (length ws) w
+      (λ t. let e : widthAt ws w ≡ 0 = rw (element-none (reverse ws) w (omega (arith, length-reverse ws))) in absurd (omega arith))
+      (λ t. t)
 
   run-means : {r : Run} → Inside ws r → length (runBits r) ≤ 2048 → Means ws (runSig ws r) (runBits r)
   unfolding runBits

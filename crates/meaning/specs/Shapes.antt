@@ -3,7 +3,7 @@
 use mathlib.Core.Path.{_≡_, refl, sym, ap, _∙_}
 use mathlib.Core.List.{[], _∷_, _++_, map, append-nil, Option·toList}
 use mathlib.Core.Option.{Option, none, some, Option·map}
-use mathlib.Core.Bool.{Bool, true, false, false≢true}
+use mathlib.Core.Bool.{Bool, true, false}
 use Rattle.rules.specs.Bytes.{bytesOpen}
 use Rattle.rules.specs.Tokens.{Name, name, literal}
 use Rattle.rules.specs.Statements.{Sort, plain, signed, real, Constant, Signal, Wire, Memory, Statement, param-stmt, wire-stmt, memory-stmt, cell-param-stmt, cell-conn-stmt, conn-stmt, statementsOpen}
@@ -11,7 +11,7 @@ use Rattle.rules.specs.Shapes.{Scope, top, inModule, inCell, Context, one, of�
 use Rattle.rules.specs.Signals.{Wires}
 use Rattle.rules.specs.Judgement.{among}
 use Rattle.rules.specs.Text.{sig, literalOf, wireOptions, memoryOptions, written, sigTokens, optionTokens, sortTokens, wordToken, numberToken, shapeTokens}
-use Rattle.past.specs.Forms.{by-form}
+use Rattle.past.specs.Forms.{by-form, no}
 use Rattle.admitted.specs.Admitted.{kinds}
 use Rattle.meaning.specs.Options.{options-read, wire-options-read, memory-options-read}
 use Rattle.meaning.specs.Sigs.{slices, sig-reads, sig-no-slice}
@@ -58,26 +58,23 @@ module _ (ws : Wires) where
 
 -- ---- a line where its kind may stand
 
-no : {P : Type 0} → false ≡ true → P
-no h = absurd (false≢true h)
-
 at-place : (p : Scope) (f a : Bool) (ws : Wires) (s : Statement) → among (kinds p f a) s ≡ true → whole (choice (forms p f a) (shapeTokens (written ws s))) ≡ some (written ws s)
 unfolding bytesOpen statementsOpen shapesOpen kinds among written shapeTokens wordToken numberToken
 at-place top true a ws =
-    by-form _ (λ i h. refl) (λ n c h. refl) (λ n h. refl) (λ n c h. no h) (λ w n h. no h) (λ m n h. no h)
-    (λ t n h. no h) (λ o n c h. no h) (λ n x h. no h) (λ x y h. no h) (λ n h. no h) (λ h. no h)
+    by-form _ (λ i h. refl) (λ n c h. refl) (λ n h. refl) (λ n c. no) (λ w n. no) (λ m n. no)
+    (λ t n. no) (λ o n c. no) (λ n x. no) (λ x y. no) (λ n. no) no
 at-place top false a ws =
-    by-form _ (λ i h. no h) (λ n c h. refl) (λ n h. refl) (λ n c h. no h) (λ w n h. no h) (λ m n h. no h)
-    (λ t n h. no h) (λ o n c h. no h) (λ n x h. no h) (λ x y h. no h) (λ n h. no h) (λ h. no h)
+    by-form _ (λ i. no) (λ n c h. refl) (λ n h. refl) (λ n c. no) (λ w n. no) (λ m n. no)
+    (λ t n. no) (λ o n c. no) (λ n x. no) (λ x y. no) (λ n. no) no
 at-place inModule f true ws =
-    by-form _ (λ i h. no h) (λ n c h. refl) (λ n h. no h) (λ n c h. no h) (λ w n h. wire-reads w n) (λ m n h. memory-reads m n)
-    (λ t n h. refl) (λ o n c h. no h) (λ n x h. no h) (λ x y h. no h) (λ n h. no h) (λ h. no h)
+    by-form _ (λ i. no) (λ n c h. refl) (λ n. no) (λ n c. no) (λ w n h. wire-reads w n) (λ m n h. memory-reads m n)
+    (λ t n h. refl) (λ o n c. no) (λ n x. no) (λ x y. no) (λ n. no) no
 at-place inModule f false ws =
-    by-form _ (λ i h. no h) (λ n c h. refl) (λ n h. no h) (λ n c h. param-reads n c) (λ w n h. wire-reads w n) (λ m n h. memory-reads m n)
-    (λ t n h. refl) (λ o n c h. no h) (λ n x h. no h) (λ x y h. conn-reads ws x y) (λ n h. no h) (λ h. refl)
+    by-form _ (λ i. no) (λ n c h. refl) (λ n. no) (λ n c h. param-reads n c) (λ w n h. wire-reads w n) (λ m n h. memory-reads m n)
+    (λ t n h. refl) (λ o n c. no) (λ n x. no) (λ x y h. conn-reads ws x y) (λ n. no) (λ h. refl)
 at-place inCell f a ws =
-    by-form _ (λ i h. no h) (λ n c h. no h) (λ n h. no h) (λ n c h. no h) (λ w n h. no h) (λ m n h. no h)
-    (λ t n h. no h) (λ o n c h. cell-param-reads o n c) (λ n x h. cell-conn-reads ws n x) (λ x y h. no h) (λ n h. no h) (λ h. refl)
+    by-form _ (λ i. no) (λ n c. no) (λ n. no) (λ n c. no) (λ w n. no) (λ m n. no)
+    (λ t n. no) (λ o n c h. cell-param-reads o n c) (λ n x h. cell-conn-reads ws n x) (λ x y. no) (λ n. no) (λ h. refl)
 
 pub shape-written : (c : Context) (ws : Wires) (s : Statement) → among (kinds (c .scope) (c .first) (c .attributed)) s ≡ true
     → shape c (shapeTokens (written ws s)) ≡ some (written ws s)

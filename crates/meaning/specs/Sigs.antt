@@ -16,7 +16,7 @@ use Rattle.rules.specs.Shapes.{Parse, isMark, bounds, repeat, several, sigs, si
 use Rattle.rules.specs.Signals.{Wires}
 use Rattle.rules.specs.Text.{Run, digits, span, runs, cut, runSig, runsSig, sig, sigTokens, sigsTokens, textOpen}
 use Rattle.scanner.specs.Laws.{by-cond}
-use Rattle.scanner.specs.Elements.{Each, each-map}
+use Rattle.scanner.specs.Elements.{Each, each-map, each-all, each-through}
 use Rattle.meaning.specs.Items.{Item, items-read}
 
 -- a member of a written bundle
@@ -129,8 +129,7 @@ run-member ws (digits ds) = a-constant (Literal.value (length ds) (reverse ds))
 run-member ws (span n l k) = cut-member (drop (length ws - (n + 1)) ws) l k
 
 pub run-members : (ws : Wires) (rs : List Run) → Each Member (map (runSig ws) rs)
-run-members ws [] = tt
-run-members ws (r ∷ rs) = (run-member ws r, run-members ws rs)
+run-members ws rs = each-through _ (runSig ws) Member (λ r u. run-member ws r) rs (each-all (λ r. Unit {0}) (λ r. tt) rs)
 
 module _ (ws : Wires) (bs : Signal) (rest : List Token) where
   pub sig-reads : slices rest ≡ false → sigspec (sigTokens (sig ws bs) ++ rest) ≡ some (sig ws bs, rest)

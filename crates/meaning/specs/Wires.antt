@@ -5,10 +5,11 @@ use mathlib.Core.Path.{_≡_, sym, ap, _∙_}
 use mathlib.Core.List.{[], _∷_, reverse, reverse-cons}
 use mathlib.Core.Option.{none, some}
 use mathlib.Core.Bool.{false}
+use native.Mathlib.Numerals.{lt-of-le-of-ne}
 use native.Mathlib.Omega.{arith}
-use lib.Dec.{ltb, eqb}
+use lib.Dec.{eqb}
 use lib.ListN.{length, drop, getElem?, length-reverse}
-use borrow.Author.Tests.{eqb-true, eqb-false, ltb-true, ltb-false}
+use borrow.Author.Tests.{eqb-true, eqb-false}
 use Rattle.rules.specs.Bytes.{same}
 use Rattle.rules.specs.Tokens.{Name}
 use Rattle.rules.specs.Statements.{Wire}
@@ -71,9 +72,5 @@ located n no-wire h = absurd (omega arith)
 located n (one-more {w = w} {ws = ws} e k s) h =
     by-test (eqb (length ws) n)
     (λ t. located-first w ws n (eqb-true (length ws) n t) k)
-    (λ t. let q : length ws ≡ n → ⊥ = eqb-false (length ws) n t in
-    let b : n < length ws = less (length ws) n h q in
+    (λ t. let b : n < length ws = lt-of-le-of-ne (omega arith) (λ q. eqb-false (length ws) n t (sym q)) in
     located-more w ws n b e (located n s b))
-  where
-    less : (a n : ℕ) → n < suc a → (a ≡ n → ⊥) → n < a
-    less a n h q = by-test (ltb n a) (λ t. ltb-true n a t) (λ t. absurd (q (omega (arith, ltb-false n a t))))

@@ -14,6 +14,7 @@ use Rattle.rules.specs.Judgement.{Past, until, outer, scope, ofModule, wires}
 use Rattle.rules.specs.Design.{Setting, Object, Cell, Module, Design, objects, cellLines, moduleLines, flatten}
 use Rattle.rules.specs.Text.{written, level, indent, lineText, textFrom, text}
 use Rattle.scanner.specs.Laws.{by-test}
+use Rattle.scanner.specs.Lists.{flatMap-one}
 use Rattle.order.specs.Nesting.{settings}
 use Rattle.order.specs.Fine.{wiresIn}
 use Rattle.module_text.specs.Blocks.{lineOf, plainLine, attributesText, wireText, memoryText, cellText, bodyText, moduleText, designText}
@@ -53,15 +54,6 @@ text-in ss (s ∷ more) =
 -- ---- statements behind which stand others
 
 module _ {A : Type 0} (p : Scope) (ws : Wires) where
-  -- a line each
-  text-map : (f : A → Statement) (g : A → List ℕ) → ((x : A) (more : List Statement) → textIn p ws (f x ∷ more) ≡ g x ++ textIn p ws more) → (xs : List A) (more : List Statement) → textIn p ws (map f xs ++ more) ≡ flatMap g xs ++ textIn p ws more
-  unfolding flatMap
-  text-map f g h [] more = refl
-  text-map f g h (x ∷ xs) more =
-      h x (map f xs ++ more)
-      ∙ ap (λ (l : List ℕ). g x ++ l) (text-map f g h xs more)
-      ∙ sym (append-assoc (g x) (flatMap g xs) (textIn p ws more))
-
   -- some lines each
   text-flat : (f : A → List Statement) (g : A → List ℕ) → ((x : A) (more : List Statement) → textIn p ws (f x ++ more) ≡ g x ++ textIn p ws more) → (xs : List A) (more : List Statement) → textIn p ws (flatMap f xs ++ more) ≡ flatMap g xs ++ textIn p ws more
   unfolding flatMap
@@ -72,47 +64,19 @@ module _ {A : Type 0} (p : Scope) (ws : Wires) where
       ∙ ap (λ (l : List ℕ). g x ++ l) (text-flat f g h xs more)
       ∙ sym (append-assoc (g x) (flatMap g xs) (textIn p ws more))
 
+  -- a line each
+  text-map : (f : A → Statement) (g : A → List ℕ) → ((x : A) (more : List Statement) → textIn p ws (f x ∷ more) ≡ g x ++ textIn p ws more) → (xs : List A) (more : List Statement) → textIn p ws (map f xs ++ more) ≡ flatMap g xs ++ textIn p ws more
+  text-map f g h xs more = ap (λ (l : List Statement). textIn p ws (l ++ more)) (sym (flatMap-one _ f (λ x. refl) xs)) ∙ text-flat (λ x. f x ∷ []) g h xs more
+
 -- one line: no wire is asked for but by signals, and no scope or wires change but by a module, a cell, an `end` and a wire
 module _ (ws : Wires) (more : List Statement) where
-  autoidx-line : (i : ℤ) → textIn top ws (autoidx-stmt i ∷ more) ≡ plainLine 0 (autoidx-stmt i) ++ textIn top ws more
-  unfolding lineOpen
-  autoidx-line i = refl
-
-  attr-line : (p : Scope) (a : Setting) → textIn p ws (attr-stmt (a .0) (a .1) ∷ more) ≡ plainLine (level p) (attr-stmt (a .0) (a .1)) ++ textIn p ws more
-  unfolding lineOpen
-  attr-line p a = refl
-
   module-line : (p : Scope) (n : Name) → textIn p ws (module-stmt n ∷ more) ≡ plainLine (level p) (module-stmt n) ++ textIn inModule [] more
   unfolding lineOpen
   module-line p n = refl
 
-  param-line : (q : Name × Option Constant) → textIn inModule ws (param-stmt (q .0) (q .1) ∷ more) ≡ plainLine 1 (param-stmt (q .0) (q .1)) ++ textIn inModule ws more
-  unfolding lineOpen
-  param-line q = refl
-
-  wire-line : (w : Wire) (n : Name) → textIn inModule ws (wire-stmt w n ∷ more) ≡ plainLine 1 (wire-stmt w n) ++ textIn inModule ((n, w) ∷ ws) more
-  unfolding lineOpen
-  wire-line w n = refl
-
-  memory-line : (m : Memory) (n : Name) → textIn inModule ws (memory-stmt m n ∷ more) ≡ plainLine 1 (memory-stmt m n) ++ textIn inModule ws more
-  unfolding lineOpen
-  memory-line m n = refl
-
   cell-line : (t n : Name) → textIn inModule ws (cell-stmt t n ∷ more) ≡ plainLine 1 (cell-stmt t n) ++ textIn inCell ws more
   unfolding lineOpen
   cell-line t n = refl
-
-  cell-param-line : (q : Sort × Setting) → textIn inCell ws (cell-param-stmt (q .0) (q .1 .0) (q .1 .1) ∷ more) ≡ plainLine 2 (cell-param-stmt (q .0) (q .1 .0) (q .1 .1)) ++ textIn inCell ws more
-  unfolding lineOpen
-  cell-param-line q = refl
-
-  cell-conn-line : (k : Name × Signal) → textIn inCell ws (cell-conn-stmt (k .0) (k .1) ∷ more) ≡ lineOf 2 ws (cell-conn-stmt (k .0) (k .1)) ++ textIn inCell ws more
-  unfolding lineOpen
-  cell-conn-line k = refl
-
-  conn-line : (k : Signal × Signal) → textIn inModule ws (conn-stmt (k .0) (k .1) ∷ more) ≡ lineOf 1 ws (conn-stmt (k .0) (k .1)) ++ textIn inModule ws more
-  unfolding lineOpen
-  conn-line k = refl
 
   cell-end-line : textIn inCell ws (end-stmt ∷ more) ≡ plainLine 1 end-stmt ++ textIn inModule ws more
   unfolding lineOpen
@@ -125,9 +89,9 @@ module _ (ws : Wires) (more : List Statement) where
 -- ---- blocks
 
 text-attributes : (p : Scope) (ws : Wires) (at : List Setting) (more : List Statement) → textIn p ws (settings at ++ more) ≡ attributesText (level p) at ++ textIn p ws more
-unfolding attributesText
+unfolding attributesText lineOpen
 text-attributes p ws at more =
-    text-map p ws (λ (a : Setting). attr-stmt (a .0) (a .1)) (λ a. plainLine (level p) (attr-stmt (a .0) (a .1))) (λ a more. attr-line ws more p a) at more
+    text-map p ws (λ (a : Setting). attr-stmt (a .0) (a .1)) (λ a. plainLine (level p) (attr-stmt (a .0) (a .1))) (λ a more. refl) at more
 
 -- an object whose lines lead from a scope and wires to others
 text-object : (p q : Scope) (ws vs : Wires) (at : List Setting) (ls : List Statement) (t : List ℕ) → ((more : List Statement) → textIn p ws (ls ++ more) ≡ t ++ textIn q vs more) → (more : List Statement) → textIn p ws (settings at ++ ls ++ more) ≡ attributesText (level p) at ++ t ++ textIn q vs more
@@ -139,23 +103,23 @@ text-object p q ws vs at ls t h more =
 
 -- wires are declared one after another
 text-wires : (os : List (Object Wire)) (ws : Wires) (more : List Statement) → textIn inModule ws (objects (λ w n. wire-stmt w n ∷ []) os ++ more) ≡ flatMap wireText os ++ textIn inModule (reverseAux (map (λ o. (o .name, o .body)) os) ws) more
-unfolding objects flatMap wireText level
+unfolding objects flatMap wireText lineOpen
 text-wires [] ws more = refl
 text-wires (o ∷ os) ws more =
     let rest : List Statement = objects (λ w n. wire-stmt w n ∷ []) os in
     let vs : Wires = (o .name, o .body) ∷ ws in
     ap (textIn inModule ws) (append-assoc (settings (o .attributes) ++ wire-stmt (o .body) (o .name) ∷ []) rest more)
     ∙ text-object inModule inModule ws vs (o .attributes) (wire-stmt (o .body) (o .name) ∷ []) (plainLine 1 (wire-stmt (o .body) (o .name)))
-    (λ more. wire-line ws more (o .body) (o .name)) (rest ++ more)
+    (λ more. refl) (rest ++ more)
     ∙ ap (λ (l : List ℕ). wireText o ++ l) (text-wires os vs more)
     ∙ sym (append-assoc (wireText o) (flatMap wireText os) (textIn inModule (reverseAux (map (λ o. (o .name, o .body)) os) vs) more))
 
 text-memories : (ws : Wires) (os : List (Object Memory)) (more : List Statement) → textIn inModule ws (objects (λ y n. memory-stmt y n ∷ []) os ++ more) ≡ flatMap memoryText os ++ textIn inModule ws more
-unfolding objects memoryText level
+unfolding objects memoryText lineOpen
 text-memories ws os more =
     text-flat inModule ws (λ (o : Object Memory). settings (o .attributes) ++ memory-stmt (o .body) (o .name) ∷ []) memoryText
     (λ o more. text-object inModule inModule ws ws (o .attributes) (memory-stmt (o .body) (o .name) ∷ []) (plainLine 1 (memory-stmt (o .body) (o .name)))
-    (λ more. memory-line ws more (o .body) (o .name)) more)
+    (λ more. refl) more)
     os more
 
 abbrev cellParamLines : List (Sort × Setting) → List Statement
@@ -165,12 +129,14 @@ abbrev cellConnLines : List (Name × Signal) → List Statement
 cellConnLines ks = map (λ k. cell-conn-stmt (k .0) (k .1)) ks
 
 text-cell-params : (ws : Wires) (ps : List (Sort × Setting)) (more : List Statement) → textIn inCell ws (cellParamLines ps ++ more) ≡ flatMap (λ p. plainLine 2 (cell-param-stmt (p .0) (p .1 .0) (p .1 .1))) ps ++ textIn inCell ws more
+unfolding lineOpen
 text-cell-params ws ps more =
-    text-map inCell ws (λ (p : Sort × Setting). cell-param-stmt (p .0) (p .1 .0) (p .1 .1)) (λ p. plainLine 2 (cell-param-stmt (p .0) (p .1 .0) (p .1 .1))) (λ p more. cell-param-line ws more p) ps more
+    text-map inCell ws (λ (p : Sort × Setting). cell-param-stmt (p .0) (p .1 .0) (p .1 .1)) (λ p. plainLine 2 (cell-param-stmt (p .0) (p .1 .0) (p .1 .1))) (λ p more. refl) ps more
 
 text-cell-conns : (ws : Wires) (ks : List (Name × Signal)) (more : List Statement) → textIn inCell ws (cellConnLines ks ++ more) ≡ flatMap (λ k. lineOf 2 ws (cell-conn-stmt (k .0) (k .1))) ks ++ textIn inCell ws more
+unfolding lineOpen
 text-cell-conns ws ks more =
-    text-map inCell ws (λ (k : Name × Signal). cell-conn-stmt (k .0) (k .1)) (λ k. lineOf 2 ws (cell-conn-stmt (k .0) (k .1))) (λ k more. cell-conn-line ws more k) ks more
+    text-map inCell ws (λ (k : Name × Signal). cell-conn-stmt (k .0) (k .1)) (λ k. lineOf 2 ws (cell-conn-stmt (k .0) (k .1))) (λ k more. refl) ks more
 
 text-cell : (ws : Wires) (o : Object Cell) (more : List Statement) → textIn inModule ws (settings (o .attributes) ++ cellLines (o .body) (o .name) ++ more) ≡ cellText ws o ++ textIn inModule ws more
 unfolding cellText cellLines level
@@ -200,12 +166,14 @@ abbrev connLines : List (Signal × Signal) → List Statement
 connLines ks = map (λ k. conn-stmt (k .0) (k .1)) ks
 
 text-params : (ws : Wires) (ps : List (Name × Option Constant)) (more : List Statement) → textIn inModule ws (paramLines ps ++ more) ≡ flatMap (λ p. plainLine 1 (param-stmt (p .0) (p .1))) ps ++ textIn inModule ws more
+unfolding lineOpen
 text-params ws ps more =
-    text-map inModule ws (λ (p : Name × Option Constant). param-stmt (p .0) (p .1)) (λ p. plainLine 1 (param-stmt (p .0) (p .1))) (λ p more. param-line ws more p) ps more
+    text-map inModule ws (λ (p : Name × Option Constant). param-stmt (p .0) (p .1)) (λ p. plainLine 1 (param-stmt (p .0) (p .1))) (λ p more. refl) ps more
 
 text-conns : (ws : Wires) (ks : List (Signal × Signal)) (more : List Statement) → textIn inModule ws (connLines ks ++ more) ≡ flatMap (λ k. lineOf 1 ws (conn-stmt (k .0) (k .1))) ks ++ textIn inModule ws more
+unfolding lineOpen
 text-conns ws ks more =
-    text-map inModule ws (λ (k : Signal × Signal). conn-stmt (k .0) (k .1)) (λ k. lineOf 1 ws (conn-stmt (k .0) (k .1))) (λ k more. conn-line ws more k) ks more
+    text-map inModule ws (λ (k : Signal × Signal). conn-stmt (k .0) (k .1)) (λ k. lineOf 1 ws (conn-stmt (k .0) (k .1))) (λ k more. refl) ks more
 
 abbrev wireLines : List (Object Wire) → List Statement
 wireLines os = objects (λ w n. wire-stmt w n ∷ []) os
@@ -252,7 +220,8 @@ text-objects ws [] = refl
 text-objects ws (o ∷ os) = text-module ws o (objects moduleLines os) ∙ ap (λ (l : List ℕ). moduleText o ++ l) (text-objects (wiresIn (o .body)) os)
 
 text-autoidx : (is′ : List ℤ) (more : List Statement) → textIn top [] (map autoidx-stmt is′ ++ more) ≡ flatMap (λ i. plainLine 0 (autoidx-stmt i)) is′ ++ textIn top [] more
-text-autoidx is′ more = text-map top [] autoidx-stmt (λ i. plainLine 0 (autoidx-stmt i)) (λ i more. autoidx-line [] more i) is′ more
+unfolding lineOpen
+text-autoidx is′ more = text-map top [] autoidx-stmt (λ i. plainLine 0 (autoidx-stmt i)) (λ i more. refl) is′ more
 
 -- the written text of any design
 pub text-modules : (d : Design) → text d ≡ designText d

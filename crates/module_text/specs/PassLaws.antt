@@ -14,7 +14,8 @@ use Rattle.rules.specs.Design.{Setting, settingIn, Object, object, Cell, Module
 use Rattle.rules.specs.Session.{Rename, now}
 use Rattle.rules.specs.Text.{text}
 use Rattle.scanner.specs.Laws.{by-test}
-use Rattle.past.specs.Forms.{by-form}
+use Rattle.scanner.specs.Lists.{flatMap-same, flatMap-map}
+use Rattle.past.specs.Forms.{by-form, by-attribute}
 use Rattle.designs.specs.DesignLaws.{only-attribute, items-until, wires-pairs}
 use Rattle.designs.specs.Now.{numbered, nameNow, wireNow, moduleNow, designNow}
 use Rattle.designs.specs.NowLaws.{numbered-same, map-numbered, now-is}
@@ -35,9 +36,7 @@ module _ (l : ℕ) (ws : Wires) where
   lines-only k (s ∷ ss) = by-test (is k s) (λ e. rw (e, lines-only k ss)) (λ e. rw (e, lines-only k ss))
 
   lines-map : {A : Type 0} (f : A → Statement) (g : A → List ℕ) → ((x : A) → g x ≡ lineOf l ws (f x)) → (xs : List A) → flatMap g xs ≡ flatMap (lineOf l ws) (map f xs)
-  unfolding flatMap
-  lines-map f g h [] = refl
-  lines-map f g h (x ∷ xs) = ap₂ _++_ (h x) (lines-map f g h xs)
+  lines-map f g h xs = flatMap-same g _ h xs ∙ sym (flatMap-map (lineOf l ws) f xs)
 
   -- those of some parts, whose statements are those of a kind
   lines-kind : {A : Type 0} (f : A → Statement) (g : A → List ℕ) → ((x : A) → g x ≡ lineOf l ws (f x)) → (k : Kind) (xs : List A) (ss : List Statement) → map f xs ≡ only (is k) ss → kindLines k l ws ss ≡ flatMap g xs
@@ -73,8 +72,7 @@ module _ {A : Type 0} where
 -- an attribute statement is the line of its setting
 is-attribute : (s : Statement) → is anAttribute s ≡ true → s ∷ [] ≡ settings (settingIn s)
 unfolding designOpen statementsOpen
-is-attribute =
-    by-form _ (λ i e. cc) (λ n c e. refl) (λ n e. cc) (λ n c e. cc) (λ w n e. cc) (λ m n e. cc) (λ t n e. cc) (λ o n c e. cc) (λ n x e. cc) (λ x y e. cc) (λ n e. cc) (λ e. cc)
+is-attribute = by-attribute _ (λ n c. refl)
 
 -- A PASS prints the objects that the items give, if it does so at each item
 abbrev Steps : {A : Type 0} → Kind → Print → (List Item → List A) → (ℕ → A → List ℕ) → ℕ → List Setting → Statement → Type 0

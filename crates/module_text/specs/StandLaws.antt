@@ -12,6 +12,7 @@ use Rattle.rules.specs.Shapes.{Scope, top, inModule, inCell}
 use Rattle.rules.specs.Signals.{Wires}
 use Rattle.rules.specs.Judgement.{Past, until, only, among, outer, scope, context}
 use Rattle.scanner.specs.Laws.{by-test, by-cond, and-true-left, and-true-right}
+use Rattle.scanner.specs.Lists.{keeps-before}
 use Rattle.admitted.specs.Admitted.{kinds, stands}
 use Rattle.admitted.specs.CountLaws.{Standing, one-stands, among-test, context-scope}
 use Rattle.module_text.specs.Blocks.{lineOf}
@@ -24,12 +25,8 @@ pub data Follows : Scope → Bool → List Statement → Type 0 where
   none-follow : {p : Scope} {f : Bool} → Follows p f []
   one-follows : {p : Scope} {f : Bool} {s : Statement} {ss : List Statement} → (attributed : Bool) → among (kinds p f attributed) s ≡ true → Follows (scopeAfter p s) false ss → Follows p f (s ∷ ss)
 
-standing-past : (more : List Statement) (ss : Past) → Standing (reverseAux more ss) → Standing ss
-standing-past [] ss h = h
-standing-past (s ∷ more) ss h = before (standing-past more (s ∷ ss) h)
-  where
-    before : Standing (s ∷ ss) → Standing ss
-    before (one-stands e h) = h
+standing-before : (s : Statement) (ss : Past) → Standing (s ∷ ss) → Standing ss
+standing-before s ss (one-stands e h) = h
 
 last-stands : {s : Statement} {ss : Past} → Standing (s ∷ ss) → stands ss s ≡ true
 last-stands (one-stands e h) = e
@@ -42,7 +39,7 @@ follows-past : (more : List Statement) (ss : Past) → Standing (reverseAux more
 unfolding context scope scopeAfter
 follows-past [] ss h = none-follow
 follows-past (s ∷ more) ss h =
-    one-follows (context ss .attributed) (last-among s ss (last-stands (standing-past more (s ∷ ss) h))) (follows-past more (s ∷ ss) h)
+    one-follows (context ss .attributed) (last-among s ss (last-stands (keeps-before Standing standing-before more (s ∷ ss) h))) (follows-past more (s ∷ ss) h)
 
 -- all statements of a file that stand
 pub follows : (ss : List Statement) → Standing (reverse ss) → Follows top true ss

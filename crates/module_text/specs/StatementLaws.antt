@@ -1,25 +1,27 @@
 -- What a module and a cell of a design hold is the statements of a kind behind their lines.
 -- Assumes nothing.
-use mathlib.Core.Path.{_≡_, refl}
+use mathlib.Core.Path.{_≡_, refl, _∙_}
 use mathlib.Core.Bool.{false, cond}
 use mathlib.Core.Option.{Option, none, some}
-use mathlib.Core.List.{List, [], _∷_, _++_, map, map-append, flatMap, head?, Option·toList}
+use mathlib.Core.List.{List, [], _∷_, map, map-id, head?, Option·toList}
 use lib.Dec.{eqb}
 use Rattle.rules.specs.Statements.{Constant, Statement, param-stmt, cell-param-stmt, cell-conn-stmt, conn-stmt, Kind, code, anAttribute, aParameter, aCellParameter, aCellConnection, aConnection, is, statementsOpen}
 use Rattle.rules.specs.Judgement.{only}
-use Rattle.rules.specs.Design.{Setting, settingIn, items, parameterIn, portIn, connectionIn, cellParameterIn, each, designOpen}
-use Rattle.scanner.specs.Laws.{by-test}
+use Rattle.rules.specs.Design.{Setting, items, parameterIn, portIn, connectionIn, cellParameterIn, each, designOpen}
+use Rattle.scanner.specs.Lists.{flatMap-same, flatMap-only, map-flatMap}
+use Rattle.designs.specs.DesignLaws.{each-items}
 use Rattle.past.specs.Forms.{by-form, is-other}
 
 -- WHAT THE STATEMENTS OF A KIND GIVE TO ITEMS is these statements, if each that is given is again the statement that gives it
 module _ {A : Type 0} (k : Kind) (given : Statement → List A) (again : A → Statement) (other : eqb (code k) (code anAttribute) ≡ false) (same : (s : Statement) → map again (given s) ≡ cond (is k s) (s ∷ []) []) where
   of-kind : (at : List Setting) (ss : List Statement) → map again (each given (items at ss)) ≡ only (is k) ss
-  unfolding each items flatMap only
-  of-kind at [] = refl
-  of-kind at (s ∷ ss) =
-      by-test (is anAttribute s)
-      (λ e. rw (e, is-other anAttribute k s other e) (of-kind (at ++ settingIn s) ss))
-      (λ e. rw (e, map-append, same s, of-kind [] ss) (by-test (is k s) (λ t. rw t) (λ t. rw t)))
+  unfolding each
+  of-kind at ss =
+      map-flatMap again (λ i. given (i .statement)) (items at ss)
+      ∙ each-items (λ s. map again (given s)) (λ s e. same s ∙ rw (is-other anAttribute k s other e)) at ss
+      ∙ flatMap-same _ _ same ss
+      ∙ flatMap-only (is k) (λ s. s) ss
+      ∙ map-id (only (is k) ss)
 
 -- A MODULE'S PARAMETERS AND CONNECTIONS, A CELL'S PARAMETERS AND CONNECTIONS, by the items of any statements
 value-back : (c : Option Constant) → head? (Option·toList c) ≡ c

@@ -2,7 +2,8 @@
 -- Assumes nothing.
 use Prim.Native.Nat.{ℕ, _*_}
 use mathlib.Core.Path.{_≡_, refl, sym}
-use mathlib.Core.List.{List, [], _∷_, _++_, zip, zipWith, flatMap, append-nil}
+use Rattle.scanner.specs.Lists.{keeps-behind}
+use mathlib.Core.List.{List, _∷_, _++_, zip, zipWith, flatMap, append-nil}
 use native.Mathlib.Omega.{arith}
 use lib.ListN.{length}
 use Rattle.rules.specs.Tokens.{Name}
@@ -16,7 +17,7 @@ use Rattle.wires.specs.RowLaws.{length-wire-row, RowIs}
 use Rattle.netlist.specs.Rows.{kindAt}
 use Rattle.netlist.specs.RowLaws.{length-statement-row, row-kind}
 use Rattle.netlist.specs.Laid.{roomsOf, Laid, Wired}
-use Rattle.netlist.specs.LaidLaws.{length-rows, eights-rows}
+use Rattle.netlist.specs.LaidLaws.{length-rows, eights-rows, without-renames}
 use Rattle.netlist.specs.WireLaws.{eights-wires}
 use Rattle.netlist.specs.Spans.{starts-first, starts-has, starts-more, starts-padded, has-columns}
 use Rattle.netlist.specs.Tables.{Tables, tablesIn}
@@ -50,9 +51,7 @@ module _ {t : Tables} where
       }
 
   pub fronts-renames : (R : Rooms) (rs : List Rename) → Fronts (putRenames R rs) t → Fronts R t
-  unfolding putRenames
-  fronts-renames R [] f = f
-  fronts-renames R (r ∷ rs) f = fronts-rename R r (fronts-renames (putRename R r) rs f)
+  fronts-renames = without-renames (λ R. Fronts R t) fronts-rename
 
   -- the last of the statements so far
   module _ (s : Statement) (ss : Past) where
@@ -106,8 +105,7 @@ module _ {t : Tables} where
     fronts-kind f = row-kind (t .rows) (length ss) (used (roomsOf ss)) s (fronts-row f)
 
   pub fronts-behind : (xs ss : Past) → Fronts (roomsOf (xs ++ ss)) t → Fronts (roomsOf ss) t
-  fronts-behind [] ss f = f
-  fronts-behind (x ∷ xs) ss f = fronts-behind xs ss (fronts-before x (xs ++ ss) f)
+  fronts-behind = keeps-behind (λ qs. Fronts (roomsOf qs) t) fronts-before
 
   -- a wire's row of the table of statements holds the number of its row of the table of wires
   pub fronts-wire : (w : Wire) (n : Name) (ss : Past) → Fronts (roomsOf (wire-stmt w n ∷ ss)) t → column (t .rows) (length ss) 3 ≡ length (roomsOf ss .wires)

@@ -1,9 +1,9 @@
 -- Three codes for one kind or for three; kinds that all have names.
 -- Assumes nothing.
 use Prim.Native.Nat.{ℕ}
-use mathlib.Core.Path.{_≡_, refl, sym, ap}
+use mathlib.Core.Path.{_≡_, sym, ap, _∙_}
 use mathlib.Core.List.{List, [], _∷_}
-use mathlib.Core.Bool.{Bool, true, false, _||_, or-false}
+use mathlib.Core.Bool.{Bool, true, _||_, or-false, or-self, or-self-left}
 use lib.Dec.{eqb}
 use borrow.Author.Tests.{eqb-true}
 use Rattle.rules.specs.Bytes.{any, all}
@@ -11,13 +11,9 @@ use Rattle.rules.specs.Statements.{Kind, code}
 use Rattle.scanner.specs.Laws.{by-test, and-true-left, and-true-right}
 use Rattle.netlist.specs.Kinds.{isKind, ofKinds, Tests, hasName, oneKind, threeKinds}
 
-or-same : (a : Bool) → a || (a || a) ≡ a || false
-or-same true = refl
-or-same false = refl
-
 pub one-kind : (k : Kind) → Tests (isKind (oneKind k)) (k ∷ [])
 unfolding isKind ofKinds any
-one-kind k n = or-same (eqb (code k) n)
+one-kind k n = or-self-left (eqb (code k) n) _ ∙ or-self (eqb (code k) n) ∙ sym (or-false (eqb (code k) n))
 
 pub three-kinds : (k l m : Kind) → Tests (isKind (threeKinds k l m)) (k ∷ l ∷ m ∷ [])
 unfolding isKind ofKinds any

@@ -1,7 +1,7 @@
 -- What lies in the tables: in padded tables, before one statement more and before renames, and what the last statement left.
 -- Assumes nothing.
 use Prim.Native.Nat.{ℕ}
-use mathlib.Core.Path.{_≡_, refl, ap, _∙_}
+use mathlib.Core.Path.{_≡_, refl, sym, ap, _∙_}
 use mathlib.Core.List.{List, [], _∷_, _++_, reverse, reverse-cons, foldl-append}
 use native.Mathlib.Omega.{arith}
 use lib.ListN.{length, length-append}
@@ -67,7 +67,16 @@ pub laid-before : {names rows : List ℕ} (s : Statement) (ss : Past) → Laid (
 unfolding roomsOf
 laid-before s ss l = laid-put (roomsOf ss) s l
 
-pub laid-renames : {names rows : List ℕ} (R : Rooms) (rs : List Rename) → Laid (putRenames R rs) names rows → Laid R names rows
+-- the row of the last of the statements so far
+pub laid-last : {names rows : List ℕ} (s : Statement) (ss : Past) (k : ℕ) → k ≡ length ss → Laid (roomsOf (s ∷ ss)) names rows → RowIs rows k (statementRow (used (roomsOf ss)) s)
+unfolding roomsOf
+laid-last s ss k e l = let q : k ≡ length (roomsOf ss .rows) = e ∙ sym (length-rows ss) in rw q (laid-row (roomsOf ss) s (eights-rows ss) l)
+
+-- what holds of rooms with renames, and so without the last one, holds without them
+pub without-renames : (P : Rooms → Type 0) → ((R : Rooms) (r : Rename) → P (putRename R r) → P R) → (R : Rooms) (rs : List Rename) → P (putRenames R rs) → P R
 unfolding putRenames
-laid-renames R [] l = l
-laid-renames R (r ∷ rs) l = laid-rename R r (laid-renames (putRename R r) rs l)
+without-renames P h R [] p = p
+without-renames P h R (r ∷ rs) p = h R r (without-renames P h (putRename R r) rs p)
+
+pub laid-renames : {names rows : List ℕ} (R : Rooms) (rs : List Rename) → Laid (putRenames R rs) names rows → Laid R names rows
+laid-renames = without-renames (λ R. Laid R _ _) laid-rename

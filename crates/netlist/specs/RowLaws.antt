@@ -12,12 +12,11 @@ use Rattle.rules.specs.Tokens.{Name}
 use Rattle.rules.specs.Statements.{Statement, Constant, value, integer, string, autoidx-stmt, attr-stmt, module-stmt, param-stmt, wire-stmt, memory-stmt, cell-stmt, cell-param-stmt, cell-conn-stmt, conn-stmt, proc-stmt, end-stmt, code, holds, contents, ownName}
 use Rattle.rules.specs.Layout.{Used, padded, row, nameBytes, constantColumns, columns, statementRow}
 use Rattle.tables.specs.Padded.{length-row}
-use Rattle.wires.specs.Rows.{column, spanAt}
-use Rattle.wires.specs.RowLaws.{RowIs}
+use Rattle.wires.specs.Rows.{column}
+use Rattle.wires.specs.RowLaws.{RowIs, span-has}
 use Rattle.netlist.specs.Rows.{kindAt, nameColumn, nameFrom, nameAt}
 use Rattle.netlist.specs.Kinds.{ofKinds, hasName}
 use Rattle.netlist.specs.Spans.{Has, has-second}
-use Rattle.scanner.specs.Parts.{slice-span}
 
 -- a row has eight columns
 length-constant : (u : Used) (c : Constant) → length (constantColumns u c) ≡ 3
@@ -53,8 +52,8 @@ row-kind t k u s h = h 0 (omega arith)
 -- a name that stands where the columns of its kind say, and one that starts at the second column
 module _ (names t : List ℕ) (k : ℕ) (n : Name) where
   named-at : (c at : ℕ) → nameColumn (kindAt t k) ≡ c → column t k c ≡ at → column t k (c + 1) ≡ length n → Has names at n → nameAt names t k ≡ n
-  unfolding nameFrom nameAt spanAt Has
-  named-at c at ec ea en e = rw (ec, ea, en) (slice-span at (length n) names ∙ e)
+  unfolding nameFrom nameAt Has
+  named-at c at ec ea en e = rw ec (span-has names t k c at n ea en e)
 
   first-name : (kind at : ℕ) (rest : List ℕ) → RowIs t k (row (kind ∷ at ∷ length n ∷ rest)) → nameColumn kind ≡ 1 → Has names at (n ++ []) → nameAt names t k ≡ n
   unfolding row padded kindAt

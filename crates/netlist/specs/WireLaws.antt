@@ -20,6 +20,7 @@ use Rattle.scanner.specs.Lists.{zip-none}
 use Rattle.wires.specs.Rows.{nameOf, wireOf, wiresFrom}
 use Rattle.wires.specs.RowLaws.{length-wire-row, RowIs, row-wire, row-name}
 use Rattle.past.specs.Forms.{by-wire}
+use Rattle.netlist.specs.LaidLaws.{without-renames}
 use Rattle.past.specs.Place.{placeOf}
 use Rattle.past.specs.Offsets.{fitsOffset, Offsets, more-offsets}
 use Rattle.past.proofs.PlaceLaws.{bounds, length-all-wires, wires-last}
@@ -83,9 +84,7 @@ module _ {names t : List ℕ} (R : Rooms) where
         (row-wire t (length (R .wires)) (used R) n w (wired-row h) o))
 
 pub wired-renames : {names t : List ℕ} (R : Rooms) (rs : List Rename) → Wired (putRenames R rs) names t → Wired R names t
-unfolding putRenames
-wired-renames R [] l = l
-wired-renames R (r ∷ rs) l = wired-rename R r (wired-renames (putRename R r) rs l)
+wired-renames = without-renames (λ R. Wired R _ _) wired-rename
 
 module _ (names t : List ℕ) where
   -- all wires

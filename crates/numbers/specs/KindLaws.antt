@@ -2,14 +2,13 @@
 use Prim.Native.Nat.{ℕ, zero, suc, _+_, _-_, _*_, _/_, _%_, _<_, _≤_}
 use mathlib.Core.Path.{_≡_, refl, ap}
 use native.Mathlib.Omega.{arith}
-use lib.Dec.{ltb}
 use lib.ListN.{length, length-map}
-use borrow.Author.Tests.{lt-ltb, le-ltb, ltb-true, ltb-false}
+use borrow.Author.Tests.{lt-ltb, le-ltb}
 use mathlib.Core.List.{List, map}
 use Rattle.rules.specs.Tokens.{Digit, S0, S1, Sx, Sz, Sm, Sa}
 use Rattle.rules.specs.Statements.{Bit, digit, bit, Signal, Sort}
 use Rattle.rules.specs.Layout.{digitCode, bitCode, sortCode}
-use Rattle.scanner.specs.Laws.{by-cond}
+use Rattle.scanner.specs.Laws.{by-lt}
 use Rattle.scanner.specs.Elements.{Each, each-all, map-back}
 use Rattle.numbers.specs.Kinds.{digitOf, bitOf, bitAt, signalOf, sortOf}
 use Rattle.numbers.specs.declared.kinds.SignalBit.{SignalBit}
@@ -65,7 +64,7 @@ by-code :
     (6 ≤ c → P (SignalBit.Wire (record { 0 = (c - 6) / 2048 }) ((c - 6) % 2048))) →
     P (bitAt c)
 unfolding bitAt
-by-code P c low high = by-cond P (ltb c 6) (λ e. low (ltb-true c 6 e)) (λ e. high (ltb-false c 6 e))
+by-code P c = by-lt P c 6
 
 pub code-back : (c : ℕ) → bitCode (bitOf (bitAt c)) ≡ c
 unfolding bitOf bitCode

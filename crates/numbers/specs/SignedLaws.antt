@@ -8,13 +8,13 @@ use native.Mathlib.Nat.{pow-succ', div-div-eq-div-mul, div-one}
 use lib.ListN.{length, getD}
 use lib.IntN.{ℤ, pos, negsuc}
 use lib.Signed.{mag}
-use lib.Dec.{ltb, eqb}
-use borrow.Author.Tests.{lt-ltb, le-ltb, ltb-true, ltb-false, eqb-true, eqb-false}
+use lib.Dec.{eqb}
+use borrow.Author.Tests.{lt-ltb, le-ltb, ltb-true, eqb-true, eqb-false}
 use Rattle.rules.specs.Tokens.{S0, S1}
 use Rattle.rules.specs.Numbers.{int32}
 use Rattle.rules.specs.Signals.{twosComplement, binary}
 use Rattle.rules.specs.Layout.{digitCode}
-use Rattle.scanner.specs.Laws.{by-cond}
+use Rattle.scanner.specs.Laws.{by-cond, by-lt}
 use Rattle.numbers.specs.Signed.{signedOf, integerOf}
 
 pub signed-word : (z : ℤ) → int32 z ≡ true → signedOf (twosComplement z) ≡ z
@@ -35,7 +35,7 @@ pub by-half :
     (2147483648 ≤ w → P (negsuc (4294967295 - w))) →
     P (signedOf w)
 unfolding signedOf
-by-half P w low high = by-cond P (ltb w 2147483648) (λ e. low (ltb-true w 2147483648 e)) (λ e. high (ltb-false w 2147483648 e))
+by-half P w = by-lt P w 2147483648
 
 pub word-signed : (w : ℕ) → w < 4294967296 → twosComplement (signedOf w) ≡ w
 unfolding twosComplement

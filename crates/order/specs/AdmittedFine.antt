@@ -2,7 +2,7 @@
 -- Assumes nothing.
 use mathlib.Core.Path.{_≡_, refl, sym, _∙_}
 use mathlib.Core.List.{List, [], _∷_, _++_, map, flatMap, reverse, reverseAux, reverseAux-append, reverse-reverse, append-assoc, Option·toList, map-map}
-use mathlib.Core.Bool.{Bool, true, not}
+use mathlib.Core.Bool.{true, not}
 use native.Mathlib.Omega.{arith}
 use Rattle.rules.specs.Bytes.{all}
 use Rattle.rules.specs.Tokens.{Name}
@@ -18,15 +18,10 @@ use Rattle.order.specs.Fine.{Differ, settingNames, wiresIn, FineCell, Fi
 use Rattle.order.specs.Tally.{Through, through-before, held-once, held-behind, notAttribute, nameTally, moduleNames, attributeNames, module-names-lawful, attribute-names-lawful}
 use Rattle.order.specs.Sums.{all-fewer, sizes-fewer}
 use Rattle.order.specs.BodySums.{canonical-sum, file-names-sum, attribute-sum}
-use Rattle.order.specs.Apart.{sees, Apart, admits-apart, through-admits, through-each, admitted-apart}
+use Rattle.order.specs.Apart.{sees, includes, through-admits, admitted-apart}
 use Rattle.order.specs.Walks.{EntryDiffers, Clean, clean-behind, opening-clean, settings-stay, noModule, entry-inside, module-once, objects, parameters, port-numbers, cell-once, cell-parameters, cell-ports}
 use Rattle.order.specs.Seen.{body-wires, seen-sound, body-sound}
 use Rattle.order.specs.Parse.{parsed}
-
--- a test that admission includes
-module _ (f : Past → Statement → Bool) (h : (p : Past) (s : Statement) → Apart p s → f p s ≡ true) where
-  includes : (p : Past) → Through admits p → Through f p
-  includes p t = through-each admits f (λ q s e. h q s (admits-apart q s e)) p t
 
 -- lines that are admitted behind some statements, where no attribute waits
 record Placed (l : List Statement) : Type 0 where

@@ -85,9 +85,10 @@ pub through-admits : (p : Past) → admitted p ≡ true → Through admits p
 through-admits [] e = tt
 through-admits (s ∷ p) e = (admits-last s p e, through-admits p (admitted-before s p e))
 
-pub through-each : (f g : Past → Statement → Bool) → ((p : Past) (s : Statement) → f p s ≡ true → g p s ≡ true) → (p : Past) → Through f p → Through g p
-through-each f g h [] t = tt
-through-each f g h (s ∷ p) t = (h p s (t .0), through-each f g h p (t .1))
+-- a test that admission includes
+pub includes : (f : Past → Statement → Bool) → ((p : Past) (s : Statement) → Apart p s → f p s ≡ true) → (p : Past) → Through admits p → Through f p
+includes f h [] t = tt
+includes f h (s ∷ p) t = (h p s (admits-apart p s (t .0)), includes f h p (t .1))
 
 pub record ApartAll (p : Past) : Type 0 where
   pub standing : Through stands p
@@ -116,16 +117,16 @@ pub admitted-apart : (p : Past) → admitted p ≡ true → ApartAll p
 admitted-apart p e =
     let t = through-admits p e in
     record {
-      standing = through-each admits stands (λ q s h. admits-apart q s h .standing) p t;
+      standing = includes stands (λ q s a. a .standing) p t;
       alone = all-alone p e;
-      ports = through-each admits (portTally .new) (λ q s h. admits-apart q s h .ports) p t;
-      signals = through-each admits sees (λ q s h. admits-apart q s h .signals) p t;
-      module-names = through-each admits (moduleNames .new) (λ q s h. admits-apart q s h .module-names) p t;
-      object-names = through-each admits (objectNames .new) (λ q s h. admits-apart q s h .object-names) p t;
-      attribute-names = through-each admits (attributeNames .new) (λ q s h. admits-apart q s h .attribute-names) p t;
-      parameter-names = through-each admits (parameterNames .new) (λ q s h. admits-apart q s h .parameter-names) p t;
-      cell-parameter-names = through-each admits (cellParameterNames .new) (λ q s h. admits-apart q s h .cell-parameter-names) p t;
-      cell-port-names = through-each admits (cellPortNames .new) (λ q s h. admits-apart q s h .cell-port-names) p t;
+      ports = includes (portTally .new) (λ q s a. a .ports) p t;
+      signals = includes sees (λ q s a. a .signals) p t;
+      module-names = includes (moduleNames .new) (λ q s a. a .module-names) p t;
+      object-names = includes (objectNames .new) (λ q s a. a .object-names) p t;
+      attribute-names = includes (attributeNames .new) (λ q s a. a .attribute-names) p t;
+      parameter-names = includes (parameterNames .new) (λ q s a. a .parameter-names) p t;
+      cell-parameter-names = includes (cellParameterNames .new) (λ q s a. a .cell-parameter-names) p t;
+      cell-port-names = includes (cellPortNames .new) (λ q s a. a .cell-port-names) p t;
       room = all-room p e;
     }
 

@@ -1,4 +1,4 @@
--- An admitted file is admitted in canonical order too, with the renames that stand, and has the same design there.
+-- An admitted file is admitted in canonical order too, with the renames that stand.
 -- Assumes nothing.
 use mathlib.Core.Path.{_≡_}
 use mathlib.Core.List.{List, reverse}
@@ -9,7 +9,6 @@ use Rattle.rules.specs.Session.{Rename, now}
 use Rattle.admitted.specs.Admitted.{admitted, closes}
 use Rattle.admitted.specs.Holds.{Allowed}
 use Rattle.order.specs.Fine.{FineDesign}
-use Rattle.order.specs.DesignLaws.{design-flatten}
 use Rattle.order.specs.FineAdmitted.{fine-admitted}
 use Rattle.order.specs.AdmittedFine.{admitted-fine}
 use Rattle.order.specs.RenamedFine.{fine-now}
@@ -25,6 +24,3 @@ module _ (ss : List Statement) (rs : List Rename) (w : Whole ss) (a : Allowed (d
 
   pub now-whole : Whole (flatten (now (design ss) rs))
   now-whole = let h = fine-admitted (now (design ss) rs) now-fine in record { admitted = h .0; closes = h .1 }
-
-  pub now-design : design (flatten (now (design ss) rs)) ≡ now (design ss) rs
-  now-design = design-flatten (now (design ss) rs)

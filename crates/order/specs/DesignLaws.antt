@@ -13,7 +13,7 @@ use Rattle.rules.specs.Judgement.{until}
 use Rattle.rules.specs.Design.{Setting, Object, object, Cell, Module, Design, Item, settingIn, items, blocks, objectsIn, parameterIn, portIn, pair, connectionIn, cellParameterIn, each, cellOf, moduleOf, design, flatten, objects, cellLines, moduleLines, designOpen}
 use Rattle.scanner.specs.Laws.{and-true-left, and-true-right}
 use Rattle.scanner.specs.Lists.{flatMap-append, flatMap-same, flatMap-map, flatMap-flatMap, flatMap-none, flatMap-one, flatMap-self}
-use Rattle.scanner.specs.Elements.{all-append, all-map, all-each, map-back, each-all, all-flatMap}
+use Rattle.scanner.specs.Elements.{until-none, all-append, all-map, all-each, map-back, each-all, all-flatMap}
 use Rattle.order.specs.Nesting.{CellEntry, parameter-entry, port-entry, Entry, param-entry, wire-entry, memory-entry, cell-entry, connection-entry, File, settings, lineIn, linesOf, linesOfModule, linesOfFile, parameterOf, portOf, parametersOf, wiresOf, memoriesOf, cellBody, cellsOf, connectionsOf, bodyOf, moduleIn, designOf, cellEntries, entries, asFile, fileOf, nestingOpen}
 
 none-of : {A B : Type 0} (xs : List A) → flatMap {B = B} (λ (x : A). []) xs ≡ []
@@ -70,6 +70,20 @@ items-object :
     (at : List Setting) (s : Statement) (ss : List Statement) → is anAttribute s ≡ false → items [] (settings at ++ s ∷ ss) ≡ with-settings at s ∷ items [] ss
 items-object at s ss e = items-settings [] at (s ∷ ss) ∙ items-next at s ss e
 
+-- a line with its attributes, lines whose items are known, and an end
+items-block :
+    (at : List Setting) (s : Statement) (ls : List Statement) (js : List Item) → is anAttribute s ≡ false → ((ss : List Statement) → items [] (ls ++ ss) ≡ js ++ items [] ss) →
+    (ss : List Statement) → items [] ((settings at ++ (s ∷ ls ++ end-stmt ∷ [])) ++ ss) ≡ with-settings at s ∷ (js ++ plain end-stmt ∷ []) ++ items [] ss
+unfolding statementsOpen
+items-block at s ls js e h ss =
+    rw (append-assoc (settings at))
+    (items-object at s ((ls ++ end-stmt ∷ []) ++ ss) e
+    ∙ ap (λ (l : List Item). with-settings at s ∷ l)
+    (ap (items []) (append-assoc ls (end-stmt ∷ []) ss)
+    ∙ h (end-stmt ∷ ss)
+    ∙ ap (λ (l : List Item). js ++ l) (items-next [] end-stmt ss refl)
+    ∙ sym (append-assoc js (plain end-stmt ∷ []) (items [] ss))))
+
 unfoldable itemsOf : Entry → List Item
 itemsOf (param-entry n c) = plain (param-stmt n c) ∷ []
 itemsOf (wire-entry o) = with-settings (o .attributes) (wire-stmt (o .body) (o .name)) ∷ []
@@ -88,15 +102,7 @@ unfolding nestingOpen itemsOf statementsOpen
 items-entry (param-entry n c) ss = items-next [] (param-stmt n c) ss refl
 items-entry (wire-entry o) ss = rw append-assoc (items-object (o .attributes) (wire-stmt (o .body) (o .name)) ss refl)
 items-entry (memory-entry o) ss = rw append-assoc (items-object (o .attributes) (memory-stmt (o .body) (o .name)) ss refl)
-items-entry (cell-entry at t n es) ss =
-    let inside : List Item = map (λ e. plain (lineIn e)) es in
-    rw append-assoc
-    (items-object at (cell-stmt t n) ((map lineIn es ++ end-stmt ∷ []) ++ ss) refl
-    ∙ ap (λ (l : List Item). with-settings at (cell-stmt t n) ∷ l)
-    (ap (items []) (append-assoc (map lineIn es) (end-stmt ∷ []) ss)
-    ∙ items-cell es (end-stmt ∷ ss)
-    ∙ ap (λ (l : List Item). inside ++ l) (items-next [] end-stmt ss refl)
-    ∙ sym (append-assoc inside (plain end-stmt ∷ []) (items [] ss))))
+items-entry (cell-entry at t n es) ss = items-block at (cell-stmt t n) (map lineIn es) (map (λ e. plain (lineIn e)) es) refl (items-cell es) ss
 items-entry (connection-entry x y) ss = items-next [] (conn-stmt x y) ss refl
 
 items-entries : (es : List Entry) (ss : List Statement) → items [] (flatMap linesOf es ++ ss) ≡ flatMap itemsOf es ++ items [] ss
@@ -117,15 +123,7 @@ moduleItems o = with-settings (o .attributes) (module-stmt (o .name)) ∷ inModu
 
 items-module : (o : Object (List Entry)) (ss : List Statement) → items [] (linesOfModule o ++ ss) ≡ moduleItems o ++ items [] ss
 unfolding linesOfModule inModule moduleItems statementsOpen
-items-module o ss =
-    let ls : List Statement = flatMap linesOf (o .body) in
-    rw append-assoc
-    (items-object (o .attributes) (module-stmt (o .name)) ((ls ++ end-stmt ∷ []) ++ ss) refl
-    ∙ ap (λ (l : List Item). with-settings (o .attributes) (module-stmt (o .name)) ∷ l)
-    (ap (items []) (append-assoc ls (end-stmt ∷ []) ss)
-    ∙ items-entries (o .body) (end-stmt ∷ ss)
-    ∙ ap (λ (l : List Item). flatMap itemsOf (o .body) ++ l) (items-next [] end-stmt ss refl)
-    ∙ sym (append-assoc (flatMap itemsOf (o .body)) (plain end-stmt ∷ []) (items [] ss))))
+items-module o ss = items-block (o .attributes) (module-stmt (o .name)) (flatMap linesOf (o .body)) (flatMap itemsOf (o .body)) refl (items-entries (o .body)) ss
 
 items-modules : (os : List (Object (List Entry))) → items [] (flatMap linesOfModule os) ≡ flatMap moduleItems os
 unfolding flatMap items
@@ -142,12 +140,6 @@ module _ (opens : Statement → Bool) where
   blocks-none [] js e = refl
   blocks-none (i ∷ is′) js e =
       rw (not-true (opens (i .statement)) (and-true-left _ _ e)) (blocks-none is′ js (and-true-right (closed i) _ e))
-
-  until-none : (is′ js : List Item) → all closed is′ ≡ true → until (λ j. opens (j .statement)) (is′ ++ js) ≡ is′ ++ until (λ j. opens (j .statement)) js
-  unfolding until all
-  until-none [] js e = refl
-  until-none (i ∷ is′) js e =
-      rw (not-true (opens (i .statement)) (and-true-left _ _ e)) (ap (λ (l : List Item). i ∷ l) (until-none is′ js (and-true-right (closed i) _ e)))
 
 -- no entry opens a module
 entry-in-module : (e : Entry) → all (closed (is aModule)) (itemsOf e) ≡ true
@@ -175,7 +167,7 @@ unfolding blocks flatMap moduleItems statementsOpen
 blocks-modules [] = refl
 blocks-modules (o ∷ os) =
     let h = all-in-module (o .body) in
-    let u = until-none (is aModule) (inModule (o .body)) (flatMap moduleItems os) h in
+    let u = until-none (λ j. is aModule (j .statement)) (inModule (o .body)) (flatMap moduleItems os) h in
     let b = blocks-none (is aModule) (inModule (o .body)) (flatMap moduleItems os) h in
     rw (u, until-modules os, append-nil, b) (ap (λ (l : List (Item × List Item)). blockOf o ∷ l) (blocks-modules os))
 
@@ -284,7 +276,7 @@ cells-in (cell-entry at t n cs ∷ es) =
     let inside : List Item = inCell plain cs in
     let h = cell-in-cell cs in
     let a = append-assoc inside (flatMap itemsOf es) (plain end-stmt ∷ []) in
-    let u = until-none (is aCell) inside (flatMap itemsOf es ++ plain end-stmt ∷ []) h in
+    let u = until-none (λ j. is aCell (j .statement)) inside (flatMap itemsOf es ++ plain end-stmt ∷ []) h in
     let b = blocks-none (is aCell) inside (flatMap itemsOf es ++ plain end-stmt ∷ []) h in
     rw (a, u, b, cell-block at t n cs es) (ap (λ (l : List (Object Cell)). cellAt at t n cs ∷ l) (cells-in es))
 cells-in (connection-entry x y ∷ es) = cells-in es

@@ -8,18 +8,19 @@ use borrow.Author.Tests.{not-true}
 use lib.IntN.{ℤ}
 use Rattle.rules.specs.Bytes.{any}
 use Rattle.rules.specs.Tokens.{Name}
-use Rattle.rules.specs.Statements.{Statement, Kind, anAutoidx, anAttribute, aModule, aParameter, aWire, aMemory, aCell, aConnection, anEnd, is, Constant, autoidx-stmt, attr-stmt, module-stmt, param-stmt, wire-stmt, memory-stmt, cell-stmt, cell-param-stmt, cell-conn-stmt, conn-stmt, proc-stmt, end-stmt, statementsOpen}
+use Rattle.rules.specs.Statements.{Statement, anAutoidx, is, Constant, autoidx-stmt, attr-stmt, module-stmt, param-stmt, wire-stmt, memory-stmt, cell-stmt, cell-param-stmt, cell-conn-stmt, conn-stmt, proc-stmt, end-stmt, statementsOpen}
 use Rattle.rules.specs.Shapes.{Scope, top, inModule, inCell}
 use Rattle.rules.specs.Judgement.{Past, outer, scope, context, among}
 use Rattle.rules.specs.Reading.{isTop}
 use Rattle.rules.specs.Design.{Setting, object}
 use Rattle.admitted.specs.Admitted.{kinds, stands, closes}
-use Rattle.scanner.specs.Laws.{and-true-left, and-true-right, or-true-right}
+use Rattle.scanner.specs.Laws.{and-true-left, and-true-right, or-true-right, never}
+use Rattle.past.specs.Forms.{by-form}
 use Rattle.scanner.specs.Lists.{flatMap-append}
 use Rattle.admitted.specs.CountLaws.{context-scope}
 use Rattle.order.specs.Nesting.{CellEntry, parameter-entry, port-entry, Entry, param-entry, wire-entry, memory-entry, cell-entry, connection-entry, File, settings, lineIn, linesOf, linesOfFile, nestingOpen}
 use Rattle.order.specs.Tally.{Through}
-use Rattle.order.specs.Places.{fits}
+use Rattle.order.specs.Places.{fits, object-fits}
 
 -- What is read: whole modules; and if a module or a cell is open, its attributes, its name and its entries so far. Last the attributes that
 -- wait for an object
@@ -53,24 +54,19 @@ record Reads (p : Past) : Type 0 where
 more-lines : (p : Past) (s : Statement) (l : List Statement) → reverse p ≡ l → reverse (s ∷ p) ≡ l ++ s ∷ []
 more-lines p s l e = reverse-cons s p ∙ ap (λ (k : List Statement). k ++ s ∷ []) e
 
-abbrev of : List Kind → Statement → Bool
-of ks s = among ks s
-
-top-kinds : (s : Statement) (f a : Bool) → fits top f a s ≡ true → of (anAutoidx ∷ anAttribute ∷ aModule ∷ []) s ≡ true
+-- where most may stand: what stands elsewhere in a scope may stand there
+widest : (z : Scope) (s : Statement) (f a : Bool) → fits z f a s ≡ true → fits z true false s ≡ true
 unfolding kinds among any
-top-kinds s true a e = e
-top-kinds s false a e = or-true-right (is anAutoidx s) _ e
-
-module-kinds :
-    (s : Statement) (f a : Bool) → fits inModule f a s ≡ true → of (aParameter ∷ aConnection ∷ anEnd ∷ anAttribute ∷ aWire ∷ aMemory ∷ aCell ∷ []) s ≡ true
-unfolding kinds among any
-module-kinds s f true e = or-true-right (is aParameter s) _ (or-true-right (is aConnection s) _ (or-true-right (is anEnd s) _ e))
-module-kinds s f false e = e
+widest top s true a e = e
+widest top s false a e = or-true-right (is anAutoidx s) _ e
+widest inModule s f true e = object-fits s e true false
+widest inModule s f false e = e
+widest inCell s f a e = e
 
 -- where an attribute waits, no parameter, connection or end stands
-free-kinds : (s : Statement) (f a : Bool) → of (anAttribute ∷ aWire ∷ aMemory ∷ aCell ∷ []) s ≡ false → fits inModule f a s ≡ true → a ≡ false
+free-kinds : (s : Statement) (f a : Bool) → fits inModule true true s ≡ false → fits inModule f a s ≡ true → a ≡ false
 unfolding kinds
-free-kinds s f true h e = absurd (false≢true (sym h ∙ e))
+free-kinds s f true h e = never _ e h
 free-kinds s f false h e = refl
 
 stands-at : (z : Scope) (p : Past) (s : Statement) → scope p ≡ z → stands p s ≡ true → fits z (context p .first) (context p .attributed) s ≡ true
@@ -164,59 +160,45 @@ unfolding context kinds among any statementsOpen
 autoidx-first i [] z e = first-autoidx i
 autoidx-first i (s ∷ p) z e = absurd (false≢true (stands-at top (s ∷ p) (autoidx-stmt i) z e))
 
+-- a statement of no kind that may stand there
+misplaced : (z : Scope) (p : Past) → scope p ≡ z → (s : Statement) → fits z true false s ≡ false → stands p s ≡ true → Reads (s ∷ p)
+misplaced z p q s h e = never (fits z true false s) (widest z s _ _ (stands-at z p s q e)) h
+
 step-top :
     (p : Past) (x : File) (at : List Setting) → reverse p ≡ linesOfOpen (at-top x at) → scope p ≡ top → (s : Statement) → stands p s ≡ true → Reads (s ∷ p)
-unfolding among any statementsOpen
-step-top p x at l z (autoidx-stmt i) e = autoidx-first i p z e
-step-top p x at l z (attr-stmt n c) e = top-attribute p x at l z n c
-step-top p x at l z (module-stmt n) e = top-module p x at l z n
-step-top p x at l z (param-stmt n c) e = absurd (false≢true (top-kinds (param-stmt n c) _ _ (stands-at top p (param-stmt n c) z e)))
-step-top p x at l z (wire-stmt w n) e = absurd (false≢true (top-kinds (wire-stmt w n) _ _ (stands-at top p (wire-stmt w n) z e)))
-step-top p x at l z (memory-stmt m n) e = absurd (false≢true (top-kinds (memory-stmt m n) _ _ (stands-at top p (memory-stmt m n) z e)))
-step-top p x at l z (cell-stmt t n) e = absurd (false≢true (top-kinds (cell-stmt t n) _ _ (stands-at top p (cell-stmt t n) z e)))
-step-top p x at l z (cell-param-stmt o n c) e = absurd (false≢true (top-kinds (cell-param-stmt o n c) _ _ (stands-at top p (cell-param-stmt o n c) z e)))
-step-top p x at l z (cell-conn-stmt n y) e = absurd (false≢true (top-kinds (cell-conn-stmt n y) _ _ (stands-at top p (cell-conn-stmt n y) z e)))
-step-top p x at l z (conn-stmt y w) e = absurd (false≢true (top-kinds (conn-stmt y w) _ _ (stands-at top p (conn-stmt y w) z e)))
-step-top p x at l z (proc-stmt n) e = absurd (false≢true (top-kinds (proc-stmt n) _ _ (stands-at top p (proc-stmt n) z e)))
-step-top p x at l z end-stmt e = absurd (false≢true (top-kinds end-stmt _ _ (stands-at top p end-stmt z e)))
+unfolding kinds among any statementsOpen
+step-top p x at l z =
+    let no = misplaced top p z in
+    by-form _ (λ i e. autoidx-first i p z e) (λ n c e. top-attribute p x at l z n c) (λ n e. top-module p x at l z n) (λ n c. no (param-stmt n c) refl) (λ w n. no (wire-stmt w n) refl)
+    (λ m n. no (memory-stmt m n) refl) (λ t n. no (cell-stmt t n) refl) (λ o n c. no (cell-param-stmt o n c) refl) (λ n y. no (cell-conn-stmt n y) refl) (λ y w. no (conn-stmt y w) refl)
+    (λ n. no (proc-stmt n) refl) (no end-stmt refl)
 
 step-module :
     (p : Past) (x : File) (at : List Setting) (n : Name) (es : List Entry) (bt : List Setting) → reverse p ≡ linesOfOpen (in-module x at n es bt) → scope p ≡ inModule →
     (context p .attributed ≡ false → bt ≡ []) → (s : Statement) → stands p s ≡ true → Reads (s ∷ p)
-unfolding among any linesOf scope statementsOpen
-step-module p x at n es bt l z f (autoidx-stmt i) e = absurd (false≢true (module-kinds (autoidx-stmt i) _ _ (stands-at inModule p (autoidx-stmt i) z e)))
-step-module p x at n es bt l z f (attr-stmt m c) e = module-attribute p x at n es bt l z m c
-step-module p x at n es bt l z f (module-stmt m) e = absurd (false≢true (module-kinds (module-stmt m) _ _ (stands-at inModule p (module-stmt m) z e)))
-step-module p x at n es bt l z f (param-stmt m c) e =
-    let q : bt ≡ [] = f (free-kinds (param-stmt m c) _ _ refl (stands-at inModule p (param-stmt m c) z e)) in
-    module-entry p x at n es bt l z (param-stmt m c) (param-entry m c) (rw q) z
-step-module p x at n es bt l z f (wire-stmt w m) e = module-entry p x at n es bt l z (wire-stmt w m) (wire-entry (object bt m w)) refl z
-step-module p x at n es bt l z f (memory-stmt y m) e = module-entry p x at n es bt l z (memory-stmt y m) (memory-entry (object bt m y)) refl z
-step-module p x at n es bt l z f (cell-stmt t m) e = module-cell p x at n es bt l z t m
-step-module p x at n es bt l z f (cell-param-stmt o m c) e = absurd (false≢true (module-kinds (cell-param-stmt o m c) _ _ (stands-at inModule p (cell-param-stmt o m c) z e)))
-step-module p x at n es bt l z f (cell-conn-stmt m y) e = absurd (false≢true (module-kinds (cell-conn-stmt m y) _ _ (stands-at inModule p (cell-conn-stmt m y) z e)))
-step-module p x at n es bt l z f (conn-stmt y w) e =
-    let q : bt ≡ [] = f (free-kinds (conn-stmt y w) _ _ refl (stands-at inModule p (conn-stmt y w) z e)) in
-    module-entry p x at n es bt l z (conn-stmt y w) (connection-entry y w) (rw q) z
-step-module p x at n es bt l z f (proc-stmt m) e = absurd (false≢true (module-kinds (proc-stmt m) _ _ (stands-at inModule p (proc-stmt m) z e)))
-step-module p x at n es bt l z f end-stmt e = module-end p x at n es bt l z (f (free-kinds end-stmt _ _ refl (stands-at inModule p end-stmt z e)))
+unfolding kinds among any linesOf scope statementsOpen
+step-module p x at n es bt l z f =
+    let no = misplaced inModule p z in
+    let entry = module-entry p x at n es bt l z in
+    let free : (s : Statement) → fits inModule true true s ≡ false → stands p s ≡ true → bt ≡ [] = λ s h e. f (free-kinds s (context p .first) (context p .attributed) h (stands-at inModule p s z e)) in
+    by-form _ (λ i. no (autoidx-stmt i) refl) (λ m c e. module-attribute p x at n es bt l z m c) (λ m. no (module-stmt m) refl)
+    (λ m c e. entry (param-stmt m c) (param-entry m c) (rw (free (param-stmt m c) refl e)) z)
+    (λ w m e. entry (wire-stmt w m) (wire-entry (object bt m w)) refl z)
+    (λ y m e. entry (memory-stmt y m) (memory-entry (object bt m y)) refl z)
+    (λ t m e. module-cell p x at n es bt l z t m) (λ o m c. no (cell-param-stmt o m c) refl) (λ m y. no (cell-conn-stmt m y) refl)
+    (λ y w e. entry (conn-stmt y w) (connection-entry y w) (rw (free (conn-stmt y w) refl e)) z)
+    (λ m. no (proc-stmt m) refl) (λ e. module-end p x at n es bt l z (free end-stmt refl e))
 
 step-cell :
     (p : Past) (x : File) (at : List Setting) (n : Name) (es : List Entry) (bt : List Setting) (t m : Name) (cs : List CellEntry) →
     reverse p ≡ linesOfOpen (in-cell x at n es bt t m cs) → scope p ≡ inCell → (s : Statement) → stands p s ≡ true → Reads (s ∷ p)
 unfolding kinds among any lineIn scope statementsOpen
-step-cell p x at n es bt t m cs l z (autoidx-stmt i) e = absurd (false≢true (stands-at inCell p (autoidx-stmt i) z e))
-step-cell p x at n es bt t m cs l z (attr-stmt k c) e = absurd (false≢true (stands-at inCell p (attr-stmt k c) z e))
-step-cell p x at n es bt t m cs l z (module-stmt k) e = absurd (false≢true (stands-at inCell p (module-stmt k) z e))
-step-cell p x at n es bt t m cs l z (param-stmt k c) e = absurd (false≢true (stands-at inCell p (param-stmt k c) z e))
-step-cell p x at n es bt t m cs l z (wire-stmt w k) e = absurd (false≢true (stands-at inCell p (wire-stmt w k) z e))
-step-cell p x at n es bt t m cs l z (memory-stmt y k) e = absurd (false≢true (stands-at inCell p (memory-stmt y k) z e))
-step-cell p x at n es bt t m cs l z (cell-stmt y k) e = absurd (false≢true (stands-at inCell p (cell-stmt y k) z e))
-step-cell p x at n es bt t m cs l z (cell-param-stmt o k c) e = cell-line p x at n es bt t m cs l z (parameter-entry o (k, c)) z
-step-cell p x at n es bt t m cs l z (cell-conn-stmt k y) e = cell-line p x at n es bt t m cs l z (port-entry k y) z
-step-cell p x at n es bt t m cs l z (conn-stmt y w) e = absurd (false≢true (stands-at inCell p (conn-stmt y w) z e))
-step-cell p x at n es bt t m cs l z (proc-stmt k) e = absurd (false≢true (stands-at inCell p (proc-stmt k) z e))
-step-cell p x at n es bt t m cs l z end-stmt e = cell-end p x at n es bt t m cs l z
+step-cell p x at n es bt t m cs l z =
+    let no = misplaced inCell p z in
+    let line = cell-line p x at n es bt t m cs l z in
+    by-form _ (λ i. no (autoidx-stmt i) refl) (λ k c. no (attr-stmt k c) refl) (λ k. no (module-stmt k) refl) (λ k c. no (param-stmt k c) refl) (λ w k. no (wire-stmt w k) refl)
+    (λ y k. no (memory-stmt y k) refl) (λ y k. no (cell-stmt y k) refl) (λ o k c e. line (parameter-entry o (k, c)) z) (λ k y e. line (port-entry k y) z) (λ y w. no (conn-stmt y w) refl)
+    (λ k. no (proc-stmt k) refl) (λ e. cell-end p x at n es bt t m cs l z)
 
 step :
     (p : Past) (o : Open) → reverse p ≡ linesOfOpen o → scope p ≡ openScope o → (context p .attributed ≡ false → waiting o ≡ []) → (s : Statement) →

@@ -1,7 +1,7 @@
 -- Each statement of a file stands where it may, and the file may end behind the last one.
 -- Assumes nothing.
 use mathlib.Core.Path.{_≡_, refl, _∙_}
-use mathlib.Core.List.{List, [], _∷_, _++_, map, flatMap, reverse, reverseAux, reverseAux-append, Option·toList}
+use mathlib.Core.List.{List, [], _∷_, _++_, map, reverse, reverseAux, reverseAux-append, Option·toList}
 use mathlib.Core.Option.{Option, none, some}
 use mathlib.Core.Bool.{Bool, true, false}
 use Prim.Native.Nat.{ℕ}
@@ -9,17 +9,18 @@ use native.Mathlib.Omega.{arith}
 use lib.IntN.{ℤ}
 use Rattle.rules.specs.Bytes.{any}
 use Rattle.rules.specs.Tokens.{Name}
-use Rattle.rules.specs.Statements.{Constant, Signal, Wire, Memory, Statement, anAttribute, is, autoidx-stmt, attr-stmt, module-stmt, param-stmt, wire-stmt, memory-stmt, cell-stmt, cell-param-stmt, cell-conn-stmt, conn-stmt, end-stmt, statementsOpen}
+use Rattle.rules.specs.Statements.{Constant, Statement, anAttribute, aParameter, aConnection, anEnd, is, autoidx-stmt, attr-stmt, module-stmt, param-stmt, wire-stmt, memory-stmt, cell-stmt, cell-param-stmt, cell-conn-stmt, conn-stmt, end-stmt, statementsOpen}
 use Rattle.rules.specs.Shapes.{Scope, top, inModule, inCell}
 use Rattle.rules.specs.Judgement.{Past, outer, scope, context, among}
 use Rattle.rules.specs.Reading.{isTop}
 use Rattle.rules.specs.Design.{Setting, Object}
+use Rattle.scanner.specs.Laws.{or-true-right}
 use Rattle.scanner.specs.Elements.{each-all}
 use Rattle.admitted.specs.Admitted.{kinds, stands, closes}
 use Rattle.admitted.specs.CountLaws.{context-scope}
 use Rattle.order.specs.Nesting.{CellEntry, parameter-entry, port-entry, Entry, param-entry, wire-entry, memory-entry, cell-entry, connection-entry, File, settings, lineIn, linesOf, linesOfModule, linesOfFile}
 use Rattle.order.specs.Tally.{Through}
-use Rattle.order.specs.Walks.{behind-each, behind-settings}
+use Rattle.order.specs.Walks.{behind-each, behind-settings, behind-module}
 
 -- statements that stand, and the next one's place: its scope, and that no attribute waits
 pub record At (z : Scope) (p : Past) : Type 0 where
@@ -34,22 +35,22 @@ pub record Ready (z : Scope) (p : Past) : Type 0 where
 abbrev pub fits : Scope → Bool → Bool → Statement → Bool
 fits z first attributed s = among (kinds z first attributed) s
 
-stands-in : (z : Scope) (p : Past) (s : Statement) → scope p ≡ z → ((first attributed : Bool) → fits z first attributed s ≡ true) → stands p s ≡ true
+stands-in : (z : Scope) (p : Past) (s : Statement) → scope p ≡ z → fits z (context p .first) (context p .attributed) s ≡ true → stands p s ≡ true
 unfolding stands
-stands-in z p s e h = rw (context-scope p, e) (h (context p .first) (context p .attributed))
+stands-in z p s e h = rw (context-scope p, e) h
 
-stands-free :
-    (z : Scope) (p : Past) (s : Statement) → scope p ≡ z → context p .attributed ≡ false → ((first : Bool) → fits z first false s ≡ true) → stands p s ≡ true
-unfolding stands
-stands-free z p s e f h = rw (context-scope p, e, f) (h (context p .first))
+-- what may stand behind an attribute may stand where none waits
+pub object-fits : (s : Statement) → fits inModule false true s ≡ true → (f a : Bool) → fits inModule f a s ≡ true
+unfolding kinds among any
+object-fits s h f true = h
+object-fits s h f false = or-true-right (is aParameter s) _ (or-true-right (is aConnection s) _ (or-true-right (is anEnd s) _ h))
 
 -- attributes wait for an object
 attribute-at : (z : Scope) → (z ≡ inCell → ⊥) → (n : Name) (c : Constant) (first attributed : Bool) → fits z first attributed (attr-stmt n c) ≡ true
 unfolding kinds among any statementsOpen
 attribute-at top h n c true a = refl
 attribute-at top h n c false a = refl
-attribute-at inModule h n c f true = refl
-attribute-at inModule h n c f false = refl
+attribute-at inModule h n c f a = object-fits (attr-stmt n c) refl f a
 attribute-at inCell h n c f a = absurd (h refl)
 
 scope-attribute : (n : Name) (c : Constant) (p : Past) → scope (attr-stmt n c ∷ p) ≡ scope p
@@ -59,11 +60,11 @@ scope-attribute n c p = refl
 settings-at : (z : Scope) → (z ≡ inCell → ⊥) → (at : List Setting) (p : Past) → At z p → At z (reverseAux (settings at) p)
 settings-at z h =
     behind-settings (At z)
-    (λ n c p a. record { standing = (stands-in z p (attr-stmt n c) (a .scope) (attribute-at z h n c), a .standing); scope = scope-attribute n c p ∙ a .scope })
+    (λ n c p a. record { standing = (stands-in z p (attr-stmt n c) (a .scope) (attribute-at z h n c _ _), a .standing); scope = scope-attribute n c p ∙ a .scope })
 
 -- a statement that is no attribute, where any may stand or where no attribute waits
 next :
-    {z y : Scope} {p : Past} (s : Statement) → At z p → ((first attributed : Bool) → fits z first attributed s ≡ true) → (scope p ≡ z → scope (s ∷ p) ≡ y) →
+    {z y : Scope} {p : Past} (s : Statement) → At z p → fits z (context p .first) (context p .attributed) s ≡ true → (scope p ≡ z → scope (s ∷ p) ≡ y) →
     is anAttribute s ≡ false → Ready y (s ∷ p)
 unfolding context
 next {z} {y} {p} s a h k e = record { at = record { standing = (stands-in z p s (a .scope) h, a .standing); scope = k (a .scope) }; free = e }
@@ -71,53 +72,16 @@ next {z} {y} {p} s a h k e = record { at = record { standing = (stands-in z p s 
 next-free :
     {z y : Scope} {p : Past} (s : Statement) → Ready z p → ((first : Bool) → fits z first false s ≡ true) → (scope p ≡ z → scope (s ∷ p) ≡ y) →
     is anAttribute s ≡ false → Ready y (s ∷ p)
-unfolding context
-next-free {z} {y} {p} s a h k e =
-    record { at = record { standing = (stands-free z p s (a .at .scope) (a .free) h, a .at .standing); scope = k (a .at .scope) }; free = e }
-
-ready-parameter : (n : Name) (c : Option Constant) (p : Past) → Ready inModule p → Ready inModule (param-stmt n c ∷ p)
-unfolding scope kinds among any statementsOpen
-ready-parameter n c p a = next-free (param-stmt n c) a (λ f. refl) (λ e. e) refl
-
-ready-connection : (x y : Signal) (p : Past) → Ready inModule p → Ready inModule (conn-stmt x y ∷ p)
-unfolding scope kinds among any statementsOpen
-ready-connection x y p a = next-free (conn-stmt x y) a (λ f. refl) (λ e. e) refl
-
-wire-fits : (w : Wire) (n : Name) (f a : Bool) → fits inModule f a (wire-stmt w n) ≡ true
-unfolding kinds among any statementsOpen
-wire-fits w n f true = refl
-wire-fits w n f false = refl
-
-memory-fits : (m : Memory) (n : Name) (f a : Bool) → fits inModule f a (memory-stmt m n) ≡ true
-unfolding kinds among any statementsOpen
-memory-fits w n f true = refl
-memory-fits w n f false = refl
-
-cell-fits : (t n : Name) (f a : Bool) → fits inModule f a (cell-stmt t n) ≡ true
-unfolding kinds among any statementsOpen
-cell-fits t n f true = refl
-cell-fits t n f false = refl
+next-free {p = p} s a h k e = next s (a .at) (rw (a .free) (h (context p .first))) k e
 
 module-fits : (n : Name) (f a : Bool) → fits top f a (module-stmt n) ≡ true
 unfolding kinds among any statementsOpen
 module-fits n true a = refl
 module-fits n false a = refl
 
-ready-wire : (w : Wire) (n : Name) (p : Past) → At inModule p → Ready inModule (wire-stmt w n ∷ p)
-unfolding scope statementsOpen
-ready-wire w n p a = next (wire-stmt w n) a (wire-fits w n) (λ e. e) refl
-
-ready-memory : (m : Memory) (n : Name) (p : Past) → At inModule p → Ready inModule (memory-stmt m n ∷ p)
-unfolding scope statementsOpen
-ready-memory m n p a = next (memory-stmt m n) a (memory-fits m n) (λ e. e) refl
-
-ready-cell : (t n : Name) (p : Past) → At inModule p → Ready inCell (cell-stmt t n ∷ p)
-unfolding scope statementsOpen
-ready-cell t n p a = next (cell-stmt t n) a (cell-fits t n) (λ e. refl) refl
-
 ready-module : (n : Name) (p : Past) → At top p → Ready inModule (module-stmt n ∷ p)
 unfolding scope statementsOpen
-ready-module n p a = next (module-stmt n) a (module-fits n) (λ e. refl) refl
+ready-module n p a = next (module-stmt n) a (module-fits n _ _) (λ e. refl) refl
 
 ready-end : (p : Past) → Ready inModule p → Ready top (end-stmt ∷ p)
 unfolding scope outer kinds among any statementsOpen
@@ -135,25 +99,27 @@ in-module e = let z : _≡_ {A = ℕ} 0 1 = cc in omega arith
 at-top : top ≡ inCell → ⊥
 at-top e = let z : _≡_ {A = ℕ} 0 1 = cc in omega arith
 
+-- an object with its attributes
+object-ready :
+    {y : Scope} (at : List Setting) (s : Statement) (p : Past) → fits inModule false true s ≡ true → (scope (reverseAux (settings at) p) ≡ inModule → scope (s ∷ reverseAux (settings at) p) ≡ y) →
+    is anAttribute s ≡ false → Ready inModule p → Ready y (s ∷ reverseAux (settings at) p)
+object-ready at s p h k e a = next s (settings-at inModule in-module at p (a .at)) (object-fits s h _ _) k e
+
 entry-ready : (e : Entry) (p : Past) → Unit {0} → Ready inModule p → Ready inModule (reverseAux (linesOf e) p)
-unfolding linesOf
-entry-ready (param-entry n c) p u a = ready-parameter n c p a
+unfolding linesOf scope kinds among any statementsOpen
+entry-ready (param-entry n c) p u a = next-free (param-stmt n c) a (λ f. refl) (λ e. e) refl
 entry-ready (wire-entry o) p u a =
-    rw (reverseAux-append (settings (o .attributes))) (ready-wire (o .body) (o .name) _ (settings-at inModule in-module (o .attributes) p (a .at)))
+    rw (reverseAux-append (settings (o .attributes))) (object-ready (o .attributes) (wire-stmt (o .body) (o .name)) p refl (λ e. e) refl a)
 entry-ready (memory-entry o) p u a =
-    rw (reverseAux-append (settings (o .attributes))) (ready-memory (o .body) (o .name) _ (settings-at inModule in-module (o .attributes) p (a .at)))
+    rw (reverseAux-append (settings (o .attributes))) (object-ready (o .attributes) (memory-stmt (o .body) (o .name)) p refl (λ e. e) refl a)
 entry-ready (cell-entry at t n es) p u a =
-    rw (reverseAux-append (settings at)) (cell-lines es (cell-stmt t n ∷ reverseAux (settings at) p) (ready-cell t n _ (settings-at inModule in-module at p (a .at))))
-entry-ready (connection-entry x y) p u a = ready-connection x y p a
+    rw (reverseAux-append (settings at)) (cell-lines es (cell-stmt t n ∷ reverseAux (settings at) p) (object-ready at (cell-stmt t n) p refl (λ e. refl) refl a))
+entry-ready (connection-entry x y) p u a = next-free (conn-stmt x y) a (λ f. refl) (λ e. e) refl
 
 module-ready : (o : Object (List Entry)) (p : Past) → Unit {0} → Ready top p → Ready top (reverseAux (linesOfModule o) p)
-unfolding linesOfModule
 module-ready o p u a =
-    let r = reverseAux (settings (o .attributes)) p in
-    let m = module-stmt (o .name) in
-    let front = ready-module (o .name) r (settings-at top at-top (o .attributes) p (a .at)) in
-    let body = behind-each linesOf (λ e. Unit {0}) (Ready inModule) entry-ready (o .body) (m ∷ r) (each-all _ (λ e. tt) (o .body)) front in
-    rw (reverseAux-append (settings (o .attributes)), reverseAux-append (flatMap linesOf (o .body))) (ready-end (reverseAux (flatMap linesOf (o .body)) (m ∷ r)) body)
+    behind-module (λ e. Unit {0}) (Ready inModule) (Ready top) entry-ready ready-end o p (each-all _ (λ e. tt) (o .body))
+    (ready-module (o .name) _ (settings-at top at-top (o .attributes) p (a .at)))
 
 start-ready : Ready top []
 unfolding scope context

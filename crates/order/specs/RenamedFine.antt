@@ -12,7 +12,7 @@ use lib.Dec.{leb, ltb}
 use lib.ListN.{length, getElem?}
 use Rattle.rules.specs.Bytes.{same, any, all, legal}
 use Rattle.rules.specs.Tokens.{Name}
-use Rattle.rules.specs.Statements.{Signal, Bit, digit, bit, Wire, Statement, Kind, aModule, aParameter, aWire, aMemory, aCell, aCellParameter, aCellConnection, aConnection, anAttribute, wire-stmt, statementsOpen}
+use Rattle.rules.specs.Statements.{Signal, Bit, digit, bit, Wire, Statement, aModule, aParameter, aWire, aMemory, aCell, aCellParameter, aCellConnection, aConnection, anAttribute, wire-stmt, statementsOpen}
 use Rattle.rules.specs.Judgement.{sum, among, count, signalSize, valueSize, stringSize, nameSize, exceedsSize, Verdict, accepted, portNumbers}
 use Rattle.rules.specs.Design.{Object, object, Module, Design, flatten}
 use Rattle.rules.specs.Session.{Rename, wireAt, change, renameWire, renamed, now, roomUsed, names, taken, renameCall, undoCall}
@@ -73,22 +73,6 @@ module _ (f : Statement → ℕ) where
         omega (arith, flatten-sum f d, flatten-sum f (renamed r d))
 
 -- STATEMENTS AND SIZES: only a name is another
-count-same : (ks : List Kind) (w : Wire) (n m : Name) → count ks (wire-stmt w n) ≡ count ks (wire-stmt w m)
-unfolding count among statementsOpen
-count-same ks w n m = refl
-
-signals-same : (w : Wire) (n m : Name) → signalSize (wire-stmt w n) ≡ signalSize (wire-stmt w m)
-unfolding signalSize statementsOpen
-signals-same w n m = refl
-
-values-same : (w : Wire) (n m : Name) → valueSize (wire-stmt w n) ≡ valueSize (wire-stmt w m)
-unfolding valueSize statementsOpen
-values-same w n m = refl
-
-strings-same : (w : Wire) (n m : Name) → stringSize (wire-stmt w n) ≡ stringSize (wire-stmt w m)
-unfolding stringSize statementsOpen
-strings-same w n m = refl
-
 module _ (r : Rename) (d : Design) where
   alone-renamed : legal (r .newName) ≡ true → (w : Wire) (n : Name) → fineAlone (wire-stmt w n) ≡ true → fineAlone (wire-stmt w (r .newName)) ≡ true
   unfolding fineAlone all statementsOpen
@@ -115,23 +99,23 @@ module _ (r : Rename) (d : Design) where
   names-renamed = renamed-sum nameSize r (length (r .newName)) (λ w n. omega arith) d
 
   sizes-renamed : sum nameSize (flatten (renamed r d)) ≤ 16384 → exceedsSize (flatten d) ≡ false → exceedsSize (flatten (renamed r d)) ≡ false
-  unfolding sumsOf sizesBy
+  unfolding sumsOf sizesBy count among signalSize valueSize stringSize statementsOpen
   sizes-renamed h e =
       let b = within-past (flatten d) e in
       sym (exceeds-sums (flatten (renamed r d)))
       ∙ limits-within (sumsOf (flatten (renamed r d)))
       (record {
-        modules = le-trans (same-size (count (aModule ∷ [])) (count-same (aModule ∷ []))) (b .modules);
-        wires = le-trans (same-size (count (aWire ∷ [])) (count-same (aWire ∷ []))) (b .wires);
-        memories = le-trans (same-size (count (aMemory ∷ [])) (count-same (aMemory ∷ []))) (b .memories);
-        cells = le-trans (same-size (count (aCell ∷ [])) (count-same (aCell ∷ []))) (b .cells);
-        parameters = le-trans (same-size (count (aParameter ∷ aCellParameter ∷ [])) (count-same (aParameter ∷ aCellParameter ∷ []))) (b .parameters);
-        attributes = le-trans (same-size (count (anAttribute ∷ [])) (count-same (anAttribute ∷ []))) (b .attributes);
-        ports = le-trans (same-size (count (aCellConnection ∷ [])) (count-same (aCellConnection ∷ []))) (b .ports);
-        connections = le-trans (same-size (count (aConnection ∷ [])) (count-same (aConnection ∷ []))) (b .connections);
-        signal-bits = le-trans (same-size signalSize signals-same) (b .signal-bits);
-        value-bits = le-trans (same-size valueSize values-same) (b .value-bits);
-        string-bytes = le-trans (same-size stringSize strings-same) (b .string-bytes);
+        modules = le-trans (same-size (count (aModule ∷ [])) (λ w n m. refl)) (b .modules);
+        wires = le-trans (same-size (count (aWire ∷ [])) (λ w n m. refl)) (b .wires);
+        memories = le-trans (same-size (count (aMemory ∷ [])) (λ w n m. refl)) (b .memories);
+        cells = le-trans (same-size (count (aCell ∷ [])) (λ w n m. refl)) (b .cells);
+        parameters = le-trans (same-size (count (aParameter ∷ aCellParameter ∷ [])) (λ w n m. refl)) (b .parameters);
+        attributes = le-trans (same-size (count (anAttribute ∷ [])) (λ w n m. refl)) (b .attributes);
+        ports = le-trans (same-size (count (aCellConnection ∷ [])) (λ w n m. refl)) (b .ports);
+        connections = le-trans (same-size (count (aConnection ∷ [])) (λ w n m. refl)) (b .connections);
+        signal-bits = le-trans (same-size signalSize (λ w n m. refl)) (b .signal-bits);
+        value-bits = le-trans (same-size valueSize (λ w n m. refl)) (b .value-bits);
+        string-bytes = le-trans (same-size stringSize (λ w n m. refl)) (b .string-bytes);
         name-bytes = h;
       })
 

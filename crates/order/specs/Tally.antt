@@ -14,6 +14,7 @@ use Rattle.rules.specs.Statements.{Wire, Direction, Statement, statementsOpen, 
 use Rattle.rules.specs.Signals.{Wires}
 use Rattle.rules.specs.Judgement.{Past, sum, wires, portNumbers, among, Space, space, namesIn, only, until, ofModule, ofCell, ofObject}
 use Rattle.scanner.specs.Laws.{by-test, and-true-left, and-true-right, same-refl, same-eq}
+use Rattle.scanner.specs.Lists.{keeps-before}
 use Rattle.scanner.specs.Elements.{all-first, all-later}
 use Rattle.scanner.specs.Sums.{none-sum, sum-none}
 use Rattle.past.proofs.PlaceLaws.{wires-none, wires-one, wires-reset}
@@ -43,8 +44,7 @@ pub record Lawful {I : Type 0} (t : Tally I) : Type 0 where
 
 -- the past without its last statements
 pub through-before : (f : Past → Statement → Bool) (l : List Statement) (p : Past) → Through f (reverseAux l p) → Through f p
-through-before f [] p h = h
-through-before f (s ∷ l) p h = through-before f l (s ∷ p) h .1
+through-before f = keeps-before (Through f) (λ s p h. h .1)
 
 -- what each statement that passes a test keeps, all keep
 pub behind-all :

@@ -38,6 +38,14 @@ pub behind-settings :
 behind-settings Q h [] p q = q
 behind-settings Q h (a ∷ at) p q = behind-settings Q h at (attr-stmt (a .0) (a .1) ∷ p) (h (a .0) (a .1) p q)
 
+-- through a module: its attributes, its line, its entries and its end
+pub behind-module :
+    (P : Entry → Type 0) (Q R : Past → Type 0) → ((e : Entry) (p : Past) → P e → Q p → Q (reverseAux (linesOf e) p)) → ((p : Past) → Q p → R (end-stmt ∷ p)) →
+    (o : Object (List Entry)) (p : Past) → Each P (o .body) → Q (module-stmt (o .name) ∷ reverseAux (settings (o .attributes)) p) → R (reverseAux (linesOfModule o) p)
+unfolding linesOfModule
+behind-module P Q R h k o p e q =
+    rw (reverseAux-append (settings (o .attributes)), reverseAux-append (flatMap linesOf (o .body))) (k _ (behind-each linesOf P Q h (o .body) _ e q))
+
 -- LINES
 abbrev pub noModule : Statement → Bool
 noModule s = not (is aModule s)
@@ -174,14 +182,10 @@ module _ {t : Tally Name} {of : Cell → Name → ℕ} (w : OfCell t of) where
   entry-new (connection-entry x y) p b h = outside-new (linesOf (connection-entry x y)) p refl h
 
   cells-new-in : (o : Object (List Entry)) (p : Past) → Each Once (bodyOf (o .body) .cells) → Through (t .new) p → Through (t .new) (reverseAux (linesOfModule o) p)
-  unfolding linesOfModule bodyOf insideCell all among any statementsOpen
+  unfolding bodyOf insideCell all among any statementsOpen
   cells-new-in o p b h =
-      let m = module-stmt (o .name) in
-      let r = reverseAux (settings (o .attributes)) p in
-      let front = outside-new (m ∷ []) r refl (outside-new (settings (o .attributes)) p (settings-outside (o .attributes)) h) in
-      let body = behind-each linesOf _ (Through (t .new)) entry-new (o .body) (m ∷ r) (each-apart Once cellsOf (o .body) b) front in
-      rw (reverseAux-append (settings (o .attributes)), reverseAux-append (flatMap linesOf (o .body)))
-      (outside-new (end-stmt ∷ []) (reverseAux (flatMap linesOf (o .body)) (m ∷ r)) refl body)
+      behind-module _ (Through (t .new)) (Through (t .new)) entry-new (λ q. outside-new (end-stmt ∷ []) q refl) o p (each-apart Once cellsOf (o .body) b)
+      (outside-new (module-stmt (o .name) ∷ []) _ refl (outside-new (settings (o .attributes)) p (settings-outside (o .attributes)) h))
 
   pub cells-new :
       (os : List (Object (List Entry))) (p : Past) → Each (λ o. Each Once (bodyOf (o .body) .cells)) os → Through (t .new) p →
@@ -271,14 +275,11 @@ abbrev FineIn : Object (List Entry) → Type 0
 FineIn o = FineModule (moduleIn o)
 
 module-attributed : (o : Object (List Entry)) (p : Past) → FineIn o → Attributed p → Attributed (reverseAux (linesOfModule o) p)
-unfolding all linesOfModule moduleIn statementsOpen
+unfolding all moduleIn statementsOpen
 module-attributed o p f h =
-    let m = module-stmt (o .name) in
-    let front = object-attributed (o .attributes) m [] p (f .attributes) refl h in
-    let k : Attributed (m ∷ reverseAux (settings (o .attributes)) p) = rw reverseAux-append at front in
-    let body = behind-each linesOf EntryDiffers Attributed entry-attributed (o .body) (m ∷ reverseAux (settings (o .attributes)) p) (entries-differ (o .body) (f .wires) (f .memories) (f .cells)) k in
-    rw (reverseAux-append (settings (o .attributes)), reverseAux-append (flatMap linesOf (o .body)))
-    (others-attributed (end-stmt ∷ []) (reverseAux (flatMap linesOf (o .body)) (m ∷ reverseAux (settings (o .attributes)) p)) refl body)
+    let front = object-attributed (o .attributes) (module-stmt (o .name)) [] p (f .attributes) refl h in
+    behind-module EntryDiffers Attributed Attributed entry-attributed (λ q. others-attributed (end-stmt ∷ []) q refl) o p (entries-differ (o .body) (f .wires) (f .memories) (f .cells))
+    (rw reverseAux-append at front)
 
 pub attributes-new :
     (os : List (Object (List Entry))) (p : Past) → Each FineIn os → Through (attributeNames .new) p → Clean p → Through (attributeNames .new) (reverseAux (flatMap linesOfModule os) p)

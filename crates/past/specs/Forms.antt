@@ -3,13 +3,13 @@
 -- Assumes nothing.
 use mathlib.Core.Path.{_≡_, refl}
 use mathlib.Core.List.{[], map, Option·toList}
-use mathlib.Core.Bool.{true, false}
+use mathlib.Core.Bool.{true, false, false≢true}
 use mathlib.Core.Option.{Option, none, some}
 use lib.Dec.{eqb}
 use lib.IntN.{ℤ}
 use borrow.Author.Tests.{eqb-true}
 use Rattle.rules.specs.Tokens.{Name}
-use Rattle.rules.specs.Statements.{Stmt, Sort, Contents, holds, contents, translate, autoidx-stmt, attr-stmt, module-stmt, param-stmt, wire-stmt, memory-stmt, cell-stmt, cell-param-stmt, cell-conn-stmt, conn-stmt, proc-stmt, end-stmt, Statement, Kind, aWire, code, is, statementsOpen}
+use Rattle.rules.specs.Statements.{Stmt, Sort, Contents, holds, contents, translate, autoidx-stmt, attr-stmt, module-stmt, param-stmt, wire-stmt, memory-stmt, cell-stmt, cell-param-stmt, cell-conn-stmt, conn-stmt, proc-stmt, end-stmt, Statement, Kind, anAttribute, aWire, code, is, statementsOpen}
 
 pub by-form :
     {C S W M : Type 0} (P : Stmt C S W M → Type 0) →
@@ -39,6 +39,15 @@ by-wire P f g =
     by-form P (λ i. g (autoidx-stmt i) refl refl) (λ n c. g (attr-stmt n c) refl refl) (λ n. g (module-stmt n) refl refl) (λ n c. g (param-stmt n c) refl refl) f
     (λ m n. g (memory-stmt m n) refl refl) (λ t n. g (cell-stmt t n) refl refl) (λ o n c. g (cell-param-stmt o n c) refl refl) (λ n x. g (cell-conn-stmt n x) refl refl)
     (λ x y. g (conn-stmt x y) refl refl) (λ n. g (proc-stmt n) refl refl) (g end-stmt refl refl)
+
+-- a form that a test excludes; an attribute has one form
+pub no : {P : Type 0} → false ≡ true → P
+no e = absurd (false≢true e)
+
+pub by-attribute : {C S W M : Type 0} (P : Stmt C S W M → Type 0) → ((n : Name) (c : C) → P (attr-stmt n c)) → (s : Stmt C S W M) → is anAttribute s ≡ true → P s
+unfolding statementsOpen
+by-attribute P f =
+    by-form (λ s. is anAttribute s ≡ true → P s) (λ i. no) (λ n c e. f n c) (λ n. no) (λ n c. no) (λ w n. no) (λ m n. no) (λ t n. no) (λ o n c. no) (λ n x. no) (λ x y. no) (λ n. no) no
 
 -- one of a kind is of no other
 pub is-other : (j k : Kind) (s : Statement) → eqb (code k) (code j) ≡ false → is j s ≡ true → is k s ≡ false

@@ -7,10 +7,10 @@ use Prim.Native.Nat.{ℕ, suc, _<_, _≤_}
 use native.Mathlib.Omega.{arith}
 use lib.Dec.{T, eqb, leb, ltb, leb→le}
 use lib.ListN.{replicate, length-replicate}
-use borrow.Author.Tests.{le-leb, lt-leb, eq-eqb, ne-eqb, ltb-true, ltb-false, leb-true, leb-false}
+use borrow.Author.Tests.{le-leb, lt-leb, eq-eqb, ne-eqb, leb-true, leb-false}
 use Rattle.rules.specs.Bytes.{bytes, byte, within, any, all, bytesOpen, isLineEnd, isBlank, isMark, isNameStart, isNameByte, isLower, isDigit, isValueDigit}
 use Rattle.scanner.specs.Class.{classOf, inClass, classOpen}
-use Rattle.scanner.specs.Laws.{by-test}
+use Rattle.scanner.specs.Laws.{by-test, by-order}
 use Rattle.scanner.proofs.Table.{both-left, both-right, every, at}
 
 -- what the class of a byte tells of a range
@@ -66,7 +66,7 @@ module _ (f : ℕ → Bool) (lo hi : ℕ) (t : T (agree f (inClass lo hi))) (hig
   past b h = rw (beyond b h) (high b h)
 
   range : f ≡ inClass lo hi
-  range = fun-ext (λ b. by-test (ltb b 256) (λ e. on-bytes b (ltb-true b 256 e)) (λ e. past b (ltb-false b 256 e)))
+  range = fun-ext (λ b. by-order 256 b (past b) (on-bytes b))
 
 pub class-blank : isBlank ≡ inClass 3 3
 unfolding agree classOpen bytesOpen

@@ -19,7 +19,7 @@ use Rattle.rules.specs.Reading.{lexed, outcome, finish, next, readLines}
 use Rattle.scanner.specs.Class.{inClass}
 use Rattle.scanner.specs.Runs.{endOf}
 use Rattle.scanner.specs.Lines.{lineFrom}
-use Rattle.scanner.specs.Laws.{by-test, by-cond}
+use Rattle.scanner.specs.Laws.{by-test, by-lt}
 use Rattle.scanner.proofs.ClassLaws.{class-in-line}
 use Rattle.scanner.proofs.RunLaws.{endOf-low, endOf-high, endOf-slice, endOf-rest}
 
@@ -68,8 +68,7 @@ module _ (s : List ℕ) (at : ℕ) where
   pub line-next : at ≤ length s → lineFrom s at .next ≤ length s
   unfolding lineFrom
   line-next h =
-      by-cond (λ (n : ℕ). n ≤ length s) (ltb (endOf (inClass 1 14) s at) (length s))
-      (λ e. omega (arith, ltb-true (endOf (inClass 1 14) s at) (length s) e)) (λ e. endOf-high (inClass 1 14) s at h)
+      by-lt (λ (n : ℕ). n ≤ length s) (endOf (inClass 1 14) s at) (length s) (λ e. omega arith) (λ e. endOf-high (inClass 1 14) s at h)
 
   text : slice at (lineFrom s at .end) s ≡ run inLine (drop at s)
   unfolding lineFrom

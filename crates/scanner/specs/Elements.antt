@@ -1,13 +1,13 @@
 -- Tests that all elements of a list pass, or some, and what holds of each.
 -- Assumes nothing.
 use mathlib.Core.Path.{_≡_, refl, sym, ap, ap₂, _∙_}
-use mathlib.Core.Bool.{Bool, true, false, cond, _&&_, _||_, or-assoc, false≢true}
-use mathlib.Core.List.{List, [], _∷_, _++_, map, flatMap, zip, zipWith, reverseAux}
+use mathlib.Core.Bool.{Bool, true, false, cond, not, _&&_, _||_, or-true, or-false, or-comm, or-assoc, false≢true}
+use mathlib.Core.List.{List, [], _∷_, _++_, map, flatMap, zip, zipWith, reverse, reverseAux, reverse-cons}
 use mathlib.Core.Option.{some}
 use Prim.Native.Nat.{ℕ, zero, suc}
 use lib.Dec.{eqb}
 use lib.ListN.{getElem?, getD, take, drop}
-use borrow.Author.Tests.{eqb-true}
+use borrow.Author.Tests.{eqb-true, not-true}
 use Rattle.rules.specs.Bytes.{all, any}
 use Rattle.rules.specs.Judgement.{until, only}
 use Rattle.scanner.specs.Laws.{by-cond, by-test, and-true-left, and-true-right, or-false-left, or-false-right}
@@ -248,3 +248,26 @@ module _ {A : Type 0} where
   unfolding any
   none-any f [] e = refl
   none-any f (x ∷ xs) e = rw (e .0) (none-any f xs (e .1))
+
+  -- of mapped elements, whatever the order, and by either of two tests
+  pub any-map : {B : Type 0} (f : B → Bool) (g : A → B) (xs : List A) → any f (map g xs) ≡ any (λ x. f (g x)) xs
+  unfolding any
+  any-map f g [] = refl
+  any-map f g (x ∷ xs) = ap (λ (b : Bool). f (g x) || b) (any-map f g xs)
+
+  pub any-reverse : (f : A → Bool) (xs : List A) → any f (reverse xs) ≡ any f xs
+  unfolding any
+  any-reverse f [] = refl
+  any-reverse f (x ∷ xs) = ap (any f) (reverse-cons x xs) ∙ any-append f (reverse xs) (x ∷ []) ∙ or-comm (any f (reverse xs)) _ ∙ ap₂ _||_ (or-false (f x)) (any-reverse f xs)
+
+  pub any-or : (f g : A → Bool) (xs : List A) → any (λ x. f x || g x) xs ≡ any f xs || any g xs
+  unfolding any
+  any-or f g [] = refl
+  any-or f g (x ∷ xs) =
+      by-test (f x) (λ e. rw e) (λ e. by-test (g x) (λ h. rw (e, h) (sym (or-true (any f xs)))) (λ h. rw (e, h) (any-or f g xs)))
+
+  -- those before the first that passes a test, where none of the first ones does
+  pub until-none : (f : A → Bool) (xs ys : List A) → all (λ x. not (f x)) xs ≡ true → until f (xs ++ ys) ≡ xs ++ until f ys
+  unfolding until
+  until-none f [] ys e = refl
+  until-none f (x ∷ xs) ys e = rw (not-true (f x) (all-first _ x xs e)) (ap (λ (l : List A). x ∷ l) (until-none f xs ys (all-later _ x xs e)))

@@ -6,10 +6,10 @@ use mathlib.Core.List.{List, [], _∷_, _++_}
 use Prim.Native.Nat.{ℕ, suc, _+_, _<_, _≤_}
 use native.Mathlib.Numerals.{add-one}
 use native.Mathlib.Omega.{arith}
-use lib.Dec.{eqb, eqb·zero-suc, eqb·suc-suc, leb}
+use lib.Dec.{eqb, eqb·zero-suc, eqb·suc-suc, leb, ltb}
 use lib.ListN.{length, getD, take, drop, length-append, drop-of-length-le}
 use lib.Seq.{drop-cons, take-append-seam, drop-append-seam}
-use borrow.Author.Tests.{eq-eqb, ne-eqb, eqb-true, eqb-false, le-leb, lt-leb, leb-true}
+use borrow.Author.Tests.{eq-eqb, ne-eqb, eqb-true, eqb-false, le-leb, lt-leb, leb-true, leb-false, ltb-true, ltb-false}
 use Rattle.rules.specs.Bytes.{same, all, run, rest, within, isNameStart, isNameByte, legal}
 
 -- what holds of both branches, each under its test, holds of the choice
@@ -156,3 +156,13 @@ module _ (a b : List ℕ) (i : ℕ) where
   pub same-end : length a ≤ i → length b ≤ i → same (drop i a) (drop i b) ≡ true
   unfolding same
   same-end h k = rw (drop-of-length-le a h, drop-of-length-le b k)
+
+-- by the order of two numbers: of a choice that tests it, and of any proof
+pub by-le : {A : Type 0} (P : A → Type 0) (m n : ℕ) {x y : A} → (m ≤ n → P x) → (n < m → P y) → P (cond (leb m n) x y)
+by-le P m n f g = by-cond P (leb m n) (λ e. f (leb-true m n e)) (λ e. g (leb-false m n e))
+
+pub by-lt : {A : Type 0} (P : A → Type 0) (m n : ℕ) {x y : A} → (m < n → P x) → (n ≤ m → P y) → P (cond (ltb m n) x y)
+by-lt P m n f g = by-cond P (ltb m n) (λ e. f (ltb-true m n e)) (λ e. g (ltb-false m n e))
+
+pub by-order : {P : Type 0} (m n : ℕ) → (m ≤ n → P) → (n < m → P) → P
+by-order m n f g = by-test (leb m n) (λ e. f (leb-true m n e)) (λ e. g (leb-false m n e))

@@ -1,21 +1,19 @@
 -- Laws of lists: joined and mapped lists, an element by its number, the last elements; the bits of a wire, nothing before the bytes of a string.
 -- Assumes nothing.
-use mathlib.Core.Path.{_≡_, refl, sym, ap, ap₂, _∙_}
+use mathlib.Core.Path.{_≡_, refl, sym, ap, ap₂, _∙_, subst}
 use mathlib.Core.Logic.{_⊎_, inl, inr, ⊎-elim}
 use mathlib.Core.Bool.{Bool, true, false, cond, false≢true}
-use mathlib.Core.List.{List, [], _∷_, _++_, map, flatMap, zip, zipWith, dropLast, reverse, reverseAux, append-assoc, append-nil, map-append, map-id, reverse-cons, reverse-append, reverse-reverse}
+use mathlib.Core.List.{List, [], _∷_, _++_, map, flatMap, zip, zipWith, dropLast, reverse, reverseAux, reverseAux-eq, append-assoc, append-nil, map-append, map-id, reverse-cons, reverse-append, reverse-reverse}
 use mathlib.Core.Option.{Option, Option·map, Option·elim, none, some}
 use Prim.Native.Nat.{ℕ, zero, suc, _+_, _≤_, _<_}
 use native.Mathlib.Nat.{add-zero}
 use native.Mathlib.Omega.{arith}
-use lib.Dec.{ltb}
 use lib.ListN.{length, getD, getElem?, take, drop, replicate, length-append, length-reverse, take-append-drop, List·getD-append}
 use lib.Seq.{getD-at, take-append-seam}
-use borrow.Author.Tests.{ltb-true, ltb-false}
 use Rattle.rules.specs.Tokens.{Quoted, closed, broken, quotedOnto}
 use Rattle.rules.specs.Signals.{wireBits}
 use Rattle.rules.specs.Judgement.{until, only}
-use Rattle.scanner.specs.Laws.{by-test}
+use Rattle.scanner.specs.Laws.{by-test, by-order}
 
 module _ {A B : Type 0} (f : A → List B) where
   pub flatMap-append : (xs ys : List A) → flatMap f (xs ++ ys) ≡ flatMap f xs ++ flatMap f ys
@@ -143,9 +141,9 @@ module _ {A : Type 0} where
   pub element-stays : (f : A → Bool) (xs ys : List A) (i : ℕ) → Option·elim (getElem? xs i) false f ≡ true → Option·elim (getElem? (xs ++ ys) i) false f ≡ true
   unfolding Option·elim
   element-stays f xs ys i e =
-      by-test (ltb i (length xs))
-      (λ t. rw (element-front xs ys i (ltb-true i (length xs) t)) e)
-      (λ t. absurd (false≢true (rw (element-none xs i (ltb-false i (length xs) t)) at e)))
+      by-order (length xs) i
+      (λ h. absurd (false≢true (rw (element-none xs i h) at e)))
+      (λ h. rw (element-front xs ys i h) e)
 
   -- the one between two lists
   pub element-at : (xs : List A) (y : A) (ys : List A) (n : ℕ) → n ≡ length xs → getElem? (xs ++ y ∷ ys) n ≡ some y
@@ -236,3 +234,12 @@ module _ {A : Type 0} where
   pub both-begin : (xs ys more less : List A) → xs ≡ more ++ ys → ys ≡ less ++ xs → ys ≡ xs
   both-begin xs ys [] less e d = sym e
   both-begin xs ys (x ∷ more) less e d = absurd (omega (arith, ap length e, ap length d, length-append more ys, length-append less xs))
+
+-- what a list keeps without its first element, it keeps without its first ones, in their order or the last one first
+module _ {A : Type 0} (P : List A → Type 0) (later : (x : A) (xs : List A) → P (x ∷ xs) → P xs) where
+  pub keeps-behind : (xs ys : List A) → P (xs ++ ys) → P ys
+  keeps-behind [] ys p = p
+  keeps-behind (x ∷ xs) ys p = keeps-behind xs ys (later x (xs ++ ys) p)
+
+  pub keeps-before : (xs ys : List A) → P (reverseAux xs ys) → P ys
+  keeps-before xs ys p = keeps-behind (reverse xs) ys (subst P (reverseAux-eq xs ys) p)

@@ -7,7 +7,7 @@ use Prim.Native.Nat.{ℕ, zero, suc, _+_, _-_, _≤_, _<_}
 use native.Mathlib.Numerals.{add-one}
 use native.Mathlib.Omega.{arith}
 use lib.ListN.{length, getD, take, drop, length-take, length-drop, drop-of-length-le, take-append-drop}
-use lib.Seq.{slice, slice-cons, take-all, take-length, take-nil, take-take, take-add, take-append-seam, drop-drop, drop-append-seam}
+use lib.Seq.{slice, slice-cons, take-all, take-length, take-nil, take-take, take-add, take-append-seam, drop-drop, drop-append-seam, length-take-le}
 use Rattle.rules.specs.Bytes.{all}
 
 module _ {A : Type 0} where
@@ -64,6 +64,9 @@ module _ {A : Type 0} where
   -- as many elements as were there
   pub take-taken : (n : ℕ) (l : List A) → take (length (take n l)) l ≡ take n l
   take-taken n l = ap (take (length (take n l))) (sym (take-append-drop n l)) ∙ take-append-seam (take n l) (drop n l)
+
+  pub length-part : (xs : List A) (l n : ℕ) → l + n ≤ length xs → length (take n (drop l xs)) ≡ n
+  length-part xs l n h = length-take-le n (drop l xs) (omega (arith, length-drop l xs))
 
 -- a test of all values of a part, value by value
 module _ (f : ℕ → Bool) (l : List ℕ) (i to : ℕ) where

@@ -1,7 +1,7 @@
 -- The parts of what a shape means keep their rules, where those of the shape do.
 -- Assumes nothing.
 use Prim.Native.Nat.{ℕ}
-use mathlib.Core.Path.{_≡_, refl}
+use mathlib.Core.Path.{_≡_, refl, _∙_}
 use mathlib.Core.List.{List, [], _∷_, _++_, map, flatMap, Option·toList}
 use mathlib.Core.Bool.{Bool, true, _&&_, false≢true}
 use lib.Dec.{leb}
@@ -15,7 +15,7 @@ use Rattle.rules.specs.Numbers.{inRange, goodLiteral, goodNumbers, numberOr, po
 use Rattle.rules.specs.Signals.{Wires, kept, valueBits, literalBits, literalWidth, width, bits, goodSlice, parts, partsOf}
 use Rattle.rules.specs.Judgement.{portNumbers, equalWidths}
 use Rattle.scanner.specs.Laws.{and-true-left, within-high}
-use Rattle.scanner.specs.Elements.{all-left, all-right, all-cons, all-first, all-later, each-test}
+use Rattle.scanner.specs.Elements.{all-map, all-both, all-left, all-right, all-cons, all-first, each-test}
 use Rattle.past.specs.Offsets.{good-offset, memory-offset}
 use Rattle.literals.proofs.CodeLaws.{literal-long}
 use Rattle.admitted.specs.Admitted.{fineConstant, ownWire, fineMemory, fineSignal, sameLength}
@@ -38,11 +38,7 @@ constant-fine (integer i) g f = g
 constant-fine (string s) g f = f
 
 pub constants-fine : (cs : List Literal) → all goodLiteral cs ≡ true → all fineLiteral cs ≡ true → all fineConstant (map kept cs) ≡ true
-unfolding all
-constants-fine [] g f = refl
-constants-fine (c ∷ cs) g f =
-    all-cons fineConstant (kept c) (map kept cs) (constant-fine c (all-first goodLiteral c cs g) (all-first fineLiteral c cs f))
-    (constants-fine cs (all-later goodLiteral c cs g) (all-later fineLiteral c cs f))
+constants-fine cs g f = all-map fineConstant kept cs ∙ all-both goodLiteral fineLiteral _ constant-fine cs g f
 
 -- ---- wires and memories
 

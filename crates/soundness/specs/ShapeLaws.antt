@@ -128,23 +128,11 @@ Raw c = fineLiteral c ≡ true
 
 id-finds : Finds Legal id
 unfolding id isId fineToken
-id-finds = token-finds Legal isId by-token
-  where
-    by-token : (t : Token) → fineToken t ≡ true → Got Legal (isId t)
-    by-token (name n) h = got h
-    by-token (word w) h = got-none
-    by-token (literal c) h = got-none
-    by-token (mark m) h = got-none
+id-finds = token-finds Legal isId (elim [ name n ↦ λ h. got h | word w ↦ λ h. got-none | literal c ↦ λ h. got-none | mark m ↦ λ h. got-none ])
 
 const-finds : Finds Raw const
 unfolding const isConstant fineToken
-const-finds = token-finds Raw isConstant by-token
-  where
-    by-token : (t : Token) → fineToken t ≡ true → Got Raw (isConstant t)
-    by-token (name n) h = got-none
-    by-token (word w) h = got-none
-    by-token (literal c) h = got h
-    by-token (mark m) h = got-none
+const-finds = token-finds Raw isConstant (elim [ name n ↦ λ h. got-none | word w ↦ λ h. got-none | literal c ↦ λ h. got h | mark m ↦ λ h. got-none ])
 
 -- what is asked of nothing
 any-got : {A : Type 0} (o : Option A) → Got Any o

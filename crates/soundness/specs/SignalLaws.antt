@@ -3,19 +3,19 @@
 use Prim.Native.Nat.{ℕ, zero, suc, _+_, _≤_}
 use native.Mathlib.Omega.{arith}
 use mathlib.Core.Path.{_≡_, refl, ap₂, _∙_}
-use mathlib.Core.List.{List, [], _∷_, map, reverse, reverseAux}
+use mathlib.Core.List.{[], _∷_, map, reverse, reverseAux}
 use mathlib.Core.Option.{Option, none, some, Option·elim}
 use mathlib.Core.Bool.{true, false≢true}
 use lib.Dec.{leb, ltb}
 use lib.IntN.{ℤ, pos, negsuc, natAbs}
-use lib.ListN.{length, take, drop, getElem?, length-append, length-map, length-drop}
-use lib.Seq.{length-take-le}
+use lib.ListN.{length, getElem?, length-append, length-map}
 use borrow.Author.Tests.{leb-true, ltb-true, lt-ltb}
 use Rattle.rules.specs.Bytes.{same, all}
 use Rattle.rules.specs.Tokens.{Name, Literal}
-use Rattle.rules.specs.Statements.{Sig, Sigs, constant, wire, slice, bundle, nothing, _below_, Bit, digit, bit, Wire}
+use Rattle.rules.specs.Statements.{Sig, Sigs, constant, wire, slice, bundle, nothing, _below_, digit, bit, Wire}
 use Rattle.rules.specs.Numbers.{goodNumbers}
 use Rattle.rules.specs.Signals.{Wires, find, literalBits, wireBits, inside, lower, span, width, widths, bits, bitsOf, goodSlice, parts, partsOf}
+use Rattle.scanner.specs.Parts.{length-part}
 use Rattle.scanner.specs.Laws.{by-cond, and-true-left, and-true-right}
 use Rattle.literals.proofs.CodeLaws.{literal-long}
 use Rattle.admitted.specs.Admitted.{fineBit}
@@ -86,14 +86,11 @@ inside-room w (pos h) (negsuc l) e = absurd (false≢true e)
 inside-room w (negsuc h) (pos l) e = absurd (false≢true e)
 inside-room w (negsuc h) (negsuc l) e = absurd (false≢true e)
 
-part-long : (xs : List Bit) (l n : ℕ) → l + n ≤ length xs → length (take n (drop l xs)) ≡ n
-part-long xs l n h = length-take-le n (drop l xs) (omega (arith, length-drop l xs))
-
 module _ (ws : Wires) where
   slice-long : (s : Sig) (h : ℤ) (l : Option ℤ) → goodSlice ws (slice s h l) ≡ true → length (bits ws s) ≡ width ws s → length (bits ws (slice s h l)) ≡ width ws (slice s h l)
   unfolding goodSlice bits width
   slice-long s h l g e =
-      part-long (bits ws s) (natAbs (lower h l)) (span h (lower h l)) (omega (arith, inside-room (width ws s) h (lower h l) g))
+      length-part (bits ws s) (natAbs (lower h l)) (span h (lower h l)) (omega (arith, inside-room (width ws s) h (lower h l) g))
 
   -- where numbers and slices are good
   mutual

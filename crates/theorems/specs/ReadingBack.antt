@@ -14,7 +14,8 @@ use Rattle.rules.specs.Layout.{Memory}
 use Rattle.rules.specs.Text.{textFrom, text}
 use Rattle.admitted.specs.Admitted.{admitted, closes}
 use Rattle.admitted.specs.Holds.{Holds}
-use Rattle.order.specs.Canonical.{Whole, now-whole, now-design}
+use Rattle.order.specs.DesignLaws.{design-flatten}
+use Rattle.order.specs.Canonical.{Whole, now-whole}
 use Rattle.written.specs.TextLaws.{any-read, text-read}
 
 -- a list of statements, in any order that is admitted, and of any length
@@ -40,4 +41,4 @@ module _ {m : Memory} {ss : List Statement} {rs : List Rename} (h : Holds m ss r
 
   -- which have that design
   pub same-design : design (flatten held) ≡ held
-  same-design = now-design ss rs (record { admitted = h .admitted; closes = h .closes }) (h .allowed)
+  same-design = design-flatten held

@@ -3,7 +3,7 @@
 use Prim.Native.Nat.{ℕ, suc, _+_, _/_, _≤_, _<_}
 use mathlib.Core.Path.{_≡_, sym}
 use mathlib.Core.List.{List, Option·toList}
-use mathlib.Core.Bool.{Bool, true, false, or-false}
+use mathlib.Core.Bool.{Bool, true, false, or-false, _||_}
 use mathlib.Core.Option.{some}
 use lib.Dec.{eqb}
 use Rattle.rules.specs.Bytes.{same, any}
@@ -27,13 +27,9 @@ module _ (names t : List ℕ) (first k j : ℕ) (e : k ≡ suc j) where
     unfolding find wiresFrom
     find-before h = rw (e, row-same, h)
 
-  pub taken-last : (p : ℕ) → hasPort p (wireOf t (first + j)) ≡ true → any (λ v. any (eqb p) (portNumbers (v .1))) (wiresFrom names t first k) ≡ true
+  pub taken-turn : (p : ℕ) (b : Bool) → hasPort p (wireOf t (first + j)) ≡ b → any (λ v. any (eqb p) (portNumbers (v .1))) (wiresFrom names t first k) ≡ b || any (λ v. any (eqb p) (portNumbers (v .1))) (wiresFrom names t first j)
   unfolding any wiresFrom hasPort
-  taken-last p h = rw (e, h)
-
-  pub taken-before : (p : ℕ) → hasPort p (wireOf t (first + j)) ≡ false → any (λ v. any (eqb p) (portNumbers (v .1))) (wiresFrom names t first k) ≡ any (λ v. any (eqb p) (portNumbers (v .1))) (wiresFrom names t first j)
-  unfolding any wiresFrom hasPort
-  taken-before p h = rw (e, h)
+  taken-turn p b h = rw (e, h)
 
 module _ (t : List ℕ) (row p d : ℕ) (e : d ≡ column t row 5 / 4) where
   -- a code other than 1, 2 and 3 is no port's

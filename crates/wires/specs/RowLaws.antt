@@ -6,16 +6,16 @@ use mathlib.Core.List.{List, [], reverse, reverseAux}
 use mathlib.Core.Option.{Option, none, some, Option·elim}
 use mathlib.Core.Bool.{Bool, true, false, cond}
 use native.Mathlib.Omega.{arith}
-use lib.Dec.{eqb, ltb}
+use lib.Dec.{eqb}
 use lib.ListN.{length, getD, getElem?, take, drop, length-reverse}
 use lib.Seq.{getD-take, getD-drop}
-use borrow.Author.Tests.{ltb-true, ltb-false, ne-eqb}
+use borrow.Author.Tests.{ne-eqb}
 use Rattle.rules.specs.Signals.{Wires}
 use Rattle.rules.specs.Tokens.{Name}
 use Rattle.rules.specs.Statements.{Wire, Direction, input, output, inout}
 use Rattle.rules.specs.Numbers.{int32}
 use Rattle.rules.specs.Layout.{Used, padded, row, directionCode, flags, wireRow}
-use Rattle.scanner.specs.Laws.{by-test}
+use Rattle.scanner.specs.Laws.{by-order}
 use Rattle.scanner.specs.Lists.{element-none, element-behind}
 use Rattle.scanner.specs.Parts.{slice-span}
 use Rattle.numbers.specs.SignedLaws.{signed-word}
@@ -29,6 +29,11 @@ length-wires names t first (suc k) = ap suc (length-wires names t first k)
 pub length-wire-row : (u : Used) (x : Name × Wire) → length (wireRow u x) ≡ 8
 unfolding wireRow row padded
 length-wire-row u x = refl
+
+-- what stands in a table from a place on, where two columns say where and how much
+pub span-has : (t rows : List ℕ) (k c at : ℕ) (xs : List ℕ) → column rows k c ≡ at → column rows k (c + 1) ≡ length xs → take (length xs) (drop at t) ≡ xs → spanAt t rows k c ≡ xs
+unfolding spanAt
+span-has t rows k c at xs ea en e = rw (ea, en) (slice-span at (length xs) t ∙ e)
 
 -- row k of a table has these eight columns
 abbrev pub RowIs : List ℕ → ℕ → List ℕ → Type 0
@@ -85,8 +90,8 @@ module _ (t : List ℕ) (k : ℕ) (u : Used) (n : Name) (w : Wire) (h : RowIs t 
       rw (h 3 (omega arith), h 4 (omega arith), h 6 (omega arith), flags-are, f .0, f .1, f .2, bool-code (w .upto), bool-code (w .signed), port-back, signed-word (w .offset) o)
 
   pub row-name : (names : List ℕ) → take (length n) (drop (u .names) names) ≡ n → nameOf names t k ≡ n
-  unfolding wireRow row padded nameOf spanAt
-  row-name names e = rw (h 1 (omega arith), h 2 (omega arith)) (slice-span (u .names) (length n) names ∙ e)
+  unfolding wireRow row padded nameOf
+  row-name names e = span-has names t k 1 (u .names) n (h 1 (omega arith)) (h 2 (omega arith)) e
 
 -- ---- from a row's columns to its wire's parts: the flags and the port's number are the columns again
 
@@ -146,9 +151,9 @@ module _ (names t : List ℕ) (first j : ℕ) where
   unfolding wiresFrom
   numbered zero r h = absurd (omega arith)
   numbered (suc k) r h =
-      by-test (ltb j k) (λ e. numbered k _ (ltb-true j k e))
-      (λ e. let q : j ≡ k = omega (arith, ltb-false j k e) in
-      element-behind (wiresFrom names t first k) _ 0 j (omega (arith, length-wires names t first k)) ∙ rw q)
+      by-order k j
+      (λ e. let q : j ≡ k = omega arith in element-behind (wiresFrom names t first k) _ 0 j (omega (arith, length-wires names t first k)) ∙ rw q)
+      (numbered k _)
 
   pub wire-numbered : (count : ℕ) → j < count → getElem? (reverse (wiresFrom names t first count)) j ≡ some (nameOf names t (first + j), wireOf t (first + j))
   wire-numbered count h = numbered count [] h

@@ -5,15 +5,15 @@ use mathlib.Core.Bool.{Bool, true, false, cond}
 use mathlib.Core.List.{List, [], _∷_, _++_, map, flatMap}
 use Prim.Native.Nat.{ℕ, zero, suc, _+_, _/_, _%_, _≤_}
 use native.Mathlib.Omega.{arith}
-use lib.Dec.{ltb, eqb}
+use lib.Dec.{eqb}
 use lib.IntN.{pos, negsuc}
 use lib.ListN.{length, replicate}
-use borrow.Author.Tests.{ltb-false, ne-eqb, not-true}
+use borrow.Author.Tests.{ne-eqb, not-true}
 use Rattle.rules.specs.Bytes.{all, isLineEnd, isNameStart, isNameByte, isLower, isDigit, isMark, legal, bytesOpen}
 use Rattle.rules.specs.Tokens.{Digit, S0, S1, Sx, Sz, Sm, Sa, Literal, value, integer, string, Token, name, word, literal, mark}
 use Rattle.rules.specs.Lines.{Line, longer, linesFrom}
 use Rattle.rules.specs.Text.{decimalText, integerText, digitByte, escaped, literalText, tokenText, tight, behind, spaced}
-use Rattle.scanner.specs.Laws.{by-cond, within-low}
+use Rattle.scanner.specs.Laws.{by-cond, by-lt, within-low}
 use Rattle.scanner.proofs.LineLaws.{inLine}
 use Rattle.scanner.specs.Elements.{all-append, by-any, all-implied, all-cons, all-first, all-later, all-map, all-each, all-flatMap}
 use Rattle.written.specs.NumberLaws.{Digits, some-digits, decimal-digits}
@@ -74,7 +74,7 @@ escaped-free b =
     (λ q. by-cond P (eqb b 92) (λ t. refl)
     (λ s. by-cond P (eqb b 10) (λ t. refl)
     (λ n. by-cond P (eqb b 9) (λ t. refl)
-    (λ m. by-cond P (ltb b 32) (λ t. octal-free b) (λ t. byte-free b (ltb-false b 32 t))))))
+    (λ m. by-lt P b 32 (λ t. octal-free b) (byte-free b)))))
 
 string-free : (s : List ℕ) → all inLine (flatMap escaped s) ≡ true
 string-free s = all-flatMap inLine escaped escaped-free s

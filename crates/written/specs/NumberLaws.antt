@@ -5,21 +5,19 @@ use mathlib.Core.Bool.{true}
 use mathlib.Core.List.{List, [], _∷_}
 use Prim.Native.Nat.{ℕ, zero, suc, _+_, _/_, _%_, _<_}
 use native.Mathlib.Omega.{arith}
-use lib.Dec.{ltb}
-use borrow.Author.Tests.{ltb-true, ltb-false}
 use Rattle.rules.specs.Bytes.{all, isDigit}
 use Rattle.rules.specs.Tokens.{number, decimal}
 use Rattle.rules.specs.Text.{decimalOnto, decimalText}
-use Rattle.scanner.specs.Laws.{by-cond, within-yes}
+use Rattle.scanner.specs.Laws.{by-lt, within-yes}
 use Rattle.scanner.specs.Elements.{all-cons}
 
 number-onto : (k n : ℕ) (ds : List ℕ) → n < k → number 10 0 (decimalOnto k n ds) ≡ number 10 n ds
 unfolding decimalOnto number
 number-onto zero n ds h = absurd (omega arith)
 number-onto (suc k) n ds h =
-    by-cond (λ (l : List ℕ). number 10 0 l ≡ number 10 n ds) (ltb n 10)
-    (λ t. ap (λ (m : ℕ). number 10 m ds) (omega (arith, ltb-true n 10 t)))
-    (λ t. number-onto k (n / 10) ((48 + n % 10) ∷ ds) (omega (arith, ltb-false n 10 t)) ∙ ap (λ (m : ℕ). number 10 m ds) (omega arith))
+    by-lt (λ (l : List ℕ). number 10 0 l ≡ number 10 n ds) n 10
+    (λ t. ap (λ (m : ℕ). number 10 m ds) (omega arith))
+    (λ t. number-onto k (n / 10) ((48 + n % 10) ∷ ds) (omega arith) ∙ ap (λ (m : ℕ). number 10 m ds) (omega arith))
 
 pub decimal-text : (n : ℕ) → decimal (decimalText n) ≡ n
 unfolding decimal decimalText number
@@ -37,9 +35,9 @@ digits-onto : (k n : ℕ) (ds : List ℕ) → n < k → all isDigit ds ≡ true 
 unfolding decimalOnto
 digits-onto zero n ds h a = absurd (omega arith)
 digits-onto (suc k) n ds h a =
-    by-cond Digits (ltb n 10)
+    by-lt Digits n 10
     (λ t. some-digits (last-digit n) a)
-    (λ t. digits-onto k (n / 10) ((48 + n % 10) ∷ ds) (omega (arith, ltb-false n 10 t)) (all-cons isDigit (48 + n % 10) ds (last-digit n) a))
+    (λ t. digits-onto k (n / 10) ((48 + n % 10) ∷ ds) (omega arith) (all-cons isDigit (48 + n % 10) ds (last-digit n) a))
 
 pub decimal-digits : (n : ℕ) → Digits (decimalText n)
 unfolding decimalText all

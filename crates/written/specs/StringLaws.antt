@@ -5,12 +5,12 @@ use mathlib.Core.Bool.{true, false}
 use mathlib.Core.List.{List, [], _∷_, _++_, flatMap, append-assoc}
 use Prim.Native.Nat.{ℕ, _+_, _-_, _*_, _/_, _%_, _<_, _≤_}
 use native.Mathlib.Omega.{arith}
-use lib.Dec.{ltb, eqb}
-use borrow.Author.Tests.{ltb-true, ltb-false, eqb-true, ne-eqb}
+use lib.Dec.{eqb}
+use borrow.Author.Tests.{eqb-true, ne-eqb}
 use Rattle.rules.specs.Bytes.{all, within, isOctal, isStringByte, isLineEnd, bytesOpen}
 use Rattle.rules.specs.Tokens.{Inside, plain, escape, octal, goes, closed, turn, octalTurn, octalByte, onto, plainTurn, escapeTurn, quotedOnto, quotedBy, quoted}
 use Rattle.rules.specs.Text.{escaped}
-use Rattle.scanner.specs.Laws.{by-cond, within-yes, within-low, within-high}
+use Rattle.scanner.specs.Laws.{by-cond, by-lt, within-yes, within-low, within-high}
 use Rattle.scanner.specs.Lists.{onto-none}
 use Rattle.scanner.specs.Elements.{all-first, all-later}
 
@@ -67,8 +67,7 @@ module _ (b : ℕ) (l : List ℕ) (low : 1 ≤ b) (high : b ≤ 255) where
       (λ q. by-cond P (eqb b 92) (λ t. as-escape 92 (rw (eqb-true b 92 t)))
       (λ s. by-cond P (eqb b 10) (λ t. as-escape 110 (rw (eqb-true b 10 t)))
       (λ n. by-cond P (eqb b 9) (λ t. as-escape 116 (rw (eqb-true b 9 t)))
-      (λ m. by-cond P (ltb b 32) (λ t. as-octal (ltb-true b 32 t))
-      (λ t. as-plain (ltb-false b 32 t) q s)))))
+      (λ m. by-lt P b 32 as-octal (λ t. as-plain t q s)))))
 
 pub quoted-string : (s l : List ℕ) → all (within 1 255) s ≡ true → quoted plain (flatMap escaped s ++ 34 ∷ l) ≡ closed s l
 unfolding flatMap quoted quotedBy turn plainTurn quotedOnto

@@ -9,8 +9,8 @@ use Prim.Native.String.{String}
 use lib.Dec.{eqb}
 use lib.IntN.{ℤ, pos}
 use lib.ListN.{length, drop}
-use Rattle.rules.specs.Bytes.{bytes, all, isMark, legal, bytesOpen}
-use Rattle.rules.specs.Tokens.{Name, Literal, Token, name, word, literal, mark, keywords, isKeyword}
+use Rattle.rules.specs.Bytes.{bytes, all, legal, bytesOpen}
+use Rattle.rules.specs.Tokens.{Name, Token, name, word, literal, mark, keywords, isKeyword}
 use Rattle.rules.specs.Statements.{Sig, wire, slice, bundle, nothing, Opt, Sort, Constant, Signal, Direction, input, output, inout, Wire, Memory, Statement, autoidx-stmt, attr-stmt, module-stmt, param-stmt, wire-stmt, memory-stmt, cell-stmt, cell-param-stmt, cell-conn-stmt, conn-stmt, proc-stmt, end-stmt, contents, holds, translate}
 use Rattle.rules.specs.Shapes.{sigs}
 use Rattle.rules.specs.Signals.{Wires}
@@ -26,25 +26,13 @@ use Rattle.written.specs.TokenLaws.{fineLiteral, fineToken, Fine}
 unfoldable pub legalNames : Wires → Bool
 legalNames ws = all (λ w. legal (w .0)) ws
 
-mark-fine : (m : ℕ) → isMark m ≡ true → (ts : List Token) → Fine ts → Fine (mark m ∷ ts)
-unfolding Fine fineToken
-mark-fine m h ts f = all-cons fineToken (mark m) ts h f
+more-fine : (t : Token) (ts : List Token) → fineToken t ≡ true → Fine ts → Fine (t ∷ ts)
+unfolding Fine
+more-fine t ts h f = all-cons fineToken t ts h f
 
 number-fine : (i : ℤ) (ts : List Token) → Fine ts → Fine (numberToken i ∷ ts)
-unfolding Fine fineToken fineLiteral numberToken
-number-fine i ts f = all-cons fineToken (numberToken i) ts refl f
-
-name-fine : (n : Name) (ts : List Token) → legal n ≡ true → Fine ts → Fine (name n ∷ ts)
-unfolding Fine fineToken
-name-fine n ts h f = all-cons fineToken (name n) ts h f
-
-word-fine : (w : List ℕ) (ts : List Token) → isKeyword w ≡ true → Fine ts → Fine (word w ∷ ts)
-unfolding Fine fineToken
-word-fine w ts h f = all-cons fineToken (word w) ts h f
-
-literal-fine : (c : Literal) (ts : List Token) → fineLiteral c ≡ true → Fine ts → Fine (literal c ∷ ts)
-unfolding Fine fineToken
-literal-fine c ts h f = all-cons fineToken (literal c) ts h f
+unfolding fineToken fineLiteral numberToken
+number-fine i ts f = more-fine (numberToken i) ts refl f
 
 none-fine : Fine []
 unfolding Fine all
@@ -57,24 +45,24 @@ append-fine ts us f g = all-append fineToken ts us f g
 -- ---- signals
 
 low-fine : (l : Option ℤ) → Fine (lowTokens l)
-unfolding lowTokens bytesOpen
+unfolding lowTokens bytesOpen fineToken
 low-fine none = none-fine
-low-fine (some l) = mark-fine 58 refl (numberToken l ∷ []) (number-fine l [] none-fine)
+low-fine (some l) = more-fine (mark 58) (numberToken l ∷ []) refl (number-fine l [] none-fine)
 
 unfoldable fineSig : Sig → Bool
 fineSig s = all fineToken (sigTokens s)
 
 slice-fine : (s : Sig) (h : ℤ) (l : Option ℤ) → fineSig s ≡ true → fineSig (slice s h l) ≡ true
-unfolding Fine fineSig sigTokens bytesOpen
+unfolding Fine fineSig sigTokens bytesOpen fineToken
 slice-fine s h l f =
     append-fine (sigTokens s ++ mark 91 ∷ numberToken h ∷ lowTokens l) (mark 93 ∷ [])
     (append-fine (sigTokens s) (mark 91 ∷ numberToken h ∷ lowTokens l) f
-    (mark-fine 91 refl (numberToken h ∷ lowTokens l) (number-fine h (lowTokens l) (low-fine l))))
-    (mark-fine 93 refl [] none-fine)
+    (more-fine (mark 91) (numberToken h ∷ lowTokens l) refl (number-fine h (lowTokens l) (low-fine l))))
+    (more-fine (mark 93) [] refl none-fine)
 
 wire-fine : (n : Name) → legal n ≡ true → fineSig (wire n) ≡ true
-unfolding Fine fineSig sigTokens
-wire-fine n h = name-fine n [] h none-fine
+unfolding Fine fineSig sigTokens fineToken
+wire-fine n h = more-fine (name n) [] h none-fine
 
 sigs-fine : (ss : List Sig) → all fineSig ss ≡ true → Fine (sigsTokens (sigs ss))
 unfolding Fine fineSig sigTokens sigs
@@ -82,11 +70,11 @@ sigs-fine [] f = none-fine
 sigs-fine (s ∷ ss) f = append-fine (sigsTokens (sigs ss)) (sigTokens s) (sigs-fine ss (all-later fineSig s ss f)) (all-first fineSig s ss f)
 
 bundle-fine : (ss : List Sig) → all fineSig ss ≡ true → fineSig (bundle (sigs ss)) ≡ true
-unfolding Fine fineSig sigTokens bytesOpen
+unfolding Fine fineSig sigTokens bytesOpen fineToken
 bundle-fine ss f =
     append-fine (mark 123 ∷ sigsTokens (sigs ss)) (mark 125 ∷ [])
-    (mark-fine 123 refl (sigsTokens (sigs ss)) (sigs-fine ss f))
-    (mark-fine 125 refl [] none-fine)
+    (more-fine (mark 123) (sigsTokens (sigs ss)) refl (sigs-fine ss f))
+    (more-fine (mark 125) [] refl none-fine)
 
 nothing-fine : fineSig (bundle nothing) ≡ true
 unfolding sigs all
@@ -113,8 +101,8 @@ names-drop n ws h = all-drop (λ (w : Name × Wire). legal (w .0)) n ws h
 
 module _ (ws : Wires) (h : legalNames ws ≡ true) where
   run-fine : (r : Run) → fineSig (runSig ws r) ≡ true
-  unfolding Fine runSig fineSig sigTokens fineLiteral
-  run-fine (digits ds) = literal-fine _ [] refl none-fine
+  unfolding Fine runSig fineSig sigTokens fineLiteral fineToken
+  run-fine (digits ds) = more-fine (literal _) [] refl none-fine
   run-fine (span n l k) = cut-fine (drop (length ws - (n + 1)) ws) l k (names-drop (length ws - (n + 1)) ws h)
 
   sig-fine : (bs : Signal) → Fine (sigTokens (sig ws bs))
@@ -132,11 +120,11 @@ numbers-fine none = none-fine
 numbers-fine (some i) = number-fine i [] none-fine
 
 options-fine : (os : List Opt) → Each KeywordFirst os → Fine (optionTokens os)
-unfolding optionTokens
+unfolding optionTokens fineToken
 options-fine [] f = none-fine
 options-fine (o ∷ os) f =
     append-fine (optionTokens os) (word (o .0) ∷ map numberToken (Option·toList (o .1))) (options-fine os (f .1))
-    (word-fine (o .0) (map numberToken (Option·toList (o .1))) (f .0) (numbers-fine (o .1)))
+    (more-fine (word (o .0)) (map numberToken (Option·toList (o .1))) (f .0) (numbers-fine (o .1)))
 
 port-word : (d : Direction) → isKeyword (bytes (directionWord d)) ≡ true
 unfolding directionWord isKeyword keywords bytesOpen
@@ -155,10 +143,10 @@ memory-options m = memory-each KeywordFirst m refl refl refl
 -- ---- statements
 
 sort-fine : (o : Sort) → Fine (sortTokens o)
-unfolding sortTokens wordToken isKeyword keywords bytesOpen
+unfolding sortTokens wordToken isKeyword keywords bytesOpen fineToken
 sort-fine Sort.plain = none-fine
-sort-fine Sort.signed = word-fine (bytes "signed") [] refl none-fine
-sort-fine Sort.real = word-fine (bytes "real") [] refl none-fine
+sort-fine Sort.signed = more-fine (word (bytes "signed")) [] refl none-fine
+sort-fine Sort.real = more-fine (word (bytes "real")) [] refl none-fine
 
 constant-fine : (c : Constant) → fineConstant c ≡ true → fineLiteral (literalOf c) ≡ true
 unfolding fineConstant fineLiteral literalOf
@@ -167,39 +155,40 @@ constant-fine (Constant.integer i) h = refl
 constant-fine (Constant.string s) h = h
 
 constants-fine : (x : Option Constant) → all fineConstant (Option·toList x) ≡ true → Fine (map literal (Option·toList (Option·map literalOf x)))
-unfolding Option·toList
+unfolding Option·toList fineToken
 constants-fine none h = none-fine
-constants-fine (some c) h = literal-fine (literalOf c) [] (constant-fine c (all-first fineConstant c [] h)) none-fine
+constants-fine (some c) h = more-fine (literal (literalOf c)) [] (constant-fine c (all-first fineConstant c [] h)) none-fine
 
 first-fine : (w : String) → isKeyword (bytes w) ≡ true → (ts : List Token) → Fine ts → Fine (wordToken w ∷ ts)
-unfolding wordToken
-first-fine w h ts f = word-fine (bytes w) ts h f
+unfolding wordToken fineToken
+first-fine w h ts f = more-fine (word (bytes w)) ts h f
 
 named-fine : (w : String) → isKeyword (bytes w) ≡ true → (os : List Token) (n : Name) → Fine os → legal n ≡ true → Fine ((wordToken w ∷ os) ++ name n ∷ [])
-named-fine w h os n f g = append-fine (wordToken w ∷ os) (name n ∷ []) (first-fine w h os f) (name-fine n [] g none-fine)
+unfolding fineToken
+named-fine w h os n f g = append-fine (wordToken w ∷ os) (name n ∷ []) (first-fine w h os f) (more-fine (name n) [] g none-fine)
 
 module _ (ws : Wires) (h : legalNames ws ≡ true) where
   parts-fine : (s : Statement) → all legal (contents s .names) ≡ true → all fineConstant (contents s .constants) ≡ true → Fine (shapeTokens (written ws s))
-  unfolding contents holds written translate shapeTokens isKeyword keywords bytesOpen
+  unfolding contents holds written translate shapeTokens isKeyword keywords bytesOpen fineToken
   parts-fine (autoidx-stmt i) n c = first-fine "autoidx" refl _ (number-fine i [] none-fine)
   parts-fine (attr-stmt m v) n c =
-      first-fine "attribute" refl _ (name-fine m _ (all-first legal m [] n) (literal-fine (literalOf v) [] (constant-fine v (all-first fineConstant v [] c)) none-fine))
-  parts-fine (module-stmt m) n c = first-fine "module" refl _ (name-fine m [] (all-first legal m [] n) none-fine)
-  parts-fine (param-stmt m v) n c = first-fine "parameter" refl _ (name-fine m _ (all-first legal m [] n) (constants-fine v c))
+      first-fine "attribute" refl _ (more-fine (name m) _ (all-first legal m [] n) (more-fine (literal (literalOf v)) [] (constant-fine v (all-first fineConstant v [] c)) none-fine))
+  parts-fine (module-stmt m) n c = first-fine "module" refl _ (more-fine (name m) [] (all-first legal m [] n) none-fine)
+  parts-fine (param-stmt m v) n c = first-fine "parameter" refl _ (more-fine (name m) _ (all-first legal m [] n) (constants-fine v c))
   parts-fine (wire-stmt w m) n c = named-fine "wire" refl (optionTokens (wireOptions w)) m (options-fine (wireOptions w) (wire-options w)) (all-first legal m [] n)
   parts-fine (memory-stmt w m) n c = named-fine "memory" refl (optionTokens (memoryOptions w)) m (options-fine (memoryOptions w) (memory-options w)) (all-first legal m [] n)
   parts-fine (cell-stmt t m) n c =
-      first-fine "cell" refl _ (name-fine t _ (all-first legal t (m ∷ []) n) (name-fine m [] (all-first legal m [] (all-later legal t (m ∷ []) n)) none-fine))
+      first-fine "cell" refl _ (more-fine (name t) _ (all-first legal t (m ∷ []) n) (more-fine (name m) [] (all-first legal m [] (all-later legal t (m ∷ []) n)) none-fine))
   parts-fine (cell-param-stmt o m v) n c =
       append-fine (wordToken "parameter" ∷ sortTokens o) (name m ∷ literal (literalOf v) ∷ [])
       (first-fine "parameter" refl (sortTokens o) (sort-fine o))
-      (name-fine m _ (all-first legal m [] n) (literal-fine (literalOf v) [] (constant-fine v (all-first fineConstant v [] c)) none-fine))
-  parts-fine (cell-conn-stmt m b) n c = first-fine "connect" refl _ (name-fine m (sigTokens (sig ws b)) (all-first legal m [] n) (sig-fine ws h b))
+      (more-fine (name m) _ (all-first legal m [] n) (more-fine (literal (literalOf v)) [] (constant-fine v (all-first fineConstant v [] c)) none-fine))
+  parts-fine (cell-conn-stmt m b) n c = first-fine "connect" refl _ (more-fine (name m) (sigTokens (sig ws b)) (all-first legal m [] n) (sig-fine ws h b))
   parts-fine (conn-stmt a b) n c =
       append-fine (wordToken "connect" ∷ sigTokens (sig ws a)) (sigTokens (sig ws b))
       (first-fine "connect" refl (sigTokens (sig ws a)) (sig-fine ws h a))
       (sig-fine ws h b)
-  parts-fine (proc-stmt m) n c = first-fine "process" refl _ (name-fine m [] (all-first legal m [] n) none-fine)
+  parts-fine (proc-stmt m) n c = first-fine "process" refl _ (more-fine (name m) [] (all-first legal m [] n) none-fine)
   parts-fine end-stmt n c = first-fine "end" refl [] none-fine
 
 -- the tokens of a written statement can be written

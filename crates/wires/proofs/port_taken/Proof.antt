@@ -2,13 +2,14 @@
 -- Assumes nothing.
 use Prim.Native.Nat.{ℕ, suc, _-_, _≤_}
 use mathlib.Core.Path.{_≡_, refl, sym, _∙_}
+use mathlib.Core.Bool.{true, false}
 use mathlib.Core.List.{List}
 use native.Mathlib.Omega.{arith}
 use lib.Dec.{eqb}
 use Rattle.rules.specs.Bytes.{any}
 use Rattle.rules.specs.Judgement.{portNumbers}
 use Rattle.wires.specs.Rows.{wiresFrom}
-use Rattle.wires.proofs.SearchLaws.{taken-last, taken-before}
+use Rattle.wires.proofs.SearchLaws.{taken-turn}
 use Rattle.wires.proofs.port_taken.Statement.{statement}
 use Rattle.wires.proofs.port_taken.Tie as tie
 
@@ -36,7 +37,7 @@ has-port-requires c κs = omega arith
 returns : tie.Need-returns Inv-loop μ-loop
 returns c names =
     let e : c .before .before .before .loop .k ≡ suc (c .before .before .before .loop .k - 1) = omega arith in
-    sym (c .before .before .before .loop .inv .1 names ∙ taken-last names _ _ _ _ e (c .before .before .before .before .before .args .port) (sym (c .before .has-port .ensures) ∙ c .if1 .taken))
+    sym (c .before .before .before .loop .inv .1 names ∙ taken-turn names _ _ _ _ e (c .before .before .before .before .before .args .port) true (sym (c .before .has-port .ensures) ∙ c .if1 .taken))
 
 loop-less : tie.Need-loop-less Inv-loop μ-loop
 loop-less c = omega arith
@@ -44,7 +45,7 @@ loop-less c = omega arith
 loop-again : tie.Need-loop-again Inv-loop μ-loop
 loop-again c =
     let e : c .before .before .before .loop .k ≡ suc (c .before .before .before .loop .k - 1) = omega arith in
-    (omega arith, λ names. c .before .before .before .loop .inv .1 names ∙ taken-before names _ _ _ _ e (c .before .before .before .before .before .args .port) (sym (c .before .has-port .ensures) ∙ c .if1 .left))
+    (omega arith, λ names. c .before .before .before .loop .inv .1 names ∙ taken-turn names _ _ _ _ e (c .before .before .before .before .before .args .port) false (sym (c .before .has-port .ensures) ∙ c .if1 .left))
 
 returns-2 : tie.Need-returns-2 Inv-loop μ-loop
 unfolding any wiresFrom
