@@ -8,7 +8,7 @@ use native.Mathlib.Omega.{arith}
 use lib.Dec.{eqb}
 use borrow.Author.Tests.{eq-eqb, ne-eqb}
 use Rattle.rules.specs.Bytes.{bytes}
-use Rattle.scanner.specs.Laws.{one-le}
+use Rattle.scanner.specs.Laws.{cond-le}
 use Rattle.netlist.specs.Rows.{kindAt}
 use Rattle.wire_names.specs.Now.{wiresIn}
 use Rattle.wire_names.specs.declared.Module.{Module}
@@ -137,4 +137,4 @@ modules-start t C at o h =
     rw e (reaches-start at (moduleRows t C 0 0 0 (C .statements)) o h)
 
 pub one-at-most : (x y : ℕ) → y ≡ cond (eqb x 3) 1 0 → y ≤ 1
-one-at-most x y e = rw e (one-le (eqb x 3))
+one-at-most x y e = rw e (cond-le (eqb x 3) 1)

@@ -9,7 +9,7 @@ use native.Mathlib.Omega.{arith}
 use lib.Dec.{eqb, ltb}
 use borrow.Author.Tests.{eq-eqb, ne-eqb, eqb-true, eqb-false, ltb-true, ltb-false}
 use Rattle.wires.specs.Rows.{column}
-use Rattle.scanner.specs.Laws.{by-test, by-le, by-order, one-le}
+use Rattle.scanner.specs.Laws.{by-test, by-le, by-order, cond-le}
 use Rattle.designs.specs.Ranges.{rowsWhere, linesIn, lineOf, rowRange}
 
 -- one row more, and all of them
@@ -20,7 +20,7 @@ where-more f t k = let e : k + 1 ≡ suc k = omega arith in rw e
 pub where-le : (f : ℕ → Bool) (t : List ℕ) (k : ℕ) → rowsWhere f t k ≤ k
 unfolding rowsWhere
 where-le f t zero = omega arith
-where-le f t (suc k) = omega (arith, where-le f t k, one-le (f (column t k 0)))
+where-le f t (suc k) = omega (arith, where-le f t k, cond-le (f (column t k 0)) 1)
 
 -- the same of numbers that count them
 module _ (f : ℕ → Bool) (t : List ℕ) (k n : ℕ) (e : n ≡ rowsWhere f t k) where
@@ -50,7 +50,7 @@ where-next t m (suc k) = omega (arith, where-next t m k, below-next (column t k 
 module _ (rows : List ℕ) where
   pub lines-more : (k : ℕ) → (linesIn rows k ≤ linesIn rows (suc k)) × (linesIn rows (suc k) ≤ linesIn rows k + 1)
   unfolding rowsWhere
-  lines-more k = (omega arith, omega (arith, one-le (eqb (column rows k 0) 3)))
+  lines-more k = (omega arith, omega (arith, cond-le (eqb (column rows k 0) 3) 1))
 
   pub line-le : (k m : ℕ) → lineOf rows k m ≤ k
   unfolding lineOf

@@ -8,9 +8,11 @@ use lib.ListN.{length, length-append, length-map}
 use Rattle.rules.specs.Tokens.{Name}
 use Rattle.rules.specs.Statements.{Statement, Constant, Signal, Wire, contents, digitsOf, bytesOf}
 use Rattle.rules.specs.Layout.{Rooms, Used, padded, used, nameBytes, stringBytes, bitCodes, wireRow, wireRows, statementRow, put, memory}
+use Rattle.scanner.specs.Lists.{flatMap-append}
+use Rattle.scanner.specs.Elements.{each-mapped}
 use Rattle.tables.specs.Store.{store, store-none}
 use Rattle.tables.specs.Padded.{store-padded}
-use Rattle.tables.specs.Flat.{flat, Eights, eights-map, flat-append, length-flat, store-row}
+use Rattle.tables.specs.Flat.{flat, Eights, length-flat, store-row}
 use Rattle.wires.specs.RowLaws.{length-wire-row}
 use Rattle.netlist.specs.RowLaws.{length-statement-row}
 use Rattle.netlist.specs.Tables.{Tables}
@@ -31,7 +33,7 @@ pub record Rowed (R : Rooms) : Type 0 where
 
 eights-wires : (u : Used) (s : Statement) → Eights (wireRows u s)
 unfolding wireRows
-eights-wires u s = eights-map (wireRow u) (zip (contents s .names) (contents s .wires)) (length-wire-row u)
+eights-wires u s = each-mapped (wireRow u) _ (length-wire-row u) (zip (contents s .names) (contents s .wires))
 
 -- ---- the tables
 
@@ -41,7 +43,7 @@ wires-padded :
 wires-padded n rs ss t at e ea h k room =
     let a : length (flat rs) ≡ 8 * length rs = length-flat rs h in
     let b : length (flat ss) ≡ 8 * length ss = length-flat ss k in
-    store-padded n (flat rs) (flat ss) t at e (omega arith) (omega arith) ∙ ap (padded n) (sym (flat-append rs ss))
+    store-padded n (flat rs) (flat ss) t at e (omega arith) (omega arith) ∙ ap (padded n) (sym (flatMap-append (λ r. r) rs ss))
 
 -- the statement's parts stored in the tables of the rooms give the tables of the rooms with the statement
 module _ (R : Rooms) (s : Statement) (k : ℕ) (h : Rowed R) (room : RoomFor (used R) s) where

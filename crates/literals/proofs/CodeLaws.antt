@@ -4,12 +4,11 @@ use mathlib.Core.Path.{_≡_, refl, sym, ap, ap₂, _∙_}
 use mathlib.Core.Bool.{true, false}
 use mathlib.Core.List.{List, [], _∷_, _++_, map, map-append, flatMap, reverse, reverse-cons, reverse-append, reverse-reverse, map-map}
 use Prim.Native.Nat.{ℕ, _+_, _-_, _*_, _/_, _%_, _^_, _≤_, _<_}
-use native.Mathlib.Numerals.{add-one}
 use native.Mathlib.Omega.{arith}
 use borrow.Author.Tests.{leb-true, le-leb, lt-leb}
 use lib.ListN.{length, getD, take, drop, replicate, length-append, length-map, length-replicate, length-reverse, getD-replicate, List·getD-append}
 use lib.Dec.{leb}
-use lib.Seq.{slice, length-take-le, take-all, take-suc, getD-append-add}
+use lib.Seq.{slice, length-take-le, take-all, getD-append-add}
 use lib.IntN.{ℤ}
 use Rattle.tables.specs.Store.{store, store-store}
 use Rattle.rules.specs.Tokens.{Digit, S0, Literal, value, integer, string, digit, decimal}
@@ -28,8 +27,9 @@ use Rattle.tokens.specs.declared.Integer.{Integer}
 use Rattle.tokens.specs.declared.Constant.{Constant}
 use Rattle.tokens.specs.declared.Constant.the-variants as constant
 use Rattle.literals.specs.Codes.{codes, wordCodes, filledCodes}
-use Rattle.scanner.specs.Lists.{flatMap-snoc, getD-reverse, map-at, map-replicate, map-reverse}
+use Rattle.scanner.specs.Lists.{flatMap-snoc, getD-reverse, map-at, map-replicate, map-reverse, flatMap-more}
 use Rattle.scanner.specs.Sums.{length-equal}
+use Rattle.scanner.specs.Elements.{each-all}
 
 -- ---- widths
 
@@ -40,7 +40,7 @@ literal-long (value w ds) h =
     let k : length ds ≤ w = leb-true (length ds) w (and-true-right (leb w 2048) (leb (length ds) w) h) in
     rw (length-reverse, length-append, length-replicate) (omega arith)
 literal-long (integer i) h = binary-length 32 (twosComplement i)
-literal-long (string s) h = length-equal (binary 8) 8 (binary-length 8) (reverse s) ∙ ap (λ (n : ℕ). 8 * n) (length-reverse s)
+literal-long (string s) h = length-equal (binary 8) 8 (reverse s) (each-all _ (binary-length 8) (reverse s)) ∙ ap (λ (n : ℕ). 8 * n) (length-reverse s)
 
 pub codes-long : (l : Literal) → goodLiteral l ≡ true → length (codes l) ≡ literalWidth l
 codes-long l h = length-reverse (map digitCode (literalBits l)) ∙ length-map (literalBits l) digitCode ∙ literal-long l h
@@ -183,10 +183,7 @@ string-codes (b ∷ s) =
 -- a turn of a loop that stores the next byte's bits
 module _ (s : List ℕ) (j : ℕ) where
   bytes-long : j ≤ length s → 8 * j ≡ length (flatMap (wordCodes 8) (take j s))
-  bytes-long h = sym (length-equal (wordCodes 8) 8 (word-long 8) (take j s) ∙ ap (λ (n : ℕ). 8 * n) (length-take-le j s h))
-
-  bytes-snoc : j < length s → flatMap (wordCodes 8) (take j s) ++ wordCodes 8 (getD s j 0) ≡ flatMap (wordCodes 8) (take (j + 1) s)
-  bytes-snoc h = rw (add-one, take-suc s j 0 h) (sym (flatMap-snoc (wordCodes 8) (take j s) (getD s j 0)))
+  bytes-long h = sym (length-equal (wordCodes 8) 8 (take j s) (each-all _ (word-long 8) (take j s)) ∙ ap (λ (n : ℕ). 8 * n) (length-take-le j s h))
 
   pub bytes-more :
       (d l l′ : List ℕ) (at : ℕ) → j < length s →
@@ -195,7 +192,7 @@ module _ (s : List ℕ) (j : ℕ) where
       l′ ≡ store d at (flatMap (wordCodes 8) (take (j + 1) s))
   bytes-more d l l′ at h e g =
       rw (g, e, bytes-long (omega arith))
-      (store-store d at (flatMap (wordCodes 8) (take j s)) (wordCodes 8 (getD s j 0)) ∙ ap (store d at) (bytes-snoc h))
+      (store-store d at (flatMap (wordCodes 8) (take j s)) (wordCodes 8 (getD s j 0)) ∙ ap (store d at) (flatMap-more (wordCodes 8) s j 0 h))
 
   pub bytes-all : length s ≤ j → flatMap (wordCodes 8) (take j s) ≡ codes (string s)
   bytes-all h = ap (flatMap (wordCodes 8)) (take-all j s h) ∙ sym (string-codes s)

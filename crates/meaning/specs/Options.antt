@@ -1,6 +1,6 @@
 -- The tokens of written options read as those options.
 -- Assumes nothing.
-use Prim.Native.Nat.{ℕ, zero, suc, _+_}
+use Prim.Native.Nat.{ℕ, zero, suc}
 use Prim.Native.String.{String}
 use mathlib.Core.Path.{_≡_, refl}
 use mathlib.Core.List.{List, [], _∷_, _++_, map, Option·toList}
@@ -15,7 +15,7 @@ use Rattle.rules.specs.Statements.{Opt, Direction, input, output, inout, Wire, 
 use Rattle.rules.specs.Shapes.{Parse, after, choice, offers, repeat, options, wireOptionForms, memoryOptionForms, shapesOpen}
 use Rattle.rules.specs.Numbers.{inRange}
 use Rattle.rules.specs.Text.{setting, unless, directionWord, portOptions, wireOptions, memoryOptions, numberToken, optionTokens, textOpen}
-use Rattle.scanner.specs.Elements.{Each, each-append, each-map}
+use Rattle.scanner.specs.Elements.{Each, each-append, each-map, none-any, each-all}
 use Rattle.meaning.specs.Items.{Item, items-read}
 
 abbrev pub OptionForms : Type 0
@@ -39,8 +39,7 @@ module _ (fs : OptionForms) where
 
   offers-name : (gs : OptionForms) (n : Name) → offers gs (name n) ≡ false
   unfolding shapesOpen bytesOpen
-  offers-name [] n = refl
-  offers-name (g ∷ gs) n = offers-name gs n
+  offers-name gs n = none-any _ gs (each-all _ (λ g. refl) gs)
 
   at-name : (m : ℕ) (as′ : List Opt) (n : Name) (rest : List Token) → repeat (offers fs) (choice fs) m as′ (name n ∷ rest) ≡ some (as′, name n ∷ rest)
   unfolding repeat

@@ -2,7 +2,7 @@
 -- Assumes nothing.
 use Prim.Native.Nat.{ℕ, _*_}
 use mathlib.Core.Path.{_≡_, refl, sym}
-use Rattle.scanner.specs.Lists.{keeps-behind}
+use Rattle.scanner.specs.Lists.{keeps-behind, flatMap-append, flatMap-snoc}
 use mathlib.Core.List.{List, _∷_, _++_, zip, zipWith, flatMap, append-nil}
 use native.Mathlib.Omega.{arith}
 use lib.ListN.{length}
@@ -11,7 +11,7 @@ use Rattle.rules.specs.Statements.{Statement, Wire, wire-stmt, contents, code, 
 use Rattle.rules.specs.Judgement.{Past}
 use Rattle.rules.specs.Session.{Rename}
 use Rattle.rules.specs.Layout.{Rooms, Used, used, padded, row, columns, nameBytes, stringBytes, bitCodes, wireRow, wireRows, statementRow, put, renameRow, putRename, putRenames, rooms, memory, layout}
-use Rattle.tables.specs.Flat.{flat, flat-append, flat-snoc, length-flat}
+use Rattle.tables.specs.Flat.{flat, length-flat}
 use Rattle.wires.specs.Rows.{column}
 use Rattle.wires.specs.RowLaws.{length-wire-row, RowIs}
 use Rattle.netlist.specs.Rows.{kindAt}
@@ -47,7 +47,7 @@ module _ {t : Tables} where
         strings-start = f .strings-start;
         bits-start = f .bits-start;
         wires-start = f .wires-start;
-        rows-start = starts-first (t .rows) (flat (R .rows)) (renameRow (length (R .names)) r) (rw flat-snoc at (f .rows-start));
+        rows-start = starts-first (t .rows) (flat (R .rows)) (renameRow (length (R .names)) r) (rw flatMap-snoc (λ r. r) at (f .rows-start));
       }
 
   pub fronts-renames : (R : Rooms) (rs : List Rename) → Fronts (putRenames R rs) t → Fronts R t
@@ -63,8 +63,8 @@ module _ {t : Tables} where
           names-start = starts-first (t .names) (R .names) (nameBytes s) (f .names-start);
           strings-start = starts-first (t .strings) (R .strings) (stringBytes s) (f .strings-start);
           bits-start = starts-first (t .bits) (R .bits) (bitCodes s) (f .bits-start);
-          wires-start = starts-first (t .wires) (flat (R .wires)) (flat (wireRows (used R) s)) (rw flat-append at (f .wires-start));
-          rows-start = starts-first (t .rows) (flat (R .rows)) (statementRow (used R) s) (rw flat-snoc at (f .rows-start));
+          wires-start = starts-first (t .wires) (flat (R .wires)) (flat (wireRows (used R) s)) (rw flatMap-append (λ r. r) at (f .wires-start));
+          rows-start = starts-first (t .rows) (flat (R .rows)) (statementRow (used R) s) (rw flatMap-snoc (λ r. r) at (f .rows-start));
         }
 
     pub fronts-stand : Fronts (roomsOf (s ∷ ss)) t → Stands t (used (roomsOf ss)) s
@@ -76,9 +76,9 @@ module _ {t : Tables} where
             names-has = starts-has (t .names) (R .names) (nameBytes s) (length (R .names)) refl (f .names-start);
             strings-has = starts-has (t .strings) (R .strings) (stringBytes s) (length (R .strings)) refl (f .strings-start);
             bits-has = starts-has (t .bits) (R .bits) (bitCodes s) (length (R .bits)) refl (f .bits-start);
-            wires-has = starts-has (t .wires) (flat (R .wires)) (flat (wireRows (used R) s)) (8 * length (R .wires)) (wires-long ss) (rw flat-append at (f .wires-start));
+            wires-has = starts-has (t .wires) (flat (R .wires)) (flat (wireRows (used R) s)) (8 * length (R .wires)) (wires-long ss) (rw flatMap-append (λ r. r) at (f .wires-start));
           };
-          row = starts-has (t .rows) (flat (R .rows)) (statementRow (used R) s) (8 * length (R .rows)) (rows-long ss) (rw flat-snoc at (f .rows-start));
+          row = starts-has (t .rows) (flat (R .rows)) (statementRow (used R) s) (8 * length (R .rows)) (rows-long ss) (rw flatMap-snoc (λ r. r) at (f .rows-start));
         }
 
     pub stand-fronts : Fronts (roomsOf ss) t → Stands t (used (roomsOf ss)) s → Fronts (roomsOf (s ∷ ss)) t
@@ -90,8 +90,8 @@ module _ {t : Tables} where
           names-start = starts-more (t .names) (R .names) (nameBytes s) (length (R .names)) refl (f .names-start) (p .names-has);
           strings-start = starts-more (t .strings) (R .strings) (stringBytes s) (length (R .strings)) refl (f .strings-start) (p .strings-has);
           bits-start = starts-more (t .bits) (R .bits) (bitCodes s) (length (R .bits)) refl (f .bits-start) (p .bits-has);
-          wires-start = rw flat-append (starts-more (t .wires) (flat (R .wires)) (flat (wireRows (used R) s)) (8 * length (R .wires)) (wires-long ss) (f .wires-start) (p .wires-has));
-          rows-start = rw flat-snoc (starts-more (t .rows) (flat (R .rows)) (statementRow (used R) s) (8 * length (R .rows)) (rows-long ss) (f .rows-start) (h .row));
+          wires-start = rw flatMap-append (λ r. r) (starts-more (t .wires) (flat (R .wires)) (flat (wireRows (used R) s)) (8 * length (R .wires)) (wires-long ss) (f .wires-start) (p .wires-has));
+          rows-start = rw flatMap-snoc (λ r. r) (starts-more (t .rows) (flat (R .rows)) (statementRow (used R) s) (8 * length (R .rows)) (rows-long ss) (f .rows-start) (h .row));
         }
 
     pub stand-row : Stands t (used (roomsOf ss)) s → RowIs (t .rows) (length ss) (statementRow (used (roomsOf ss)) s)

@@ -9,7 +9,9 @@ use Rattle.rules.specs.Statements.{Statement}
 use Rattle.rules.specs.Judgement.{Past}
 use Rattle.rules.specs.Session.{Rename}
 use Rattle.rules.specs.Layout.{Rooms, empty, padded, used, nameBytes, statementRow, put, putAll, renameRow, putRename, putRenames}
-use Rattle.tables.specs.Flat.{flat, Eights, eights-none, eights-more, eights-append, flat-snoc}
+use Rattle.scanner.specs.Lists.{flatMap-snoc}
+use Rattle.scanner.specs.Elements.{each-append}
+use Rattle.tables.specs.Flat.{flat, Eights}
 use Rattle.wires.specs.RowLaws.{RowIs}
 use Rattle.netlist.specs.RowLaws.{length-statement-row}
 use Rattle.netlist.specs.Spans.{Starts, Has, starts-first, starts-has, starts-padded, starts-row}
@@ -33,9 +35,9 @@ length-rows (s ∷ ss) = length-append (roomsOf ss .rows) _ ∙ (let e : length 
 
 pub eights-rows : (ss : Past) → Eights (roomsOf ss .rows)
 unfolding roomsOf put
-eights-rows [] = eights-none
+eights-rows [] = tt
 eights-rows (s ∷ ss) =
-    eights-append (roomsOf ss .rows) _ (eights-rows ss) (eights-more (length-statement-row (used (roomsOf ss)) s) eights-none)
+    each-append _ (roomsOf ss .rows) _ (eights-rows ss) (length-statement-row (used (roomsOf ss)) s, tt)
 
 -- rooms lie in their padded tables
 pub laid-padded : (m n : ℕ) (R : Rooms) → Laid R (padded m (R .names)) (padded n (flat (R .rows)))
@@ -44,7 +46,7 @@ laid-padded m n R = record { names-start = starts-padded m (R .names); rows-star
 -- what is appended to the rooms stands behind them
 module _ {names rows : List ℕ} (R : Rooms) where
   laid-front : (ns r : List ℕ) → Starts names (R .names ++ ns) → Starts rows (flat (R .rows ++ r ∷ [])) → Laid R names rows
-  laid-front ns r a b = record { names-start = starts-first names (R .names) ns a; rows-start = starts-first rows (flat (R .rows)) r (rw flat-snoc at b) }
+  laid-front ns r a b = record { names-start = starts-first names (R .names) ns a; rows-start = starts-first rows (flat (R .rows)) r (rw flatMap-snoc (λ r. r) at b) }
 
   pub laid-put : (s : Statement) → Laid (put R s) names rows → Laid R names rows
   unfolding put

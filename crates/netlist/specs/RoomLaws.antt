@@ -9,7 +9,8 @@ use Rattle.rules.specs.Statements.{Statement}
 use Rattle.rules.specs.Judgement.{sum}
 use Rattle.rules.specs.Session.{Rename}
 use Rattle.rules.specs.Layout.{Rooms, empty, padded, row, putAll, renameRow, putRename, putRenames, rooms}
-use Rattle.tables.specs.Flat.{Eights, eights-none, eights-more, eights-append}
+use Rattle.scanner.specs.Elements.{each-append}
+use Rattle.tables.specs.Flat.{Eights}
 use Rattle.netlist.specs.Laid.{roomsOf}
 use Rattle.netlist.specs.LaidLaws.{rooms-past}
 
@@ -36,7 +37,7 @@ pub eights-renames : (R : Rooms) (rs : List Rename) → Eights (R .rows) → Eig
 unfolding putRenames putRename
 eights-renames R [] h = h
 eights-renames R (r ∷ rs) h =
-    eights-renames (putRename R r) rs (eights-append (R .rows) _ h (eights-more (length-rename-row (length (R .names)) r) eights-none))
+    eights-renames (putRename R r) rs (each-append _ (R .rows) _ h (length-rename-row (length (R .names)) r, tt))
 
 pub rename-names : (R : Rooms) (rs : List Rename) → length (putRenames R rs .names) ≡ length (R .names) + sum (λ r. length (r .newName)) rs
 unfolding putRenames putRename sum

@@ -8,9 +8,10 @@ use lib.ListN.{length, take, drop, replicate, length-append, length-take, length
 use lib.Seq.{take-take, drop-drop, take-append-seam, drop-append-seam}
 use Rattle.rules.specs.Layout.{padded}
 use Rattle.tables.specs.Row.{words, rowAt, words-rowAt}
-use Rattle.tables.specs.Flat.{flat, Eights, flat-snoc, length-flat}
+use Rattle.tables.specs.Flat.{flat, Eights, length-flat}
 use Rattle.wires.specs.RowLaws.{RowIs, row-taken}
 use Rattle.scanner.specs.Parts.{slice-span}
+use Rattle.scanner.specs.Lists.{flatMap-snoc}
 
 abbrev pub Starts : List ℕ → List ℕ → Type 0
 Starts t xs = (more : List ℕ) × (t ≡ xs ++ more)
@@ -69,7 +70,7 @@ unfolding Has
 has-columns t k r e h = row-taken t k r (ap (λ (n : ℕ). take n (drop (8 * k) t)) (sym e) ∙ h)
 
 pub starts-row : (t : List ℕ) (rs : List (List ℕ)) (r : List ℕ) → Eights rs → length r ≡ 8 → Starts t (flat (rs ++ r ∷ [])) → RowIs t (length rs) r
-starts-row t rs r h n s = has-columns t (length rs) r n (starts-has t (flat rs) r (8 * length rs) (sym (length-flat rs h)) (rw flat-snoc at s))
+starts-row t rs r h n s = has-columns t (length rs) r n (starts-has t (flat rs) r (8 * length rs) (sym (length-flat rs h)) (rw flatMap-snoc (λ r. r) at s))
 
 -- eight values from a row's place on are the row
 module _ (t : List ℕ) (k : ℕ) (r : List ℕ) (e : length r ≡ 8) where

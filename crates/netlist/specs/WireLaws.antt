@@ -14,9 +14,10 @@ use Rattle.rules.specs.Signals.{Wires}
 use Rattle.rules.specs.Judgement.{Past, wires}
 use Rattle.rules.specs.Session.{Rename}
 use Rattle.rules.specs.Layout.{Rooms, padded, used, nameBytes, wireRow, wireRows, put, putRename, putRenames, memory}
-use Rattle.tables.specs.Flat.{flat, Eights, eights-none, eights-append, eights-map, flat-append}
+use Rattle.tables.specs.Flat.{flat, Eights}
 use Rattle.scanner.specs.Laws.{and-true-left}
-use Rattle.scanner.specs.Lists.{zip-none}
+use Rattle.scanner.specs.Lists.{zip-none, flatMap-append}
+use Rattle.scanner.specs.Elements.{each-append, each-mapped}
 use Rattle.wires.specs.Rows.{nameOf, wireOf, wiresFrom}
 use Rattle.wires.specs.RowLaws.{length-wire-row, RowIs, row-wire, row-name}
 use Rattle.past.specs.Forms.{by-wire}
@@ -43,10 +44,10 @@ length-wire-rows ss = used-wires ss ∙ sym (length-all-wires ss)
 
 pub eights-wires : (ss : Past) → Eights (roomsOf ss .wires)
 unfolding roomsOf put wireRows
-eights-wires [] = eights-none
+eights-wires [] = tt
 eights-wires (s ∷ ss) =
     let u = used (roomsOf ss) in
-    eights-append (roomsOf ss .wires) _ (eights-wires ss) (eights-map (wireRow u) (zip (contents s .names) (contents s .wires)) (length-wire-row u))
+    each-append _ (roomsOf ss .wires) _ (eights-wires ss) (each-mapped (wireRow u) _ (length-wire-row u) (zip (contents s .names) (contents s .wires)))
 
 -- rooms lie in their padded tables; what is appended to the rooms stands behind them
 pub wired-padded : (m n : ℕ) (R : Rooms) → Wired R (padded m (R .names)) (padded n (flat (R .wires)))
@@ -58,7 +59,7 @@ module _ {names t : List ℕ} (R : Rooms) where
   wired-put s l =
       record {
         names-start = starts-first names (R .names) (nameBytes s) (l .names-start);
-        wires-start = starts-first t (flat (R .wires)) (flat (wireRows (used R) s)) (rw flat-append at (l .wires-start));
+        wires-start = starts-first t (flat (R .wires)) (flat (wireRows (used R) s)) (rw flatMap-append (λ r. r) at (l .wires-start));
       }
 
   pub wired-rename : (r : Rename) → Wired (putRename R r) names t → Wired R names t

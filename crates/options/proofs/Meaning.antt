@@ -15,6 +15,7 @@ use Rattle.rules.specs.Statements.{Opt, Direction, input, output, inout}
 use Rattle.rules.specs.Numbers.{int32, inRange, has, numberOr, portsAmong, ports, portOf, wireOf, memoryOf, goodWire, goodMemory}
 use Rattle.rules.specs.Layout.{flags}
 use Rattle.scanner.specs.Words.{keywordAt}
+use Rattle.scanner.specs.Laws.{cond-le}
 use Rattle.numbers.specs.Signed.{signedOf}
 use Rattle.numbers.specs.SignedLaws.{signed-word}
 use Rattle.tokens.specs.declared.Slot.{Slot}
@@ -164,7 +165,4 @@ module _ (f : List ℕ) (o : Options) (os : List Opt) (H : Holds f o os) where
 
 pub bits-most : (a b : Bool) {n : ℕ} → n ≡ flagBits a b → n ≤ 3
 unfolding flagBits
-bits-most true true e = omega arith
-bits-most true false e = omega arith
-bits-most false true e = omega arith
-bits-most false false e = omega arith
+bits-most a b e = omega (arith, e, cond-le a 1, cond-le b 2)

@@ -154,9 +154,12 @@ lines-fine x e =
       sizes = sizes-fewer (flatten (designOf x)) (reverse (linesOfFile x)) (λ f. omega (arith, canonical-sum f x, sum-reverse f (linesOfFile x))) (a .room);
     }
 
+-- admitted statements are the lines of a file
+pub file-of : (ss : List Statement) → admitted (reverse ss) ≡ true → closes (reverse ss) ≡ true → (x : File) × (ss ≡ linesOfFile x)
+file-of ss e c = let y = parsed (reverse ss) (admitted-apart (reverse ss) e .standing) c in (y .file, sym (reverse-reverse ss) ∙ y .lines)
+
 pub admitted-fine : (ss : List Statement) → admitted (reverse ss) ≡ true → closes (reverse ss) ≡ true → FineDesign (design ss)
 admitted-fine ss e c =
-    let y = parsed (reverse ss) (admitted-apart (reverse ss) e .standing) c in
-    let q : ss ≡ linesOfFile (y .file) = sym (reverse-reverse ss) ∙ y .lines in
-    let h : admitted (reverse (linesOfFile (y .file))) ≡ true = rw q at e in
-    rw (q, design-lines (y .file)) (lines-fine (y .file) h)
+    let y = file-of ss e c in
+    let h : admitted (reverse (linesOfFile (y .0))) ≡ true = rw (y .1) at e in
+    rw (y .1, design-lines (y .0)) (lines-fine (y .0) h)

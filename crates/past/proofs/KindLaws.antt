@@ -8,11 +8,11 @@ use lib.Dec.{eqb}
 use Rattle.rules.specs.Bytes.{any}
 use Rattle.rules.specs.Statements.{Kind, Statement, code, contents, is}
 use Rattle.rules.specs.Judgement.{among, count}
-use Rattle.scanner.specs.Laws.{eqb-sym, one-le}
+use Rattle.scanner.specs.Laws.{eqb-sym, cond-le}
 
 pub count-le : (ks : List Kind) (s : Statement) → count ks s ≤ 1
 unfolding count
-count-le ks s = one-le (among ks s)
+count-le ks s = cond-le (among ks s) 1
 
 module _ (s : Statement) where
   pub is-code : (k : Kind) → is k s ≡ eqb (code (contents s .kind)) (code k)

@@ -25,7 +25,7 @@ use Rattle.numbers.specs.SignedLaws.{word-signed}
 use Rattle.scanner.specs.Lists.{same-at}
 use Rattle.scanner.specs.Laws.{by-test, same-refl, same-eq, and-true-left, and-true-right, never}
 use Rattle.wires.specs.Rows.{wordAt, column, portOf, wireOf, wiresFrom}
-use Rattle.wires.specs.RowLaws.{length-wire-row, port-small, flags-back, port-number-back}
+use Rattle.wires.specs.RowLaws.{length-wire-row, flags-few, flags-back, port-number-back}
 use Rattle.replay.specs.Parts.{span, nameStands, signalStands}
 use Rattle.netlist.specs.Spans.{Has, row-has, has-row, has-long}
 use Rattle.replay.specs.Reads.{tabled, Decides, Tells, TellsWire, TellsCellConnection, TellsConnection, WireRowStands}
@@ -139,14 +139,6 @@ module _ (names wires : List ℕ) (u : Used) (first : ℕ) (r : Row) where
       (rw (name-legal names (u .names) (r .b) h, and-true-left (ownWire (wireOf wires (u .wires))) _ k, and-true-right (ownWire (wireOf wires (u .wires))) _ k)) refl (omega arith) f ef
 
 -- ---- the row of a wire in the table of wires
-
-cond-few : (b : Bool) (n : ℕ) → cond b n 0 ≤ n
-cond-few true n = omega arith
-cond-few false n = omega arith
-
-flags-few : (w : Wire) → flags w ≤ 15
-unfolding flags
-flags-few w = omega (arith, cond-few (w .upto) 1, cond-few (w .signed) 2, port-small (w .port))
 
 module _ (wires : List ℕ) (k : ℕ) where
   no-port : column wires k 5 < 4 → Option·elim (wireOf wires k .port) 0 (λ q. q .1) ≡ 0

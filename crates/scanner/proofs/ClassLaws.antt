@@ -10,7 +10,7 @@ use lib.ListN.{replicate, length-replicate}
 use borrow.Author.Tests.{le-leb, lt-leb, eq-eqb, ne-eqb, leb-true, leb-false}
 use Rattle.rules.specs.Bytes.{bytes, byte, within, any, all, bytesOpen, isLineEnd, isBlank, isMark, isNameStart, isNameByte, isLower, isDigit, isValueDigit}
 use Rattle.scanner.specs.Class.{classOf, inClass, classOpen}
-use Rattle.scanner.specs.Laws.{by-test, by-order}
+use Rattle.scanner.specs.Laws.{by-test, by-order, within-above}
 use Rattle.scanner.proofs.Table.{both-left, both-right, every, at}
 
 -- what the class of a byte tells of a range
@@ -33,8 +33,7 @@ module _ (b : ℕ) (h : 256 ≤ b) where
   off k t = let q : k < 256 = leb→le (suc k) 256 t in ne-eqb b k (λ e. omega arith)
 
   out : (lo hi : ℕ) → T (ltb hi 256) → within lo hi b ≡ false
-  unfolding within
-  out lo hi t = let q : hi < 256 = leb→le (suc hi) 256 t in rw (lt-leb b hi (omega arith)) (and-false (leb lo b))
+  out lo hi t = let q : hi < 256 = leb→le (suc hi) 256 t in within-above lo hi b (omega arith)
 
   none : (l : List ℕ) → T (all (λ k. ltb k 256) l) → any (eqb b) l ≡ false
   unfolding any all

@@ -6,7 +6,7 @@ use mathlib.Core.List.{List, [], _∷_, _++_, map, flatMap, zip, zipWith, revers
 use mathlib.Core.Option.{some}
 use Prim.Native.Nat.{ℕ, zero, suc}
 use lib.Dec.{eqb}
-use lib.ListN.{getElem?, getD, take, drop}
+use lib.ListN.{getElem?, getD, take, drop, take-append-drop}
 use borrow.Author.Tests.{eqb-true, not-true}
 use Rattle.rules.specs.Bytes.{all, any}
 use Rattle.rules.specs.Judgement.{until, only}
@@ -51,15 +51,10 @@ module _ {A : Type 0} (f : A → Bool) where
   all-later x xs h = and-true-right (f x) (all f xs) h
 
   pub all-take : (n : ℕ) (xs : List A) → all f xs ≡ true → all f (take n xs) ≡ true
-  unfolding all
-  all-take zero xs h = refl
-  all-take (suc n) [] h = refl
-  all-take (suc n) (x ∷ xs) h = all-cons x (take n xs) (all-first x xs h) (all-take n xs (all-later x xs h))
+  all-take n xs h = all-left (take n xs) (drop n xs) (rw (take-append-drop n xs) h)
 
   pub all-drop : (n : ℕ) (xs : List A) → all f xs ≡ true → all f (drop n xs) ≡ true
-  all-drop zero xs h = h
-  all-drop (suc n) [] h = h
-  all-drop (suc n) (x ∷ xs) h = all-drop n xs (all-later x xs h)
+  all-drop n xs h = all-right (take n xs) (drop n xs) (rw (take-append-drop n xs) h)
 
   pub all-until : (g : A → Bool) (xs : List A) → all f xs ≡ true → all f (until g xs) ≡ true
   unfolding until all
@@ -213,6 +208,9 @@ all-same f g h (x ∷ xs) = rw (h x, all-same f g h xs)
 pub each-through : {A B : Type 0} (P : A → Type 0) (k : A → B) (R : B → Type 0) → ((x : A) → P x → R (k x)) → (xs : List A) → Each P xs → Each R (map k xs)
 each-through P k R h [] e = tt
 each-through P k R h (x ∷ xs) e = (h x (e .0), each-through P k R h xs (e .1))
+
+pub each-mapped : {A B : Type 0} (k : A → B) (R : B → Type 0) → ((x : A) → R (k x)) → (xs : List A) → Each R (map k xs)
+each-mapped k R h xs = each-through (λ x. R (k x)) k R (λ x p. p) xs (each-all _ h xs)
 
 -- that some element passes
 module _ {A : Type 0} where

@@ -56,9 +56,9 @@ eqb-sym m n =
     (λ e. e ∙ sym (eq-eqb n m (sym (eqb-true m n e))))
     (λ e. e ∙ sym (ne-eqb n m (λ q. eqb-false m n e (sym q))))
 
-pub one-le : (b : Bool) → cond b 1 0 ≤ 1
-one-le true = omega arith
-one-le false = omega arith
+pub cond-le : (b : Bool) (n : ℕ) → cond b n 0 ≤ n
+cond-le true n = omega arith
+cond-le false n = omega arith
 
 module _ (lo hi b : ℕ) where
   pub within-yes : lo ≤ b → b ≤ hi → within lo hi b ≡ true

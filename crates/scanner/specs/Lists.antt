@@ -7,9 +7,10 @@ use mathlib.Core.List.{List, [], _∷_, _++_, map, flatMap, zip, zipWith, dropLa
 use mathlib.Core.Option.{Option, Option·map, Option·elim, none, some}
 use Prim.Native.Nat.{ℕ, zero, suc, _+_, _≤_, _<_}
 use native.Mathlib.Nat.{add-zero}
+use native.Mathlib.Numerals.{add-one}
 use native.Mathlib.Omega.{arith}
 use lib.ListN.{length, getD, getElem?, take, drop, replicate, length-append, length-reverse, take-append-drop, List·getD-append}
-use lib.Seq.{getD-at, take-append-seam}
+use lib.Seq.{getD-at, take-suc, take-append-seam}
 use Rattle.rules.specs.Tokens.{Quoted, closed, broken, quotedOnto}
 use Rattle.rules.specs.Signals.{wireBits}
 use Rattle.rules.specs.Judgement.{until, only}
@@ -29,6 +30,10 @@ module _ {A B : Type 0} (f : A → List B) where
   pub flatMap-snoc : (xs : List A) (x : A) → flatMap f (xs ++ x ∷ []) ≡ flatMap f xs ++ f x
   unfolding flatMap
   flatMap-snoc xs x = flatMap-append xs (x ∷ []) ∙ ap (λ (l : List B). flatMap f xs ++ l) (append-nil (f x))
+
+  -- of the first ones, with one more
+  pub flatMap-more : (xs : List A) (i : ℕ) (d : A) → i < length xs → flatMap f (take i xs) ++ f (getD xs i d) ≡ flatMap f (take (i + 1) xs)
+  flatMap-more xs i d h = rw (add-one, take-suc xs i d h) (sym (flatMap-snoc (take i xs) (getD xs i d)))
 
   -- with one element more in front, read from the end
   pub flatMap-back : (x : A) (xs : List A) → flatMap f (reverse (x ∷ xs)) ≡ flatMap f (reverse xs) ++ f x

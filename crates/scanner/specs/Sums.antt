@@ -79,14 +79,17 @@ module _ {A : Type 0} (t : A → Bool) (f : A → ℕ) where
 
 -- the length of joined lists is the sum of their lengths
 module _ {A B : Type 0} (f : A → List B) where
-  pub length-flatMap : (g : A → ℕ) → ((x : A) → length (f x) ≡ g x) → (xs : List A) → length (flatMap f xs) ≡ sum g xs
+  length-each : (g : A → ℕ) (xs : List A) → Each (λ x. length (f x) ≡ g x) xs → length (flatMap f xs) ≡ sum g xs
   unfolding sum flatMap
-  length-flatMap g h [] = refl
-  length-flatMap g h (x ∷ xs) = rw (length-append, h x, length-flatMap g h xs)
+  length-each g [] h = refl
+  length-each g (x ∷ xs) h = rw (length-append, h .0, length-each g xs (h .1))
 
-  pub length-equal : (k : ℕ) → ((x : A) → length (f x) ≡ k) → (xs : List A) → length (flatMap f xs) ≡ k * length xs
+  pub length-flatMap : (g : A → ℕ) → ((x : A) → length (f x) ≡ g x) → (xs : List A) → length (flatMap f xs) ≡ sum g xs
+  length-flatMap g h xs = length-each g xs (each-all _ h xs)
+
+  pub length-equal : (k : ℕ) (xs : List A) → Each (λ x. length (f x) ≡ k) xs → length (flatMap f xs) ≡ k * length xs
   unfolding sum
-  length-equal k h xs = length-flatMap (λ x. k) h xs ∙ equal xs
+  length-equal k xs h = length-each (λ x. k) xs h ∙ equal xs
     where
       equal : (xs : List A) → sum (λ x. k) xs ≡ k * length xs
       equal [] = omega arith

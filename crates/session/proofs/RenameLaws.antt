@@ -13,11 +13,12 @@ use Rattle.rules.specs.Session.{Rename, roomUsed, renameCall, numberOf}
 use Rattle.rules.specs.Layout.{Rooms, padded, renameRow, putRename, rooms, memory, layout}
 use Rattle.tables.specs.Store.{store}
 use Rattle.tables.specs.Padded.{store-padded, padded-unput}
-use Rattle.tables.specs.Flat.{flat, Eights, flat-snoc, length-flat, store-row}
+use Rattle.tables.specs.Flat.{flat, Eights, length-flat, store-row}
 use Rattle.reader.specs.Read.{lent}
 use Rattle.netlist.specs.RoomLaws.{length-rename-row}
 use Rattle.order.specs.RenamedFine.{accepted-keeps}
 use Rattle.scanner.specs.Laws.{legal-short}
+use Rattle.scanner.specs.Lists.{flatMap-snoc}
 use Rattle.held.specs.AllowedLaws.{number-accepted}
 use Rattle.held.specs.RenameLaws.{file-last}
 
@@ -77,5 +78,5 @@ module _ (ss : List Statement) (rs : List Rename) (r : Rename) (h : Eights (room
       let k : length x ≡ 8 = length-rename-row (length (R .names)) r in
       rw file-last
       (lent-eq (padded-unput 16384 (R .names) (r .newName) room)
-      (unput (8 * 4769) (flat (R .rows)) x (padded (8 * 4769) (flat (R .rows ++ x ∷ []))) (8 * length (R .rows)) 8 (ap (padded (8 * 4769)) (flat-snoc (R .rows) x)) (sym e) (sym k) (omega arith))
+      (unput (8 * 4769) (flat (R .rows)) x (padded (8 * 4769) (flat (R .rows ++ x ∷ []))) (8 * length (R .rows)) 8 (ap (padded (8 * 4769)) (flatMap-snoc (λ r. r) (R .rows) x)) (sym e) (sym k) (omega arith))
       refl refl)

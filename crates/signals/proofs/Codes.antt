@@ -11,6 +11,7 @@ use Rattle.rules.specs.Signals.{wireBits}
 use Rattle.rules.specs.Layout.{bitCode}
 use Rattle.tables.specs.Store.{store, store-behind, filled}
 use Rattle.scanner.specs.Lists.{length-wire, map-at, getD-reverse}
+use Rattle.scanner.specs.Parts.{length-part}
 use Rattle.signals.specs.Held.{codes}
 
 -- ---- codes
@@ -32,7 +33,7 @@ codes-part xs l n h =
     let e : xs ≡ A ++ (B ++ C) = sym (ap (λ (y : Signal). A ++ y) (take-append-drop n (drop l xs)) ∙ take-append-drop l xs) in
     let c : codes xs ≡ codes C ++ (codes B ++ codes A) = ap codes e ∙ codes-append A (B ++ C) ∙ ap (λ (y : List ℕ). y ++ codes A) (codes-append B C) ∙ append-assoc (codes C) (codes B) (codes A) in
     let lc : length (codes C) ≡ length xs - (l + n) = length-codes C ∙ length-drop n (drop l xs) ∙ ap (λ (k : ℕ). k - n) (length-drop l xs) ∙ omega arith in
-    let lb : length (codes B) ≡ n = length-codes B ∙ length-take-le n (drop l xs) (omega (arith, length-drop l xs)) in
+    let lb : length (codes B) ≡ n = length-codes B ∙ length-part xs l n h in
     ap (λ (y : List ℕ). take n (drop (length xs - (l + n)) y)) c
     ∙ ap (take n) (drop-at (codes C) (codes B ++ codes A) (length xs - (l + n)) lc)
     ∙ take-at (codes B) (codes A) n lb

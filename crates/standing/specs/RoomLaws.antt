@@ -1,8 +1,8 @@
 -- The bytes of names that a design and its renames use are those that lie in the table of names.
 -- Assumes nothing.
 use Prim.Native.Nat.{ℕ}
-use mathlib.Core.Path.{_≡_, sym, _∙_}
-use mathlib.Core.List.{List, reverse, reverse-reverse}
+use mathlib.Core.Path.{_≡_}
+use mathlib.Core.List.{List, reverse}
 use mathlib.Core.Bool.{true}
 use native.Mathlib.Omega.{arith}
 use lib.ListN.{length}
@@ -13,11 +13,9 @@ use Rattle.rules.specs.Session.{Rename, roomUsed}
 use Rattle.rules.specs.Layout.{rooms}
 use Rattle.admitted.specs.Admitted.{admitted, closes}
 use Rattle.netlist.specs.Laid.{roomsOf}
-use Rattle.order.specs.Nesting.{linesOfFile}
 use Rattle.order.specs.DesignLaws.{design-lines}
 use Rattle.order.specs.BodySums.{canonical-sum}
-use Rattle.order.specs.Apart.{admitted-apart}
-use Rattle.order.specs.Parse.{parsed}
+use Rattle.order.specs.AdmittedFine.{file-of}
 use Rattle.netlist.specs.UsedLaws.{used-names}
 use Rattle.netlist.specs.RoomLaws.{rename-names, rooms-file}
 use Rattle.scanner.specs.Sums.{sum-reverse}
@@ -25,9 +23,8 @@ use Rattle.scanner.specs.Sums.{sum-reverse}
 -- what is summed over a design's statements doesn't depend on their order
 pub sum-design : (f : Statement → ℕ) (ss : List Statement) → admitted (reverse ss) ≡ true → closes (reverse ss) ≡ true → sum f (flatten (design ss)) ≡ sum f ss
 sum-design f ss e c =
-    let y = parsed (reverse ss) (admitted-apart (reverse ss) e .standing) c in
-    let q : ss ≡ linesOfFile (y .file) = sym (reverse-reverse ss) ∙ y .lines in
-    rw (q, design-lines (y .file)) (canonical-sum f (y .file))
+    let y = file-of ss e c in
+    rw (y .1, design-lines (y .0)) (canonical-sum f (y .0))
 
 pub room-used :
     (ss : List Statement) (rs : List Rename) → admitted (reverse ss) ≡ true → closes (reverse ss) ≡ true →

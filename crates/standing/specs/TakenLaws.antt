@@ -4,7 +4,7 @@ use Prim.Native.Nat.{ℕ, zero, suc, _+_}
 use mathlib.Core.Path.{_≡_, refl, sym, ap, ap₂, _∙_}
 use mathlib.Core.List.{List, [], _∷_, reverse}
 use mathlib.Core.Option.{Option·elim}
-use mathlib.Core.Bool.{Bool, true, false, _||_, or-comm, or-false}
+use mathlib.Core.Bool.{Bool, true, _||_, or-comm, or-false, or-self}
 use native.Mathlib.Omega.{arith}
 use lib.Dec.{eqb}
 use lib.ListN.{length, getElem?}
@@ -61,14 +61,9 @@ any-now names wires t from count m first g (suc j) =
     ∙ ap (λ (b : Bool). any g (up f j 0) || b) (or-false (g (f (0 + j))) ∙ ap (λ (i : ℕ). g (f i)) z))
 
 -- MEMORIES AND CELLS
-or-twice : (a b : Bool) → a || (b || b) ≡ a || (b || false)
-or-twice true b = refl
-or-twice false true = refl
-or-twice false false = refl
-
 two-kinds : Tests (isKind (threeKinds aMemory aCell aCell)) (aMemory ∷ aCell ∷ [])
 unfolding isKind ofKinds any
-two-kinds n = or-twice (eqb (code aMemory) n) (eqb (code aCell) n)
+two-kinds n = let b : Bool = eqb (code aCell) n in ap (λ (c : Bool). eqb (code aMemory) n || c) (or-self b ∙ sym (or-false b))
 
 two-named : all (λ k. hasName (code k)) (aMemory ∷ aCell ∷ []) ≡ true
 unfolding all any hasName ofKinds code

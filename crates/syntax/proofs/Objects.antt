@@ -16,7 +16,7 @@ use Rattle.rules.specs.Judgement.{portNumbers, newPort}
 use Rattle.rules.specs.Layout.{Used, padded, row, directionCode, flags, wireRow}
 use Rattle.past.specs.Offsets.{good-offset, memory-offset}
 use Rattle.wires.specs.Rows.{column, wordAt}
-use Rattle.wires.specs.RowLaws.{row-wire, port-small}
+use Rattle.wires.specs.RowLaws.{row-wire, flags-few}
 use Rattle.forms.specs.Forms.{nameIn}
 use Rattle.forms.specs.declared.Span.{Span}
 use Rattle.options.specs.Limits.{portNumber, flagBits, WireGood, MemoryGood}
@@ -87,7 +87,7 @@ wire-sound os G =
     let x = wireOf os in
     let bits = cond (x .upto) 1 0 + cond (x .signed) 2 0 in
     let e = G .flags in (
-      omega (arith, e, bits-most (x .upto) (x .signed) {n = bits} refl, port-small (x .port)),
+      omega (arith, e, flags-few x),
       λ h. let g : flags x ≤ 3 = omega (arith, e) in rw (← G .port, no-port bits (x .port) g),
     )
 

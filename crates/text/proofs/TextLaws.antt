@@ -2,7 +2,7 @@
 -- Assumes nothing.
 use mathlib.Core.Path.{_≡_, refl, sym, ap, _∙_}
 use mathlib.Core.Bool.{Bool, true, false, cond}
-use mathlib.Core.List.{List, [], _∷_, _++_, map, flatMap, reverse, reverse-cons, map-append}
+use mathlib.Core.List.{List, [], _∷_, _++_, map, reverse, reverse-cons, map-append}
 use Prim.Native.Nat.{ℕ, zero, suc, _+_, _-_, _/_, _%_, _≤_, _<_}
 use native.Mathlib.Numerals.{add-one}
 use native.Mathlib.Omega.{arith}
@@ -10,9 +10,8 @@ use borrow.Author.Tests.{lt-ltb, le-ltb, ltb-false}
 use lib.Dec.{ltb}
 use lib.ListN.{length, take, drop, getD, set, replicate, length-set, replicate-append-replicate}
 use lib.Seq.{take-suc, take-all, drop-cons}
-use Rattle.rules.specs.Text.{decimalOnto, decimalText, digitByte, escaped}
+use Rattle.rules.specs.Text.{decimalOnto, decimalText, digitByte}
 use Rattle.rules.specs.Tokens.{Digit}
-use Rattle.scanner.specs.Lists.{flatMap-snoc}
 use Rattle.numbers.specs.Kinds.{digitOf}
 use Rattle.tables.specs.Store.{store}
 use Rattle.text.specs.Written.{Written, moved}
@@ -76,9 +75,6 @@ spaces-more n = replicate-append-replicate n 1 32
 
 pub bytes-more : (s : List ℕ) (i : ℕ) → i < length s → take i s ++ getD s i 0 ∷ [] ≡ take (i + 1) s
 bytes-more s i h = sym (rw add-one (take-suc s i 0 h))
-
-pub escaped-more : (s : List ℕ) (i : ℕ) → i < length s → flatMap escaped (take i s) ++ escaped (getD s i 0) ≡ flatMap escaped (take (i + 1) s)
-escaped-more s i h = sym (ap (flatMap escaped) (sym (bytes-more s i h)) ∙ flatMap-snoc escaped (take i s) (getD s i 0))
 
 -- the digits from i on, the highest first: one more below them is one more at the end
 pub digits-more : (s : List ℕ) (i j b : ℕ) → j < length s → i ≡ j + 1 → b ≡ digitByte (digitOf (getD s j 0)) → map digitByte (reverse (map digitOf (drop i s))) ++ b ∷ [] ≡ map digitByte (reverse (map digitOf (drop j s)))

@@ -15,7 +15,7 @@ use Rattle.rules.specs.Tokens.{Name}
 use Rattle.rules.specs.Statements.{Wire, Direction, input, output, inout}
 use Rattle.rules.specs.Numbers.{int32}
 use Rattle.rules.specs.Layout.{Used, padded, row, directionCode, flags, wireRow}
-use Rattle.scanner.specs.Laws.{by-order}
+use Rattle.scanner.specs.Laws.{by-order, cond-le}
 use Rattle.scanner.specs.Lists.{element-none, element-behind}
 use Rattle.scanner.specs.Parts.{slice-span}
 use Rattle.numbers.specs.SignedLaws.{signed-word}
@@ -64,12 +64,16 @@ port-flag (some (input, n)) = refl
 port-flag (some (output, n)) = refl
 port-flag (some (inout, n)) = refl
 
-pub port-small : (p : Option (Direction × ℕ)) → Option·elim p 0 (λ q. directionCode (q .0)) ≤ 12
+port-small : (p : Option (Direction × ℕ)) → Option·elim p 0 (λ q. directionCode (q .0)) ≤ 12
 unfolding Option·elim directionCode
 port-small none = omega arith
 port-small (some (input, n)) = omega arith
 port-small (some (output, n)) = omega arith
 port-small (some (inout, n)) = omega arith
+
+pub flags-few : (w : Wire) → flags w ≤ 15
+unfolding flags
+flags-few w = omega (arith, cond-le (w .upto) 1, cond-le (w .signed) 2, port-small (w .port))
 
 port-back : (p : Option (Direction × ℕ)) → portOf (portCode p) (Option·elim p 0 (λ q. q .1)) ≡ p
 unfolding Option·elim portOf

@@ -13,8 +13,7 @@ use Rattle.rules.specs.Text.{text, writeText, write, measureText, measure}
 use Rattle.rules.specs.Layout.{Memory}
 use Rattle.past.specs.declared.place.Place.{Place}
 use Rattle.text.specs.Written.{moved, Written, written-end, written-whole}
-use Rattle.netlist.specs.Lengths.{sizes-exact}
-use Rattle.reader.specs.Read.{rightLengths}
+use Rattle.netlist.specs.Lengths.{lengths-exact}
 use Rattle.session.specs.Called.{Called, holding, answer}
 use Rattle.session.specs.Steps.{Holding}
 use Rattle.standing.specs.LiesLaws.{all-wires}
@@ -67,8 +66,7 @@ module _ (t : List ℕ) (r : ℕ) (e : r ≡ moved 0 (length t)) where
 -- ---- memory that is open
 module _ {m : Memory} {p : Place} (h : Holding m p) where
   pub bits-few : length (m .bits) ≤ 16384
-  unfolding rightLengths
-  bits-few = omega (arith, sizes-exact (length (m .names)) (length (m .strings)) (length (m .bits)) (length (m .wires)) (length (m .rows)) (h .lengths) .2)
+  bits-few = omega (arith, lengths-exact m (h .lengths))
 
   module _ (C : Counts) (e : C ≡ record { statements = p .rows; wires = p .wires; renames = m .renames }) where
     text-is : textRows (tabled (m .names) (m .strings) (m .bits) (m .wires) (m .rows)) C ≡ text (now (design (h .statements)) (h .renames))

@@ -8,7 +8,7 @@ use lib.ListN.{length, take}
 use lib.Seq.{take-length}
 use Rattle.rules.specs.Text.{escaped}
 use Rattle.text.specs.Written.{Written, written-none, written-most, written-then, written-as}
-use Rattle.text.proofs.TextLaws.{escaped-more}
+use Rattle.scanner.specs.Lists.{flatMap-more}
 use Rattle.text.proofs.put_inside.Statement.{statement}
 use Rattle.text.proofs.put_inside.Tie as tie
 
@@ -35,7 +35,7 @@ loop-less : tie.Need-loop-less Inv-loop μ-loop
 loop-less c = omega arith
 
 loop-again : tie.Need-loop-again Inv-loop μ-loop
-loop-again c = (omega arith, written-as (written-then (c .before .before .before .before .before .before .loop .inv .1) (c .before .before .put-escaped .ensures)) (escaped-more (now (c .before .before .before .before .before .before .before .before .before .args .s)) (c .before .before .before .before .before .before .loop .i) (omega arith)))
+loop-again c = (omega arith, written-as (written-then (c .before .before .before .before .before .before .loop .inv .1) (c .before .before .put-escaped .ensures)) (flatMap-more escaped (now (c .before .before .before .before .before .before .before .before .before .args .s)) (c .before .before .before .before .before .before .loop .i) 0 (omega arith)))
 
 same-length : tie.Need-same-length Inv-loop μ-loop
 same-length c = c .before .loop .inv .1 .kept

@@ -5,7 +5,7 @@ use native.Mathlib.Omega.{arith}
 use lib.Dec.{eqb}
 use borrow.Author.Needs.{needs}
 use Rattle.past.specs.Place.{placeAfter}
-use Rattle.scanner.specs.Laws.{one-le}
+use Rattle.scanner.specs.Laws.{cond-le}
 use Rattle.past.proofs.place.after.Statement.{statement}
 use Rattle.past.proofs.place.after.Tie as tie
 
@@ -16,7 +16,7 @@ pick-requires : tie.Need-pick-requires
 pick-requires c κs = search needs
 
 add-wires : tie.Need-add-wires
-add-wires c = omega (arith, c .before .before .before .pre, c .before .pick .ensures, one-le (eqb (c .before .before .before .args .kind) 5))
+add-wires c = omega (arith, c .before .before .before .pre, c .before .pick .ensures, cond-le (eqb (c .before .before .before .args .kind) 5) 1)
 
 scope-after-requires : tie.Need-scope-after-requires
 scope-after-requires c κs = search needs
@@ -37,7 +37,7 @@ pick-requires-6 : tie.Need-pick-requires-6
 pick-requires-6 c κs = search needs
 
 add-t17 : tie.Need-add-t17
-add-t17 c = omega (arith, c .before .before .before .before .before .before .before .before .before .before .pre, c .before .pick6 .ensures, one-le (eqb (c .before .before .before .before .before .before .before .before .before .before .args .kind) 3))
+add-t17 c = omega (arith, c .before .before .before .before .before .before .before .before .before .before .pre, c .before .pick6 .ensures, cond-le (eqb (c .before .before .before .before .before .before .before .before .before .before .args .kind) 3) 1)
 
 returns : tie.Need-returns
 unfolding placeAfter
