@@ -13,7 +13,7 @@ use Rattle.rules.specs.Statements.{Sig}
 use Rattle.rules.specs.Signals.{Wires, width, declaredWire, goodSlice}
 use Rattle.rules.specs.Numbers.{goodNumbers}
 use Rattle.rules.specs.Judgement.{lowest}
-use Rattle.scanner.specs.Laws.{by-cond, by-test, never}
+use Rattle.scanner.specs.Laws.{by-cond, by-test, never, by-order}
 use Rattle.scanner.specs.Elements.{all-split}
 use Rattle.signals.specs.Faults.{faults, merge, tooWide, mild}
 
@@ -59,15 +59,15 @@ mild-none n e = rw e
 pub not-mild : (n : ℕ) → mild n ≡ false → (0 < n) × (n ≤ 10)
 not-mild n e =
     by-test (eqb n 0) (λ h. never (mild n) (mild-none n (eqb-true n 0 h)) e)
-    (λ h. by-test (ltb 10 n) (λ l. never (mild n) (mild-over n (ltb-true 10 n l)) e) (λ l. (omega (arith, eqb-false n 0 h), ltb-false 10 n l)))
+    (λ h. by-order n 10 (λ l. (omega (arith, eqb-false n 0 h), l)) (λ l. never (mild n) (mild-over n l) e))
 
 pub mild-merge : (a b : ℕ) → mild (merge a b) ≡ mild a && mild b
 mild-merge a b =
     by-merge (λ (x : ℕ). mild x ≡ mild a && mild b) a b
     (λ e. rw (mild-none a e))
     (λ e. rw (mild-none b e) (sym (and-true (mild a))))
-    (λ h l. by-test (ltb 10 a) (λ t. rw (mild-over b (omega (arith, ltb-true 10 a t))) (sym (and-true (mild a)))) (λ t. rw (mild-not a h (ltb-false 10 a t))))
-    (λ h l. by-test (ltb 10 b) (λ t. rw (mild-over a (omega (arith, ltb-true 10 b t)))) (λ t. rw (mild-not b h (ltb-false 10 b t)) (sym (and-false (mild a)))))
+    (λ h l. by-order a 10 (λ t. rw (mild-not a h t)) (λ t. rw (mild-over b (omega arith)) (sym (and-true (mild a)))))
+    (λ h l. by-order b 10 (λ t. rw (mild-not b h t) (sym (and-false (mild a)))) (λ t. rw (mild-over a (omega arith))))
 
 -- with a number that is not mild, whatever comes from 10 on doesn't matter
 pub late-merge : (x y f : ℕ) → (0 < x → 10 ≤ x) → (0 < y → 10 ≤ y) → (mild f ≡ true → x ≡ y) → merge x f ≡ merge y f

@@ -7,15 +7,14 @@ use mathlib.Core.Option.{Option, none, some}
 use Prim.Native.Nat.{ℕ, zero, suc, _+_, _-_, _/_, _<_, _≤_}
 use Prim.Native.Char.{Char}
 use native.Mathlib.Omega.{arith}
-use lib.Dec.{ltb}
 use lib.ListN.{length}
 use lib.IntN.{ℤ}
-use borrow.Author.Tests.{lt-ltb, ltb-true, ltb-false, ne-eqb, eqb-true}
+use borrow.Author.Tests.{lt-ltb, ne-eqb, eqb-true}
 use Rattle.rules.specs.Bytes.{byte}
 use Rattle.rules.specs.Tokens as rules
 use Rattle.rules.specs.Statements.{Sig, bundle}
 use Rattle.rules.specs.Shapes.{Parse, isMark, nowhere, give, after, of₁, of₂, either, closedBy, repeat, several, int, low, bounds, sliced, sigs, withSlices, members, one, isAtom, atom, signal}
-use Rattle.scanner.specs.Laws.{by-test}
+use Rattle.scanner.specs.Laws.{by-order}
 use Rattle.tokens.specs.Rows.{front, tokenIn, tokenAt, rowOf, line, Present}
 use Rattle.tokens.specs.declared.Token.{Token}
 use Rattle.tokens.specs.declared.Token.the-variants.{Name, Word, Constant as Constantly, Mark, End}
@@ -204,7 +203,7 @@ module _ (f t : List ℕ) (i : ℕ) (p : Parse Sig) (ss : List Sig) where
 
     pub members-none : (k : ℕ) → length t / 4 - i ≤ k → p (line f t i) ≡ none → membersOn p k ss (line f t i) ≡ none
     members-none zero h g = members-end zero (omega arith)
-    members-none (suc k) h g = by-test (ltb i (length t / 4)) (λ l. members-stop k (ltb-true i (length t / 4) l) g) (λ l. members-end (suc k) (ltb-false i (length t / 4) l))
+    members-none (suc k) h g = by-order (length t / 4) i (members-end (suc k)) (λ l. members-stop k l g)
 
 -- ---- a signal whose bundles are at most d deep
 

@@ -4,11 +4,9 @@ use mathlib.Core.Path.{_≡_, refl, sym, ap, ap₂, _∙_}
 use mathlib.Core.List.{List, [], _++_}
 use Prim.Native.Nat.{ℕ, min, _+_, _-_, _<_, _≤_}
 use native.Mathlib.Omega.{arith}
-use lib.Dec.{leb}
 use lib.ListN.{length, take, length-append}
 use lib.Seq.{take-nil, take-all, take-append-le, take-append-add}
-use borrow.Author.Tests.{leb-true, leb-false}
-use Rattle.scanner.specs.Laws.{by-test}
+use Rattle.scanner.specs.Laws.{by-order}
 use Rattle.tables.specs.Store.{store, store-none, store-store}
 
 -- the place n bytes on; it stops at 32769, since a text of more than 32768 bytes is refused
@@ -47,7 +45,7 @@ unfolding moved
 written-then {at} {r} {t} {xs} {ys} {o} {p} {q} w v =
     record {
       place = v .place ∙ ap (λ (k : ℕ). moved k (length ys)) (w .place) ∙ moved-moved at (length xs) (length ys) ∙ ap (moved at) (sym (length-append xs ys));
-      stored = by-test (leb (at + length xs) 32768) (λ h. inside (leb-true _ _ h)) (λ h. past (leb-false _ _ h));
+      stored = by-order (at + length xs) 32768 inside past;
       kept = v .kept ∙ w .kept;
     }
   where

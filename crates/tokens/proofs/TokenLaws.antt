@@ -17,7 +17,7 @@ use Rattle.tokens.specs.declared.Constant.{Constant}
 use Rattle.tokens.specs.declared.Constant.the-variants as constant
 use Rattle.tokens.specs.declared.Token.{Token}
 use Rattle.tokens.specs.declared.Token.the-variants.{Name, Word, Constant as Constantly, Mark, End}
-use Rattle.scanner.specs.Laws.{by-test}
+use Rattle.scanner.specs.Laws.{by-test, by-order}
 
 -- ---- a token in front
 
@@ -57,7 +57,7 @@ module _ (f t : List ℕ) (i : ℕ) where
   -- a row stands where the line goes on
   pub line-there : (line f t i ≡ [] → ⊥) → i < length t / 4
   line-there h =
-      by-test (ltb i (length t / 4)) (ltb-true i (length t / 4)) (λ b. absurd (h (line-end (ltb-false i (length t / 4) b))))
+      by-order (length t / 4) i (λ b. absurd (h (line-end b))) (λ b. b)
 
   pub line-more : i < length t / 4 → line f t i ≡ front f (rowOf t i) (line f t (i + 1))
   unfolding line rowsFrom
