@@ -72,7 +72,7 @@ module _ {names rows : List ℕ} (S : Rooms) (h : Eights (S .rows)) (q : Rename)
       let z : List ℕ = renameRow (length (S .names)) q in
       let n : length z ≡ 8 = length-rename-row (length (S .names)) q in
       let f : length (flat (S .rows)) ≡ 8 * length (S .rows) = length-flat (S .rows) h in
-      let r : Starts rows (flat (S .rows) ++ z) = rw flatMap-snoc (λ r. r) at (l .rows-start) in
+      let r : Starts rows (flat (S .rows) ++ z) = rw flatMap-snoc at (l .rows-start) in
       let long : 8 * length (S .rows) + 8 ≤ length rows = omega (arith, starts-long rows (flat (S .rows)) z r) in
       record {
         room = long;
@@ -93,7 +93,7 @@ module _ {names rows : List ℕ} (S : Rooms) (h : Eights (S .rows)) (q : Rename)
       record {
         names-start = starts-more names (S .names) (q .newName) (length (S .names)) refl (l .names-start) en;
         rows-start =
-            rw flatMap-snoc (λ r. r)
+            rw flatMap-snoc
             (starts-more rows (flat (S .rows)) z (8 * length (S .rows)) (sym (length-flat (S .rows) h)) (l .rows-start) at);
       }
 

@@ -47,7 +47,7 @@ module _ {t : Tables} where
         strings-start = f .strings-start;
         bits-start = f .bits-start;
         wires-start = f .wires-start;
-        rows-start = starts-first (t .rows) (flat (R .rows)) (renameRow (length (R .names)) r) (rw flatMap-snoc (λ r. r) at (f .rows-start));
+        rows-start = starts-first (t .rows) (flat (R .rows)) (renameRow (length (R .names)) r) (rw flatMap-snoc at (f .rows-start));
       }
 
   pub fronts-renames : (R : Rooms) (rs : List Rename) → Fronts (putRenames R rs) t → Fronts R t
@@ -63,8 +63,8 @@ module _ {t : Tables} where
           names-start = starts-first (t .names) (R .names) (nameBytes s) (f .names-start);
           strings-start = starts-first (t .strings) (R .strings) (stringBytes s) (f .strings-start);
           bits-start = starts-first (t .bits) (R .bits) (bitCodes s) (f .bits-start);
-          wires-start = starts-first (t .wires) (flat (R .wires)) (flat (wireRows (used R) s)) (rw flatMap-append (λ r. r) at (f .wires-start));
-          rows-start = starts-first (t .rows) (flat (R .rows)) (statementRow (used R) s) (rw flatMap-snoc (λ r. r) at (f .rows-start));
+          wires-start = starts-first (t .wires) (flat (R .wires)) (flat (wireRows (used R) s)) (rw flatMap-append at (f .wires-start));
+          rows-start = starts-first (t .rows) (flat (R .rows)) (statementRow (used R) s) (rw flatMap-snoc at (f .rows-start));
         }
 
     pub fronts-stand : Fronts (roomsOf (s ∷ ss)) t → Stands t (used (roomsOf ss)) s
@@ -76,9 +76,9 @@ module _ {t : Tables} where
             names-has = starts-has (t .names) (R .names) (nameBytes s) (length (R .names)) refl (f .names-start);
             strings-has = starts-has (t .strings) (R .strings) (stringBytes s) (length (R .strings)) refl (f .strings-start);
             bits-has = starts-has (t .bits) (R .bits) (bitCodes s) (length (R .bits)) refl (f .bits-start);
-            wires-has = starts-has (t .wires) (flat (R .wires)) (flat (wireRows (used R) s)) (8 * length (R .wires)) (wires-long ss) (rw flatMap-append (λ r. r) at (f .wires-start));
+            wires-has = starts-has (t .wires) (flat (R .wires)) (flat (wireRows (used R) s)) (8 * length (R .wires)) (wires-long ss) (rw flatMap-append at (f .wires-start));
           };
-          row = starts-has (t .rows) (flat (R .rows)) (statementRow (used R) s) (8 * length (R .rows)) (rows-long ss) (rw flatMap-snoc (λ r. r) at (f .rows-start));
+          row = starts-has (t .rows) (flat (R .rows)) (statementRow (used R) s) (8 * length (R .rows)) (rows-long ss) (rw flatMap-snoc at (f .rows-start));
         }
 
     pub stand-fronts : Fronts (roomsOf ss) t → Stands t (used (roomsOf ss)) s → Fronts (roomsOf (s ∷ ss)) t
@@ -90,8 +90,8 @@ module _ {t : Tables} where
           names-start = starts-more (t .names) (R .names) (nameBytes s) (length (R .names)) refl (f .names-start) (p .names-has);
           strings-start = starts-more (t .strings) (R .strings) (stringBytes s) (length (R .strings)) refl (f .strings-start) (p .strings-has);
           bits-start = starts-more (t .bits) (R .bits) (bitCodes s) (length (R .bits)) refl (f .bits-start) (p .bits-has);
-          wires-start = rw flatMap-append (λ r. r) (starts-more (t .wires) (flat (R .wires)) (flat (wireRows (used R) s)) (8 * length (R .wires)) (wires-long ss) (f .wires-start) (p .wires-has));
-          rows-start = rw flatMap-snoc (λ r. r) (starts-more (t .rows) (flat (R .rows)) (statementRow (used R) s) (8 * length (R .rows)) (rows-long ss) (f .rows-start) (h .row));
+          wires-start = rw flatMap-append (starts-more (t .wires) (flat (R .wires)) (flat (wireRows (used R) s)) (8 * length (R .wires)) (wires-long ss) (f .wires-start) (p .wires-has));
+          rows-start = rw flatMap-snoc (starts-more (t .rows) (flat (R .rows)) (statementRow (used R) s) (8 * length (R .rows)) (rows-long ss) (f .rows-start) (h .row));
         }
 
     pub stand-row : Stands t (used (roomsOf ss)) s → RowIs (t .rows) (length ss) (statementRow (used (roomsOf ss)) s)

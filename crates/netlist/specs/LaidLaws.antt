@@ -46,7 +46,7 @@ laid-padded m n R = record { names-start = starts-padded m (R .names); rows-star
 -- what is appended to the rooms stands behind them
 module _ {names rows : List ℕ} (R : Rooms) where
   laid-front : (ns r : List ℕ) → Starts names (R .names ++ ns) → Starts rows (flat (R .rows ++ r ∷ [])) → Laid R names rows
-  laid-front ns r a b = record { names-start = starts-first names (R .names) ns a; rows-start = starts-first rows (flat (R .rows)) r (rw flatMap-snoc (λ r. r) at b) }
+  laid-front ns r a b = record { names-start = starts-first names (R .names) ns a; rows-start = starts-first rows (flat (R .rows)) r (rw flatMap-snoc at b) }
 
   pub laid-put : (s : Statement) → Laid (put R s) names rows → Laid R names rows
   unfolding put

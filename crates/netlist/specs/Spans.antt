@@ -70,7 +70,7 @@ unfolding Has
 has-columns t k r e h = row-taken t k r (ap (λ (n : ℕ). take n (drop (8 * k) t)) (sym e) ∙ h)
 
 pub starts-row : (t : List ℕ) (rs : List (List ℕ)) (r : List ℕ) → Eights rs → length r ≡ 8 → Starts t (flat (rs ++ r ∷ [])) → RowIs t (length rs) r
-starts-row t rs r h n s = has-columns t (length rs) r n (starts-has t (flat rs) r (8 * length rs) (sym (length-flat rs h)) (rw flatMap-snoc (λ r. r) at s))
+starts-row t rs r h n s = has-columns t (length rs) r n (starts-has t (flat rs) r (8 * length rs) (sym (length-flat rs h)) (rw flatMap-snoc at s))
 
 -- eight values from a row's place on are the row
 module _ (t : List ℕ) (k : ℕ) (r : List ℕ) (e : length r ≡ 8) where

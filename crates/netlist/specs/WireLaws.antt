@@ -59,7 +59,7 @@ module _ {names t : List ℕ} (R : Rooms) where
   wired-put s l =
       record {
         names-start = starts-first names (R .names) (nameBytes s) (l .names-start);
-        wires-start = starts-first t (flat (R .wires)) (flat (wireRows (used R) s)) (rw flatMap-append (λ r. r) at (l .wires-start));
+        wires-start = starts-first t (flat (R .wires)) (flat (wireRows (used R) s)) (rw flatMap-append at (l .wires-start));
       }
 
   pub wired-rename : (r : Rename) → Wired (putRename R r) names t → Wired R names t
