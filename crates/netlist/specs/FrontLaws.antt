@@ -2,7 +2,6 @@
 -- Assumes nothing.
 use Prim.Native.Nat.{ℕ, _*_}
 use mathlib.Core.Path.{_≡_, refl, sym}
-use Rattle.scanner.specs.Lists.{keeps-behind, flatMap-append, flatMap-snoc}
 use mathlib.Core.List.{List, _∷_, _++_, zip, zipWith, flatMap, append-nil}
 use native.Mathlib.Omega.{arith}
 use lib.ListN.{length}
@@ -11,6 +10,7 @@ use Rattle.rules.specs.Statements.{Statement, Wire, wire-stmt, contents, code, 
 use Rattle.rules.specs.Judgement.{Past}
 use Rattle.rules.specs.Session.{Rename}
 use Rattle.rules.specs.Layout.{Rooms, Used, used, padded, row, columns, nameBytes, stringBytes, bitCodes, wireRow, wireRows, statementRow, put, renameRow, putRename, putRenames, rooms, memory, layout}
+use Rattle.scanner.specs.Lists.{keeps-behind, flatMap-append, flatMap-snoc}
 use Rattle.tables.specs.Flat.{flat, length-flat}
 use Rattle.wires.specs.Rows.{column}
 use Rattle.wires.specs.RowLaws.{length-wire-row, RowIs}

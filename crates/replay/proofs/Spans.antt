@@ -1,4 +1,4 @@
--- Spans of a table: how long they are, tests of all their values, and what a table has from a place on.
+-- Spans of a table: how long they are, and what a table has from a place on.
 -- Assumes nothing.
 use Prim.Native.Nat.{ℕ, min, _+_, _-_, _≤_, _<_}
 use mathlib.Core.Path.{_≡_, refl, sym, ap, _∙_}
