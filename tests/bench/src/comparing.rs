@@ -1,4 +1,4 @@
-//! Times of comparing names of 255 bytes: the comparison alone beside one from the front, and what reading and a look-up make of it.
+//! Times of comparing names of 255 bytes: the comparison alone beside one from the front, and in a read and a look-up.
 
 use crate::{files, micros, shortest, times};
 use library::{look_up, read, Card, Tables};
@@ -28,19 +28,21 @@ const DIFFERENT: [(usize, &str); 3] = [
     (1, "behind \\"),
 ];
 
-/// Pairs of names that are not the same.
-fn pairs(names: &[Vec<u8>]) -> Vec<(&[u8], &[u8])> {
-    let others = |a| {
-        names
-            .iter()
-            .filter(move |b| *b != a)
-            .map(move |b| (&a[..], &b[..]))
-    };
-    names.iter().flat_map(others).collect()
+type Pair<'a> = (&'a [u8], &'a [u8]);
+
+/// Each name with each other one.
+fn pairs(names: &[Vec<u8>]) -> Vec<Pair<'_>> {
+    let mut pairs = Vec::new();
+    for a in names {
+        for b in names.iter().filter(|b| *b != a) {
+            pairs.push((&a[..], &b[..]));
+        }
+    }
+    pairs
 }
 
 /// Nanoseconds of one comparison, of the shortest pass over the pairs.
-fn nanos(pairs: &[(&[u8], &[u8])], same: fn(&[u8], &[u8]) -> bool) -> f64 {
+fn nanos(pairs: &[Pair], same: fn(&[u8], &[u8]) -> bool) -> f64 {
     let pass = shortest(|| {
         for (a, b) in pairs {
             black_box(same(black_box(a), black_box(b)));
