@@ -143,19 +143,34 @@ same-length [] (y ∷ ys) h = refl
 same-length (x ∷ xs) [] h = refl
 same-length (x ∷ xs) (y ∷ ys) h = rw (same-length xs ys (λ e. h (ap suc e))) (and-false (eqb x y))
 
--- one byte more, one that differs, and the end, of two lists of bytes at the same position
+-- one byte more, and the end, of two lists of bytes at the same position
 module _ (a b : List ℕ) (i : ℕ) where
   pub same-more : i < length a → i < length b → getD a i 0 ≡ getD b i 0 → same (drop i a) (drop i b) ≡ same (drop (i + 1) a) (drop (i + 1) b)
   unfolding same
   same-more h k e = rw (drop-cons a i 0, drop-cons b i 0, add-one, eq-eqb (getD a i 0) (getD b i 0) e)
 
-  pub same-stop : i < length a → i < length b → (getD a i 0 ≡ getD b i 0 → ⊥) → same (drop i a) (drop i b) ≡ false
-  unfolding same
-  same-stop h k e = rw (drop-cons a i 0, drop-cons b i 0, ne-eqb (getD a i 0) (getD b i 0) e)
-
   pub same-end : length a ≤ i → length b ≤ i → same (drop i a) (drop i b) ≡ true
   unfolding same
   same-end h k = rw (drop-of-length-le a h, drop-of-length-le b k)
+
+-- bytes that differ somewhere are not the same
+pub same-apart : (a b : List ℕ) (i : ℕ) → (getD a i 0 ≡ getD b i 0 → ⊥) → same a b ≡ false
+same-apart a b i h = by-test (same a b) (λ e. absurd (h (ap (λ (l : List ℕ). getD l i 0) (same-eq a b e)))) (λ e. e)
+
+-- one byte more, before the last one
+pub same-on :
+    (a b : List ℕ) (i last : ℕ) → i < last → last < length a → length a ≡ length b → getD a i 0 ≡ getD b i 0 → same a b ≡ same (drop i a) (drop i b) →
+    same a b ≡ same (drop (i + 1) a) (drop (i + 1) b)
+same-on a b i last h k l e s = s ∙ same-more a b i (omega arith) (omega arith) e
+
+-- what is left is the last byte, which is the same
+pub same-last :
+    (a b : List ℕ) (last i : ℕ) → length a ≡ length b → last + 1 ≡ length a → getD a last 0 ≡ getD b last 0 → i ≤ last → last ≤ i → same a b ≡ same (drop i a) (drop i b) →
+    true ≡ same a b
+same-last a b last i l k e h g s =
+    let q : i ≡ last = omega arith in
+    let t : same a b ≡ same (drop last a) (drop last b) = rw q at s in
+    sym (t ∙ same-more a b last (omega arith) (omega arith) e ∙ same-end a b (last + 1) (omega arith) (omega arith))
 
 -- by the order of two numbers: of a choice that tests it, and of any proof
 pub by-le : {A : Type 0} (P : A → Type 0) (m n : ℕ) {x y : A} → (m ≤ n → P x) → (n < m → P y) → P (cond (leb m n) x y)

@@ -20,14 +20,23 @@ pub fn legal(n: &[u8]) -> bool
     run_end(n, 1, 4, 14) == n.len()
 }
 
+// The one comparison of names in the product. Lengths first, then the last byte, where numbered names differ, then the
+// rest from the front.
 pub fn same_bytes(a: &[u8], b: &[u8]) -> bool
     ensures { λ r. ⌜ r ≡ same (now (a .entry)) (now (b .entry)) ⌝ }
 {
     if a.len() != b.len() {
         return false;
     }
+    if a.len() == 0 {
+        return true;
+    }
+    let last = a.len() - 1;
+    if a[last] != b[last] {
+        return false;
+    }
     let mut i = 0;
-    while i < a.len() {
+    while i < last {
         if a[i] != b[i] {
             return false;
         }

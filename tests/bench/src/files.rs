@@ -110,6 +110,32 @@ pub fn cell_connections() -> Vec<u8> {
     file.into_bytes()
 }
 
+/// As many names of 255 bytes as the name room takes.
+pub const LONG_NAMES: usize = 64;
+
+/// Names of 255 bytes that differ in this byte alone.
+pub fn long_names(byte: usize) -> Vec<Vec<u8>> {
+    let name = |number: usize| {
+        let mut name = vec![b'n'; 255];
+        name[0] = b'\\';
+        name[byte] = b'0' + number as u8;
+        name
+    };
+    (0..LONG_NAMES).map(name).collect()
+}
+
+/// A module with a wire for each of them.
+pub fn long_wires(byte: usize) -> Vec<u8> {
+    let mut file = b"module \\m\n".to_vec();
+    for name in long_names(byte) {
+        file.extend(b"  wire ");
+        file.extend(name);
+        file.push(b'\n');
+    }
+    file.extend(b"end\n");
+    file
+}
+
 #[cfg(test)]
 mod tests {
     use super::*;
@@ -126,6 +152,9 @@ mod tests {
             references(),
             attributes(),
             cell_connections(),
+            long_wires(254),
+            long_wires(253),
+            long_wires(1),
         ] {
             assert!(reference::read(&file).is_ok());
         }

@@ -1,6 +1,7 @@
 //! Times of the exported calls, beside the reference: `cargo run --release`. It prints; it judges nothing.
 
 mod calls;
+mod comparing;
 mod files;
 
 use library::expected::reading;
@@ -76,6 +77,7 @@ fn main() {
         print(name, &file, &empty, None);
     }
     calls::print();
+    comparing::print();
 }
 
 /// One line of the table; the sizes and times for the next one's growth.
