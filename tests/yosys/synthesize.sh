@@ -21,7 +21,8 @@ netlist two_ears two_ears two_ears "proc; opt"
 netlist two_ears_flat two_ears two_ears "proc; flatten; opt"
 # A memory object, its words and its read port.
 netlist gain_table gain_table gain_table "proc; opt"
-# All-x values stand short in Yosys's text and would be filled with zeros: the undefined bits are set first.
+# All-x values stand short in Yosys's text (`16'x`): once as they are, once with the undefined bits set before.
+netlist delay_line_undefined delay_line delay_line "proc; opt; memory -nomap"
 netlist delay_line delay_line delay_line "proc; opt; memory -nomap; opt -mux_undef; setundef -zero -params"
-# The mask of a first write port has no bits, which Yosys writes 0'x: refused.
+# The mask of a first write port has no bits, which Yosys writes 0'x: refused. `memory -nomap` leaves no such port.
 netlist write_port delay_line delay_line "proc; opt"

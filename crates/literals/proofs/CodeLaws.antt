@@ -11,9 +11,10 @@ use lib.Dec.{leb}
 use lib.Seq.{slice, length-take-le, take-all, getD-append-add}
 use lib.IntN.{ℤ}
 use Rattle.tables.specs.Store.{store, store-store}
-use Rattle.rules.specs.Tokens.{Digit, S0, Literal, value, integer, string, digit, decimal}
+use Rattle.rules.specs.Bytes.{byte}
+use Rattle.rules.specs.Tokens.{Digit, S0, S1, Sx, Sz, Sm, Sa, Literal, value, integer, string, digit, decimal}
 use Rattle.rules.specs.Numbers.{int32, goodLiteral}
-use Rattle.rules.specs.Signals.{fill, valueBits, twosComplement, binary, literalBits, literalWidth}
+use Rattle.rules.specs.Signals.{filler, topFiller, fill, valueBits, twosComplement, binary, literalBits, literalWidth}
 use Rattle.rules.specs.Layout.{digitCode}
 use Rattle.scanner.specs.Numbers.{capped}
 use Rattle.scanner.specs.Laws.{and-true-left, and-true-right}
@@ -26,7 +27,7 @@ use Rattle.tokens.specs.Rows.{integerIn, literalIn}
 use Rattle.tokens.specs.declared.Integer.{Integer}
 use Rattle.tokens.specs.declared.Constant.{Constant}
 use Rattle.tokens.specs.declared.Constant.the-variants as constant
-use Rattle.literals.specs.Codes.{codes, wordCodes, filledCodes}
+use Rattle.literals.specs.Codes.{codes, wordCodes, filledCodes, fillerCode}
 use Rattle.scanner.specs.Lists.{flatMap-snoc, getD-reverse, map-at, map-replicate, map-reverse, flatMap-more}
 use Rattle.scanner.specs.Sums.{length-equal}
 use Rattle.scanner.specs.Elements.{each-all}
@@ -99,25 +100,25 @@ integer-codes w i e = rw e
 
 -- ---- values
 
-module _ (zeros : ℕ) (bs : List ℕ) where
-  pub filled-long : length (filledCodes zeros bs) ≡ zeros + length bs
+module _ (x fills : ℕ) (bs : List ℕ) where
+  pub filled-long : length (filledCodes x fills bs) ≡ fills + length bs
   unfolding filledCodes
   filled-long = rw (length-append, length-replicate, length-map)
 
-  pub filled-zero : (j : ℕ) → j < zeros → 0 ≡ getD (filledCodes zeros bs) j 0
+  pub filled-front : (j : ℕ) → j < fills → x ≡ getD (filledCodes x fills bs) j 0
   unfolding filledCodes
-  filled-zero j h =
-      let z : List ℕ = replicate zeros 0 in
+  filled-front j h =
+      let z : List ℕ = replicate fills x in
       let l : j < length z = rw length-replicate h in
-      sym (List·getD-append z (map (λ b. digitCode (digit b)) bs) 0 j l ∙ getD-replicate zeros j 0 0 h)
+      sym (List·getD-append z (map (λ b. digitCode (digit b)) bs) 0 j l ∙ getD-replicate fills j x 0 h)
 
-  pub filled-digit : (j : ℕ) → zeros ≤ j → j < zeros + length bs → digitCode (digit (getD bs (j - zeros) 0)) ≡ getD (filledCodes zeros bs) j 0
+  pub filled-digit : (j : ℕ) → fills ≤ j → j < fills + length bs → digitCode (digit (getD bs (j - fills) 0)) ≡ getD (filledCodes x fills bs) j 0
   unfolding filledCodes
   filled-digit j h l =
-      let z : List ℕ = replicate zeros 0 in
-      let e : j ≡ length z + (j - zeros) = rw length-replicate (omega arith) in
+      let z : List ℕ = replicate fills x in
+      let e : j ≡ length z + (j - fills) = rw length-replicate (omega arith) in
       let ds : List ℕ = map (λ b. digitCode (digit b)) bs in
-      sym (ap (λ (n : ℕ). getD (z ++ ds) n 0) e ∙ getD-append-add z ds (j - zeros) 0 ∙ map-at (λ b. digitCode (digit b)) bs (j - zeros) 0 0 (omega arith))
+      sym (ap (λ (n : ℕ). getD (z ++ ds) n 0) e ∙ getD-append-add z ds (j - fills) 0 ∙ map-at (λ b. digitCode (digit b)) bs (j - fills) 0 0 (omega arith))
 
 -- the value whose width's digits ds were read, with the cap, as width
 module _ (f : List ℕ) (a b e : ℕ) (ds : List ℕ) (width : ℕ) (part : ds ≡ slice a b f) (read : width ≡ capped (decimal ds)) where
@@ -154,17 +155,52 @@ module _ (f : List ℕ) (a b e : ℕ) (ds : List ℕ) (width : ℕ) (part : ds �
       unfolding literalIn
       read-literal = rw (← read-width, ← digits)
 
--- zeros up to the width, and the digits as they stand
-pub value-codes : (w : ℕ) (bs : List ℕ) → codes (value w (map digit bs)) ≡ filledCodes (w - length bs) bs
-unfolding literalBits valueBits fill filledCodes digitCode
+-- what fills it up to the width, and the digits as they stand
+pub value-codes : (w : ℕ) (bs : List ℕ) → codes (value w (map digit bs)) ≡ filledCodes (fillerCode bs) (w - length bs) bs
+unfolding literalBits valueBits fill filledCodes fillerCode
 value-codes w bs =
     let ds : List Digit = map digit bs in
-    let z : List Digit = replicate (w - length ds) S0 in
+    let z : List Digit = replicate (w - length ds) (topFiller ds) in
     let e : w - length ds ≡ w - length bs = rw length-map in
     ap reverse (map-reverse digitCode (z ++ ds))
     ∙ reverse-reverse (map digitCode (z ++ ds))
     ∙ map-append digitCode z ds
-    ∙ ap₂ (λ (x y : List ℕ). x ++ y) (map-replicate digitCode (w - length ds) S0 ∙ ap (λ (n : ℕ). replicate n 0) e) (map-map digitCode digit bs)
+    ∙ ap₂ (λ (x y : List ℕ). x ++ y) (map-replicate digitCode (w - length ds) (topFiller ds) ∙ ap (λ (n : ℕ). replicate n (digitCode (topFiller ds))) e) (map-map digitCode digit bs)
+
+-- 0 and 1 fill with 0, any other digit with itself
+filler-one : (d : Digit) → digitCode d ≡ 1 → digitCode (filler d) ≡ 0
+unfolding digitCode filler
+filler-one S0 e = refl
+filler-one S1 e = refl
+filler-one Sx e = cc
+filler-one Sz e = cc
+filler-one Sm e = cc
+filler-one Sa e = cc
+
+filler-other : (d : Digit) → (digitCode d ≡ 1 → ⊥) → digitCode (filler d) ≡ digitCode d
+unfolding digitCode filler
+filler-other S0 h = refl
+filler-other S1 h = absurd (h refl)
+filler-other Sx h = refl
+filler-other Sz h = refl
+filler-other Sm h = refl
+filler-other Sa h = refl
+
+-- without digits; and by the first of them, a 1 or another
+pub filler-none : (bs : List ℕ) → length bs ≡ 0 → digitCode (digit (byte "x")) ≡ fillerCode bs
+unfolding fillerCode topFiller digitCode digit
+filler-none [] e = refl
+filler-none (b ∷ bs) e = cc
+
+pub filler-zero : (bs : List ℕ) → (length bs ≡ 0 → ⊥) → digitCode (digit (getD bs 0 0)) ≡ digitCode (digit (byte "1")) → digitCode (digit (byte "0")) ≡ fillerCode bs
+unfolding fillerCode topFiller digitCode digit
+filler-zero [] h e = absurd (h refl)
+filler-zero (b ∷ bs) h e = sym (filler-one (digit b) e)
+
+pub filler-same : (bs : List ℕ) → (length bs ≡ 0 → ⊥) → (digitCode (digit (getD bs 0 0)) ≡ digitCode (digit (byte "1")) → ⊥) → digitCode (digit (getD bs 0 0)) ≡ fillerCode bs
+unfolding fillerCode topFiller digitCode digit
+filler-same [] h n = absurd (h refl)
+filler-same (b ∷ bs) h n = sym (filler-other (digit b) n)
 
 -- ---- strings
 

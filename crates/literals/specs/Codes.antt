@@ -7,7 +7,7 @@ use lib.ListN.{drop, replicate}
 use lib.IntN.{ℤ}
 use Rattle.rules.specs.Tokens.{Literal, digit}
 use Rattle.rules.specs.Numbers.{int32}
-use Rattle.rules.specs.Signals.{twosComplement, binary, literalBits}
+use Rattle.rules.specs.Signals.{twosComplement, binary, literalBits, topFiller}
 use Rattle.rules.specs.Layout.{digitCode}
 use Rattle.strings.specs.Decoded.{closes}
 use Rattle.tokens.specs.declared.Constant.{Constant}
@@ -34,6 +34,10 @@ codes l = reverse (map digitCode (literalBits l))
 unfoldable pub wordCodes : ℕ → ℕ → List ℕ
 wordCodes k w = reverse (map digitCode (binary k w))
 
--- of the digits that bytes write, behind zeros
-unfoldable pub filledCodes : ℕ → List ℕ → List ℕ
-filledCodes zeros bs = replicate zeros 0 ++ map (λ b. digitCode (digit b)) bs
+-- of the digits that bytes write, behind so many that fill
+unfoldable pub filledCodes : (filler : ℕ) → ℕ → List ℕ → List ℕ
+filledCodes x fills bs = replicate fills x ++ map (λ b. digitCode (digit b)) bs
+
+-- the code of what fills a value with these digits
+unfoldable pub fillerCode : List ℕ → ℕ
+fillerCode bs = digitCode (topFiller (map digit bs))

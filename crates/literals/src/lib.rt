@@ -22,7 +22,7 @@ ghost use Rattle.tables.specs.Store.{store};
 ghost use Rattle.scanner.specs.Numbers.{capped};
 ghost use Rattle.strings.specs.Decoded.{decoded, closes};
 ghost use Rattle.tokens.specs.Rows.{integerIn, literalIn};
-ghost use Rattle.literals.specs.Codes.{NumberIs, Whole, codes, wordCodes, filledCodes};
+ghost use Rattle.literals.specs.Codes.{NumberIs, Whole, codes, wordCodes, filledCodes, fillerCode};
 
 // An integer's word of 32 bits in two's complement; or it lies outside of them.
 pub enum Number {
@@ -143,26 +143,41 @@ fn put_integer(f: &[u8], z: Integer, out: &mut [u32], at: usize)
     put_bits(word_of(z.negative, size), 32, out, at);
 }
 
-// The code at place j of a value that so many zeros fill.
-fn filled_code(zeros: usize, ds: &[u8], j: usize) -> u32
-    requires { ⌜ j < zeros + length (now ds) ⌝ }
-    ensures { λ r. ⌜ r ≡ getD (filledCodes zeros (now (ds .entry))) j 0 ⌝ }
+// The code that fills a value with these digits up to its width: 0 and 1 fill with 0, any other with itself; without digits x.
+fn filler_code(ds: &[u8]) -> u32
+    ensures { λ r. ⌜ r ≡ fillerCode (now (ds .entry)) ⌝ }
 {
-    if j < zeros {
-        return 0;
+    if ds.len() == 0 {
+        return digit_code(b'x');
     }
-    digit_code(ds[j - zeros])
+    let top = digit_code(ds[0]);
+    if top == digit_code(b'1') {
+        return digit_code(b'0');
+    }
+    top
 }
 
-// The digits of a value, highest first, behind zeros up to its width.
+// The code at place j of a value that so many of this code fill.
+fn filled_code(filler: u32, fills: usize, ds: &[u8], j: usize) -> u32
+    requires { ⌜ j < fills + length (now ds) ⌝ }
+    ensures { λ r. ⌜ r ≡ getD (filledCodes filler fills (now (ds .entry))) j 0 ⌝ }
+{
+    if j < fills {
+        return filler;
+    }
+    digit_code(ds[j - fills])
+}
+
+// The digits of a value, highest first, filled up to its width.
 fn put_digits(width: usize, ds: &[u8], out: &mut [u32], at: usize)
     requires { ⌜ (length (now ds) ≤ width) × (at + width ≤ length (now out)) ⌝ }
     ensures { λ _. ⌜ now (out .exit) ≡ store (now (out .entry)) at (codes (value width (map digit (now (ds .entry))))) ⌝ }
 {
-    let zeros = width - ds.len();
+    let fills = width - ds.len();
+    let filler = filler_code(ds);
     let mut j = 0;
     while j < width {
-        out[at + j] = filled_code(zeros, ds, j);
+        out[at + j] = filled_code(filler, fills, ds, j);
         j += 1;
     }
 }

@@ -7,7 +7,7 @@ use lib.ListN.{length, replicate, take, drop}
 use lib.IntN.{ℤ, pos, negsuc, natAbs}
 use lib.Dec.{leb, ltb, eqb}
 use Rattle.rules.specs.Bytes.{same}
-use Rattle.rules.specs.Tokens.{Name, Digit, S0, S1, Literal, value, integer, string}
+use Rattle.rules.specs.Tokens.{Name, Digit, S0, S1, Sx, Sz, Sm, Sa, Literal, value, integer, string}
 use Rattle.rules.specs.Statements.{Sig, Sigs, constant, wire, slice, bundle, nothing, _below_, Constant, digit, bit, Signal, Wire}
 
 -- the wires declared so far in a module, the last one first; a wire's number is how many were declared before it
@@ -18,9 +18,21 @@ unfoldable pub find : Name → Wires → Option (ℕ × Wire)
 find n [] = none
 find n (w ∷ ws) = let r = find n ws in cond (same (w .0) n) (some (length ws, w .1)) r
 
--- A value with fewer digits than its width is filled at the top with zeros
+-- A value with fewer digits than its width is filled at the top by its top digit: 0 and 1 fill with 0, any other with itself; without digits with x
+unfoldable pub filler : Digit → Digit
+filler S0 = S0
+filler S1 = S0
+filler Sx = Sx
+filler Sz = Sz
+filler Sm = Sm
+filler Sa = Sa
+
+unfoldable pub topFiller : List Digit → Digit
+topFiller [] = Sx
+topFiller (d ∷ ds) = filler d
+
 unfoldable pub fill : ℕ → List Digit → List Digit
-fill w ds = replicate (w - length ds) S0 ++ ds
+fill w ds = replicate (w - length ds) (topFiller ds) ++ ds
 
 -- its digits, lowest first
 unfoldable pub valueBits : ℕ → List Digit → List Digit
@@ -122,5 +134,5 @@ unfoldable mutual
   partsOf (s below ss) = parts s ++ partsOf ss
 
 unfoldable pub signalsOpen : Unit {0}
-unfolding flatMap find fill valueBits twosComplement binary literalBits literalWidth kept wireBits Option·elim inside lower span width bits declaredWire goodSlice parts
+unfolding flatMap find filler topFiller fill valueBits twosComplement binary literalBits literalWidth kept wireBits Option·elim inside lower span width bits declaredWire goodSlice parts
 signalsOpen = tt

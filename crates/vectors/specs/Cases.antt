@@ -19,7 +19,9 @@ Case = List ℕ × List ℕ
 
 pub cases : List Case
 cases =
+    (bytes "module \\m\n  parameter \\p0 6'01xzm-\n  parameter \\p1 1'x\nend\n", bytes "module \\m\n  parameter \\p0 6'01xzm-\n  parameter \\p1 1'x\nend\n") ∷
     (bytes "module \\m\nwire \\a\nassign \\a \\a\nend\n", bytes "5 18\n") ∷
+    (bytes "attribute \\a 4'x\nmodule \\m\nend\n", bytes "attribute \\a 4'xxxx\nmodule \\m\nend\n") ∷
     (bytes "attribute \\x 1\n", bytes "5 15\n") ∷
     (bytes "attribute \\x { 1 }\n", bytes "5 0\n") ∷
     (bytes "module \\m\ncell \\t \\c\nattribute \\x 1\nend\nend\n", bytes "5 21\n") ∷
@@ -67,6 +69,7 @@ cases =
     (bytes "module \\m\n  !\nend\n", bytes "4 12\n") ∷
     ((239 ∷ []) ++ (187 ∷ []) ++ (191 ∷ []) ++ bytes "module \\m\nend\n", bytes "4 0\n") ∷
     (bytes "module \\m\nwire \\a\ncase 1'0\nend\n", bytes "5 18\n") ∷
+    (bytes "module \\m\n  wire width 4 \\a\n  cell $t \\c\n    parameter signed \\p 4'z1\n    connect \\A 4'm\n  end\nend\n", bytes "module \\m\n  wire width 4 \\a\n  cell $t \\c\n    parameter signed \\p 4'zzz1\n    connect \\A 4'mmmm\n  end\nend\n") ∷
     (bytes "cell \\t \\a\n", bytes "5 0\n") ∷
     (bytes "module \\m\ncell \\t \\c\nconnect 1'0 1'0\nend\nend\n", bytes "5 21\n") ∷
     (bytes "module \\m\nwire \\a\ncell \\t \\c\nconnect \\A [0] \\a\nend\nend\n", bytes "5 29\n") ∷
@@ -98,10 +101,12 @@ cases =
     (bytes "module \\m\nconnect\nend\n", bytes "5 10\n") ∷
     (bytes "module \\m\nwire \\a\nconnect \\a\nend\n", bytes "5 18\n") ∷
     (bytes "module \\m\nwire \\a\nconnect \\a \\a \\a\nend\n", bytes "5 18\n") ∷
+    (bytes "module \\m\n  wire width 4 \\a\n  connect \\a 4'x\n  connect \\a { 2'z 2'10 }\nend\n", bytes "module \\m\n  wire width 4 \\a\n  connect \\a 4'xxxx\n  connect \\a 4'zz10\nend\n") ∷
     (bytes "attribute \\a 1\nattribute \\b 1'1\nattribute \\c \"1\"\nattribute \\d 32'00000000000000000000000000000001\nattribute \\e \"\"\nattribute \\f 0'\nmodule \\m\n  parameter \\a\n  parameter \\b 0\n  parameter \\c 1'0\n  parameter \\d \"0\"\nend\n", bytes "attribute \\a 1\nattribute \\b 1'1\nattribute \\c \"1\"\nattribute \\d 32'00000000000000000000000000000001\nattribute \\e \"\"\nattribute \\f 0'\nmodule \\m\n  parameter \\a\n  parameter \\b 0\n  parameter \\c 1'0\n  parameter \\d \"0\"\nend\n") ∷
     (bytes "module \\constants\nwire width 32 \\a\nconnect \\a -1\nconnect \\a 32'11111111111111111111111111111111\nconnect \\a 1\nconnect \\a 32'1\nattribute \\escapes \"\\n\\t\\141\\\\\\\"\\r\"\nwire \\b\nend\n", bytes "module \\constants\n  wire width 32 \\a\n  attribute \\escapes \"\\n\\ta\\\\\\\"r\"\n  wire \\b\n  connect \\a 32'11111111111111111111111111111111\n  connect \\a 32'11111111111111111111111111111111\n  connect \\a 32'00000000000000000000000000000001\n  connect \\a 32'00000000000000000000000000000001\nend\n") ∷
     (bytes "module \\m" ++ (13 ∷ []) ++ bytes "wire \\a" ++ (13 ∷ []) ++ bytes "end" ++ (13 ∷ []), bytes "module \\m\n  wire \\a\nend\n") ∷
     (bytes "module \\m" ++ (13 ∷ []) ++ bytes "\n" ++ (9 ∷ []) ++ bytes "wire \\a # x" ++ (13 ∷ []) ++ bytes "\nend" ++ (13 ∷ []) ++ bytes "\n", bytes "module \\m\n  wire \\a\nend\n") ∷
+    (bytes "module \\m\n  parameter \\p0 8'-\n  parameter \\p1 4'-x\nend\n", bytes "module \\m\n  parameter \\p0 8'--------\n  parameter \\p1 4'---x\nend\n") ∷
     (bytes "module \\m\n  connect { { { { { { { { { { { { { { { { } } } } } } } } } } } } } } } } { }\nend\n", bytes "module \\m\n  connect { } { }\nend\n") ∷
     (bytes "module \\m\n  wire width 4 \\a\n  wire width 2 \\b\n  wire \\y\ncell \\t \\c\nconnect \\A { { { { { { { { { { { { { { { { \\y } } } } } } } } } } } } } } } { { { { { { { { { { { { { { { \\y } } } } } } } } } } } } } } } }\nend\nend\n", bytes "module \\m\n  wire width 4 \\a\n  wire width 2 \\b\n  wire \\y\n  cell \\t \\c\n    connect \\A { \\y \\y }\n  end\nend\n") ∷
     (bytes "module \\m\n  wire width 4 \\a\n  wire width 2 \\b\n  wire \\y\ncell \\t \\c\nconnect \\A { { { { { { { { { { { { { { { { \\a } [3:0] } [3:0] } [3:0] } [3:0] } [3:0] } [3:0] } [3:0] } [3:0] } [3:0] } [3:0] } [3:0] } [3:0] } [3:0] } [3:0] } [3:0] } [3:0] \nend\nend\n", bytes "module \\m\n  wire width 4 \\a\n  wire width 2 \\b\n  wire \\y\n  cell \\t \\c\n    connect \\A \\a\n  end\nend\n") ∷
@@ -142,11 +147,13 @@ cases =
     (bytes "autoidx 3\nattribute \\t 1\nmodule \\m\nwire \\a\nconnect \\a 1'0\nattribute \\k 1\ncell \\t \\c\nconnect \\A \\a\nparameter \\P 1\nconnect \\B \\a\nparameter \\Q 2\nend\nparameter \\p 1\nattribute \\k 2\nmemory \\r\ncell \\t \\d\nend\nattribute \\k 3\nattribute \\l 4\nwire \\b\nconnect \\b 1'1\nmemory \\s\nparameter \\q\nwire \\z\nend\n", bytes "autoidx 3\nattribute \\t 1\nmodule \\m\n  parameter \\p 1\n  parameter \\q\n  wire \\a\n  attribute \\k 3\n  attribute \\l 4\n  wire \\b\n  wire \\z\n  attribute \\k 2\n  memory \\r\n  memory \\s\n  attribute \\k 1\n  cell \\t \\c\n    parameter \\P 1\n    parameter \\Q 2\n    connect \\A \\a\n    connect \\B \\a\n  end\n  cell \\t \\d\n  end\n  connect \\a 1'0\n  connect \\b 1'1\nend\n") ∷
     (bytes "module \\m\nend\n " ++ (9 ∷ []) ++ bytes " ", bytes "module \\m\nend\n") ∷
     (bytes "module \\m\n  wire width 4 \\a\n  wire width 2 \\b\n  wire \\y\ncell \\t \\c\nconnect \\A { \\y \\a } [4]\nend\nend\n", bytes "module \\m\n  wire width 4 \\a\n  wire width 2 \\b\n  wire \\y\n  cell \\t \\c\n    connect \\A \\y\n  end\nend\n") ∷
+    (bytes "module \\m\n  parameter \\p0 004'x\nend\n", bytes "module \\m\n  parameter \\p0 4'xxxx\nend\n") ∷
     (bytes "module \\m\n" ++ (13 ∷ []) ++ bytes "wire \\a\n" ++ (13 ∷ []) ++ bytes "end\n" ++ (13 ∷ []), bytes "module \\m\n  wire \\a\nend\n") ∷
     (bytes "module \\m\n  wire \\\nend\n", bytes "4 12\n") ∷
     (bytes "module \\m\n  wire \\" ++ (9 ∷ []) ++ bytes "\nend\n", bytes "4 12\n") ∷
     (bytes "module \\m\n  wire $\nend\n", bytes "4 12\n") ∷
     (bytes "module \\m\n  wire width 32 \\a\n  connect \\a -2147483648\nend\n", bytes "module \\m\n  wire width 32 \\a\n  connect \\a 32'10000000000000000000000000000000\nend\n") ∷
+    (bytes "module \\m\n  parameter \\p0 8'm\n  parameter \\p1 4'm1\nend\n", bytes "module \\m\n  parameter \\p0 8'mmmmmmmm\n  parameter \\p1 4'mmm1\nend\n") ∷
     (bytes "module \\m\nwire width 4 \\a\nconnect \\a [ 3 : 2 ] { \\a [ 1 ] \\a" ++ (9 ∷ []) ++ bytes "[ 0 ] }\nend\n", bytes "module \\m\n  wire width 4 \\a\n  connect \\a [3:2] \\a [1:0]\nend\n") ∷
     (bytes "module \\m\n  memory \\0\n  memory \\1\n  memory \\2\n  memory \\3\n  memory \\4\n  memory \\5\n  memory \\6\n  memory \\7\n  memory \\8\n  memory \\9\n  memory \\10\n  memory \\11\n  memory \\12\n  memory \\13\n  memory \\14\n  memory \\15\n  memory \\16\n  memory \\17\n  memory \\18\n  memory \\19\nend\nmodule \\n\n  memory \\0\n  memory \\1\n  memory \\2\n  memory \\3\n  memory \\4\n  memory \\5\n  memory \\6\n  memory \\7\n  memory \\8\n  memory \\9\n  memory \\10\n  memory \\11\nend\n", bytes "module \\m\n  memory \\0\n  memory \\1\n  memory \\2\n  memory \\3\n  memory \\4\n  memory \\5\n  memory \\6\n  memory \\7\n  memory \\8\n  memory \\9\n  memory \\10\n  memory \\11\n  memory \\12\n  memory \\13\n  memory \\14\n  memory \\15\n  memory \\16\n  memory \\17\n  memory \\18\n  memory \\19\nend\nmodule \\n\n  memory \\0\n  memory \\1\n  memory \\2\n  memory \\3\n  memory \\4\n  memory \\5\n  memory \\6\n  memory \\7\n  memory \\8\n  memory \\9\n  memory \\10\n  memory \\11\nend\n") ∷
     (bytes "module \\m\n  memory \\0\n  memory \\1\n  memory \\2\n  memory \\3\n  memory \\4\n  memory \\5\n  memory \\6\n  memory \\7\n  memory \\8\n  memory \\9\n  memory \\10\n  memory \\11\n  memory \\12\n  memory \\13\n  memory \\14\n  memory \\15\n  memory \\16\n  memory \\17\n  memory \\18\n  memory \\19\nend\nmodule \\n\n  memory \\0\n  memory \\1\n  memory \\2\n  memory \\3\n  memory \\4\n  memory \\5\n  memory \\6\n  memory \\7\n  memory \\8\n  memory \\9\n  memory \\10\n  memory \\11\n  memory \\12\nend\n", bytes "11 422\n") ∷
@@ -211,6 +218,7 @@ cases =
     (bytes "module \\names\nwire \\sig42\nwire $sig42\nconnect \\sig42 $sig42\nend\n", bytes "module \\names\n  wire \\sig42\n  wire $sig42\n  connect \\sig42 $sig42\nend\n") ∷
     (bytes "module \\{\n  wire \\\"\n  wire \\'\n  wire \\[\n  wire \\,\n  wire $$\n  wire \\\\\n  wire \\$\n  wire $\\\n  wire \\#\n  wire \\end\n  wire \\1'0\nend\n", bytes "module \\{\n  wire \\\"\n  wire \\'\n  wire \\[\n  wire \\,\n  wire $$\n  wire \\\\\n  wire \\$\n  wire $\\\n  wire \\#\n  wire \\end\n  wire \\1'0\nend\n") ∷
     (bytes "module \\m\n  parameter \\p -1'0\nend\n", bytes "4 12\n") ∷
+    (bytes "module \\m\n  parameter \\p0 1'\n  parameter \\p1 8'\n  parameter \\p2 0'\nend\n", bytes "module \\m\n  parameter \\p0 1'x\n  parameter \\p1 8'xxxxxxxx\n  parameter \\p2 0'\nend\n") ∷
     (bytes "module \\m\nend", bytes "5 10\n") ∷
     (bytes "wire wire", bytes "5 0\n") ∷
     (bytes "module \\m\nend %", bytes "4 10\n") ∷
@@ -293,6 +301,7 @@ cases =
     (bytes "module \\m\ncell \\t \\c\nconnect \\A { }\nconnect \\A { 2048' 1' } [0]\nend\nend\n", bytes "9 36\n") ∷
     (bytes "module \\m\n  memory \\0\n  memory \\1\n  memory \\2\n  memory \\3\n  memory \\4\n  memory \\5\n  memory \\6\n  memory \\7\n  memory \\8\n  memory \\9\n  memory \\10\n  memory \\11\n  memory \\12\n  memory \\13\n  memory \\14\n  memory \\15\n  memory \\16\n  memory \\17\n  memory \\18\n  memory \\19\nend\nmodule \\n\n  memory \\0\n  memory \\1\n  memory \\2\n  memory \\3\n  memory \\4\n  memory \\5\n  memory \\6\n  memory \\7\n  memory \\8\n  memory \\9\n  memory \\10\n  memory \\11\n  memory \\0\nend\n", bytes "9 422\n") ∷
     (bytes "module \\0\nend\nmodule \\1\nend\nmodule \\2\nend\nmodule \\3\nend\nmodule \\4\nend\nmodule \\5\nend\nmodule \\6\nend\nmodule \\7\nend\nmodule \\8\nend\nmodule \\9\nend\nmodule \\10\nend\nmodule \\11\nend\nmodule \\12\nend\nmodule \\13\nend\nmodule \\14\nend\nmodule \\15\nend\nmodule \\16\nend\nmodule \\17\nend\nmodule \\18\nend\nmodule \\19\nend\nmodule \\20\nend\nmodule \\21\nend\nmodule \\22\nend\nmodule \\23\nend\nmodule \\24\nend\nmodule \\25\nend\nmodule \\26\nend\nmodule \\27\nend\nmodule \\28\nend\nmodule \\29\nend\nmodule \\30\nend\nmodule \\31\nend\nmodule \\0\nend\n", bytes "9 470\n") ∷
+    (bytes "module \\m\n  wire width 4 \\a\n  connect \\a { 2'x 1'1 1' }\nend\n", bytes "module \\m\n  wire width 4 \\a\n  connect \\a 4'xx1x\nend\n") ∷
     (bytes "module \\m\n  wire width 4 \\a\n  wire width 2 \\b\n  cell \\t \\c\n    connect \\A { \\a [3] \\a [2:1] \\a [0] \\b 2'01 1'x \\b [0] \\b [1] \\a [0] \\a [1] }\n    connect \\B { { } { \\a } { } }\n    connect \\C { \\b [1] } \n    connect \\D { 1'z \"a\" }\n  end\nend\n", bytes "module \\m\n  wire width 4 \\a\n  wire width 2 \\b\n  cell \\t \\c\n    connect \\A { \\a \\b 3'01x \\b [0] \\b [1] \\a [0] \\a [1] }\n    connect \\B \\a\n    connect \\C \\b [1]\n    connect \\D 9'z01100001\n  end\nend\n") ∷
     (bytes "module \\m\n  wire width 4 \\a\n  wire width 2 \\b\n  wire \\y\ncell \\t \\c\nconnect \\A { 1'0 \\y 1'1 1'x \\y \\y 0' 1'z }\nend\nend\n", bytes "module \\m\n  wire width 4 \\a\n  wire width 2 \\b\n  wire \\y\n  cell \\t \\c\n    connect \\A { 1'0 \\y 2'1x \\y \\y 1'z }\n  end\nend\n") ∷
     (bytes "module \\m\n  wire width 4 \\a\n  wire width 2 \\b\n  wire \\y\ncell \\t \\c\nconnect \\A { 2'01 { 1'x \"A\" } 3'zm- }\nend\nend\n", bytes "module \\m\n  wire width 4 \\a\n  wire width 2 \\b\n  wire \\y\n  cell \\t \\c\n    connect \\A 14'01x01000001zm-\n  end\nend\n") ∷
@@ -308,8 +317,8 @@ cases =
     (bytes "module \\m\n  wire width 4 \\a\n  wire width 2 \\b\n  wire \\y\ncell \\t \\c\nconnect \\A { \\y [0] 1'0 }\nend\nend\n", bytes "module \\m\n  wire width 4 \\a\n  wire width 2 \\b\n  wire \\y\n  cell \\t \\c\n    connect \\A { \\y 1'0 }\n  end\nend\n") ∷
     (bytes "module \\m\n  wire width 4 \\a\n  wire width 2 \\b\n  wire \\y\ncell \\t \\c\nconnect \\A { \\b \\b }\nend\nend\n", bytes "module \\m\n  wire width 4 \\a\n  wire width 2 \\b\n  wire \\y\n  cell \\t \\c\n    connect \\A { \\b \\b }\n  end\nend\n") ∷
     (bytes "module \\m\n  wire \\a\n  memory \\b\nend\nmodule \\n\n  wire \\b\n  memory \\a\nend\n", bytes "module \\m\n  wire \\a\n  memory \\b\nend\nmodule \\n\n  wire \\b\n  memory \\a\nend\n") ∷
-    (bytes "module \\m\n  parameter \\p 8'101\n  parameter \\q 3'\n  parameter \\r 0'\nend\n", bytes "module \\m\n  parameter \\p 8'00000101\n  parameter \\q 3'000\n  parameter \\r 0'\nend\n") ∷
-    (bytes "module \\m\nconnect 4' 4'x1\nend\n", bytes "module \\m\n  connect 4'0000 4'00x1\nend\n") ∷
+    (bytes "module \\m\n  parameter \\p 8'101\n  parameter \\q 3'\n  parameter \\r 0'\nend\n", bytes "module \\m\n  parameter \\p 8'00000101\n  parameter \\q 3'xxx\n  parameter \\r 0'\nend\n") ∷
+    (bytes "module \\m\nconnect 4' 4'x1\nend\n", bytes "module \\m\n  connect 4'xxxx 4'xxx1\nend\n") ∷
     (bytes "module \\m\n  wire width 2048 \\a\ncell \\t \\c\nconnect \\A { \\a 1'0 }\nend\nend\n", bytes "11 42\n") ∷
     (bytes "module \\m\n  wire width 2048 \\a\n  cell \\t \\c\n    connect \\A \\a\n    connect \\B \\a [2046:0]\n    connect \\C \\a [0]\n  end\n  connect \\a \\a\nend\n", bytes "module \\m\n  wire width 2048 \\a\n  cell \\t \\c\n    connect \\A \\a\n    connect \\B \\a [2046:0]\n    connect \\C \\a [0]\n  end\n  connect \\a \\a\nend\n") ∷
     (bytes "module \\m\n  wire width 2048 \\a\nconnect \\a \\a\nconnect \\a \\a\nconnect { } { }\nend\n", bytes "module \\m\n  wire width 2048 \\a\n  connect \\a \\a\n  connect \\a \\a\n  connect { } { }\nend\n") ∷
@@ -354,6 +363,7 @@ cases =
     (bytes "module \\m\nwire width 4 \\a\nwire width 2 \\b\nwire \\y\ncell \\t \\c\nconnect \\A \\a [1'0]\nend\nend\n", bytes "5 61\n") ∷
     (bytes "module \\m\nwire width 4 \\a\nwire width 2 \\b\nwire \\y\ncell \\t \\c\nconnect \\A \\a [:0]\nend\nend\n", bytes "5 61\n") ∷
     (bytes "module \\m\nwire width 4 \\a\nwire width 2 \\b\nwire \\y\ncell \\t \\c\nconnect \\A \\a [1:]\nend\nend\n", bytes "5 61\n") ∷
+    (bytes "module \\m\n  wire \\a\n  connect \\a 4'x [3]\n  connect \\a 4'1x [3]\nend\n", bytes "module \\m\n  wire \\a\n  connect \\a 1'x\n  connect \\a 1'0\nend\n") ∷
     (bytes "module \\m\n  wire width 8 \\a\n  cell \\t \\c\n    connect \\A { \\a [7:4] { \\a [3:0] } [3:1] } [6:1] [4:2] [0]\n  end\nend\n", bytes "module \\m\n  wire width 8 \\a\n  cell \\t \\c\n    connect \\A \\a [4]\n  end\nend\n") ∷
     (bytes "autoidx 1\nattribute \\x 1\nattribute \\y \"s\"\nmodule \\m\n  parameter \\p\n  parameter \\q 1\n  parameter \\r 2'01\n  parameter \\s \"t\"\n  attribute \\x 1\n  wire width 2 offset 3 upto inout 4 signed \\a\n  attribute \\x 2'xz\n  memory width 2 size 3 offset 4 \\ram\n  attribute \\x \"\"\n  attribute \\y -1\n  cell $t $c\n    parameter \\p 1\n    parameter signed \\q 1'0\n    parameter real \\r \"1.5\"\n    connect \\A \\a\n    connect \\B { }\n  end\n  connect \\a 2'10\nend\nmodule \\n\nend\n", bytes "autoidx 1\nattribute \\x 1\nattribute \\y \"s\"\nmodule \\m\n  parameter \\p\n  parameter \\q 1\n  parameter \\r 2'01\n  parameter \\s \"t\"\n  attribute \\x 1\n  wire width 2 offset 3 upto inout 4 signed \\a\n  attribute \\x 2'xz\n  memory width 2 size 3 offset 4 \\ram\n  attribute \\x \"\"\n  attribute \\y -1\n  cell $t $c\n    parameter \\p 1\n    parameter signed \\q 1'0\n    parameter real \\r \"1.5\"\n    connect \\A \\a\n    connect \\B { }\n  end\n  connect \\a 2'10\nend\nmodule \\n\nend\n") ∷
     (bytes "module \\m\n  parameter \\p \"abc\\" ++ (13 ∷ []) ++ bytes "\"\nend\n", bytes "4 12\n") ∷
@@ -384,6 +394,8 @@ cases =
     (bytes "module \\m\nwire \\a\nsync always\nend\n", bytes "5 18\n") ∷
     (bytes "module" ++ (9 ∷ []) ++ bytes "\\m\n" ++ (9 ∷ []) ++ bytes "wire" ++ (9 ∷ []) ++ (9 ∷ []) ++ bytes "width " ++ (9 ∷ []) ++ bytes "2" ++ (9 ∷ []) ++ bytes "\\a" ++ (9 ∷ []) ++ bytes "\nend" ++ (9 ∷ []) ++ bytes "\n", bytes "module \\m\n  wire width 2 \\a\nend\n") ∷
     (bytes "module \\m\nwire width 4 \\a\nwire \\y\nconnect{\\y }{\\a }[3:0][2:1][0]\nconnect \"A\"[0]1[0]\nconnect 1'0{\\a [ 3 ] }\nend\n", bytes "module \\m\n  wire width 4 \\a\n  wire \\y\n  connect \\y \\a [1]\n  connect 1'1 1'1\n  connect 1'0 \\a [3]\nend\n") ∷
+    (bytes "module \\m\n  parameter \\p0 2'xxx\nend\n", bytes "7 12\n") ∷
+    (bytes "module \\m\n  parameter \\p0 2049'x\nend\n", bytes "7 12\n") ∷
     (bytes "module \\m\n  wire input 1 output 2 \\a\nend\n", bytes "7 12\n") ∷
     (bytes "# two ears\nmodule \\m\n  wire width 4 \\a\n  wire \\y\n  cell $mux $1\n    connect \\Y \\y\n    parameter \\WIDTH 1\n    connect \\A { \\a [2] \\a [1] } [0]\n    connect \\B -1 [31]\n    connect \\S \\a [3:0] [3]\n  end\n  connect \\y 1'x\nend\n", bytes "module \\m\n  wire width 4 \\a\n  wire \\y\n  cell $mux $1\n    parameter \\WIDTH 1\n    connect \\Y \\y\n    connect \\A \\a [1]\n    connect \\B 1'1\n    connect \\S \\a [3]\n  end\n  connect \\y 1'x\nend\n") ∷
     (bytes "module \\m\n  wire \\" ++ (195 ∷ []) ++ (169 ∷ []) ++ bytes "\n  wire \\e" ++ (204 ∷ []) ++ (129 ∷ []) ++ bytes "\nend\n", bytes "module \\m\n  wire \\" ++ (195 ∷ []) ++ (169 ∷ []) ++ bytes "\n  wire \\e" ++ (204 ∷ []) ++ (129 ∷ []) ++ bytes "\nend\n") ∷
@@ -395,13 +407,14 @@ cases =
     (bytes "MODULE \\m\nend\n", bytes "4 0\n") ∷
     (bytes "module \\m\n  wire width 4 offset -2 upto \\o\ncell \\t \\c\nconnect \\A \\o [3:2]\nend\nend\n", bytes "module \\m\n  wire width 4 offset -2 upto \\o\n  cell \\t \\c\n    connect \\A \\o [3:2]\n  end\nend\n") ∷
     (bytes "module \\m\nparameter \\p 2048'1\nend\n", bytes "module \\m\n  parameter \\p 2048'00000000000000000000000000000000000000000000000000000000000000000000000000000000000000000000000000000000000000000000000000000000000000000000000000000000000000000000000000000000000000000000000000000000000000000000000000000000000000000000000000000000000000000000000000000000000000000000000000000000000000000000000000000000000000000000000000000000000000000000000000000000000000000000000000000000000000000000000000000000000000000000000000000000000000000000000000000000000000000000000000000000000000000000000000000000000000000000000000000000000000000000000000000000000000000000000000000000000000000000000000000000000000000000000000000000000000000000000000000000000000000000000000000000000000000000000000000000000000000000000000000000000000000000000000000000000000000000000000000000000000000000000000000000000000000000000000000000000000000000000000000000000000000000000000000000000000000000000000000000000000000000000000000000000000000000000000000000000000000000000000000000000000000000000000000000000000000000000000000000000000000000000000000000000000000000000000000000000000000000000000000000000000000000000000000000000000000000000000000000000000000000000000000000000000000000000000000000000000000000000000000000000000000000000000000000000000000000000000000000000000000000000000000000000000000000000000000000000000000000000000000000000000000000000000000000000000000000000000000000000000000000000000000000000000000000000000000000000000000000000000000000000000000000000000000000000000000000000000000000000000000000000000000000000000000000000000000000000000000000000000000000000000000000000000000000000000000000000000000000000000000000000000000000000000000000000000000000000000000000000000000000000000000000000000000000000000000000000000000000000000000000000000000000000000000000000000000000000000000000000000000000000000000000000000000000000000000000000000000000000000000000000000000000000000000000000000000000000000000000000000000000000000000000000000000000000000000000000000000000000000000000000000000000000000000000000000000000000000000000000000000001\nend\n") ∷
-    (bytes "attribute \\x 2048'\nmodule \\m\nparameter \\p 2048'\nparameter \\n 7\nparameter \\s \"abc\"\ncell \\t \\c\nparameter \\q 2048'1\nparameter \\r 2047'\nparameter \\o 1'x\nend\nconnect 8'0 8'0\nend\n", bytes "attribute \\x 2048'00000000000000000000000000000000000000000000000000000000000000000000000000000000000000000000000000000000000000000000000000000000000000000000000000000000000000000000000000000000000000000000000000000000000000000000000000000000000000000000000000000000000000000000000000000000000000000000000000000000000000000000000000000000000000000000000000000000000000000000000000000000000000000000000000000000000000000000000000000000000000000000000000000000000000000000000000000000000000000000000000000000000000000000000000000000000000000000000000000000000000000000000000000000000000000000000000000000000000000000000000000000000000000000000000000000000000000000000000000000000000000000000000000000000000000000000000000000000000000000000000000000000000000000000000000000000000000000000000000000000000000000000000000000000000000000000000000000000000000000000000000000000000000000000000000000000000000000000000000000000000000000000000000000000000000000000000000000000000000000000000000000000000000000000000000000000000000000000000000000000000000000000000000000000000000000000000000000000000000000000000000000000000000000000000000000000000000000000000000000000000000000000000000000000000000000000000000000000000000000000000000000000000000000000000000000000000000000000000000000000000000000000000000000000000000000000000000000000000000000000000000000000000000000000000000000000000000000000000000000000000000000000000000000000000000000000000000000000000000000000000000000000000000000000000000000000000000000000000000000000000000000000000000000000000000000000000000000000000000000000000000000000000000000000000000000000000000000000000000000000000000000000000000000000000000000000000000000000000000000000000000000000000000000000000000000000000000000000000000000000000000000000000000000000000000000000000000000000000000000000000000000000000000000000000000000000000000000000000000000000000000000000000000000000000000000000000000000000000000000000000000000000000000000000000000000000000000000000000000000000000000000000000000000000000000000000000000000000000000000000000000000\nmodule \\m\n  parameter \\p 2048'00000000000000000000000000000000000000000000000000000000000000000000000000000000000000000000000000000000000000000000000000000000000000000000000000000000000000000000000000000000000000000000000000000000000000000000000000000000000000000000000000000000000000000000000000000000000000000000000000000000000000000000000000000000000000000000000000000000000000000000000000000000000000000000000000000000000000000000000000000000000000000000000000000000000000000000000000000000000000000000000000000000000000000000000000000000000000000000000000000000000000000000000000000000000000000000000000000000000000000000000000000000000000000000000000000000000000000000000000000000000000000000000000000000000000000000000000000000000000000000000000000000000000000000000000000000000000000000000000000000000000000000000000000000000000000000000000000000000000000000000000000000000000000000000000000000000000000000000000000000000000000000000000000000000000000000000000000000000000000000000000000000000000000000000000000000000000000000000000000000000000000000000000000000000000000000000000000000000000000000000000000000000000000000000000000000000000000000000000000000000000000000000000000000000000000000000000000000000000000000000000000000000000000000000000000000000000000000000000000000000000000000000000000000000000000000000000000000000000000000000000000000000000000000000000000000000000000000000000000000000000000000000000000000000000000000000000000000000000000000000000000000000000000000000000000000000000000000000000000000000000000000000000000000000000000000000000000000000000000000000000000000000000000000000000000000000000000000000000000000000000000000000000000000000000000000000000000000000000000000000000000000000000000000000000000000000000000000000000000000000000000000000000000000000000000000000000000000000000000000000000000000000000000000000000000000000000000000000000000000000000000000000000000000000000000000000000000000000000000000000000000000000000000000000000000000000000000000000000000000000000000000000000000000000000000000000000000000000000000000000000000000\n  parameter \\n 7\n  parameter \\s \"abc\"\n  cell \\t \\c\n    parameter \\q 2048'00000000000000000000000000000000000000000000000000000000000000000000000000000000000000000000000000000000000000000000000000000000000000000000000000000000000000000000000000000000000000000000000000000000000000000000000000000000000000000000000000000000000000000000000000000000000000000000000000000000000000000000000000000000000000000000000000000000000000000000000000000000000000000000000000000000000000000000000000000000000000000000000000000000000000000000000000000000000000000000000000000000000000000000000000000000000000000000000000000000000000000000000000000000000000000000000000000000000000000000000000000000000000000000000000000000000000000000000000000000000000000000000000000000000000000000000000000000000000000000000000000000000000000000000000000000000000000000000000000000000000000000000000000000000000000000000000000000000000000000000000000000000000000000000000000000000000000000000000000000000000000000000000000000000000000000000000000000000000000000000000000000000000000000000000000000000000000000000000000000000000000000000000000000000000000000000000000000000000000000000000000000000000000000000000000000000000000000000000000000000000000000000000000000000000000000000000000000000000000000000000000000000000000000000000000000000000000000000000000000000000000000000000000000000000000000000000000000000000000000000000000000000000000000000000000000000000000000000000000000000000000000000000000000000000000000000000000000000000000000000000000000000000000000000000000000000000000000000000000000000000000000000000000000000000000000000000000000000000000000000000000000000000000000000000000000000000000000000000000000000000000000000000000000000000000000000000000000000000000000000000000000000000000000000000000000000000000000000000000000000000000000000000000000000000000000000000000000000000000000000000000000000000000000000000000000000000000000000000000000000000000000000000000000000000000000000000000000000000000000000000000000000000000000000000000000000000000000000000000000000000000000000000000000000000000000000000000000000000000000000000000001\n    parameter \\r 2047'0000000000000000000000000000000000000000000000000000000000000000000000000000000000000000000000000000000000000000000000000000000000000000000000000000000000000000000000000000000000000000000000000000000000000000000000000000000000000000000000000000000000000000000000000000000000000000000000000000000000000000000000000000000000000000000000000000000000000000000000000000000000000000000000000000000000000000000000000000000000000000000000000000000000000000000000000000000000000000000000000000000000000000000000000000000000000000000000000000000000000000000000000000000000000000000000000000000000000000000000000000000000000000000000000000000000000000000000000000000000000000000000000000000000000000000000000000000000000000000000000000000000000000000000000000000000000000000000000000000000000000000000000000000000000000000000000000000000000000000000000000000000000000000000000000000000000000000000000000000000000000000000000000000000000000000000000000000000000000000000000000000000000000000000000000000000000000000000000000000000000000000000000000000000000000000000000000000000000000000000000000000000000000000000000000000000000000000000000000000000000000000000000000000000000000000000000000000000000000000000000000000000000000000000000000000000000000000000000000000000000000000000000000000000000000000000000000000000000000000000000000000000000000000000000000000000000000000000000000000000000000000000000000000000000000000000000000000000000000000000000000000000000000000000000000000000000000000000000000000000000000000000000000000000000000000000000000000000000000000000000000000000000000000000000000000000000000000000000000000000000000000000000000000000000000000000000000000000000000000000000000000000000000000000000000000000000000000000000000000000000000000000000000000000000000000000000000000000000000000000000000000000000000000000000000000000000000000000000000000000000000000000000000000000000000000000000000000000000000000000000000000000000000000000000000000000000000000000000000000000000000000000000000000000000000000000000000000000000000000000000000000\n    parameter \\o 1'x\n  end\n  connect 8'00000000 8'00000000\nend\n") ∷
+    (bytes "attribute \\x 2048'\nmodule \\m\nparameter \\p 2048'\nparameter \\n 7\nparameter \\s \"abc\"\ncell \\t \\c\nparameter \\q 2048'1\nparameter \\r 2047'\nparameter \\o 1'x\nend\nconnect 8'0 8'0\nend\n", bytes "attribute \\x 2048'xxxxxxxxxxxxxxxxxxxxxxxxxxxxxxxxxxxxxxxxxxxxxxxxxxxxxxxxxxxxxxxxxxxxxxxxxxxxxxxxxxxxxxxxxxxxxxxxxxxxxxxxxxxxxxxxxxxxxxxxxxxxxxxxxxxxxxxxxxxxxxxxxxxxxxxxxxxxxxxxxxxxxxxxxxxxxxxxxxxxxxxxxxxxxxxxxxxxxxxxxxxxxxxxxxxxxxxxxxxxxxxxxxxxxxxxxxxxxxxxxxxxxxxxxxxxxxxxxxxxxxxxxxxxxxxxxxxxxxxxxxxxxxxxxxxxxxxxxxxxxxxxxxxxxxxxxxxxxxxxxxxxxxxxxxxxxxxxxxxxxxxxxxxxxxxxxxxxxxxxxxxxxxxxxxxxxxxxxxxxxxxxxxxxxxxxxxxxxxxxxxxxxxxxxxxxxxxxxxxxxxxxxxxxxxxxxxxxxxxxxxxxxxxxxxxxxxxxxxxxxxxxxxxxxxxxxxxxxxxxxxxxxxxxxxxxxxxxxxxxxxxxxxxxxxxxxxxxxxxxxxxxxxxxxxxxxxxxxxxxxxxxxxxxxxxxxxxxxxxxxxxxxxxxxxxxxxxxxxxxxxxxxxxxxxxxxxxxxxxxxxxxxxxxxxxxxxxxxxxxxxxxxxxxxxxxxxxxxxxxxxxxxxxxxxxxxxxxxxxxxxxxxxxxxxxxxxxxxxxxxxxxxxxxxxxxxxxxxxxxxxxxxxxxxxxxxxxxxxxxxxxxxxxxxxxxxxxxxxxxxxxxxxxxxxxxxxxxxxxxxxxxxxxxxxxxxxxxxxxxxxxxxxxxxxxxxxxxxxxxxxxxxxxxxxxxxxxxxxxxxxxxxxxxxxxxxxxxxxxxxxxxxxxxxxxxxxxxxxxxxxxxxxxxxxxxxxxxxxxxxxxxxxxxxxxxxxxxxxxxxxxxxxxxxxxxxxxxxxxxxxxxxxxxxxxxxxxxxxxxxxxxxxxxxxxxxxxxxxxxxxxxxxxxxxxxxxxxxxxxxxxxxxxxxxxxxxxxxxxxxxxxxxxxxxxxxxxxxxxxxxxxxxxxxxxxxxxxxxxxxxxxxxxxxxxxxxxxxxxxxxxxxxxxxxxxxxxxxxxxxxxxxxxxxxxxxxxxxxxxxxxxxxxxxxxxxxxxxxxxxxxxxxxxxxxxxxxxxxxxxxxxxxxxxxxxxxxxxxxxxxxxxxxxxxxxxxxxxxxxxxxxxxxxxxxxxxxxxxxxxxxxxxxxxxxxxxxxxxxxxxxxxxxxxxxxxxxxxxxxxxxxxxxxxxxxxxxxxxxxxxxxxxxxxxxxxxxxxxxxxxxxxxxxxxxxxxxxxxxxxxxxxxxxxxxxxxxxxxxxxxxxxxxxxxxxxxxxxxxxxxxxxxxxxxxxxxxxxxxxxxxxxxxxxxxxxxxxxxxxxxxxxxxxxxxxxxxxxxxxxxxxxxxxxxxxxxxxxxxxxxxxxxxxxxxxxxxxxxxxxxxxxxxxxxxxxxxxxxxxxxxxxxxxxxxxxxxxxxxxxxxxxxxxxxxxxxxxxxxxxxxxxxxxxxxxxxxxxxxxxxxxxxxxxxxxxxxxxxxxxxxxxxxxxxxxxxxxxxxxxxxxxxxxxxxxxxxxxxxxxxxxxxxxxxxxxxxxxxxxxxxxxxxxxxxxxxxxxxxxxxxxxxxxxxxxxxxxxxxxxxxxxxxxxxxxxxxxxxxxxxxxxxxxxxxxxxxxxxxxxxxxxxxxxxxxxxxxxxxxxxxxxxxxxxxxxxxxxxxxxxxxxxxxxxxxxxxxxxxxxxxxxxxxxxxxxxxxxxxxxxxxxxxxxxxxxxxxxxxxxxxxxxxxxxxxxxxxxxxxxxxxxxxxxxxxxxxxxxxxxxxxxxxxxxxxxxxxxxxxxxxxxxxxxxxxxxxxxxxxxxxxxxxxxxxxxxxxxxxxxxxxxxxxxxxxxxxxxxxxxxxxxxxxxxxxxxxxxxxxxxxxxxxxxxxxxxxxxxxxxxxxxxxxxxxxxxxxxxxxxxxxxxxxxxxxxxxxxxxxxxxxxxxxxxxxxxxxxxxxxxxxxxxxxxxxxxxxxxxxxxxxxxxxxxxxxxxxxxxxxxxxxxxx\nmodule \\m\n  parameter \\p 2048'xxxxxxxxxxxxxxxxxxxxxxxxxxxxxxxxxxxxxxxxxxxxxxxxxxxxxxxxxxxxxxxxxxxxxxxxxxxxxxxxxxxxxxxxxxxxxxxxxxxxxxxxxxxxxxxxxxxxxxxxxxxxxxxxxxxxxxxxxxxxxxxxxxxxxxxxxxxxxxxxxxxxxxxxxxxxxxxxxxxxxxxxxxxxxxxxxxxxxxxxxxxxxxxxxxxxxxxxxxxxxxxxxxxxxxxxxxxxxxxxxxxxxxxxxxxxxxxxxxxxxxxxxxxxxxxxxxxxxxxxxxxxxxxxxxxxxxxxxxxxxxxxxxxxxxxxxxxxxxxxxxxxxxxxxxxxxxxxxxxxxxxxxxxxxxxxxxxxxxxxxxxxxxxxxxxxxxxxxxxxxxxxxxxxxxxxxxxxxxxxxxxxxxxxxxxxxxxxxxxxxxxxxxxxxxxxxxxxxxxxxxxxxxxxxxxxxxxxxxxxxxxxxxxxxxxxxxxxxxxxxxxxxxxxxxxxxxxxxxxxxxxxxxxxxxxxxxxxxxxxxxxxxxxxxxxxxxxxxxxxxxxxxxxxxxxxxxxxxxxxxxxxxxxxxxxxxxxxxxxxxxxxxxxxxxxxxxxxxxxxxxxxxxxxxxxxxxxxxxxxxxxxxxxxxxxxxxxxxxxxxxxxxxxxxxxxxxxxxxxxxxxxxxxxxxxxxxxxxxxxxxxxxxxxxxxxxxxxxxxxxxxxxxxxxxxxxxxxxxxxxxxxxxxxxxxxxxxxxxxxxxxxxxxxxxxxxxxxxxxxxxxxxxxxxxxxxxxxxxxxxxxxxxxxxxxxxxxxxxxxxxxxxxxxxxxxxxxxxxxxxxxxxxxxxxxxxxxxxxxxxxxxxxxxxxxxxxxxxxxxxxxxxxxxxxxxxxxxxxxxxxxxxxxxxxxxxxxxxxxxxxxxxxxxxxxxxxxxxxxxxxxxxxxxxxxxxxxxxxxxxxxxxxxxxxxxxxxxxxxxxxxxxxxxxxxxxxxxxxxxxxxxxxxxxxxxxxxxxxxxxxxxxxxxxxxxxxxxxxxxxxxxxxxxxxxxxxxxxxxxxxxxxxxxxxxxxxxxxxxxxxxxxxxxxxxxxxxxxxxxxxxxxxxxxxxxxxxxxxxxxxxxxxxxxxxxxxxxxxxxxxxxxxxxxxxxxxxxxxxxxxxxxxxxxxxxxxxxxxxxxxxxxxxxxxxxxxxxxxxxxxxxxxxxxxxxxxxxxxxxxxxxxxxxxxxxxxxxxxxxxxxxxxxxxxxxxxxxxxxxxxxxxxxxxxxxxxxxxxxxxxxxxxxxxxxxxxxxxxxxxxxxxxxxxxxxxxxxxxxxxxxxxxxxxxxxxxxxxxxxxxxxxxxxxxxxxxxxxxxxxxxxxxxxxxxxxxxxxxxxxxxxxxxxxxxxxxxxxxxxxxxxxxxxxxxxxxxxxxxxxxxxxxxxxxxxxxxxxxxxxxxxxxxxxxxxxxxxxxxxxxxxxxxxxxxxxxxxxxxxxxxxxxxxxxxxxxxxxxxxxxxxxxxxxxxxxxxxxxxxxxxxxxxxxxxxxxxxxxxxxxxxxxxxxxxxxxxxxxxxxxxxxxxxxxxxxxxxxxxxxxxxxxxxxxxxxxxxxxxxxxxxxxxxxxxxxxxxxxxxxxxxxxxxxxxxxxxxxxxxxxxxxxxxxxxxxxxxxxxxxxxxxxxxxxxxxxxxxxxxxxxxxxxxxxxxxxxxxxxxxxxxxxxxxxxxxxxxxxxxxxxxxxxxxxxxxxxxxxxxxxxxxxxxxxxxxxxxxxxxxxxxxxxxxxxxxxxxxxxxxxxxxxxxxxxxxxxxxxxxxxxxxxxxxxxxxxxxxxxxxxxxxxxxxxxxxxxxxxxxxxxxxxxxxxxxxxxxxxxxxxxxxxxxxxxxxxxxxxxxxxxxxxxxxxxxxxxxxxxxxxxxxxxxxxxxxxxxxxxxxxxxxxxxxxxxxxxxxxxxxxxxxxxxxxxxxxxxxxxxxxxxxxxxxxxxxxxxxxxxxxxxxxxxxxxxxxxxxxxxxxxxxxxxxxxxxxxxxxxxxxxxxxxxxxxxxxxxxxxxxxxxxxxxxxxxxxxxxxxxxxxxxxxx\n  parameter \\n 7\n  parameter \\s \"abc\"\n  cell \\t \\c\n    parameter \\q 2048'00000000000000000000000000000000000000000000000000000000000000000000000000000000000000000000000000000000000000000000000000000000000000000000000000000000000000000000000000000000000000000000000000000000000000000000000000000000000000000000000000000000000000000000000000000000000000000000000000000000000000000000000000000000000000000000000000000000000000000000000000000000000000000000000000000000000000000000000000000000000000000000000000000000000000000000000000000000000000000000000000000000000000000000000000000000000000000000000000000000000000000000000000000000000000000000000000000000000000000000000000000000000000000000000000000000000000000000000000000000000000000000000000000000000000000000000000000000000000000000000000000000000000000000000000000000000000000000000000000000000000000000000000000000000000000000000000000000000000000000000000000000000000000000000000000000000000000000000000000000000000000000000000000000000000000000000000000000000000000000000000000000000000000000000000000000000000000000000000000000000000000000000000000000000000000000000000000000000000000000000000000000000000000000000000000000000000000000000000000000000000000000000000000000000000000000000000000000000000000000000000000000000000000000000000000000000000000000000000000000000000000000000000000000000000000000000000000000000000000000000000000000000000000000000000000000000000000000000000000000000000000000000000000000000000000000000000000000000000000000000000000000000000000000000000000000000000000000000000000000000000000000000000000000000000000000000000000000000000000000000000000000000000000000000000000000000000000000000000000000000000000000000000000000000000000000000000000000000000000000000000000000000000000000000000000000000000000000000000000000000000000000000000000000000000000000000000000000000000000000000000000000000000000000000000000000000000000000000000000000000000000000000000000000000000000000000000000000000000000000000000000000000000000000000000000000000000000000000000000000000000000000000000000000000000000000000000000000000000000000000000000001\n    parameter \\r 2047'xxxxxxxxxxxxxxxxxxxxxxxxxxxxxxxxxxxxxxxxxxxxxxxxxxxxxxxxxxxxxxxxxxxxxxxxxxxxxxxxxxxxxxxxxxxxxxxxxxxxxxxxxxxxxxxxxxxxxxxxxxxxxxxxxxxxxxxxxxxxxxxxxxxxxxxxxxxxxxxxxxxxxxxxxxxxxxxxxxxxxxxxxxxxxxxxxxxxxxxxxxxxxxxxxxxxxxxxxxxxxxxxxxxxxxxxxxxxxxxxxxxxxxxxxxxxxxxxxxxxxxxxxxxxxxxxxxxxxxxxxxxxxxxxxxxxxxxxxxxxxxxxxxxxxxxxxxxxxxxxxxxxxxxxxxxxxxxxxxxxxxxxxxxxxxxxxxxxxxxxxxxxxxxxxxxxxxxxxxxxxxxxxxxxxxxxxxxxxxxxxxxxxxxxxxxxxxxxxxxxxxxxxxxxxxxxxxxxxxxxxxxxxxxxxxxxxxxxxxxxxxxxxxxxxxxxxxxxxxxxxxxxxxxxxxxxxxxxxxxxxxxxxxxxxxxxxxxxxxxxxxxxxxxxxxxxxxxxxxxxxxxxxxxxxxxxxxxxxxxxxxxxxxxxxxxxxxxxxxxxxxxxxxxxxxxxxxxxxxxxxxxxxxxxxxxxxxxxxxxxxxxxxxxxxxxxxxxxxxxxxxxxxxxxxxxxxxxxxxxxxxxxxxxxxxxxxxxxxxxxxxxxxxxxxxxxxxxxxxxxxxxxxxxxxxxxxxxxxxxxxxxxxxxxxxxxxxxxxxxxxxxxxxxxxxxxxxxxxxxxxxxxxxxxxxxxxxxxxxxxxxxxxxxxxxxxxxxxxxxxxxxxxxxxxxxxxxxxxxxxxxxxxxxxxxxxxxxxxxxxxxxxxxxxxxxxxxxxxxxxxxxxxxxxxxxxxxxxxxxxxxxxxxxxxxxxxxxxxxxxxxxxxxxxxxxxxxxxxxxxxxxxxxxxxxxxxxxxxxxxxxxxxxxxxxxxxxxxxxxxxxxxxxxxxxxxxxxxxxxxxxxxxxxxxxxxxxxxxxxxxxxxxxxxxxxxxxxxxxxxxxxxxxxxxxxxxxxxxxxxxxxxxxxxxxxxxxxxxxxxxxxxxxxxxxxxxxxxxxxxxxxxxxxxxxxxxxxxxxxxxxxxxxxxxxxxxxxxxxxxxxxxxxxxxxxxxxxxxxxxxxxxxxxxxxxxxxxxxxxxxxxxxxxxxxxxxxxxxxxxxxxxxxxxxxxxxxxxxxxxxxxxxxxxxxxxxxxxxxxxxxxxxxxxxxxxxxxxxxxxxxxxxxxxxxxxxxxxxxxxxxxxxxxxxxxxxxxxxxxxxxxxxxxxxxxxxxxxxxxxxxxxxxxxxxxxxxxxxxxxxxxxxxxxxxxxxxxxxxxxxxxxxxxxxxxxxxxxxxxxxxxxxxxxxxxxxxxxxxxxxxxxxxxxxxxxxxxxxxxxxxxxxxxxxxxxxxxxxxxxxxxxxxxxxxxxxxxxxxxxxxxxxxxxxxxxxxxxxxxxxxxxxxxxxxxxxxxxxxxxxxxxxxxxxxxxxxxxxxxxxxxxxxxxxxxxxxxxxxxxxxxxxxxxxxxxxxxxxxxxxxxxxxxxxxxxxxxxxxxxxxxxxxxxxxxxxxxxxxxxxxxxxxxxxxxxxxxxxxxxxxxxxxxxxxxxxxxxxxxxxxxxxxxxxxxxxxxxxxxxxxxxxxxxxxxxxxxxxxxxxxxxxxxxxxxxxxxxxxxxxxxxxxxxxxxxxxxxxxxxxxxxxxxxxxxxxxxxxxxxxxxxxxxxxxxxxxxxxxxxxxxxxxxxxxxxxxxxxxxxxxxxxxxxxxxxxxxxxxxxxxxxxxxxxxxxxxxxxxxxxxxxxxxxxxxxxxxxxxxxxxxxxxxxxxxxxxxxxxxxxxxxxxxxxxxxxxxxxxxxxxxxxxxxxxxxxxxxxxxxxxxxxxxxxxxxxxxxxxxxxxxxxxxxxxxxxxxxxxxxxxxxxxxxxxxxxxxxxxxxxxxxxxxxxxxxxxxxxxxxxxxxxxxxxxxxxxxxxxxxxxxxxxxxxxxxxxxxxxxxxxxxxxxxxxxxxxxxxxxxxxxxxxxxxxxxxxxxxxxxxxxxxxx\n    parameter \\o 1'x\n  end\n  connect 8'00000000 8'00000000\nend\n") ∷
     (bytes "attribute \\x 2048'\nmodule \\m\nparameter \\p 2048'\ncell \\t \\c\nparameter \\q 2048'1\nparameter \\r 2048'\nparameter \\o 1'x\nend\nend\n", bytes "11 98\n") ∷
     (bytes "module \\m\nparameter \\p 2048'\nparameter \\q 2048'\nparameter \\r 2048'\nparameter \\s 2047'\nattribute \\x 2'\nwire \\a\nend\n", bytes "11 86\n") ∷
     (bytes "module \\m\n  parameter \\p 1' 0\nend\n", bytes "5 12\n") ∷
     (bytes "module \\m\n  parameter \\p 4'012\nend\n", bytes "4 12\n") ∷
     (bytes "module \\m\n  parameter \\p 6'01xzm-\n  connect 6'01xzm- 6'-mzx10\nend\n", bytes "module \\m\n  parameter \\p 6'01xzm-\n  connect 6'01xzm- 6'-mzx10\nend\n") ∷
-    (bytes "module \\m\nparameter \\p 4'x\nparameter \\q 4'z1\nend\n", bytes "module \\m\n  parameter \\p 4'000x\n  parameter \\q 4'00z1\nend\n") ∷
+    (bytes "module \\m\nparameter \\p 4'x\nparameter \\q 4'z1\nend\n", bytes "module \\m\n  parameter \\p 4'xxxx\n  parameter \\q 4'zzz1\nend\n") ∷
+    (bytes "attribute \\none 4'\nattribute \\zero 4'01\nattribute \\one 4'11\nattribute \\x 4'x1\nattribute \\z 4'z1\nattribute \\m 4'm1\nattribute \\dash 4'-1\nmodule \\m\n  parameter \\none 4'\n  parameter \\zero 4'01\n  parameter \\one 4'11\n  parameter \\x 4'x1\n  parameter \\z 4'z1\n  parameter \\m 4'm1\n  parameter \\dash 4'-1\n  cell \\t \\c\n    parameter \\none 3'\n    parameter \\zero 3'0\n    parameter \\one 3'1\n    parameter \\x 3'x\n    parameter \\z 3'z\n    parameter \\m 3'm\n    parameter \\dash 3'-\n    connect \\none 4'\n    connect \\zero 4'01\n    connect \\one 4'11\n    connect \\x 4'x1\n    connect \\z 4'z1\n    connect \\m 4'm1\n    connect \\dash 4'-1\n  end\n  connect 3' 3'\n  connect 3'0 3'0\n  connect 3'1 3'1\n  connect 3'x 3'x\n  connect 3'z 3'z\n  connect 3'm 3'm\n  connect 3'- 3'-\nend\n", bytes "attribute \\none 4'xxxx\nattribute \\zero 4'0001\nattribute \\one 4'0011\nattribute \\x 4'xxx1\nattribute \\z 4'zzz1\nattribute \\m 4'mmm1\nattribute \\dash 4'---1\nmodule \\m\n  parameter \\none 4'xxxx\n  parameter \\zero 4'0001\n  parameter \\one 4'0011\n  parameter \\x 4'xxx1\n  parameter \\z 4'zzz1\n  parameter \\m 4'mmm1\n  parameter \\dash 4'---1\n  cell \\t \\c\n    parameter \\none 3'xxx\n    parameter \\zero 3'000\n    parameter \\one 3'001\n    parameter \\x 3'xxx\n    parameter \\z 3'zzz\n    parameter \\m 3'mmm\n    parameter \\dash 3'---\n    connect \\none 4'xxxx\n    connect \\zero 4'0001\n    connect \\one 4'0011\n    connect \\x 4'xxx1\n    connect \\z 4'zzz1\n    connect \\m 4'mmm1\n    connect \\dash 4'---1\n  end\n  connect 3'xxx 3'xxx\n  connect 3'000 3'000\n  connect 3'001 3'001\n  connect 3'xxx 3'xxx\n  connect 3'zzz 3'zzz\n  connect 3'mmm 3'mmm\n  connect 3'--- 3'---\nend\n") ∷
     (bytes "module \\m\nwire width 16 \\a\nconnect \\a 16'b0000010100111001\nend\n", bytes "4 27\n") ∷
     (bytes "module \\m\n  parameter \\p 1'0\\a\nend\n", bytes "4 12\n") ∷
     (bytes "module \\m\n  parameter \\p 1'0\"a\"\nend\n", bytes "4 12\n") ∷
@@ -455,15 +468,18 @@ cases =
     (bytes "module \\m\n  wires \\a\nend\n", bytes "4 12\n") ∷
     (bytes "module \\m\n  foo \\a\nend\n", bytes "4 12\n") ∷
     (bytes "module \\m\n  wire\\a\nend\n", bytes "4 12\n") ∷
+    (bytes "module \\m\n  parameter \\p0 8'x\n  parameter \\p1 8'x1\n  parameter \\p2 8'0x\n  parameter \\p3 8'1x\nend\n", bytes "module \\m\n  parameter \\p0 8'xxxxxxxx\n  parameter \\p1 8'xxxxxxx1\n  parameter \\p2 8'0000000x\n  parameter \\p3 8'0000001x\nend\n") ∷
     (bytes "# Generated by Yosys 0.23 (git sha1 7ce5011c24b)\nautoidx 7\nattribute \\dynports 1\nattribute \\cells_not_processed 1\nattribute \\src \"counter.v:1.1-5.10\"\nmodule \\counter\n  parameter \\WIDTH 8\n  attribute \\src \"counter.v:4.23-4.31\"\n  wire width 8 $add$counter.v:4$2_Y\n  attribute \\src \"counter.v:1.46-1.49\"\n  wire input 1 \\clk\n  attribute \\src \"counter.v:1.68-1.70\"\n  wire input 3 \\en\n  attribute \\src \"counter.v:1.95-1.96\"\n  wire width 8 output 4 \\q\n  attribute \\src \"counter.v:1.57-1.60\"\n  wire input 2 \\rst\n  attribute \\src \"counter.v:4.23-4.31\"\n  cell $add $add$counter.v:4$2\n    parameter \\A_SIGNED 0\n    parameter \\A_WIDTH 8\n    parameter \\B_SIGNED 0\n    parameter \\B_WIDTH 1\n    parameter \\Y_WIDTH 8\n    connect \\A \\q\n    connect \\B 1'1\n    connect \\Y $add$counter.v:4$2_Y\n  end\n  attribute \\src \"counter.v:2.3-4.32\"\n  cell $adffe $auto$ff.cc:266:slice$6\n    parameter \\ARST_POLARITY 1\n    parameter \\ARST_VALUE 8'00000000\n    parameter \\CLK_POLARITY 1\n    parameter \\EN_POLARITY 1\n    parameter \\WIDTH 8\n    connect \\ARST \\rst\n    connect \\CLK \\clk\n    connect \\D $add$counter.v:4$2_Y\n    connect \\EN \\en\n    connect \\Q \\q\n  end\nend\n", bytes "autoidx 7\nattribute \\dynports 1\nattribute \\cells_not_processed 1\nattribute \\src \"counter.v:1.1-5.10\"\nmodule \\counter\n  parameter \\WIDTH 8\n  attribute \\src \"counter.v:4.23-4.31\"\n  wire width 8 $add$counter.v:4$2_Y\n  attribute \\src \"counter.v:1.46-1.49\"\n  wire input 1 \\clk\n  attribute \\src \"counter.v:1.68-1.70\"\n  wire input 3 \\en\n  attribute \\src \"counter.v:1.95-1.96\"\n  wire width 8 output 4 \\q\n  attribute \\src \"counter.v:1.57-1.60\"\n  wire input 2 \\rst\n  attribute \\src \"counter.v:4.23-4.31\"\n  cell $add $add$counter.v:4$2\n    parameter \\A_SIGNED 0\n    parameter \\A_WIDTH 8\n    parameter \\B_SIGNED 0\n    parameter \\B_WIDTH 1\n    parameter \\Y_WIDTH 8\n    connect \\A \\q\n    connect \\B 1'1\n    connect \\Y $add$counter.v:4$2_Y\n  end\n  attribute \\src \"counter.v:2.3-4.32\"\n  cell $adffe $auto$ff.cc:266:slice$6\n    parameter \\ARST_POLARITY 1\n    parameter \\ARST_VALUE 8'00000000\n    parameter \\CLK_POLARITY 1\n    parameter \\EN_POLARITY 1\n    parameter \\WIDTH 8\n    connect \\ARST \\rst\n    connect \\CLK \\clk\n    connect \\D $add$counter.v:4$2_Y\n    connect \\EN \\en\n    connect \\Q \\q\n  end\nend\n") ∷
     (bytes "# Generated by Yosys 0.23 (git sha1 7ce5011c24b)\nautoidx 5\nattribute \\top 1\nattribute \\src \"ff_with_en_and_async_reset.v:1.1-9.10\"\nmodule \\ff_with_en_and_async_reset\n  attribute \\src \"ff_with_en_and_async_reset.v:4.1-8.16\"\n  wire $0\\q[0:0]\n  attribute \\src \"ff_with_en_and_async_reset.v:2.7-2.12\"\n  wire input 1 \\clock\n  attribute \\src \"ff_with_en_and_async_reset.v:2.29-2.30\"\n  wire input 4 \\d\n  attribute \\src \"ff_with_en_and_async_reset.v:2.21-2.27\"\n  wire input 3 \\enable\n  attribute \\src \"ff_with_en_and_async_reset.v:3.12-3.13\"\n  wire output 5 \\q\n  attribute \\src \"ff_with_en_and_async_reset.v:2.14-2.19\"\n  wire input 2 \\reset\n  attribute \\src \"ff_with_en_and_async_reset.v:4.1-8.16\"\n  cell $adff $procdff$4\n    parameter \\ARST_POLARITY 1'1\n    parameter \\ARST_VALUE 1'0\n    parameter \\CLK_POLARITY 1'1\n    parameter \\WIDTH 1\n    connect \\ARST \\reset\n    connect \\CLK \\clock\n    connect \\D $0\\q[0:0]\n    connect \\Q \\q\n  end\n  attribute \\src \"ff_with_en_and_async_reset.v:7.14-7.20|ff_with_en_and_async_reset.v:7.10-8.16\"\n  cell $mux $procmux$2\n    parameter \\WIDTH 1\n    connect \\A \\q\n    connect \\B \\d\n    connect \\S \\enable\n    connect \\Y $0\\q[0:0]\n  end\nend\n", bytes "autoidx 5\nattribute \\top 1\nattribute \\src \"ff_with_en_and_async_reset.v:1.1-9.10\"\nmodule \\ff_with_en_and_async_reset\n  attribute \\src \"ff_with_en_and_async_reset.v:4.1-8.16\"\n  wire $0\\q[0:0]\n  attribute \\src \"ff_with_en_and_async_reset.v:2.7-2.12\"\n  wire input 1 \\clock\n  attribute \\src \"ff_with_en_and_async_reset.v:2.29-2.30\"\n  wire input 4 \\d\n  attribute \\src \"ff_with_en_and_async_reset.v:2.21-2.27\"\n  wire input 3 \\enable\n  attribute \\src \"ff_with_en_and_async_reset.v:3.12-3.13\"\n  wire output 5 \\q\n  attribute \\src \"ff_with_en_and_async_reset.v:2.14-2.19\"\n  wire input 2 \\reset\n  attribute \\src \"ff_with_en_and_async_reset.v:4.1-8.16\"\n  cell $adff $procdff$4\n    parameter \\ARST_POLARITY 1'1\n    parameter \\ARST_VALUE 1'0\n    parameter \\CLK_POLARITY 1'1\n    parameter \\WIDTH 1\n    connect \\ARST \\reset\n    connect \\CLK \\clock\n    connect \\D $0\\q[0:0]\n    connect \\Q \\q\n  end\n  attribute \\src \"ff_with_en_and_async_reset.v:7.14-7.20|ff_with_en_and_async_reset.v:7.10-8.16\"\n  cell $mux $procmux$2\n    parameter \\WIDTH 1\n    connect \\A \\q\n    connect \\B \\d\n    connect \\S \\enable\n    connect \\Y $0\\q[0:0]\n  end\nend\n") ∷
     (bytes "# Generated by Yosys 0.23 (git sha1 7ce5011c24b)\nautoidx 14\nattribute \\top 1\nattribute \\src \"frame_counter.v:2.1-8.10\"\nmodule \\frame_counter\n  parameter \\LENGTH 64\n  attribute \\src \"frame_counter.v:7.19-7.28\"\n  attribute \\unused_bits \"6 7 8 9 10 11 12 13 14 15 16 17 18 19 20 21 22 23 24 25 26 27 28 29 30 31\"\n  wire width 32 $add$frame_counter.v:7$3_Y\n  wire $auto$opt_dff.cc:253:combine_resets$12\n  attribute \\src \"frame_counter.v:2.54-2.57\"\n  wire input 1 \\clk\n  attribute \\src \"frame_counter.v:2.95-2.104\"\n  wire output 4 \\frame_end\n  attribute \\src \"frame_counter.v:2.81-2.86\"\n  wire width 6 output 3 \\place\n  attribute \\src \"frame_counter.v:2.59-2.62\"\n  wire input 2 \\rst\n  attribute \\src \"frame_counter.v:7.19-7.28\"\n  cell $add $add$frame_counter.v:7$3\n    parameter \\A_SIGNED 0\n    parameter \\A_WIDTH 6\n    parameter \\B_SIGNED 0\n    parameter \\B_WIDTH 32\n    parameter \\Y_WIDTH 32\n    connect \\A \\place\n    connect \\B 1\n    connect \\Y $add$frame_counter.v:7$3_Y\n  end\n  attribute \\src \"frame_counter.v:4.3-7.29\"\n  cell $sdff $auto$ff.cc:266:slice$11\n    parameter \\CLK_POLARITY 1\n    parameter \\SRST_POLARITY 1\n    parameter \\SRST_VALUE 6'000000\n    parameter \\WIDTH 6\n    connect \\CLK \\clk\n    connect \\D $add$frame_counter.v:7$3_Y [5:0]\n    connect \\Q \\place\n    connect \\SRST $auto$opt_dff.cc:253:combine_resets$12\n  end\n  cell $reduce_or $auto$opt_dff.cc:254:combine_resets$13\n    parameter \\A_SIGNED 0\n    parameter \\A_WIDTH 2\n    parameter \\Y_WIDTH 1\n    connect \\A { \\frame_end \\rst }\n    connect \\Y $auto$opt_dff.cc:253:combine_resets$12\n  end\n  attribute \\src \"frame_counter.v:3.22-3.41\"\n  cell $eq $eq$frame_counter.v:3$1\n    parameter \\A_SIGNED 0\n    parameter \\A_WIDTH 6\n    parameter \\B_SIGNED 0\n    parameter \\B_WIDTH 6\n    parameter \\Y_WIDTH 1\n    connect \\A \\place\n    connect \\B 6'111111\n    connect \\Y \\frame_end\n  end\nend\n", bytes "autoidx 14\nattribute \\top 1\nattribute \\src \"frame_counter.v:2.1-8.10\"\nmodule \\frame_counter\n  parameter \\LENGTH 64\n  attribute \\src \"frame_counter.v:7.19-7.28\"\n  attribute \\unused_bits \"6 7 8 9 10 11 12 13 14 15 16 17 18 19 20 21 22 23 24 25 26 27 28 29 30 31\"\n  wire width 32 $add$frame_counter.v:7$3_Y\n  wire $auto$opt_dff.cc:253:combine_resets$12\n  attribute \\src \"frame_counter.v:2.54-2.57\"\n  wire input 1 \\clk\n  attribute \\src \"frame_counter.v:2.95-2.104\"\n  wire output 4 \\frame_end\n  attribute \\src \"frame_counter.v:2.81-2.86\"\n  wire width 6 output 3 \\place\n  attribute \\src \"frame_counter.v:2.59-2.62\"\n  wire input 2 \\rst\n  attribute \\src \"frame_counter.v:7.19-7.28\"\n  cell $add $add$frame_counter.v:7$3\n    parameter \\A_SIGNED 0\n    parameter \\A_WIDTH 6\n    parameter \\B_SIGNED 0\n    parameter \\B_WIDTH 32\n    parameter \\Y_WIDTH 32\n    connect \\A \\place\n    connect \\B 32'00000000000000000000000000000001\n    connect \\Y $add$frame_counter.v:7$3_Y\n  end\n  attribute \\src \"frame_counter.v:4.3-7.29\"\n  cell $sdff $auto$ff.cc:266:slice$11\n    parameter \\CLK_POLARITY 1\n    parameter \\SRST_POLARITY 1\n    parameter \\SRST_VALUE 6'000000\n    parameter \\WIDTH 6\n    connect \\CLK \\clk\n    connect \\D $add$frame_counter.v:7$3_Y [5:0]\n    connect \\Q \\place\n    connect \\SRST $auto$opt_dff.cc:253:combine_resets$12\n  end\n  cell $reduce_or $auto$opt_dff.cc:254:combine_resets$13\n    parameter \\A_SIGNED 0\n    parameter \\A_WIDTH 2\n    parameter \\Y_WIDTH 1\n    connect \\A { \\frame_end \\rst }\n    connect \\Y $auto$opt_dff.cc:253:combine_resets$12\n  end\n  attribute \\src \"frame_counter.v:3.22-3.41\"\n  cell $eq $eq$frame_counter.v:3$1\n    parameter \\A_SIGNED 0\n    parameter \\A_WIDTH 6\n    parameter \\B_SIGNED 0\n    parameter \\B_WIDTH 6\n    parameter \\Y_WIDTH 1\n    connect \\A \\place\n    connect \\B 6'111111\n    connect \\Y \\frame_end\n  end\nend\n") ∷
-    (bytes "# Generated by Yosys 0.23 (git sha1 7ce5011c24b)\nautoidx 4\nattribute \\cells_not_processed 1\nattribute \\src \"hier.v:5.1-10.10\"\nmodule \\hier\n  attribute \\src \"hier.v:5.26-5.27\"\n  wire width 8 input 1 \\a\n  attribute \\src \"hier.v:5.51-5.54\"\n  wire inout 3 \\pad\n  attribute \\src \"hier.v:6.14-6.15\"\n  wire width 4 \\t\n  attribute \\src \"hier.v:5.42-5.43\"\n  wire width 8 output 2 \\y\n  attribute \\src \"hier.v:9.16-9.34\"\n  cell $mux $ternary$hier.v:9$3\n    parameter \\WIDTH 1\n    connect \\A 1'x\n    connect \\B \\a [1]\n    connect \\S \\a [0]\n    connect \\Y \\pad\n  end\n  attribute \\module_not_derived 1\n  attribute \\src \"hier.v:7.50-7.71\"\n  cell \\leaf \\l\n    parameter \\K 8'01xzzx10\n    parameter \\NAME \"left\"\n    parameter signed \\W 4\n    connect \\a \\a [7:4]\n    connect \\y \\t\n  end\n  attribute \\module_not_derived 1\n  attribute \\src \"hier.v:8.24-8.50\"\n  cell \\leaf \\r\n    parameter signed \\S 5\n    parameter signed \\W 8\n    connect \\a { \\t \\a [3:0] }\n    connect \\y \\y\n  end\nend\nattribute \\dynports 1\nattribute \\cells_not_processed 1\nattribute \\src \"hier.v:1.1-4.10\"\nmodule \\leaf\n  parameter \\W 4\n  parameter \\K 8'x\n  parameter \\NAME \"leaf\"\n  parameter \\R\n  parameter \\S 6'111101\n  attribute \\src \"hier.v:3.14-3.23\"\n  attribute \\unused_bits \"4 5 6 7\"\n  wire width 8 $xor$hier.v:3$2_Y\n  attribute \\src \"hier.v:2.18-2.19\"\n  wire width 4 input 1 \\a\n  attribute \\src \"hier.v:2.36-2.37\"\n  wire width 4 output 2 \\y\n  attribute \\src \"hier.v:3.14-3.23\"\n  cell $xor $xor$hier.v:3$2\n    parameter \\A_SIGNED 0\n    parameter \\A_WIDTH 8\n    parameter \\B_SIGNED 0\n    parameter \\B_WIDTH 6\n    parameter \\Y_WIDTH 8\n    connect \\A { 4'0000 \\a }\n    connect \\B 6'111101\n    connect \\Y { $xor$hier.v:3$2_Y [7:4] \\y }\n  end\n  connect $xor$hier.v:3$2_Y [3:0] \\y\nend\n", bytes "autoidx 4\nattribute \\cells_not_processed 1\nattribute \\src \"hier.v:5.1-10.10\"\nmodule \\hier\n  attribute \\src \"hier.v:5.26-5.27\"\n  wire width 8 input 1 \\a\n  attribute \\src \"hier.v:5.51-5.54\"\n  wire inout 3 \\pad\n  attribute \\src \"hier.v:6.14-6.15\"\n  wire width 4 \\t\n  attribute \\src \"hier.v:5.42-5.43\"\n  wire width 8 output 2 \\y\n  attribute \\src \"hier.v:9.16-9.34\"\n  cell $mux $ternary$hier.v:9$3\n    parameter \\WIDTH 1\n    connect \\A 1'x\n    connect \\B \\a [1]\n    connect \\S \\a [0]\n    connect \\Y \\pad\n  end\n  attribute \\module_not_derived 1\n  attribute \\src \"hier.v:7.50-7.71\"\n  cell \\leaf \\l\n    parameter \\K 8'01xzzx10\n    parameter \\NAME \"left\"\n    parameter signed \\W 4\n    connect \\a \\a [7:4]\n    connect \\y \\t\n  end\n  attribute \\module_not_derived 1\n  attribute \\src \"hier.v:8.24-8.50\"\n  cell \\leaf \\r\n    parameter signed \\S 5\n    parameter signed \\W 8\n    connect \\a { \\t \\a [3:0] }\n    connect \\y \\y\n  end\nend\nattribute \\dynports 1\nattribute \\cells_not_processed 1\nattribute \\src \"hier.v:1.1-4.10\"\nmodule \\leaf\n  parameter \\W 4\n  parameter \\K 8'0000000x\n  parameter \\NAME \"leaf\"\n  parameter \\R\n  parameter \\S 6'111101\n  attribute \\src \"hier.v:3.14-3.23\"\n  attribute \\unused_bits \"4 5 6 7\"\n  wire width 8 $xor$hier.v:3$2_Y\n  attribute \\src \"hier.v:2.18-2.19\"\n  wire width 4 input 1 \\a\n  attribute \\src \"hier.v:2.36-2.37\"\n  wire width 4 output 2 \\y\n  attribute \\src \"hier.v:3.14-3.23\"\n  cell $xor $xor$hier.v:3$2\n    parameter \\A_SIGNED 0\n    parameter \\A_WIDTH 8\n    parameter \\B_SIGNED 0\n    parameter \\B_WIDTH 6\n    parameter \\Y_WIDTH 8\n    connect \\A { 4'0000 \\a }\n    connect \\B 6'111101\n    connect \\Y { $xor$hier.v:3$2_Y [7:4] \\y }\n  end\n  connect $xor$hier.v:3$2_Y [3:0] \\y\nend\n") ∷
+    (bytes "# Generated by Yosys 0.23 (git sha1 7ce5011c24b)\nautoidx 4\nattribute \\cells_not_processed 1\nattribute \\src \"hier.v:5.1-10.10\"\nmodule \\hier\n  attribute \\src \"hier.v:5.26-5.27\"\n  wire width 8 input 1 \\a\n  attribute \\src \"hier.v:5.51-5.54\"\n  wire inout 3 \\pad\n  attribute \\src \"hier.v:6.14-6.15\"\n  wire width 4 \\t\n  attribute \\src \"hier.v:5.42-5.43\"\n  wire width 8 output 2 \\y\n  attribute \\src \"hier.v:9.16-9.34\"\n  cell $mux $ternary$hier.v:9$3\n    parameter \\WIDTH 1\n    connect \\A 1'x\n    connect \\B \\a [1]\n    connect \\S \\a [0]\n    connect \\Y \\pad\n  end\n  attribute \\module_not_derived 1\n  attribute \\src \"hier.v:7.50-7.71\"\n  cell \\leaf \\l\n    parameter \\K 8'01xzzx10\n    parameter \\NAME \"left\"\n    parameter signed \\W 4\n    connect \\a \\a [7:4]\n    connect \\y \\t\n  end\n  attribute \\module_not_derived 1\n  attribute \\src \"hier.v:8.24-8.50\"\n  cell \\leaf \\r\n    parameter signed \\S 5\n    parameter signed \\W 8\n    connect \\a { \\t \\a [3:0] }\n    connect \\y \\y\n  end\nend\nattribute \\dynports 1\nattribute \\cells_not_processed 1\nattribute \\src \"hier.v:1.1-4.10\"\nmodule \\leaf\n  parameter \\W 4\n  parameter \\K 8'x\n  parameter \\NAME \"leaf\"\n  parameter \\R\n  parameter \\S 6'111101\n  attribute \\src \"hier.v:3.14-3.23\"\n  attribute \\unused_bits \"4 5 6 7\"\n  wire width 8 $xor$hier.v:3$2_Y\n  attribute \\src \"hier.v:2.18-2.19\"\n  wire width 4 input 1 \\a\n  attribute \\src \"hier.v:2.36-2.37\"\n  wire width 4 output 2 \\y\n  attribute \\src \"hier.v:3.14-3.23\"\n  cell $xor $xor$hier.v:3$2\n    parameter \\A_SIGNED 0\n    parameter \\A_WIDTH 8\n    parameter \\B_SIGNED 0\n    parameter \\B_WIDTH 6\n    parameter \\Y_WIDTH 8\n    connect \\A { 4'0000 \\a }\n    connect \\B 6'111101\n    connect \\Y { $xor$hier.v:3$2_Y [7:4] \\y }\n  end\n  connect $xor$hier.v:3$2_Y [3:0] \\y\nend\n", bytes "autoidx 4\nattribute \\cells_not_processed 1\nattribute \\src \"hier.v:5.1-10.10\"\nmodule \\hier\n  attribute \\src \"hier.v:5.26-5.27\"\n  wire width 8 input 1 \\a\n  attribute \\src \"hier.v:5.51-5.54\"\n  wire inout 3 \\pad\n  attribute \\src \"hier.v:6.14-6.15\"\n  wire width 4 \\t\n  attribute \\src \"hier.v:5.42-5.43\"\n  wire width 8 output 2 \\y\n  attribute \\src \"hier.v:9.16-9.34\"\n  cell $mux $ternary$hier.v:9$3\n    parameter \\WIDTH 1\n    connect \\A 1'x\n    connect \\B \\a [1]\n    connect \\S \\a [0]\n    connect \\Y \\pad\n  end\n  attribute \\module_not_derived 1\n  attribute \\src \"hier.v:7.50-7.71\"\n  cell \\leaf \\l\n    parameter \\K 8'01xzzx10\n    parameter \\NAME \"left\"\n    parameter signed \\W 4\n    connect \\a \\a [7:4]\n    connect \\y \\t\n  end\n  attribute \\module_not_derived 1\n  attribute \\src \"hier.v:8.24-8.50\"\n  cell \\leaf \\r\n    parameter signed \\S 5\n    parameter signed \\W 8\n    connect \\a { \\t \\a [3:0] }\n    connect \\y \\y\n  end\nend\nattribute \\dynports 1\nattribute \\cells_not_processed 1\nattribute \\src \"hier.v:1.1-4.10\"\nmodule \\leaf\n  parameter \\W 4\n  parameter \\K 8'xxxxxxxx\n  parameter \\NAME \"leaf\"\n  parameter \\R\n  parameter \\S 6'111101\n  attribute \\src \"hier.v:3.14-3.23\"\n  attribute \\unused_bits \"4 5 6 7\"\n  wire width 8 $xor$hier.v:3$2_Y\n  attribute \\src \"hier.v:2.18-2.19\"\n  wire width 4 input 1 \\a\n  attribute \\src \"hier.v:2.36-2.37\"\n  wire width 4 output 2 \\y\n  attribute \\src \"hier.v:3.14-3.23\"\n  cell $xor $xor$hier.v:3$2\n    parameter \\A_SIGNED 0\n    parameter \\A_WIDTH 8\n    parameter \\B_SIGNED 0\n    parameter \\B_WIDTH 6\n    parameter \\Y_WIDTH 8\n    connect \\A { 4'0000 \\a }\n    connect \\B 6'111101\n    connect \\Y { $xor$hier.v:3$2_Y [7:4] \\y }\n  end\n  connect $xor$hier.v:3$2_Y [3:0] \\y\nend\n") ∷
     (bytes "# Generated by Yosys 0.23 (git sha1 7ce5011c24b)\nautoidx 7\nattribute \\top 1\nattribute \\src \"program_mux.v:2.1-10.10\"\nmodule \\program_mux\n  wire $procmux$4_CMP\n  wire $procmux$5_CMP\n  wire $procmux$6_CMP\n  attribute \\src \"program_mux.v:2.82-2.87\"\n  wire width 16 input 4 signed \\music\n  attribute \\src \"program_mux.v:2.75-2.80\"\n  wire width 16 input 3 signed \\noise\n  attribute \\src \"program_mux.v:2.89-2.94\"\n  wire width 16 input 5 signed \\phone\n  attribute \\src \"program_mux.v:2.32-2.46\"\n  wire width 2 input 1 \\program_number\n  attribute \\src \"program_mux.v:2.68-2.73\"\n  wire width 16 input 2 signed \\quiet\n  attribute \\src \"program_mux.v:2.121-2.126\"\n  wire width 16 output 6 signed \\sound\n  attribute \\full_case 1\n  attribute \\src \"program_mux.v:0.0-0.0|program_mux.v:4.5-9.12\"\n  cell $pmux $procmux$3\n    parameter \\S_WIDTH 3\n    parameter \\WIDTH 16\n    connect \\A \\phone\n    connect \\B { \\quiet \\noise \\music }\n    connect \\S { $procmux$6_CMP $procmux$5_CMP $procmux$4_CMP }\n    connect \\Y \\sound\n  end\n  attribute \\full_case 1\n  attribute \\src \"program_mux.v:0.0-0.0|program_mux.v:4.5-9.12\"\n  cell $eq $procmux$4_CMP0\n    parameter \\A_SIGNED 0\n    parameter \\A_WIDTH 2\n    parameter \\B_SIGNED 0\n    parameter \\B_WIDTH 2\n    parameter \\Y_WIDTH 1\n    connect \\A \\program_number\n    connect \\B 2'10\n    connect \\Y $procmux$4_CMP\n  end\n  attribute \\full_case 1\n  attribute \\src \"program_mux.v:0.0-0.0|program_mux.v:4.5-9.12\"\n  cell $eq $procmux$5_CMP0\n    parameter \\A_SIGNED 0\n    parameter \\A_WIDTH 2\n    parameter \\B_SIGNED 0\n    parameter \\B_WIDTH 2\n    parameter \\Y_WIDTH 1\n    connect \\A \\program_number\n    connect \\B 2'01\n    connect \\Y $procmux$5_CMP\n  end\n  attribute \\full_case 1\n  attribute \\src \"program_mux.v:0.0-0.0|program_mux.v:4.5-9.12\"\n  cell $logic_not $procmux$6_CMP0\n    parameter \\A_SIGNED 0\n    parameter \\A_WIDTH 2\n    parameter \\Y_WIDTH 1\n    connect \\A \\program_number\n    connect \\Y $procmux$6_CMP\n  end\nend\n", bytes "autoidx 7\nattribute \\top 1\nattribute \\src \"program_mux.v:2.1-10.10\"\nmodule \\program_mux\n  wire $procmux$4_CMP\n  wire $procmux$5_CMP\n  wire $procmux$6_CMP\n  attribute \\src \"program_mux.v:2.82-2.87\"\n  wire width 16 input 4 signed \\music\n  attribute \\src \"program_mux.v:2.75-2.80\"\n  wire width 16 input 3 signed \\noise\n  attribute \\src \"program_mux.v:2.89-2.94\"\n  wire width 16 input 5 signed \\phone\n  attribute \\src \"program_mux.v:2.32-2.46\"\n  wire width 2 input 1 \\program_number\n  attribute \\src \"program_mux.v:2.68-2.73\"\n  wire width 16 input 2 signed \\quiet\n  attribute \\src \"program_mux.v:2.121-2.126\"\n  wire width 16 output 6 signed \\sound\n  attribute \\full_case 1\n  attribute \\src \"program_mux.v:0.0-0.0|program_mux.v:4.5-9.12\"\n  cell $pmux $procmux$3\n    parameter \\S_WIDTH 3\n    parameter \\WIDTH 16\n    connect \\A \\phone\n    connect \\B { \\quiet \\noise \\music }\n    connect \\S { $procmux$6_CMP $procmux$5_CMP $procmux$4_CMP }\n    connect \\Y \\sound\n  end\n  attribute \\full_case 1\n  attribute \\src \"program_mux.v:0.0-0.0|program_mux.v:4.5-9.12\"\n  cell $eq $procmux$4_CMP0\n    parameter \\A_SIGNED 0\n    parameter \\A_WIDTH 2\n    parameter \\B_SIGNED 0\n    parameter \\B_WIDTH 2\n    parameter \\Y_WIDTH 1\n    connect \\A \\program_number\n    connect \\B 2'10\n    connect \\Y $procmux$4_CMP\n  end\n  attribute \\full_case 1\n  attribute \\src \"program_mux.v:0.0-0.0|program_mux.v:4.5-9.12\"\n  cell $eq $procmux$5_CMP0\n    parameter \\A_SIGNED 0\n    parameter \\A_WIDTH 2\n    parameter \\B_SIGNED 0\n    parameter \\B_WIDTH 2\n    parameter \\Y_WIDTH 1\n    connect \\A \\program_number\n    connect \\B 2'01\n    connect \\Y $procmux$5_CMP\n  end\n  attribute \\full_case 1\n  attribute \\src \"program_mux.v:0.0-0.0|program_mux.v:4.5-9.12\"\n  cell $logic_not $procmux$6_CMP0\n    parameter \\A_SIGNED 0\n    parameter \\A_WIDTH 2\n    parameter \\Y_WIDTH 1\n    connect \\A \\program_number\n    connect \\Y $procmux$6_CMP\n  end\nend\n") ∷
-    (bytes "attribute \\f2Z -1759674197\nattribute $1 1\nmodule \\e" ++ (204 ∷ []) ++ (129 ∷ []) ++ bytes "\nconnect { { 0' 4' } 2' } 7'-z-z00x [ 5 : 0 ]\nconnect 33 { 20'1101z00m0z--00-0zz-z { 7'0mmm010 28 [ 23 : 19 ] } }\nend\n", bytes "attribute \\f2Z -1759674197\nattribute $1 1\nmodule \\e" ++ (204 ∷ []) ++ (129 ∷ []) ++ bytes "\n  connect 6'000000 6'z-z00x\n  connect 32'00000000000000000000000000100001 32'1101z00m0z--00-0zz-z0mmm01000000\nend\n") ∷
+    (bytes "module \\m\n  parameter \\p0 8'z\n  parameter \\p1 4'z0\nend\n", bytes "module \\m\n  parameter \\p0 8'zzzzzzzz\n  parameter \\p1 4'zzz0\nend\n") ∷
+    (bytes "module \\m\n  parameter \\p0 0'x\nend\n", bytes "7 12\n") ∷
+    (bytes "attribute \\f2Z -1759674197\nattribute $1 1\nmodule \\e" ++ (204 ∷ []) ++ (129 ∷ []) ++ bytes "\nconnect { 0' { 2'z0 05'01z01 } } 7'1-z-z00\nconnect 33 { 20'1101z00m0z--00-0zz-z { 7'0 { { 3'xz 1'x } { 1' 0' } } } }\nend\n", bytes "attribute \\f2Z -1759674197\nattribute $1 1\nmodule \\e" ++ (204 ∷ []) ++ (129 ∷ []) ++ bytes "\n  connect 7'z001z01 7'1-z-z00\n  connect 32'00000000000000000000000000100001 32'1101z00m0z--00-0zz-z0000000xxzxx\nend\n") ∷
     (bytes "module \\m\n \"\"\n  # note " ++ (0 ∷ []) ++ (13 ∷ []), bytes "5 11\n") ∷
     (bytes "  module \\g6" ++ (13 ∷ []) ++ bytes "wire offset -2147483648   inout 16" ++ (9 ∷ []) ++ bytes "width 2  " ++ (9 ∷ []) ++ bytes "\\3.\n\nconnect{ \\3. }" ++ (9 ∷ []) ++ bytes "[0" ++ (9 ∷ []) ++ bytes "] {" ++ (9 ∷ []) ++ bytes "\\3. } [0" ++ (9 ∷ []) ++ bytes "]#L>-)" ++ (168 ∷ []) ++ (219 ∷ []) ++ (13 ∷ []) ++ bytes "\nend" ++ (13 ∷ []) ++ bytes "\n", bytes "module \\g6\n  wire width 2 offset -2147483648 inout 16 \\3.\n  connect \\3. [0] \\3. [0]\nend\n") ∷
-    (bytes "attribute \\hdlname 1'\nmodule \\Y\nconnect -685053137 [ 29 : 3 ] { \"7 \\143\" [ 23 : 21 ] \"\\142\\40c\" }\nend\n", bytes "attribute \\hdlname 1'0\nmodule \\Y\n  connect 27'010111001010101110101100101 27'001011000100010000001100011\nend\n") ∷
+    (bytes "attribute \\hdlname 01'z\nmodule \\Y\nconnect -685053137 [ 29 : 3 ] { \"7 \\143\" [ 23 : 21 ] \"\\142\\40c\" }\nend\n", bytes "attribute \\hdlname 1'z\nmodule \\Y\n  connect 27'010111001010101110101100101 27'001011000100010000001100011\nend\n") ∷
     (bytes "autoidx 25\nmodule \\140\nattribute \\hdlname \".{\\bc n\"\nwire offset -2147483648 \\Ye\nconnect \\Ye 1'-\nend\nmodule \\{\nwire inout 3 $e" ++ (204 ∷ []) ++ (129 ∷ []) ++ bytes "\ncell \\8 $6\nconnect \\Z 686293817\nconnect $}+}" ++ (213 ∷ []) ++ bytes " $e" ++ (204 ∷ []) ++ (129 ∷ []) ++ bytes "\nend\nend\n", bytes "autoidx 25\nmodule \\140\n  attribute \\hdlname \".{bc n\"\n  wire offset -2147483648 \\Ye\n  connect \\Ye 1'-\nend\nmodule \\{\n  wire inout 3 $e" ++ (204 ∷ []) ++ (129 ∷ []) ++ bytes "\n  cell \\8 $6\n    connect \\Z 32'00101000111010000000001100111001\n    connect $}+}" ++ (213 ∷ []) ++ bytes " $e" ++ (204 ∷ []) ++ (129 ∷ []) ++ bytes "\n  end\nend\n") ∷
     (bytes "module $.B\nmemory \\4\nwire width 1 \\3\nmemory width 3 \\1\nconnect \\3 \\3\ncell \\e" ++ (204 ∷ []) ++ (129 ∷ []) ++ bytes " \\7_Y\nparameter signed \\655 39\nconnect $$ { { -286138257 [ 21 ] \\3 } \\3 }\nconnect \\X \\3\nend\nend\n", bytes "module $.B\n  wire \\3\n  memory \\4\n  memory width 3 \\1\n  cell \\e" ++ (204 ∷ []) ++ (129 ∷ []) ++ bytes " \\7_Y\n    parameter signed \\655 39\n    connect $$ { 1'1 \\3 \\3 }\n    connect \\X \\3\n  end\n  connect \\3 \\3\nend\n") ∷
     (bytes "  autoidx -817714284" ++ (13 ∷ []) ++ bytes "attribute \\$ \"\"#" ++ (191 ∷ []) ++ (181 ∷ []) ++ (160 ∷ []) ++ (196 ∷ []) ++ bytes "q" ++ (6 ∷ []) ++ (182 ∷ []) ++ bytes "\nattribute $" ++ (1 ∷ []) ++ bytes "za9" ++ (9 ∷ []) ++ bytes "73532899\n  autoidx -817714284" ++ (13 ∷ []) ++ bytes "attribute \\$ \"\"#" ++ (191 ∷ []) ++ (181 ∷ []) ++ (160 ∷ []) ++ (196 ∷ []) ++ bytes "q" ++ (6 ∷ []) ++ (182 ∷ []) ++ bytes "\n  # note " ++ (0 ∷ []) ++ (13 ∷ []) ++ bytes "attribute" ++ (9 ∷ []) ++ bytes "\\x50 38" ++ (13 ∷ []) ++ bytes "\nmodule \\XBB" ++ (13 ∷ []) ++ bytes "end\n", bytes "4 45\n") ∷
@@ -473,19 +489,19 @@ cases =
     (bytes "\\018\nattribute \\018\nattribute \\}" ++ (206 ∷ []) ++ (165 ∷ []) ++ bytes "1" ++ (9 ∷ []) ++ bytes "8'1x10zzz-\nwire   offset 2147", bytes "5 0\n") ∷
     (bytes "module $209\nwire signed \\b\nmemory size 16 width 8 $B6\nend\nmodule \\[0:0]\nattribute \\hdlname 2147483647\ncell $adff $Xf\nend\nend\n", bytes "module $209\n  wire signed \\b\n  memory width 8 size 16 $B6\nend\nmodule \\[0:0]\n  attribute \\hdlname 2147483647\n  cell $adff $Xf\n  end\nend\n") ∷
     (bytes " " ++ (9 ∷ []) ++ bytes "module \\BY\nattribute   \\c \"" ++ (148 ∷ []) ++ (164 ∷ []) ++ bytes "\"  \n attribute" ++ (9 ∷ []) ++ bytes "\\hdlname" ++ (9 ∷ []) ++ bytes "\"" ++ (194 ∷ []) ++ bytes "i" ++ (210 ∷ []) ++ bytes "\"\n  # note " ++ (0 ∷ []) ++ (13 ∷ []) ++ bytes "wire \\e3" ++ (9 ∷ []) ++ bytes "\nconnect {4'01xz{  " ++ (9 ∷ []) ++ bytes "2048'  2048' } [2  : 0 ]\\e3 } { \\e3 1'0}\n\nend\n", bytes "10 82\n") ∷
-    (bytes " module  $3X" ++ (13 ∷ []) ++ bytes "connect 1'z 1'0[0" ++ (9 ∷ []) ++ bytes "]\nmemory offset -661842033  " ++ (9 ∷ []) ++ bytes "\\" ++ (206 ∷ []) ++ (234 ∷ []) ++ bytes "  \n  end\n", bytes "module $3X\n  memory offset -661842033 \\" ++ (206 ∷ []) ++ (234 ∷ []) ++ bytes "\n  connect 1'z 1'0\nend\n") ∷
+    (bytes " module  $3X" ++ (13 ∷ []) ++ bytes "connect 1'z 1'0[" ++ (9 ∷ []) ++ bytes "0]\nmemory size 2147483647  " ++ (9 ∷ []) ++ bytes "\\" ++ (234 ∷ []) ++ bytes "  \nmemory " ++ (9 ∷ []) ++ bytes "offset -2022687031  size 2147483647" ++ (9 ∷ []) ++ bytes "$e\nend " ++ (13 ∷ []), bytes "module $3X\n  memory size 2147483647 \\" ++ (234 ∷ []) ++ bytes "\n  memory size 2147483647 offset -2022687031 $e\n  connect 1'z 1'0\nend\n") ∷
     (bytes "  attribu\"te" ++ (9 ∷ []) ++ bytes "$gYb 131755023" ++ (13 ∷ []) ++ bytes "\nmodule $c #\"" ++ (223 ∷ []) ++ (217 ∷ []) ++ (191 ∷ []) ++ bytes "\"J" ++ (13 ∷ []) ++ bytes "e9d  ", bytes "4 2\n") ∷
     (bytes "module output 3 width 5 $G%" ++ (175 ∷ []) ++ bytes "$\nmemory offset -1117491727 size 2147\\483647 \\0_B\nwire inp0 width 4 offset -2147483648 \\]\nend\n", bytes "5 0\n") ∷
     (bytes "module " ++ (9 ∷ []) ++ (9 ∷ []) ++ bytes "\\" ++ (174 ∷ []) ++ (176 ∷ []) ++ bytes "r" ++ (164 ∷ []) ++ (13 ∷ []) ++ bytes " attribute " ++ (9 ∷ []) ++ bytes "\\Cb9" ++ (9 ∷ []) ++ bytes "  \":}{#b\"\n  # note " ++ (0 ∷ []) ++ (13 ∷ []) ++ bytes "wire inout 11 signed" ++ (9 ∷ []) ++ bytes "  $cY\nend\n  # note " ++ (0 ∷ []) ++ (13 ∷ []) ++ bytes "attribute \\0 3'1-1\nmodule \\c\n\n " ++ (9 ∷ []) ++ bytes "end\n", bytes "module \\" ++ (174 ∷ []) ++ (176 ∷ []) ++ bytes "r" ++ (164 ∷ []) ++ bytes "\n  attribute \\Cb9 \":}{#b\"\n  wire inout 11 signed $cY\nend\nattribute \\0 3'1-1\nmodule \\c\nend\n") ∷
     (bytes "module \\Cc1\ncell \\sub $Zy9\nparameter real \\985 \"}a\\04\\  \"\nparameter re" ++ (217 ∷ []) ++ bytes "l $6g 0'\nconn'ct $\" 00'\nparameter \\z 007\nend\ne,nd\n", bytes "4 58\n") ∷
     (bytes "attribute \\hdlname  " ++ (9 ∷ []) ++ bytes "6'00x11m\n  # note " ++ (0 ∷ []) ++ (13 ∷ []) ++ bytes "module \\# #l" ++ (154 ∷ []) ++ bytes "\n\nwire" ++ (9 ∷ []) ++ bytes "width" ++ (9 ∷ []) ++ bytes "5" ++ (9 ∷ []) ++ bytes "\\" ++ (128 ∷ []) ++ bytes " \n  # note " ++ (0 ∷ []) ++ (13 ∷ []) ++ bytes "wire width 9 offset 0 \\Q" ++ (192 ∷ []) ++ bytes "`" ++ (128 ∷ []) ++ bytes "\nend\n\nattribute \\y 1" ++ (13 ∷ []) ++ bytes "autoidx  " ++ (9 ∷ []) ++ bytes "3#" ++ (22 ∷ []) ++ (234 ∷ []) ++ bytes ")" ++ (13 ∷ []) ++ bytes "module" ++ (9 ∷ []) ++ bytes "\\after\n  # note " ++ (0 ∷ []) ++ (13 ∷ []) ++ bytes "end\n", bytes "5 132\n") ∷
-    (bytes "attribute \\hdlname \"ccn.n:\"\nmodule \\z0.\nattribute \\z 8'1zz0-1z-\nwire $end\nwire \\_X\nwire \\" ++ (234 ∷ []) ++ (128 ∷ []) ++ bytes "\nattribute \\hdlname -0001\nattribute \\a4 1'1\ncell $adff $9\nconnect \\A 1'0\nconnect \\B { \\_X [ 1 ] \"A\" }\nend\nend\n", bytes "10 164\n") ∷
+    (bytes "attribute \\hdlname \"ccn.n:\"\nmodule \\z0.\nattribute \\z 8'1\nwire width 1 $2c\nwire $d8\nattribute $" ++ (170 ∷ []) ++ bytes " \"\"\nwire width 4 output 17 $y6\nwire width 1 width 1 \\22\nattribute \\x 1\nwire width -1 \\x\nmemory size -1 \\end\nend\n", bytes "7 126\n") ∷
     (bytes "module \\8b" ++ (13 ∷ []) ++ bytes "\n " ++ (9 ∷ []) ++ bytes "wire width" ++ (9 ∷ []) ++ bytes "5 signed $g6" ++ (13 ∷ []) ++ (9 ∷ []) ++ bytes "connect 7 [ 22:" ++ (9 ∷ []) ++ bytes "20  ]3" ++ (9 ∷ []) ++ bytes "[ 29 :  18 ] [" ++ (9 ∷ []) ++ bytes "7" ++ (9 ∷ []) ++ bytes ":" ++ (9 ∷ []) ++ bytes " 5" ++ (9 ∷ []) ++ bytes "]\n\nend\n  # note " ++ (0 ∷ []) ++ (13 ∷ []), bytes "module \\8b\n  wire width 5 signed $g6\n  connect 3'000 3'000\nend\n") ∷
     (bytes " \\2C.  \\y0 \\Z.  #" ++ (131 ∷ []) ++ (13 ∷ []) ++ bytes "\n\\m" ++ (13 ∷ []) ++ bytes "\n  ,attribute" ++ (9 ∷ []) ++ bytes "[\n1440126500 process  \\b 1337 $9z2 \n", bytes "5 1\n") ∷
     (bytes "module $ebe\nwire inout 4 upto width 1 $BA5\nwire width 6 output 6 \\B\nwire width 5 $$\ncell \\sub \\8._\nconnect \\A 1'0\nconnect \\B { 4'01xz 2147483648 $BA5 }\nend\nend\n", bytes "7 114\n") ∷
     (bytes "module \\m\n[} \\YfA\n,high  \\155   \\b  } \n\\m\n\nmodule  memory{ memory\n  # note " ++ (0 ∷ []) ++ (13 ∷ []) ++ bytes " " ++ (9 ∷ []) ++ bytes "{ memory:  \\a #" ++ (191 ∷ []) ++ (184 ∷ []) ++ bytes ",Z)\n\\b  6'x1011 8'x--xmz0\n\n", bytes "5 10\n") ∷
     (bytes "module \\" ++ (147 ∷ []) ++ bytes "\nwire width 0 ino{t 23 \\[0:0]", bytes "4 10\n") ∷
-    (bytes "module $z92\nattribute \\hdlname -2147483648\nwire input 9 signed \\x.1\nend\nmodule \\g81\ncell \\sub \\8B5\nparameter real \\Z 8'zm1mmx\nparameter signed \\.4 \"" ++ (158 ∷ []) ++ (151 ∷ []) ++ (12 ∷ []) ++ (31 ∷ []) ++ bytes "2\\Y\"\nparameter real \\Y_0 \"c7\"\nend\nend\n", bytes "module $z92\n  attribute \\hdlname -2147483648\n  wire input 9 signed \\x.1\nend\nmodule \\g81\n  cell \\sub \\8B5\n    parameter real \\Z 8'00zm1mmx\n    parameter signed \\.4 \"" ++ (158 ∷ []) ++ (151 ∷ []) ++ bytes "\\014\\0372Y\"\n    parameter real \\Y_0 \"c7\"\n  end\nend\n") ∷
+    (bytes "module $z92\nattribute \\hdlname -2147483648\nwire input 9 signed \\x.1\nend\nmodule \\g81\ncell \\sub \\8B5\nparameter real \\Z 8'1zm1mmxz\nconnect \\48 32\nparameter signed \\{ \"1c\"\nend\nend\nmodule $x\nend\n", bytes "module $z92\n  attribute \\hdlname -2147483648\n  wire input 9 signed \\x.1\nend\nmodule \\g81\n  cell \\sub \\8B5\n    parameter real \\Z 8'1zm1mmxz\n    parameter signed \\{ \"1c\"\n    connect \\48 32'00000000000000000000000000100000\n  end\nend\nmodule $x\nend\n") ∷
     (bytes "module  \\2 \ncell \\<j" ++ (233 ∷ []) ++ bytes " \\0 #" ++ (147 ∷ []) ++ (196 ∷ []) ++ (187 ∷ []) ++ bytes "4T" ++ (216 ∷ []) ++ bytes "\nconnect \\A 1'0\n " ++ (9 ∷ []) ++ bytes "connect \\B { {  }  }#" ++ (27 ∷ []) ++ bytes "1s" ++ (13 ∷ []) ++ bytes "end\nend\n  # note " ++ (0 ∷ []) ++ (13 ∷ []), bytes "module \\2\n  cell \\<j" ++ (233 ∷ []) ++ bytes " \\0\n    connect \\A 1'0\n    connect \\B { }\n  end\nend\n") ∷
     (bytes "module" ++ (9 ∷ []) ++ bytes "\\A\ncell" ++ (9 ∷ []) ++ bytes "\\9C4" ++ (9 ∷ []) ++ bytes " " ++ (9 ∷ []) ++ bytes "\\1yg\n\nparameter signed \\\" \" a {\\175 \"" ++ (13 ∷ []) ++ bytes "\n\nend \n  # note " ++ (0 ∷ []) ++ (13 ∷ []) ++ bytes " end\n", bytes "module \\A\n  cell \\9C4 \\1yg\n    parameter signed \\\" \" a {} \"\n  end\nend\n") ∷
     (bytes "module $1\nparameter \\p 0'\nparameter $p \"\"\nend\n", bytes "module $1\n  parameter \\p 0'\n  parameter $p \"\"\nend\n") ∷
@@ -499,53 +515,53 @@ cases =
     (bytes "module" ++ (9 ∷ []) ++ bytes "\\ZY\nwire width \\ax\ncell \\ ye" ++ (9 ∷ []) ++ bytes "$Z\nconneCt \\A" ++ (9 ∷ []) ++ bytes "1'0\n   note " ++ (0 ∷ []) ++ (13 ∷ []) ++ bytes "connect" ++ (9 ∷ []) ++ bytes "\\B" ++ (9 ∷ []) ++ bytes "{" ++ (9 ∷ []) ++ bytes "\\ax \\ax   2147483648 } [ 0" ++ (9 ∷ []) ++ bytes "]" ++ (13 ∷ []) ++ bytes "\n  end\n  # note " ++ (0 ∷ []) ++ (13 ∷ []) ++ bytes "  end" ++ (13 ∷ []) ++ bytes "\n", bytes "5 11\n") ∷
     (bytes "module" ++ (9 ∷ []) ++ (9 ∷ []) ++ bytes "\\49" ++ (13 ∷ []) ++ bytes "\nwire signed inout 3" ++ (9 ∷ []) ++ bytes "upto width 3" ++ (9 ∷ []) ++ bytes "\\Y_" ++ (13 ∷ []) ++ bytes "\nconnect" ++ (9 ∷ []) ++ bytes "{  {  0'" ++ (9 ∷ []) ++ bytes "20 [16 :16" ++ (9 ∷ []) ++ bytes "]}  {} }\\Y_ [0:0 ][0 : 0]\n\nwire  offset 0 width 8 \\H" ++ (138 ∷ []) ++ bytes "\nend" ++ (13 ∷ []) ++ bytes "module \\Y\nwire \\end " ++ (13 ∷ []) ++ bytes "\nattribute" ++ (9 ∷ []) ++ bytes "\\afz 1509838484" ++ (13 ∷ []) ++ bytes "\ncell  \\a \\53\n  # note " ++ (0 ∷ []) ++ (13 ∷ []) ++ bytes "parameter signed \\" ++ (237 ∷ []) ++ bytes "= 1023106163\nend\nend  \n  # note " ++ (0 ∷ []) ++ (13 ∷ []), bytes "module \\49\n  wire width 3 upto inout 3 signed \\Y_\n  wire width 8 \\H" ++ (138 ∷ []) ++ bytes "\n  connect 1'0 \\Y_ [0]\nend\nmodule \\Y\n  wire \\end\n  attribute \\afz 1509838484\n  cell \\a \\53\n    parameter signed \\" ++ (237 ∷ []) ++ bytes "= 1023106163\n  end\nend\n") ∷
     (bytes "module \\zCX\nwire width 4 \\$\nparameter \\p --1\nend\n", bytes "4 28\n") ∷
-    (bytes "module" ++ (9 ∷ []) ++ bytes "$8z" ++ (9 ∷ []) ++ bytes "\nconnect 9'mx-1 -2135532783[" ++ (9 ∷ []) ++ bytes "31:23 ]\n\nwire width 4 $z\nend" ++ (13 ∷ []) ++ bytes "module" ++ (9 ∷ []) ++ bytes "$0" ++ (152 ∷ []) ++ (13 ∷ []) ++ bytes "connect 2'mm 2'01\nattribute \\hdlname" ++ (9 ∷ []) ++ bytes "6" ++ (13 ∷ []) ++ bytes "wire width 1 $" ++ (170 ∷ []) ++ bytes "ja^\nend\n  # note " ++ (0 ∷ []) ++ (13 ∷ []), bytes "module $8z\n  wire width 4 $z\n  connect 9'00000mx-1 9'100000001\nend\nmodule $0" ++ (152 ∷ []) ++ bytes "\n  attribute \\hdlname 6\n  wire $" ++ (170 ∷ []) ++ bytes "ja^\n  connect 2'mm 2'01\nend\n") ∷
+    (bytes "module" ++ (9 ∷ []) ++ bytes "$8z" ++ (9 ∷ []) ++ bytes "\nconnect 9'mx-1 -2135532783[" ++ (9 ∷ []) ++ bytes "31:23 ]\n\nwire width 4 $z\nend" ++ (13 ∷ []) ++ bytes "module" ++ (9 ∷ []) ++ bytes "$0" ++ (152 ∷ []) ++ (13 ∷ []) ++ bytes "connect  2'm 1[" ++ (9 ∷ []) ++ bytes "18: 17" ++ (9 ∷ []) ++ bytes "  ]\nend\n", bytes "module $8z\n  wire width 4 $z\n  connect 9'mmmmmmx-1 9'100000001\nend\nmodule $0" ++ (152 ∷ []) ++ bytes "\n  connect 2'mm 2'00\nend\n") ∷
     (bytes "module \\648\nattribute" ++ (9 ∷ []) ++ bytes "\\B.  \"t\\134.{\"" ++ (13 ∷ []) ++ bytes " wire" ++ (9 ∷ []) ++ bytes " signed width 5  $a" ++ (13 ∷ []) ++ bytes "wire width " ++ (9 ∷ []) ++ bytes "5 offset 2147483643" ++ (9 ∷ []) ++ bytes "\\6\n\nwire input  7 input 7 $a\nwire width -1 \\_\nwire input " ++ (9 ∷ []) ++ bytes " 7 output 8 $a" ++ (13 ∷ []) ++ bytes "end\n", bytes "7 99\n") ∷
-    (bytes "module $#\nparameter \\Yd \"n\"\nconnect \"\" { }\ncell \\B \\6y\nend\nattribute \\hdlname 6'mx01xx\nattribute \\" ++ (217 ∷ []) ++ bytes " 9'0xz1xzzmx\ncell \\7g \\%&" ++ (244 ∷ []) ++ bytes "c\nend\nend\n", bytes "module $#\n  parameter \\Yd \"n\"\n  cell \\B \\6y\n  end\n  attribute \\hdlname 6'mx01xx\n  attribute \\" ++ (217 ∷ []) ++ bytes " 9'0xz1xzzmx\n  cell \\7g \\%&" ++ (244 ∷ []) ++ bytes "c\n  end\n  connect { } { }\nend\n") ∷
+    (bytes "module $#\nparameter \\Yd \"n\"\nconnect \"\" { }\ncell \\B \\6y\nend\nattribute \\hdlname 6'mx01xx\nattribute \\" ++ (217 ∷ []) ++ bytes " 9'-0xz1xzzm\ncell \\X7g \\%&" ++ (244 ∷ []) ++ bytes "c\nend\nend\n", bytes "module $#\n  parameter \\Yd \"n\"\n  cell \\B \\6y\n  end\n  attribute \\hdlname 6'mx01xx\n  attribute \\" ++ (217 ∷ []) ++ bytes " 9'-0xz1xzzm\n  cell \\X7g \\%&" ++ (244 ∷ []) ++ bytes "c\n  end\n  connect { } { }\nend\n") ∷
     (bytes "module \\4X\nwire signed" ++ (9 ∷ []) ++ bytes "offset 2147483647  \\" ++ (230 ∷ []) ++ (136 ∷ []) ++ (9 ∷ []) ++ bytes "#" ++ (215 ∷ []) ++ bytes "n\nwire output" ++ (9 ∷ []) ++ bytes "13 width 5 $A6\n  # note " ++ (0 ∷ []) ++ (13 ∷ []) ++ bytes "wire $ \\a\nend " ++ (9 ∷ []) ++ (13 ∷ []) ++ bytes "\n", bytes "4 88\n") ∷
-    (bytes "module $A\nattribute \\hdlname \"\\143n\"\nattribute \\B3 -1\ncell \\cf3 \\4c\nconnect \\Z { 9'-0 [ 8 : 5 ] 1'm }\nparameter real \\g3 5'-\nparameter signed \\444 \"0 }.\\\"\"\nconnect \\ZXg 9'1x1 [ 1 : 0 ]\nend\nend\n", bytes "module $A\n  attribute \\hdlname \"cn\"\n  attribute \\B3 -1\n  cell \\cf3 \\4c\n    parameter real \\g3 5'0000-\n    parameter signed \\444 \"0 }.\\\"\"\n    connect \\Z 5'0000m\n    connect \\ZXg 2'x1\n  end\nend\n") ∷
+    (bytes "module $A\nattribute \\hdlname \"\\143n\"\nattribute \\B3 -1\ncell \\cf3 \\4c\nconnect \\Z { 9' 4'x-1x }\nconnect \\fBg 5'1m-z\nconnect \\4 { }\nconnect \\ZAZ 1'\nend\nend\n", bytes "module $A\n  attribute \\hdlname \"cn\"\n  attribute \\B3 -1\n  cell \\cf3 \\4c\n    connect \\Z 13'xxxxxxxxxx-1x\n    connect \\fBg 5'01m-z\n    connect \\4 { }\n    connect \\ZAZ 1'x\n  end\nend\n") ∷
     (bytes "module \\g3\nmemory width 2048 offset 2147483647 $dB8\nwire offset -2147483649 \\_Z\nwire input 1024 $a\nend\n", bytes "7 52\n") ∷
     (bytes "module \\y2b\nattribute \\hdlname 4'101x\nwire signed \\2B\nwire signed \\egf\nattribute $C3 1337\nwire offset -2147483648 width 7 \\b43\nconnect { \\egf 2049' } { \\egf 2049' }\nend\n", bytes "7 127\n") ∷
     (bytes "module \\U\nwire \\Zd\nparameter \\1'0 \"\\173c#\"\nwire \\f6\nconnect \\Zd \\Zd\nparameter \\1\nconnect { \\Zd [ 0 : 0 ] 0' } \\f6\nend\nmodule $A8Y\ncell \\ba \\40\nparameter \\g " ++ (143 ∷ []) ++ bytes "1476802159\nend\nend\n", bytes "4 143\n") ∷
     (bytes "attribute \\hdlname -2147483648 \n  # note " ++ (0 ∷ []) ++ (13 ∷ []) ++ bytes "module \\e" ++ (204 ∷ []) ++ (129 ∷ []) ++ bytes "\nprocess" ++ (9 ∷ []) ++ bytes "\\786\nend \nend" ++ (13 ∷ []), bytes "6 55\n") ∷
     (bytes "module \\764  \n" ++ (9 ∷ []) ++ bytes "wire" ++ (9 ∷ []) ++ bytes "signed width" ++ (9 ∷ []) ++ bytes "2 output 19 \\6zb  " ++ (13 ∷ []) ++ bytes "\nwire  inout 24 offset 0" ++ (9 ∷ []) ++ bytes "$" ++ (167 ∷ []) ++ (168 ∷ []) ++ (175 ∷ []) ++ bytes "\n\nconnect{1'0[1]\\6zb  {2048'   2048'" ++ (9 ∷ []) ++ bytes "}[4095:4095] [" ++ (9 ∷ []) ++ bytes "0] } { \\missing [ 0" ++ (9 ∷ []) ++ bytes "] { 2048'" ++ (9 ∷ []) ++ bytes "2048'} [4095:4095] [0 ]" ++ (9 ∷ []) ++ bytes "}\nend  \n  # note " ++ (0 ∷ []) ++ (13 ∷ []), bytes "8 83\n") ∷
-    (bytes "attribute \\hdlname 1'-\nmodule \\g\nattribute \\hdlname 00'\nwire offset 0 inout 6 \\a[3]\nwire signed width 6 input 8 $" ++ (201 ∷ []) ++ (155 ∷ []) ++ bytes "\nwire width 9 inout 10 signed \\CBg\ncell $adff $c\n", bytes "5 164\n") ∷
-    (bytes "module \\7a\nwire width 5 signed input 5 \\f2Z\nattribute \\X 3'\nwire offset 2147483647 $_\nmemory width 2049 \\q\nwire width 1 width 1 $_\nmemory size 2147483648 $_\nend\n", bytes "7 86\n") ∷
-    (bytes "module $25\nconnect { { } { 0' { 01'm { 1'0 0' } } } } { 2' [ 1 ] 1'x }\nend\n", bytes "module $25\n  connect 2'm0 2'0x\nend\n") ∷
-    (bytes "attribute $bb \"#\\40\"" ++ (13 ∷ []) ++ bytes "module  \\# #\nwire width 6 \\" ++ (198 ∷ []) ++ bytes "\\" ++ (165 ∷ []) ++ bytes "\nattribute $42Z   626084633\nwire signed \\B\n\nattribute \\3''V" ++ (9 ∷ []) ++ bytes " 04'\n\ncell \\sub   $a1e\n  # note " ++ (0 ∷ []) ++ (13 ∷ []), bytes "5 145\n") ∷
+    (bytes "attribute \\hdlname 1'-\nmodule \\g\nattribute \\hdlname 0'\nwire width 0 inout 6 \\a[3]\nwire signed width 6 input 8 $" ++ (201 ∷ []) ++ (155 ∷ []) ++ bytes "\nwire width 9 inout 10 signed \\CBg\ncell $adff $c\n", bytes "5 162\n") ∷
+    (bytes "module \\7a\nwire width 5 signed input 5 \\f2Z\nattribute \\X 3'zxz\nattribute \\B -1011182349\nwire upto offset 2147483647 \\395\nmemory width 0 \\395\nend\n", bytes "7 121\n") ∷
+    (bytes "module $25\nconnect { { } { 0' { 01'm { 1' 0' } } } } { 2' [ 1 ] 1'x }\nend\n", bytes "module $25\n  connect 2'mx 2'xx\nend\n") ∷
+    (bytes "attribute $bb \"#\\40\"" ++ (13 ∷ []) ++ bytes "module  \\# #\nwire width 6 \\" ++ (198 ∷ []) ++ bytes "\\" ++ (165 ∷ []) ++ bytes "\nattribute $42Z   626084633\nwire signed \\B\n\nattribute" ++ (9 ∷ []) ++ bytes " \\3''V 4'm-m0 #" ++ (253 ∷ []) ++ bytes "/\\" ++ (5 ∷ []) ++ (13 ∷ []) ++ bytes "cell $mux" ++ (9 ∷ []) ++ bytes "\\969 \n  # note " ++ (0 ∷ []) ++ (13 ∷ []), bytes "5 152\n") ∷
     (bytes "autoidx 33\nmodule $c8z " ++ (9 ∷ []) ++ bytes "\n\nmemory size" ++ (9 ∷ []) ++ bytes "1 \\\\\nattribute \\hdlname" ++ (9 ∷ []) ++ (9 ∷ []) ++ bytes " \"{\\\\\"\nwire width 8 signed " ++ (9 ∷ []) ++ bytes " \\1z\nend\n", bytes "autoidx 33\nmodule $c8z\n  attribute \\hdlname \"{\\\\\"\n  wire width 8 signed \\1z\n  memory size 1 \\\\\nend\n") ∷
     (bytes "attribute \\e3X 32\nmodule $f\nattribute \\xB \"\\b\\\"#7n\"\nattribute \\5YA -1832630311\nwire inout 7 offset 2147483647 $#\nattribute \\czX 35\nwire output 23 \\T\nconnect { \\T } { { 2048' 2048' } [ 4096 ] { } \\T [ 1 ] }\nend\n", bytes "10 149\n") ∷
     ((9 ∷ []) ++ bytes " autoidx 1337\n\nmodule \\bYC" ++ (9 ∷ []) ++ (13 ∷ []) ++ bytes "\nmemory width 7 size 2147483647 $d\nattribute $end 0' " ++ (9 ∷ []) ++ bytes "\n\nwire upto \\X__\n\nend\n\n", bytes "autoidx 1337\nmodule \\bYC\n  attribute $end 0'\n  wire upto \\X__\n  memory width 7 size 2147483647 $d\nend\n") ∷
-    (bytes "connect{" ++ (9 ∷ []) ++ bytes "1{1 1'--\nend\n 0'}", bytes "5 0\n") ∷
+    (bytes "autoidx -1" ++ (13 ∷ []) ++ bytes "  module \\\\\nconnect" ++ (9 ∷ []) ++ bytes "1'-{ 1' 0'  }\n\n\nend\n  # note " ++ (0 ∷ []) ++ (13 ∷ []), bytes "autoidx -1\nmodule \\\\\n  connect 1'- 1'x\nend\n") ∷
     (bytes "module \\Bg\nmemory offset 161243" ++ (13 ∷ []) ++ bytes "6289 width" ++ (9 ∷ []) ++ bytes "3 \\c2g\nend\nmodule \\Bg\nte " ++ (0 ∷ []) ++ (13 ∷ []) ++ bytes "\n  # no\nte " ++ (0 ∷ []) ++ (13 ∷ []), bytes "5 11\n") ∷
-    (bytes "autoidx   -2089321570\n  # note " ++ (0 ∷ []) ++ (13 ∷ []) ++ bytes "module" ++ (9 ∷ []) ++ bytes "$A_" ++ (13 ∷ []) ++ bytes "\n wire width  1 " ++ (9 ∷ []) ++ bytes "{ upto \\4c #/" ++ (144 ∷ []) ++ (3 ∷ []) ++ (240 ∷ []) ++ bytes "\nconnect \\4c" ++ (9 ∷ []) ++ bytes "0'\nconnect 40'10x--0z0xz-zxx000-xzm11x-mzzxx0-0xmx0-1m \"{\"   1 \\4c }\nend\n", bytes "5 46\n") ∷
+    (bytes "autoidx   -2089321570\n  # note " ++ (0 ∷ []) ++ (13 ∷ []) ++ bytes "module" ++ (9 ∷ []) ++ bytes "$A_" ++ (13 ∷ []) ++ bytes "\n wire width  0 upto \\4c #/" ++ (144 ∷ []) ++ (3 ∷ []) ++ (240 ∷ []) ++ bytes "\nconnect" ++ (9 ∷ []) ++ bytes "0' \\c\nwire offset   -2147483648 width 5 inout 4 $YB#z\nend\n", bytes "8 75\n") ∷
     (bytes "module \\e\nattribute $[0:0] \"\"\nwire width 5 $b2\nend\nattribute \\y 1\nmodule \\a \\b\n", bytes "5 66\n") ∷
-    (bytes " module $d #Q" ++ (139 ∷ []) ++ (13 ∷ []) ++ bytes "connect 5'---z1{0'" ++ (9 ∷ []) ++ bytes "5'mzm10 }\nconnect \":\"{ {0' 7'm" ++ (159 ∷ []) ++ bytes "1x-1z } { {{ 0' {0'" ++ (9 ∷ []) ++ bytes "1'-} }0'" ++ (9 ∷ []) ++ bytes "} 0'} }\n\nend\n", bytes "4 44\n") ∷
-    (bytes "attribute $f 7'0m001zx\nmodule \\C|" ++ (164 ∷ []) ++ bytes "\nwire width 2 \\e\nwire signed input 23 $50\ncell \\" ++ (188 ∷ []) ++ bytes " \\6c\ncell 1 \\u\nend\nend\n", bytes "5 88\n") ∷
+    (bytes "end\n  # note " ++ (0 ∷ []) ++ (13 ∷ []) ++ bytes "connect $Cfd 'xx" ++ (9 ∷ []) ++ bytes " [ 1: 1]\n module $d #Q" ++ (139 ∷ []) ++ (13 ∷ []) ++ bytes "connect" ++ (9 ∷ []) ++ bytes "1'- {00'" ++ (9 ∷ []) ++ bytes "1'm [ 0]", bytes "5 0\n") ∷
+    (bytes "attribute $f 7'0\nmodule $zy\nattribute \\hdlname \"0\"\nwire width 1 output 10 \\e\nwire upto $Z\nend\nattribute \\x 1\n", bytes "5 109\n") ∷
     (bytes "autoidx -2147483648\nattribute \\hdlname  \"\\072{b\\40\"\nattribute" ++ (9 ∷ []) ++ bytes "$_z6 15\n  module \\dx\nend" ++ (13 ∷ []) ++ bytes "attribute \\hdlname" ++ (9 ∷ []) ++ bytes "-1871786435" ++ (13 ∷ []) ++ bytes "module" ++ (9 ∷ []) ++ bytes " $9Xc\nend\n", bytes "autoidx -2147483648\nattribute \\hdlname \":{b \"\nattribute $_z6 15\nmodule \\dx\nend\nattribute \\hdlname -1871786435\nmodule $9Xc\nend\n") ∷
-    (bytes "inout" ++ (9 ∷ []) ++ bytes "9'--1 ,\n  # note " ++ (0 ∷ []) ++ (13 ∷ []) ++ bytes "{ wire end" ++ (9 ∷ []) ++ bytes "attribute \"  \\0400\"\n6'xz00xx real autoidx" ++ (9 ∷ []) ++ bytes "\\a -245171505  \n14\n\n883956151" ++ (9 ∷ []) ++ bytes " \n  high\n,connect \\g97 #" ++ (175 ∷ []) ++ (197 ∷ []) ++ (141 ∷ []) ++ (169 ∷ []) ++ bytes " Q\n", bytes "5 0\n") ∷
+    (bytes "inout 9'm--1x-m1-{\n\\b\n\\m ] parameter\ninout \\7" ++ (9 ∷ []) ++ bytes "\\a" ++ (13 ∷ []) ++ bytes "[\n", bytes "5 0\n") ∷
     (bytes "module $8\nwire offset  2147483647 width" ++ (9 ∷ []) ++ bytes "1 \\4xX\nend\n  # note " ++ (0 ∷ []) ++ (13 ∷ []) ++ bytes "attribute \\x 1\n", bytes "5 77\n") ∷
     (bytes "  module" ++ (9 ∷ []) ++ bytes "\\7e2 " ++ (13 ∷ []) ++ bytes "\n" ++ (9 ∷ []) ++ bytes "attribute" ++ (9 ∷ []) ++ bytes "\\XZz" ++ (9 ∷ []) ++ bytes "\"\"\nwire \\" ++ (193 ∷ []) ++ bytes "# " ++ (13 ∷ []) ++ bytes "wire" ++ (9 ∷ []) ++ bytes "width 6 \\6b2" ++ (13 ∷ []) ++ bytes "\ncell $mux   \\0" ++ (13 ∷ []) ++ bytes "\nparameter $p 1" ++ (13 ∷ []) ++ bytes "parameter   \\q 2147483648\n\nend" ++ (13 ∷ []) ++ bytes "\n  end\n", bytes "7 95\n") ∷
-    (bytes "autoidx 8\nmodule \\g_x\nwire \\a\nparameter \\d" ++ (192 ∷ []) ++ bytes "y 3'xm0\nconnect 01' \\a\ncell \\" ++ (246 ∷ []) ++ bytes "J" ++ (129 ∷ []) ++ (208 ∷ []) ++ bytes " \\aB\nconnect \\e8B \"\"\nend\nparameter \\F" ++ (170 ∷ []) ++ bytes "]\ncell \\sub \\Yax\nconnect \\f \"K\"\nconnect \\z. { }\nparameter signed \\2Z -1\nparameter real \\_bz 7'mm1z0xx\nend\nend\n", bytes "autoidx 8\nmodule \\g_x\n  parameter \\d" ++ (192 ∷ []) ++ bytes "y 3'xm0\n  parameter \\F" ++ (170 ∷ []) ++ bytes "]\n  wire \\a\n  cell \\" ++ (246 ∷ []) ++ bytes "J" ++ (129 ∷ []) ++ (208 ∷ []) ++ bytes " \\aB\n    connect \\e8B { }\n  end\n  cell \\sub \\Yax\n    parameter signed \\2Z -1\n    parameter real \\_bz 7'mm1z0xx\n    connect \\f 8'01001011\n    connect \\z. { }\n  end\n  connect 1'0 \\a\nend\n") ∷
+    (bytes "autoidx 8\nmodule \\g_x\nwire \\a\nparameter \\d" ++ (192 ∷ []) ++ bytes "y 3'xm0\nconnect 01' \\a\ncell \\" ++ (246 ∷ []) ++ bytes "J" ++ (129 ∷ []) ++ (208 ∷ []) ++ bytes " \\aB\nconnect \\e8B \"\"\nend\nparameter \\F" ++ (170 ∷ []) ++ bytes "]\ncell \\sub \\Yax\nconnect \\f \"K\"\nconnect \\z. { }\nparameter signed \\2Z -1\nparameter real \\_bz 7'm\nend\nend\n", bytes "autoidx 8\nmodule \\g_x\n  parameter \\d" ++ (192 ∷ []) ++ bytes "y 3'xm0\n  parameter \\F" ++ (170 ∷ []) ++ bytes "]\n  wire \\a\n  cell \\" ++ (246 ∷ []) ++ bytes "J" ++ (129 ∷ []) ++ (208 ∷ []) ++ bytes " \\aB\n    connect \\e8B { }\n  end\n  cell \\sub \\Yax\n    parameter signed \\2Z -1\n    parameter real \\_bz 7'mmmmmmm\n    connect \\f 8'01001011\n    connect \\z. { }\n  end\n  connect 1'x \\a\nend\n") ∷
     (bytes "autoidx 10\nmodule \\5d\nend\n", bytes "autoidx 10\nmodule \\5d\nend\n") ∷
     (bytes "moduAe moduAe \\1z\n", bytes "4 0\n") ∷
     (bytes "module $\"\nend\nattribute \\y 1\nparcm", bytes "4 29\n") ∷
-    (bytes "attribute \\hdlname 27\nModule \\} $} \\y\nconnect \\f7_ 6'100-m\nparameter signed \\" ++ (223 ∷ []) ++ bytes "* -0001\nparameter igned \\2C\ncell \"\\43n:#\"\nconnect \\cc 1'-\nend\nend\n", bytes "4 22\n") ∷
+    (bytes "attribute \\hdlname 27\nodule \\2C\ncell" ++ (0 ∷ []) ++ bytes "$ \\y\nconnect \\f7_ 6' [ 0 0 0 ]\nconnect $zx_ 0'\nconnect \\W 18 [ 28 ] [ 0 : : ]\nconnect \\cc 1'-\nend\nend\n", bytes "4 22\n") ∷
     (bytes "mm[\\n\\\\,nxx]#$]\n:\" ,\n" ++ (13 ∷ []) ++ bytes ":" ++ (9 ∷ []) ++ bytes "${}[-\"a\"n}m\"\\\\\\m},{\na0#{" ++ (13 ∷ []), bytes "4 0\n") ∷
     (bytes "module \\4" ++ (13 ∷ []) ++ bytes "\nwire width 4" ++ (9 ∷ []) ++ bytes "upto \\b23" ++ (13 ∷ []) ++ (9 ∷ []) ++ bytes "wire width 7" ++ (9 ∷ []) ++ bytes "\\79 #\ncell \\15Z" ++ (9 ∷ []) ++ bytes "\\ac\nparameter \\q 1'01\n  # note " ++ (0 ∷ []) ++ (13 ∷ []) ++ bytes " parameter signed \\q  " ++ (9 ∷ []) ++ bytes "2147483648\nend#" ++ (201 ∷ []) ++ bytes "\nend\n", bytes "7 68\n") ∷
     ((9 ∷ []) ++ bytes " module" ++ (9 ∷ []) ++ bytes "$cx0" ++ (13 ∷ []) ++ bytes "\n" ++ (9 ∷ []) ++ bytes "connect 1337 2052307044\nwire" ++ (9 ∷ []) ++ bytes "signed" ++ (9 ∷ []) ++ bytes "inout 22 width" ++ (9 ∷ []) ++ bytes "1 \\Y\nconnect \\Y" ++ (9 ∷ []) ++ bytes "[" ++ (9 ∷ []) ++ bytes "0]1'z\nconnect" ++ (9 ∷ []) ++ bytes "-2147483648 [28 " ++ (9 ∷ []) ++ bytes ":20] 9'-m010z-zm  \n end" ++ (13 ∷ []) ++ bytes "module" ++ (9 ∷ []) ++ bytes " \\Yb\n\n end#" ++ (133 ∷ []) ++ (148 ∷ []) ++ bytes "0" ++ (148 ∷ []) ++ (155 ∷ []) ++ bytes "\n\n", bytes "module $cx0\n  wire inout 22 signed \\Y\n  connect 32'00000000000000000000010100111001 32'01111010010100111011100001100100\n  connect \\Y 1'z\n  connect 9'000000000 9'-m010z-zm\nend\nmodule \\Yb\nend\n") ∷
-    (bytes "module  $6\n\ncell" ++ (9 ∷ []) ++ bytes "\\sub $92C" ++ (9 ∷ []) ++ bytes "\nconnect" ++ (9 ∷ []) ++ bytes "\\AY" ++ (9 ∷ []) ++ bytes "{ 2'1" ++ (9 ∷ []) ++ bytes "{ }  }\nconnect $7f 3'1-x\nparameter  signed" ++ (9 ∷ []) ++ bytes "\\9A" ++ (9 ∷ []) ++ bytes "16\n  # note " ++ (0 ∷ []) ++ (13 ∷ []) ++ bytes "end" ++ (13 ∷ []) ++ bytes "\nend\n", bytes "module $6\n  cell \\sub $92C\n    parameter signed \\9A 16\n    connect \\AY 2'01\n    connect $7f 3'1-x\n  end\nend\n") ∷
+    (bytes "module  $6\n\ncell" ++ (9 ∷ []) ++ bytes "\\sub $92C" ++ (9 ∷ []) ++ bytes "\nconnect \\AY { 2' 6'xzz-zz} [6" ++ (9 ∷ []) ++ (9 ∷ []) ++ (9 ∷ []) ++ bytes ":  4] " ++ (13 ∷ []) ++ bytes "\nconnect" ++ (9 ∷ []) ++ bytes "\\Ae" ++ (9 ∷ []) ++ bytes "5'm\n  # note " ++ (0 ∷ []) ++ (13 ∷ []) ++ bytes "connect \\ef1" ++ (9 ∷ []) ++ bytes "-2147483648\nend\nend" ++ (9 ∷ []) ++ bytes " \n\n", bytes "module $6\n  cell \\sub $92C\n    connect \\AY 3'xxz\n    connect \\Ae 5'mmmmm\n    connect \\ef1 32'10000000000000000000000000000000\n  end\nend\n") ∷
     (bytes "module $|s2\nwire inout 17 $y\nwire upto width 2 \\#\nattribute \\x 1\nwire input 7 output 8 \\#\nend\n", bytes "7 65\n") ∷
     (bytes "  autoidx" ++ (9 ∷ []) ++ bytes "-694455522\nmodule \\f05\nmemory size 2147483647" ++ (9 ∷ []) ++ bytes "width  1 \\%x" ++ (13 ∷ []) ++ bytes "\nend\n", bytes "autoidx -694455522\nmodule \\f05\n  memory size 2147483647 \\%x\nend\n") ∷
     (bytes "module $1b\n  # note " ++ (0 ∷ []) ++ (13 ∷ []) ++ bytes "end\n", bytes "module $1b\nend\n") ∷
-    (bytes "autoidx 1024117125\nmodule \\aB\nwire width 6 $393\nconnect $393 6'xz0m10\ncell \\q \\a[3]\nconnect $x0d $393\nend\ncell \\8Y $xZ\nconnect $} { 0' $393 -793560066 }\nconnect \\bA $393\nconnect \\c 5'm0mmm\nend\nend\n", bytes "autoidx 1024117125\nmodule \\aB\n  wire width 6 $393\n  cell \\q \\a[3]\n    connect $x0d $393\n  end\n  cell \\8Y $xZ\n    connect $} { $393 32'11010000101100110011101111111110 }\n    connect \\bA $393\n    connect \\c 5'm0mmm\n  end\n  connect $393 6'xz0m10\nend\n") ∷
-    (bytes "module \\X\nconnect 5'0z10 5'1mzm0\nend\n", bytes "module \\X\n  connect 5'00z10 5'1mzm0\nend\n") ∷
+    (bytes "autoidx 1024117125\nmodule \\aB\nwire width 6 $393\nconnect 6'x $393\ncell $# \\bad\nconnect $9c 7'1zmz- [ 3 : 0 ]\nend\nparameter \\ZZ. \"7t#.0.\"\ncell \\bA \\d9_\nend\nend\nmodule \\A\nend\n", bytes "autoidx 1024117125\nmodule \\aB\n  parameter \\ZZ. \"7t#.0.\"\n  wire width 6 $393\n  cell $# \\bad\n    connect $9c 4'zmz-\n  end\n  cell \\bA \\d9_\n  end\n  connect 6'xxxxxx $393\nend\nmodule \\A\nend\n") ∷
+    (bytes "module \\X\nconnect { 4'zmx0 { 1' 00' } } 5'1\nend\nmodule $y\nattribute \\A56 9'm-1xz0m-z\nattribute \\a \"a:\\\"\"\ncell \\1'0 \\a\nparameter signed \\3 1337\nconnect $Bd. 0'\nconnect $8e 4'm0- [ 1 : 1 ]\nend\nend\n", bytes "module \\X\n  connect 5'zmx0x 5'00001\nend\nmodule $y\n  attribute \\A56 9'm-1xz0m-z\n  attribute \\a \"a:\\\"\"\n  cell \\1'0 \\a\n    parameter signed \\3 1337\n    connect $Bd. { }\n    connect $8e 1'0\n  end\nend\n") ∷
     (bytes "  modula $7 #\n  # note " ++ (0 ∷ []) ++ (13 ∷ []) ++ bytes "wire \\ya" ++ (13 ∷ []) ++ bytes "wire" ++ (9 ∷ []) ++ bytes "offset 2147483647 " ++ (9 ∷ []) ++ bytes "\\6fz\ncell" ++ (9 ∷ []) ++ bytes "$mux \\2c0" ++ (13 ∷ []) ++ bytes "\nconnect \\A 1'0 " ++ (13 ∷ []) ++ (9 ∷ []) ++ bytes "connect   \\B {" ++ (9 ∷ []) ++ bytes "\\ya, \"A\"}\nnd\nend\n", bytes "4 2\n") ∷
     ([], []) ∷
     (bytes "attribute" ++ (9 ∷ []) ++ bytes "\\v" ++ (255 ∷ []) ++ bytes " \"0t777\"\n  # note " ++ (0 ∷ []) ++ (13 ∷ []) ++ (9 ∷ []) ++ bytes "module" ++ (9 ∷ []) ++ bytes "$f9\nattribute \\C \"\" \nwire" ++ (9 ∷ []) ++ bytes "inout 21 signed width" ++ (9 ∷ []) ++ bytes "  1 $0Y." ++ (13 ∷ []) ++ bytes "wire width" ++ (9 ∷ []) ++ (9 ∷ []) ++ bytes "8 $." ++ (13 ∷ []) ++ bytes "\nconnect  {" ++ (9 ∷ []) ++ bytes "-1   $0Y." ++ (9 ∷ []) ++ bytes "}{ $0Y." ++ (9 ∷ []) ++ bytes "} [ " ++ (9 ∷ []) ++ bytes " 0 ]\nend\n  # note " ++ (0 ∷ []) ++ (13 ∷ []), bytes "10 116\n") ∷
-    (bytes "autoidx -2010988984\nmodule \\4\ncell $adf]f \\#\nconnect \\" ++ (156 ∷ []) ++ (137 ∷ []) ++ bytes " { 1'x [ 0 [ 0 ] : 0 : 0 ] 37 25 } [ 4'xzx- : 8 ]\nconnect \\c1 1'-\nend\nend\n", bytes "5 45\n") ∷
-    (bytes " module $57Z\nconnect" ++ (9 ∷ []) ++ bytes "7'0z00   07'1m0xx1m" ++ (255 ∷ []) ++ bytes "  \n\ne" ++ (9 ∷ []) ++ (13 ∷ []) ++ bytes "d#X" ++ (140 ∷ []) ++ (176 ∷ []) ++ bytes "u" ++ (14 ∷ []) ++ (13 ∷ []) ++ bytes "\nmodule  \\39" ++ (9 ∷ []) ++ bytes " \n end#`" ++ (184 ∷ []) ++ bytes "\n\n", bytes "4 13\n") ∷
-    (bytes "autoidx -1653041318\nmodule \\\"\nconnect { { 1' 2'1 } { 6'x0xm0- 23'1x0-z1111x00zz0z-xzm-x- } } -2147483648\nend\n", bytes "autoidx -1653041318\nmodule \\\"\n  connect 32'001x0xm0-1x0-z1111x00zz0z-xzm-x- 32'10000000000000000000000000000000\nend\n") ∷
+    (bytes "autoidx $x \\4\ncelnect \\" ++ (156 ∷ []) ++ (137 ∷ []) ++ bytes " { 1' [ 0 : 0 ] [ 0 " ++ (225 ∷ []) ++ bytes " 0 ] 37 4'z }\nconnect -2010988984\nmodule 1'x\nend\nend\nmodule \\4_\nwire offset -2147483648 \\0\nconnect { 1431406006 [ 28 : 26 ] \\0 1[ 0 ] } [ 2 : 2 ] { 0' \\0 }\nend\n", bytes "5 0\n") ∷
+    (bytes " module $57X\nconnect 7' 7'm0xx1m\n  # not# " ++ (0 ∷ []) ++ (13 ∷ []) ++ bytes "end\n", bytes "module $57X\n  connect 7'xxxxxxx 7'mm0xx1m\nend\n") ∷
+    (bytes "autoidx -1653041318\nmodule \\\"\nconnect { { 1'x 2'-1 } { 6' 23'0-0-m1x0-z1111x00zz0z-x } } -2147483648\nend\n", bytes "autoidx -1653041318\nmodule \\\"\n  connect 32'x-1xxxxxx0-0-m1x0-z1111x00zz0z-x 32'10000000000000000000000000000000\nend\n") ∷
     (bytes "module \\y\nend\nparameter \\p 1\n", bytes "5 14\n") ∷
     (bytes "\\W" ++ (227 ∷ []) ++ bytes "\nend\n module $end\nen1\nmodule \\W" ++ (227 ∷ []) ++ bytes "\nend\n", bytes "5 0\n") ∷
     (bytes "module" ++ (9 ∷ []) ++ (9 ∷ []) ++ bytes "\\gZ2" ++ (13 ∷ []) ++ bytes "wire output 9 \\#\nwire  signed \\$\nwire input 15" ++ (9 ∷ []) ++ bytes "offset   -2147483648" ++ (9 ∷ []) ++ bytes "width" ++ (9 ∷ []) ++ bytes "1" ++ (9 ∷ []) ++ bytes "upto" ++ (9 ∷ []) ++ bytes "$7c" ++ (13 ∷ []) ++ bytes "\nattribute \\hdlname 6'0-xzmx\ncell \\sub \\a[3]\n  # note " ++ (0 ∷ []) ++ (13 ∷ []) ++ bytes "connect \\A" ++ (9 ∷ []) ++ bytes "1'0\nconnect  \\A  {   \"A\" " ++ (9 ∷ []) ++ (9 ∷ []) ++ bytes "{ } }\n end #\nend\n", bytes "9 169\n") ∷
@@ -553,7 +569,7 @@ cases =
     (bytes "module  $y52" ++ (13 ∷ []) ++ bytes "\nwire" ++ (9 ∷ []) ++ (9 ∷ []) ++ bytes " i" ++ (148 ∷ []) ++ bytes "out 1023 $CZZ #" ++ (177 ∷ []) ++ (164 ∷ []) ++ bytes "]" ++ (127 ∷ []) ++ bytes "r" ++ (13 ∷ []) ++ bytes "\nend" ++ (13 ∷ []), bytes "4 14\n") ∷
     (bytes "module \\a\nwire \\7e2\nwire input 14 \\" ++ (127 ∷ []) ++ (221 ∷ []) ++ bytes "\nwire width 1 \\_2\ncell \\sub \\5ab\nconnect \\A 1'0\nconnect \\B { \\missing [ 0 ] 4'01xz 1'0 } 1'2\nend\nend\n", bytes "4 85\n") ∷
     (bytes "module \\_c\nattribute $46 1'-\nwire width 4 signed $1Z\nwire width 9 \\adc\nwire \\5\nattribute \\x 1\nprocess \\5\nend\nend\n", bytes "6 94\n") ∷
-    (bytes "module" ++ (9 ∷ []) ++ bytes "\\C5 " ++ (9 ∷ []) ++ bytes "\ncell $C3A" ++ (9 ∷ []) ++ bytes "  \\eZ7\nconnect" ++ (9 ∷ []) ++ bytes "$.X \".\\\\\"" ++ (9 ∷ []) ++ bytes " \nconnect $V" ++ (9 ∷ []) ++ bytes "6'[ 5" ++ (9 ∷ []) ++ bytes ":" ++ (9 ∷ []) ++ bytes "  4] [" ++ (9 ∷ []) ++ bytes "1: 1]\n  # note " ++ (0 ∷ []) ++ (13 ∷ []) ++ (9 ∷ []) ++ bytes "end\nwire  offset 1   width 2" ++ (9 ∷ []) ++ bytes "\\5B" ++ (13 ∷ []) ++ bytes "\nattribute \\hdlname 26" ++ (13 ∷ []) ++ bytes "\nattribute $C 4'0mmz\n\nwire width" ++ (9 ∷ []) ++ bytes "1 offset 3" ++ (9 ∷ []) ++ bytes "output 21 \\2." ++ (13 ∷ []) ++ bytes "\nend\n  # note " ++ (0 ∷ []) ++ (13 ∷ []), bytes "module \\C5\n  wire width 2 offset 1 \\5B\n  attribute \\hdlname 26\n  attribute $C 4'0mmz\n  wire offset 3 output 21 \\2.\n  cell $C3A \\eZ7\n    connect $.X 16'0010111001011100\n    connect $V 1'0\n  end\nend\n") ∷
+    (bytes "module" ++ (9 ∷ []) ++ bytes "\\C5 " ++ (9 ∷ []) ++ bytes "\ncell $C3A" ++ (9 ∷ []) ++ bytes "  \\eZ7\nconnect" ++ (9 ∷ []) ++ bytes "$.X \".\\\\\"" ++ (9 ∷ []) ++ bytes " \nconnect $V" ++ (9 ∷ []) ++ (9 ∷ []) ++ bytes " 6'm0m-z1\n  # note " ++ (0 ∷ []) ++ (13 ∷ []) ++ bytes "end" ++ (9 ∷ []) ++ (13 ∷ []) ++ bytes " wire output 7" ++ (9 ∷ []) ++ bytes "\\xAy\nwire  offset 1   width 2" ++ (9 ∷ []) ++ bytes "\\5B" ++ (13 ∷ []) ++ bytes "\nattribute \\hdlname 26" ++ (13 ∷ []) ++ bytes "\nattribute $C 4'0\nwire upto" ++ (9 ∷ []) ++ bytes "$ayd\nend" ++ (13 ∷ []) ++ bytes "\n", bytes "module \\C5\n  wire output 7 \\xAy\n  wire width 2 offset 1 \\5B\n  attribute \\hdlname 26\n  attribute $C 4'0000\n  wire upto $ayd\n  cell $C3A \\eZ7\n    connect $.X 16'0010111001011100\n    connect $V 6'm0m-z1\n  end\nend\n") ∷
     (bytes "module" ++ (9 ∷ []) ++ bytes "$$\nconnect" ++ (9 ∷ []) ++ bytes "8'-1-z11-0 [ 4 ][0 " ++ (9 ∷ []) ++ bytes "][ 0 " ++ (9 ∷ []) ++ bytes ":" ++ (9 ∷ []) ++ bytes "0 " ++ (9 ∷ []) ++ bytes "] [ 0] [  0:0]1'm  \nconnect 32'x01z1x10z-xz-z-x---xx-zmmm-xxm-1 23#\n" ++ (9 ∷ []) ++ bytes "end\nmodule \\M" ++ (215 ∷ []) ++ (158 ∷ []) ++ bytes " #" ++ (13 ∷ []) ++ bytes "\nwire input" ++ (9 ∷ []) ++ bytes "15 signed $X6b\nattribute \\[0:0] 2\n  # note " ++ (0 ∷ []) ++ (13 ∷ []) ++ bytes "wire width " ++ (9 ∷ []) ++ bytes " 1 \\d6_\n  # note " ++ (0 ∷ []) ++ (13 ∷ []) ++ bytes "end\n", bytes "module $$\n  connect 1'z 1'm\n  connect 32'x01z1x10z-xz-z-x---xx-zmmm-xxm-1 32'00000000000000000000000000010111\nend\nmodule \\M" ++ (215 ∷ []) ++ (158 ∷ []) ++ bytes "\n  wire input 15 signed $X6b\n  attribute \\[0:0] 2\n  wire \\d6_\nend\n") ∷
     (bytes "module" ++ (9 ∷ []) ++ bytes "\\</E`\n  # note " ++ (0 ∷ []) ++ (13 ∷ []) ++ bytes "wire width  " ++ (9 ∷ []) ++ bytes "6 offset 0" ++ (9 ∷ []) ++ (9 ∷ []) ++ bytes "\\b7\nend\n  # note " ++ (0 ∷ []) ++ (13 ∷ []), bytes "module \\</E`\n  wire width 6 \\b7\nend\n") ∷
     (bytes "autoidx -1\nmodule \\" ++ (247 ∷ []) ++ (213 ∷ []) ++ (225 ∷ []) ++ bytes "\nattribute $[0:0] 1'z\ncell $adff \\1.\nparameter real \\3 -0\nend\nend\n", bytes "autoidx -1\nmodule \\" ++ (247 ∷ []) ++ (213 ∷ []) ++ (225 ∷ []) ++ bytes "\n  attribute $[0:0] 1'z\n  cell $adff \\1.\n    parameter real \\3 0\n  end\nend\n") ∷
@@ -563,7 +579,7 @@ cases =
     (bytes "module \\X\ncell $<U \\a90\nconnect \\y \"\"\nconnect \\30 4'x1m1 [ 3 : 1 ]\nconnect \\*" ++ (131 ∷ []) ++ (249 ∷ []) ++ bytes "b { }\nparameter $. \"\"\nend\nend\n", bytes "module \\X\n  cell $<U \\a90\n    parameter $. \"\"\n    connect \\y { }\n    connect \\30 3'x1m\n    connect \\*" ++ (131 ∷ []) ++ (249 ∷ []) ++ bytes "b { }\n  end\nend\n") ∷
     (bytes "attribute \\z\"0" ++ (253 ∷ []) ++ bytes " 1'z" ++ (13 ∷ []) ++ bytes "module \\3\n\n wire width" ++ (9 ∷ []) ++ bytes "-1  \\e\nwire offset -2147483649 $" ++ (201 ∷ []) ++ (136 ∷ []) ++ bytes "5" ++ (13 ∷ []) ++ bytes "\nmemory size -1 \\1'0" ++ (9 ∷ []) ++ (9 ∷ []) ++ bytes "\nend" ++ (9 ∷ []) ++ (13 ∷ []) ++ bytes "\n", bytes "7 32\n") ∷
     (bytes "autoidx -1844772159\nmodule \\4\nwire offset 7 upto signed width 9 \\c4\nwire $1fg\nend\nmodule $4\nwire offset -1 \\" ++ (186 ∷ []) ++ (153 ∷ []) ++ bytes "\nattribute \\ax4 3\ncell $mux \\ag\nconnect \\78g \\" ++ (186 ∷ []) ++ (153 ∷ []) ++ bytes "\nend\nend\n", bytes "autoidx -1844772159\nmodule \\4\n  wire width 9 offset 7 upto signed \\c4\n  wire $1fg\nend\nmodule $4\n  wire offset -1 \\" ++ (186 ∷ []) ++ (153 ∷ []) ++ bytes "\n  attribute \\ax4 3\n  cell $mux \\ag\n    connect \\78g \\" ++ (186 ∷ []) ++ (153 ∷ []) ++ bytes "\n  end\nend\n") ∷
-    (bytes "module \\m\ninit  \\.f" ++ (9 ∷ []) ++ bytes "0' wire" ++ (9 ∷ []) ++ bytes "\\3\n", bytes "5 10\n") ∷
+    (bytes "module \\m\ninit" ++ (9 ∷ []) ++ bytes "\\.f  0',\\a\n\nend \" \" module" ++ (13 ∷ []) ++ bytes "  wire 1'1 5'm\n8'01m1mzz- 6'" ++ (9 ∷ []) ++ bytes "} posedge \\b \n\n", bytes "5 10\n") ∷
     (bytes "module \\m\n\\a   [ end\n " ++ (9 ∷ []) ++ bytes "\\m" ++ (9 ∷ []) ++ bytes "\\m" ++ (13 ∷ []) ++ bytes "\n\\m" ++ (9 ∷ []) ++ bytes " " ++ (9 ∷ []) ++ bytes "parameter always \\b \\a" ++ (13 ∷ []), bytes "5 10\n") ∷
     (bytes "module \\750\n  # note " ++ (0 ∷ []) ++ (13 ∷ []) ++ bytes "wire width 1 width 1 \\1'0\n  # note " ++ (0 ∷ []) ++ (13 ∷ []) ++ bytes "wire   width " ++ (9 ∷ []) ++ bytes "2   offset 2147483647 \\0x9\nend \n", bytes "7 23\n") ∷
     (bytes "module" ++ (9 ∷ []) ++ bytes "\\7C\nwire" ++ (9 ∷ []) ++ bytes "offset" ++ (9 ∷ []) ++ bytes "  -2147483648 \\BB2\nwire" ++ (9 ∷ []) ++ bytes "$0yB\nwire \\0a" ++ (9 ∷ []) ++ (13 ∷ []) ++ bytes "\n process $0yB\n\nmemory width 2049 \\0a " ++ (9 ∷ []) ++ (13 ∷ []) ++ bytes "  end\n", bytes "6 64\n") ∷
@@ -574,40 +590,40 @@ cases =
     (bytes "module $." ++ (13 ∷ []) ++ bytes "wire $A\nend\n\nattribute \\y 1" ++ (13 ∷ []) ++ bytes "end" ++ (13 ∷ []) ++ bytes "module \\after\n  end\n\n", bytes "5 38\n") ∷
     (bytes "module \\e7.\nwire $1ze\nwire signed input 3 width 3 \\Y\ncell \\sub \\7\nconnect [ 1 ] \\a\nend\nend\n", bytes "5 66\n") ∷
     (bytes "attribute \\hdlname -446024748\n  # note " ++ (0 ∷ []) ++ (13 ∷ []) ++ bytes "module $X1\n" ++ (9 ∷ []) ++ bytes "cell \\sub  \\b\n", bytes "5 67\n") ∷
-    (bytes "attribute" ++ (9 ∷ []) ++ (9 ∷ []) ++ bytes "$#" ++ (9 ∷ []) ++ bytes "1'" ++ (9 ∷ []) ++ (13 ∷ []) ++ bytes "\nmodule" ++ (9 ∷ []) ++ bytes "$}" ++ (13 ∷ []) ++ bytes "\nattribute   \\Cz 4'\n\nwire" ++ (9 ∷ []) ++ bytes " $13\n  # note " ++ (0 ∷ []) ++ (13 ∷ []) ++ bytes "wire" ++ (9 ∷ []) ++ bytes "\\BA\n" ++ (9 ∷ []) ++ bytes "wire offset 2147483647 upto \\9\n  # note " ++ (0 ∷ []) ++ (13 ∷ []) ++ bytes "cell $66" ++ (9 ∷ []) ++ bytes "\\z3\nconnect \\A 1'0\nconnect \\A {" ++ (9 ∷ []) ++ bytes "\\missing [7:9]\\BA" ++ (9 ∷ []) ++ bytes "[0 ]$13" ++ (9 ∷ []) ++ bytes "}\nend\nend\n\n", bytes "8 151\n") ∷
-    (bytes "module \\F}\ncell \\sub \\}\nconnect \\9Z7 8'-0-xm1- [ 7 : 7 ]\nend\ncell $adff \\7\nconnect $_ 8'z--xx1-m [ 7 : 7 ]\nend\nwire width 8 \\C9\nend\n", bytes "module \\F}\n  wire width 8 \\C9\n  cell \\sub \\}\n    connect \\9Z7 1'0\n  end\n  cell $adff \\7\n    connect $_ 1'z\n  end\nend\n") ∷
+    (bytes "attribute $#" ++ (9 ∷ []) ++ bytes "1'\n\nmodule \\d\nattribute \\hdlname" ++ (9 ∷ []) ++ bytes "4'1m-\nattribute \\62 1'z\nwire upto \\1d\n wire \\2cc  \n\n wire" ++ (9 ∷ []) ++ bytes "offset 1 \\b #" ++ (166 ∷ []) ++ (198 ∷ []) ++ (2 ∷ []) ++ (190 ∷ []) ++ (204 ∷ []) ++ (13 ∷ []) ++ bytes "connect{{}}[" ++ (9 ∷ []) ++ bytes "0 ]{\\1d" ++ (9 ∷ []) ++ bytes "[0" ++ (9 ∷ []) ++ bytes "]} " ++ (13 ∷ []) ++ bytes "end\n\n", bytes "10 123\n") ∷
+    (bytes "module \\F}\ncell \\sub \\}\nconnect \\9Z7 8'x-0-xm1- [ 7 : 7 ]\nend\ncell $adff \\7\nconnect $_ 8'z--xx1-m [ 7 : 7 ]\nend\nwire width 8 \\C9\nend\n", bytes "module \\F}\n  wire width 8 \\C9\n  cell \\sub \\}\n    connect \\9Z7 1'x\n  end\n  cell $adff \\7\n    connect $_ 1'z\n  end\nend\n") ∷
     (bytes "attribute  \\a 1'x" ++ (26 ∷ []) ++ bytes "module $4xf" ++ (13 ∷ []) ++ bytes "cell $mux   \\Xz \n\nconnect \\A 4'-0-0#9*" ++ (242 ∷ []) ++ (174 ∷ []) ++ (253 ∷ []) ++ bytes "z" ++ (153 ∷ []) ++ (13 ∷ []) ++ bytes "connect $13" ++ (9 ∷ []) ++ bytes "0'\n end" ++ (13 ∷ []) ++ bytes "connect" ++ (9 ∷ []) ++ bytes "1337" ++ (9 ∷ []) ++ (9 ∷ []) ++ bytes "[18 : 14]" ++ (9 ∷ []) ++ bytes "05'-z-00\n\nconnect" ++ (9 ∷ []) ++ bytes " " ++ (9 ∷ []) ++ bytes "0' \"\"\n  # note " ++ (0 ∷ []) ++ (13 ∷ []) ++ bytes "  end" ++ (13 ∷ []), bytes "4 0\n") ∷
-    (bytes "odule" ++ (9 ∷ []) ++ bytes "  # note " ++ (0 ∷ []) ++ (13 ∷ []) ++ bytes "wire  " ++ (9 ∷ []) ++ bytes "input 1 \\Cy6\ncell   $CA \\" ++ (195 ∷ []) ++ (169 ∷ []) ++ (13 ∷ []) ++ bytes "\n connect $B" ++ (9 ∷ []) ++ bytes "\\Cy6\nconnect  \\a 2'-1\nconnect \\23 \\Cy6\n  # note " ++ (9 ∷ []) ++ bytes "$zC8\n " ++ (0 ∷ []) ++ (13 ∷ []) ++ bytes "parameter" ++ (9 ∷ []) ++ bytes "\\" ++ (223 ∷ []) ++ bytes "`" ++ (9 ∷ []) ++ bytes "33" ++ (13 ∷ []) ++ bytes "end\ncell   $CA \\" ++ (195 ∷ []) ++ (169 ∷ []) ++ (13 ∷ []) ++ bytes "\nend" ++ (13 ∷ []), bytes "4 0\n") ∷
-    (bytes "autoidx -229726980\nmodule \\z\nmemory offset -1839381603 size 16 \\bxZ\nparameter $x4\nend\nattribute \\Xdb 0'\nz", bytes "4 104\n") ∷
-    (bytes "attribute \\hdlname -2147483648\nmodule $aZ\nend\nmodule $g\nconnect \"\" 0'\nwire width 1 $e" ++ (204 ∷ []) ++ (129 ∷ []) ++ bytes "\nend\nattribute \\C \"\\" ++ (23 ∷ []) ++ (254 ∷ []) ++ bytes "\"\nmodule \\4\nend\n", bytes "attribute \\hdlname -2147483648\nmodule $aZ\nend\nmodule $g\n  wire $e" ++ (204 ∷ []) ++ (129 ∷ []) ++ bytes "\n  connect { } { }\nend\nattribute \\C \"\\027" ++ (254 ∷ []) ++ bytes "\"\nmodule \\4\nend\n") ∷
+    (bytes "moduLe", bytes "4 0\n") ∷
+    (bytes "autoidx ", bytes "5 0\n") ∷
+    (bytes "attribute \\hdlname -2147483648\nmodule $aZ\nend\nmodule $g\nconnect 0' \"\"\ncell \\g5g $e" ++ (204 ∷ []) ++ (129 ∷ []) ++ bytes "\nparameter \\_5 1280864953\nparameter signed \\eY 2'z\nconnect $" ++ (230 ∷ []) ++ bytes "o -2147483648\nconnect $0 -592275898\nend\nend\n", bytes "attribute \\hdlname -2147483648\nmodule $aZ\nend\nmodule $g\n  cell \\g5g $e" ++ (204 ∷ []) ++ (129 ∷ []) ++ bytes "\n    parameter \\_5 1280864953\n    parameter signed \\eY 2'zz\n    connect $" ++ (230 ∷ []) ++ bytes "o 32'10000000000000000000000000000000\n    connect $0 32'11011100101100101001011001000110\n  end\n  connect { } { }\nend\n") ∷
     (bytes "module" ++ (9 ∷ []) ++ bytes "\\4bx\n\n" ++ (9 ∷ []) ++ bytes " wire  " ++ (9 ∷ []) ++ bytes "width" ++ (9 ∷ []) ++ bytes " " ++ (9 ∷ []) ++ bytes "4 input 6 \\}" ++ (13 ∷ []) ++ bytes "wire width 1 \\A9_\n\nconnect" ++ (9 ∷ []) ++ bytes "{4'01xz } {4'01xz } #" ++ (13 ∷ []) ++ bytes "\nend\n", bytes "module \\4bx\n  wire width 4 input 6 \\}\n  wire \\A9_\n  connect 4'01xz 4'01xz\nend\n") ∷
     (bytes "module \\B" ++ (230 ∷ []) ++ bytes "\nattribute \\# 25\n\ncell \\sub   \\26Y\nend\nattribute \\hdlname \"\\040\"\n\nattribute \\x 1676387996\nwire $2z\ncell   $adff $x" ++ (13 ∷ []) ++ bytes "\nconnect \\Cc -1544638376[ 26" ++ (9 ∷ []) ++ bytes ": 20 ]\n\nconnect $e9y $2z\n\nend\nend\n", bytes "module \\B" ++ (230 ∷ []) ++ bytes "\n  attribute \\hdlname \" \"\n  attribute \\x 1676387996\n  wire $2z\n  attribute \\# 25\n  cell \\sub \\26Y\n  end\n  cell $adff $x\n    connect \\Cc 7'0111110\n    connect $e9y $2z\n  end\nend\n") ∷
     (bytes "module $a\n\nwire width 6" ++ (9 ∷ []) ++ bytes "$d" ++ (13 ∷ []) ++ bytes "\nattribute \\x 1\nprocess $X8\n" ++ (9 ∷ []) ++ bytes "end\nend\n  # note " ++ (0 ∷ []) ++ (13 ∷ []), bytes "6 43\n") ∷
     (bytes "module \\e" ++ (204 ∷ []) ++ (129 ∷ []) ++ bytes " #\n  # note " ++ (0 ∷ []) ++ (13 ∷ []) ++ bytes "wire" ++ (9 ∷ []) ++ bytes "width " ++ (9 ∷ []) ++ bytes " 5 signed offset " ++ (9 ∷ []) ++ bytes "0 $a8\nwire   signed" ++ (9 ∷ []) ++ bytes "\\" ++ (188 ∷ []) ++ bytes ",\nattribute \\hdlname -1\n wire width " ++ (9 ∷ []) ++ bytes "1 \\A1\n " ++ (9 ∷ []) ++ bytes "cell $adff $6\nconnect \\a [1'0]\\a \nend  \nend\n  # note " ++ (0 ∷ []) ++ (13 ∷ []), bytes "5 136\n") ∷
-    (bytes "attribute $A8 4'zx10\nattribute $5bC 6'-mx1-0\nmodule $74\ncell \\76 \\3\nconnect \\A 1'0\nconnect \\B { { 2048' 2048' } [ 4095 : 4095 ] [ 0 ] -1 }\nend\nend\n", bytes "11 83\n") ∷
+    (bytes "attribute $A8 4'x1\nmodule \\g\nprocess \\.\nend\nend\n", bytes "6 29\n") ∷
     (bytes "autoidx 11\nmodule $3Y\nconnect { { 29'mzmzmz10z01m-x0xmxz10-0-z-zz- 6 [ 16 : 14 ] } { } } -775713460\nend\n", bytes "autoidx 11\nmodule $3Y\n  connect 32'mzmzmz10z01m-x0xmxz10-0-z-zz-000 32'11010001110000111000110101001100\nend\n") ∷
-    (bytes "module $6_7\nattribute \\hdlname \".7#\\134\\\"1\"\nattribute $" ++ (182 ∷ []) ++ bytes " 9'0zzx-m0z0\nattribute \\8x5 3'-mz\nattribute \\.e1 6'z0\nwire \\a[3]\nprocess \\42z\nend\nend\n", bytes "6 121\n") ∷
+    (bytes "module $6_7\nattribute \\hdlname \".7#\\134\\\"1\"\nattribute $" ++ (182 ∷ []) ++ bytes " 9'0zzx-m0z0\nattribute \\8x5 3'mz1\nwire \\+" ++ (131 ∷ []) ++ bytes "\nend\nattribute \\y 1\nconnect { } { }\nmodule \\after\nend\n", bytes "5 118\n") ∷
     (bytes "module \\3\nmemory wizdth 2048 offset 2147483647 \\", bytes "4 10\n") ∷
     (bytes "\n" ++ (165 ∷ []) ++ bytes "c" ++ (168 ∷ []) ++ bytes "^f" ++ (157 ∷ []) ++ (9 ∷ []) ++ (150 ∷ []) ++ bytes "p" ++ (5 ∷ []) ++ (253 ∷ []) ++ bytes "2" ++ (9 ∷ []) ++ (12 ∷ []) ++ (151 ∷ []) ++ (184 ∷ []) ++ bytes "j%" ++ (246 ∷ []) ++ bytes "?" ++ (246 ∷ []) ++ (140 ∷ []) ++ bytes "$" ++ (6 ∷ []) ++ (224 ∷ []) ++ bytes "W" ++ (184 ∷ []) ++ (136 ∷ []) ++ (227 ∷ []) ++ bytes "Z" ++ (192 ∷ []) ++ (179 ∷ []) ++ bytes "H'" ++ (143 ∷ []) ++ bytes ",t" ++ (141 ∷ []) ++ (239 ∷ []) ++ bytes "?Tp" ++ (249 ∷ []) ++ (205 ∷ []) ++ (225 ∷ []) ++ bytes "lu" ++ (181 ∷ []) ++ bytes "/" ++ (252 ∷ []) ++ bytes "~n" ++ (164 ∷ []) ++ bytes "il" ++ (22 ∷ []) ++ bytes "G^" ++ (202 ∷ []) ++ (4 ∷ []) ++ bytes "S" ++ (14 ∷ []) ++ (30 ∷ []) ++ bytes "-" ++ (137 ∷ []) ++ bytes "l" ++ (218 ∷ []) ++ bytes "c" ++ (217 ∷ []) ++ (24 ∷ []) ++ (193 ∷ []) ++ bytes "k" ++ (213 ∷ []) ++ bytes "4i" ++ (15 ∷ []) ++ (7 ∷ []) ++ (157 ∷ []) ++ bytes "n" ++ (185 ∷ []) ++ (166 ∷ []) ++ bytes "U" ++ (230 ∷ []) ++ (17 ∷ []) ++ (173 ∷ []) ++ (168 ∷ []) ++ (168 ∷ []) ++ (197 ∷ []) ++ (196 ∷ []) ++ (209 ∷ []) ++ bytes "$'" ++ (170 ∷ []) ++ (211 ∷ []) ++ (185 ∷ []) ++ (195 ∷ []) ++ (219 ∷ []) ++ bytes "?" ++ (131 ∷ []) ++ bytes "g" ++ (170 ∷ []) ++ bytes "H" ++ (163 ∷ []) ++ bytes ")" ++ (8 ∷ []) ++ (238 ∷ []) ++ bytes "ehc" ++ (158 ∷ []) ++ bytes "`i" ++ (146 ∷ []) ++ (158 ∷ []) ++ (239 ∷ []) ++ (223 ∷ []) ++ bytes "2" ++ (253 ∷ []) ++ (0 ∷ []) ++ (193 ∷ []) ++ bytes "Y" ++ (188 ∷ []) ++ (138 ∷ []) ++ (189 ∷ []) ++ (228 ∷ []) ++ (136 ∷ []) ++ (175 ∷ []) ++ bytes "v" ++ (25 ∷ []) ++ bytes "2a", bytes "4 1\n") ∷
-    (bytes "autoidx" ++ (9 ∷ []) ++ bytes "-0001\nmodule \\58c\nattribute \\hdlname  -1172993001\n " ++ (9 ∷ []) ++ bytes "wire input" ++ (9 ∷ []) ++ bytes "15 \\}" ++ (13 ∷ []) ++ bytes "parameter \\y9" ++ (9 ∷ []) ++ bytes "2'x0\n\n  wire offset" ++ (9 ∷ []) ++ (9 ∷ []) ++ bytes "2147483643  width 5 inout   38 $zY #E" ++ (29 ∷ []) ++ bytes "\nend\n", bytes "autoidx -1\nmodule \\58c\n  parameter \\y9 2'x0\n  attribute \\hdlname -1172993001\n  wire input 15 \\}\n  wire width 5 offset 2147483643 inout 38 $zY\nend\n") ∷
+    (bytes "autoidx" ++ (9 ∷ []) ++ bytes "-0001\nmodule \\58c\nattribute \\hdlname  -1172993001\n " ++ (9 ∷ []) ++ bytes "wire input" ++ (9 ∷ []) ++ bytes "15 \\}" ++ (13 ∷ []) ++ bytes "parameter \\y9" ++ (9 ∷ []) ++ bytes " 2'x\n\n" ++ (9 ∷ []) ++ bytes "connect  \"1\" [   7:  3 ][4" ++ (9 ∷ []) ++ bytes ": 1" ++ (9 ∷ []) ++ bytes "][2" ++ (9 ∷ []) ++ bytes ":2" ++ (9 ∷ []) ++ bytes " ]{ 0'" ++ (9 ∷ []) ++ bytes "22  " ++ (9 ∷ []) ++ bytes "[ 1" ++ (9 ∷ []) ++ bytes ": 1 ]" ++ (9 ∷ []) ++ bytes "} #" ++ (153 ∷ []) ++ bytes "\nend #" ++ (251 ∷ []) ++ (212 ∷ []) ++ bytes "u" ++ (143 ∷ []) ++ (250 ∷ []) ++ (13 ∷ []) ++ bytes "\n", bytes "autoidx -1\nmodule \\58c\n  parameter \\y9 2'xx\n  attribute \\hdlname -1172993001\n  wire input 15 \\}\n  connect 1'0 1'1\nend\n") ∷
     (bytes "module \\x2\nwire width 5 \\Cxz\nwire $GW\nwire inout 1023 \\Cxz\nend\n", bytes "9 38\n") ∷
-    (bytes "cttribute" ++ (9 ∷ []) ++ bytes "\\x39 6'z1z-01" ++ (9 ∷ []) ++ (9 ∷ []) ++ bytes "\n  # note " ++ (0 ∷ []) ++ (13 ∷ []) ++ bytes "modu", bytes "4 0\n") ∷
+    (bytes "attribute" ++ (9 ∷ []) ++ bytes "\\x39 6'z\n  # note " ++ (0 ∷ []) ++ (13 ∷ []) ++ bytes "attribute \\hdlname  \"{\"\"\nmodule" ++ (9 ∷ []) ++ bytes "\\51_\nend" ++ (13 ∷ []), bytes "4 30\n") ∷
     (bytes "module \\c3\n  # note " ++ (0 ∷ []) ++ (13 ∷ []) ++ bytes "parameter $bX 6'0z-xxx#" ++ (12 ∷ []) ++ (156 ∷ []) ++ bytes "G" ++ (250 ∷ []) ++ (176 ∷ []) ++ (165 ∷ []) ++ (127 ∷ []) ++ bytes "\n\nattribute \\hdlname" ++ (9 ∷ []) ++ bytes "\"0.\"\n attribute  \\84_" ++ (9 ∷ []) ++ bytes "-0001\ncell" ++ (9 ∷ []) ++ bytes "$adff $#\n  end" ++ (13 ∷ []) ++ bytes "end#:g`" ++ (228 ∷ []) ++ (160 ∷ []) ++ (137 ∷ []) ++ (225 ∷ []) ++ bytes "\n", bytes "module \\c3\n  parameter $bX 6'0z-xxx\n  attribute \\hdlname \"0.\"\n  attribute \\84_ -1\n  cell $adff $#\n  end\nend\n") ∷
-    (bytes "attribute $" ++ (139 ∷ []) ++ bytes " 698438015\nmodule \\7f.\ncell $mux \\c1\nparameter $c 1'1\nconnect \\C -1\nparameter $` 7'x1-\nend\nend\nmodule $gb\nparameter \\\" 01'0\nend\n", bytes "attribute $" ++ (139 ∷ []) ++ bytes " 698438015\nmodule \\7f.\n  cell $mux \\c1\n    parameter $c 1'1\n    parameter $` 7'0000x1-\n    connect \\C 32'11111111111111111111111111111111\n  end\nend\nmodule $gb\n  parameter \\\" 1'0\nend\n") ∷
+    (bytes "attribute $" ++ (139 ∷ []) ++ bytes " 698438015\nmodule \\7f.\ncell $mux \\c1\nparameter $c 1'1\nconnect \\C -1\nparameter $` 7'\nend\nend\nmodule \\^" ++ (153 ∷ []) ++ bytes "\nwire width 1 output 2 \\z\nend\n", bytes "attribute $" ++ (139 ∷ []) ++ bytes " 698438015\nmodule \\7f.\n  cell $mux \\c1\n    parameter $c 1'1\n    parameter $` 7'xxxxxxx\n    connect \\C 32'11111111111111111111111111111111\n  end\nend\nmodule \\^" ++ (153 ∷ []) ++ bytes "\n  wire output 2 \\z\nend\n") ∷
     (bytes "attribute $2" ++ (147 ∷ []) ++ (160 ∷ []) ++ (9 ∷ []) ++ bytes "0  #" ++ (157 ∷ []) ++ bytes "w:" ++ (0 ∷ []) ++ (5 ∷ []) ++ (203 ∷ []) ++ bytes "\nattribute" ++ (9 ∷ []) ++ bytes "\\hdlname 2132467697\n\nmodule $" ++ (147 ∷ []) ++ (142 ∷ []) ++ bytes "x \n\nparameter \\74\n connect{" ++ (9 ∷ []) ++ bytes "} 00'\n  # note " ++ (0 ∷ []) ++ (13 ∷ []) ++ (9 ∷ []) ++ (9 ∷ []) ++ bytes "end\nattribute \\hdlname  " ++ (9 ∷ []) ++ bytes "-1038253036\nmodule $f9\nend\n\n", bytes "attribute $2" ++ (147 ∷ []) ++ (160 ∷ []) ++ bytes " 0\nattribute \\hdlname 2132467697\nmodule $" ++ (147 ∷ []) ++ (142 ∷ []) ++ bytes "x\n  parameter \\74\n  connect { } { }\nend\nattribute \\hdlname -1038253036\nmodule $f9\nend\n") ∷
-    (bytes "module \\xYa\nparameter $3A 6'#" ++ (186 ∷ []) ++ (13 ∷ []) ++ bytes "parameter" ++ (9 ∷ []) ++ bytes "$b" ++ (255 ∷ []) ++ bytes " 4'0-xm\nend\n\n", bytes "module \\xYa\n  parameter $3A 6'000000\n  parameter $b" ++ (255 ∷ []) ++ bytes " 4'0-xm\nend\n") ∷
+    (bytes "module9 \\xYa\nparameter " ++ (9 ∷ []) ++ bytes " $3A 6'zz-00x" ++ (13 ∷ []) ++ bytes " cell" ++ (9 ∷ []) ++ bytes "$mux \\B\nconnect $ay7  7'-00z-xx", bytes "4 0\n") ∷
     (bytes "autoidx 4\nmodule \\x_a\nattribute \\hdlname 1'1\nmemory width 1 \\8f0\nwire output 1 upto \\X\nmemory width 3 \\end\nend\n", bytes "autoidx 4\nmodule \\x_a\n  wire upto output 1 \\X\n  attribute \\hdlname 1'1\n  memory \\8f0\n  memory width 3 \\end\nend\n") ∷
     ((9 ∷ []) ++ bytes " module" ++ (9 ∷ []) ++ bytes "$dX" ++ (13 ∷ []) ++ bytes "\nconnect {4294967297'1" ++ (9 ∷ []) ++ bytes "{" ++ (9 ∷ []) ++ bytes "}}{" ++ (9 ∷ []) ++ bytes "4294967297'1  { } },\n  end" ++ (13 ∷ []), bytes "5 14\n") ∷
-    (bytes "module \\m\n-2147483648 offset" ++ (9 ∷ []) ++ bytes "edge" ++ (13 ∷ []) ++ bytes "\n  \\gc" ++ (9 ∷ []) ++ bytes "module" ++ (9 ∷ []) ++ bytes "output   1'-" ++ (9 ∷ []) ++ bytes "} " ++ (13 ∷ []) ++ bytes "4'-1 04'mmz1" ++ (13 ∷ []) ++ bytes "\n\\m connect attribute#" ++ (218 ∷ []) ++ (157 ∷ []) ++ (151 ∷ []) ++ bytes "\n[\n  # note " ++ (0 ∷ []) ++ (13 ∷ []), bytes "5 10\n") ∷
+    (bytes "module \\m\n-2147483648 offset" ++ (9 ∷ []) ++ bytes "edge" ++ (13 ∷ []) ++ bytes "\n  \\gc" ++ (9 ∷ []) ++ bytes "module" ++ (9 ∷ []) ++ bytes "output   1'-" ++ (9 ∷ []) ++ bytes "} " ++ (13 ∷ []) ++ bytes "4' connect" ++ (13 ∷ []) ++ bytes "\n", bytes "5 10\n") ∷
     (bytes "module $c55\n " ++ (9 ∷ []) ++ bytes "cell \\yfX $26\n  # note " ++ (0 ∷ []) ++ (13 ∷ []) ++ bytes "  connect \\A   1'0\n connect   \\A {  -1{ 2048'" ++ (9 ∷ []) ++ bytes " 1'} -1}#" ++ (28 ∷ []) ++ bytes "_" ++ (168 ∷ []) ++ (136 ∷ []) ++ (211 ∷ []) ++ bytes "P" ++ (28 ∷ []) ++ bytes "\n  end\nend \n  # note " ++ (0 ∷ []) ++ (13 ∷ []), bytes "9 59\n") ∷
     (bytes " \\b" ++ (9 ∷ []) ++ bytes "switch\n  # note " ++ (0 ∷ []) ++ (13 ∷ []), bytes "5 1\n") ∷
-    (bytes "attribute \\\" 5'--\nmodule \\1'0\nwire width 0 $" ++ (228 ∷ []) ++ (127 ∷ []) ++ bytes "\nconnect 3'mmm 7'-x-0 [ 4 : 2 ]\nend\nmodule \\x\ncell \\7 \\x25\nparameter \\cb0 1337\nparameter signed \\0 ed\n", bytes "4 125\n") ∷
+    (bytes "attribute \n\\\" 5'--\nmodule \\1'90\nwire width 0 $" ++ (228 ∷ []) ++ (127 ∷ []) ++ bytes "\nconnect 7'--x-0z-" ++ (188 ∷ []) ++ bytes "[ 6 : 3 ] 4'm-z-\nend\n", bytes "5 0\n") ∷
     (bytes " " ++ (9 ∷ []) ++ bytes "module \\z " ++ (13 ∷ []) ++ bytes "\nend\n  # note " ++ (0 ∷ []) ++ (13 ∷ []), bytes "module \\z\nend\n") ∷
     (bytes "module $c1\nend\n", bytes "module $c1\nend\n") ∷
     (bytes "module   \\zY7\nconnect" ++ (9 ∷ []) ++ bytes "{\\missing }" ++ (9 ∷ []) ++ (9 ∷ []) ++ (9 ∷ []) ++ bytes "[ 0] { -1 }" ++ (13 ∷ []) ++ bytes "end\n", bytes "8 14\n") ∷
     (bytes " module" ++ (9 ∷ []) ++ bytes "  \\Yd \n  # note " ++ (0 ∷ []) ++ (13 ∷ []) ++ bytes "cell \\gZ \\gb" ++ (13 ∷ []) ++ bytes "connect \\A 1'0" ++ (13 ∷ []) ++ bytes "connect \\B" ++ (9 ∷ []) ++ bytes "{1'0 4'01xz  1'0 } " ++ (9 ∷ []) ++ (9 ∷ []) ++ bytes "[0]" ++ (13 ∷ []) ++ bytes "\nend" ++ (13 ∷ []) ++ bytes "  end \n", bytes "module \\Yd\n  cell \\gZ \\gb\n    connect \\A 1'0\n    connect \\B 1'0\n  end\nend\n") ∷
     (bytes "module \\c  \nattribute \\hdlname" ++ (9 ∷ []) ++ bytes "\"\\56\"\n\nwire width" ++ (9 ∷ []) ++ bytes "0 \\7  \nconnect { \"A\" 1'1  [ 99999999999]}{  \"A\" 1'1[99999999999]}\n end \n", bytes "7 56\n") ∷
-    (bytes "attribute \\f \"n\\\\{\"\nmodule $91f\nwire width 6 offset 6 \\c\nend\nmodule $5Ya\nconnect 7'xxm1100 7'x-xx11m\nmemory size 2147483647 width 3 $xY\nconnect 614555799 32'm11-1mx-x11mxx-m0zx1x1-01z-z--x-\nend\n", bytes "attribute \\f \"n\\\\{\"\nmodule $91f\n  wire width 6 offset 6 \\c\nend\nmodule $5Ya\n  memory width 3 size 2147483647 $xY\n  connect 7'xxm1100 7'x-xx11m\n  connect 32'00100100101000010110000010010111 32'm11-1mx-x11mxx-m0zx1x1-01z-z--x-\nend\n") ∷
+    (bytes "attribute \\f \"n\\\\{\"\nmodule $91f\nwire width 6 offset 6 \\c\nend\nmodule $5Ya\nconnect 7'x-xx11m 7'zxxm110\nwire width 6 $xY\nwire signed \\bX\nconnect { } 0'\nend\n", bytes "attribute \\f \"n\\\\{\"\nmodule $91f\n  wire width 6 offset 6 \\c\nend\nmodule $5Ya\n  wire width 6 $xY\n  wire signed \\bX\n  connect 7'x-xx11m 7'zxxm110\n  connect { } { }\nend\n") ∷
     (bytes " module" ++ (9 ∷ []) ++ bytes "\\4B\n  # note " ++ (0 ∷ []) ++ (13 ∷ []) ++ bytes "wire width 7 \\2#" ++ (172 ∷ []) ++ bytes "\n\nwire width 1 sign", bytes "4 42\n") ∷
     (bytes "autoidx 1731764574\nmodule \\A8\nwire width 1 output 6 offset 2147483647 \\Yfx\nparameter \\" ++ (195 ∷ []) ++ (169 ∷ []) ++ bytes "\nattribute \\hdlname \" c\\\"##\"\nwire width 7 signed offset -1 \\42\nend\nmodule $ezb\nwire \\\\\nwire width 9 input 5 \\6\nend\n", bytes "autoidx 1731764574\nmodule \\A8\n  parameter \\" ++ (195 ∷ []) ++ (169 ∷ []) ++ bytes "\n  wire offset 2147483647 output 6 \\Yfx\n  attribute \\hdlname \" c\\\"##\"\n  wire width 7 offset -1 signed \\42\nend\nmodule $ezb\n  wire \\\\\n  wire width 9 input 5 \\6\nend\n") ∷
     (bytes "module \\\\\n  # note " ++ (0 ∷ []) ++ (13 ∷ []) ++ bytes "wire width " ++ (9 ∷ []) ++ bytes " 8" ++ (9 ∷ []) ++ bytes "input" ++ (9 ∷ []) ++ bytes "15 offset 0 \\69g\n  # note " ++ (0 ∷ []) ++ (13 ∷ []) ++ bytes " connect" ++ (9 ∷ []) ++ bytes "\\69g 1[ 20 : " ++ (9 ∷ []) ++ bytes "13" ++ (217 ∷ []) ++ bytes "]" ++ (13 ∷ []) ++ bytes "\ncell " ++ (9 ∷ []) ++ bytes "\\f \\Z\nconnect \\0gy {\\69g  [ 2:0 ]00' \\69g [ 7 :7] }[2" ++ (9 ∷ []) ++ bytes ": 1 ]#" ++ (170 ∷ []) ++ bytes "\n  # note " ++ (0 ∷ []) ++ (13 ∷ []) ++ bytes "connect \\Q" ++ (9 ∷ []) ++ bytes "{" ++ (9 ∷ []) ++ bytes "\\69g 2'zz[0 : 0 ][ 0] [0" ++ (9 ∷ []) ++ bytes "]\\69g }\n\nend" ++ (13 ∷ []) ++ bytes "\nend\n", bytes "4 71\n") ∷
@@ -615,16 +631,16 @@ cases =
     (bytes "module $2" ++ (9 ∷ []) ++ bytes " \n  # note " ++ (0 ∷ []) ++ (13 ∷ []) ++ bytes "wire  output 17 \\1\nwire " ++ (9 ∷ []) ++ bytes "$8d\nattribute" ++ (9 ∷ []) ++ bytes "\\X" ++ (9 ∷ []) ++ bytes "\"#} }a\\\\\"\n  # note " ++ (0 ∷ []) ++ (13 ∷ []) ++ bytes "cell \\4Ba $" ++ (178 ∷ []) ++ bytes " \nparameter \\p 0'\nend" ++ (13 ∷ []) ++ bytes "end" ++ (13 ∷ []), bytes "module $2\n  wire output 17 \\1\n  wire $8d\n  attribute \\X \"#} }a\\\\\"\n  cell \\4Ba $" ++ (178 ∷ []) ++ bytes "\n    parameter \\p 0'\n  end\nend\n") ∷
     (bytes "module \\Yg\nend\n", bytes "module \\Yg\nend\n") ∷
     (bytes "module \\5YZ\n  # note " ++ (0 ∷ []) ++ (13 ∷ []) ++ bytes "cell \\f" ++ (9 ∷ []) ++ bytes "  \\3\n\nparameter real $8_ 1  \nconnect \\f 4'zx0z\n\nparameter  \\x" ++ (9 ∷ []) ++ bytes "0'" ++ (13 ∷ []) ++ bytes "\nparameter signed  " ++ (9 ∷ []) ++ bytes "$\" 31" ++ (13 ∷ []) ++ bytes "end \n\\ ", bytes "4 127\n") ∷
-    (bytes "module " ++ (9 ∷ []) ++ bytes "\\2Ac\nparameter \\5x" ++ (9 ∷ []) ++ bytes "3'- #" ++ (168 ∷ []) ++ bytes "1" ++ (226 ∷ []) ++ bytes "6\n\nattribute" ++ (9 ∷ []) ++ bytes "\\hdlname 09'zmm--z\n  # note " ++ (0 ∷ []) ++ (13 ∷ []) ++ bytes "wire width   8 offset 2147483640 signed \\1Ae\nend " ++ (9 ∷ []) ++ bytes "\n\nmodule \\0A" ++ (13 ∷ []) ++ bytes "\ncell $adff $_g6\n  # note " ++ (0 ∷ []) ++ (13 ∷ []) ++ bytes "end\n" ++ (9 ∷ []) ++ bytes "end" ++ (13 ∷ []), bytes "module \\2Ac\n  parameter \\5x 3'00-\n  attribute \\hdlname 9'000zmm--z\n  wire width 8 offset 2147483640 signed \\1Ae\nend\nmodule \\0A\n  cell $adff $_g6\n  end\nend\n") ∷
-    (bytes "cell \\c3y } \\Z9Z\nend\nconnect { { 1'm 1'z } 6'00-1z0 8'-1zx0x00\nwire inout 8 signed width 6 $y\nattribute \\z. \"::\"\nwire offset -2147483648 \\gxf\nconnect 32'00z0z-m1z110x-101z1m-x0mx-0xmz0z 1337\nend\n", bytes "5 0\n") ∷
+    (bytes "module " ++ (9 ∷ []) ++ bytes "\\2Ac\nparameter \\5x 3'\n\nmemory" ++ (9 ∷ []) ++ bytes "width 1 \\{\nconnect  1337[ 31" ++ (9 ∷ []) ++ bytes ":  31 ]{ 0' 01'm" ++ (9 ∷ []) ++ bytes "}\n  # note " ++ (0 ∷ []) ++ (13 ∷ []) ++ (9 ∷ []) ++ (9 ∷ []) ++ bytes "end\nmodule $d\nparameter" ++ (9 ∷ []) ++ bytes "\\b_g   \":b c\"\n  # note " ++ (0 ∷ []) ++ (13 ∷ []) ++ bytes " parameter \\a \"\\{\"#" ++ (171 ∷ []) ++ (233 ∷ []) ++ bytes "\nend  " ++ (13 ∷ []), bytes "module \\2Ac\n  parameter \\5x 3'xxx\n  memory \\{\n  connect 1'0 1'm\nend\nmodule $d\n  parameter \\b_g \":b c\"\n  parameter \\a \"{\"\nend\n") ∷
+    (bytes "module \\[0:0]\ncell \\c3y \\Z9Z\nend\nconnect { 2'0 { 0' 6' } } 8'\nwire inout 2 \\d\nwire signed inout 10 $y\nwire inout 14 $X\nattribute \\01 \"\\\".a\"\nattribute \\hdlname \"\\ cb\"\nattribute $3:" ++ (254 ∷ []) ++ (250 ∷ []) ++ bytes " 7\ncell \\sub \\_5\nconnect \\" ++ (152 ∷ []) ++ bytes " 1'z [ 0 : 0 ]\nend\nend\n", bytes "module \\[0:0]\n  wire inout 2 \\d\n  wire inout 10 signed $y\n  wire inout 14 $X\n  cell \\c3y \\Z9Z\n  end\n  attribute \\01 \"\\\".a\"\n  attribute \\hdlname \" cb\"\n  attribute $3:" ++ (254 ∷ []) ++ (250 ∷ []) ++ bytes " 7\n  cell \\sub \\_5\n    connect \\" ++ (152 ∷ []) ++ bytes " 1'z\n  end\n  connect 8'00xxxxxx 8'xxxxxxxx\nend\n") ∷
     (bytes "module \\Bg  " ++ (13 ∷ []) ++ bytes "cell \\" ++ (195 ∷ []) ++ (169 ∷ []) ++ bytes " $C\n  # note " ++ (0 ∷ []) ++ (13 ∷ []) ++ bytes "end#\ncell   \\2z" ++ (9 ∷ []) ++ bytes "\\\\" ++ (13 ∷ []) ++ bytes "\nparameter" ++ (9 ∷ []) ++ bytes "signed" ++ (9 ∷ []) ++ bytes "  $a7 \"" ++ (158 ∷ []) ++ (6 ∷ []) ++ bytes "r\" " ++ (9 ∷ []) ++ (13 ∷ []) ++ bytes "connect \\Y6d" ++ (9 ∷ []) ++ bytes "15\n  # note " ++ (0 ∷ []) ++ (13 ∷ []) ++ bytes "connect \\:" ++ (143 ∷ []) ++ (9 ∷ []) ++ bytes "8'x1-11z-m\n connect  \\dc4 4'011x[ 3" ++ (9 ∷ []) ++ bytes ": 2 " ++ (9 ∷ []) ++ bytes " ][  1 :1] " ++ (9 ∷ []) ++ bytes "\n  # note " ++ (0 ∷ []) ++ (13 ∷ []) ++ bytes " " ++ (255 ∷ []) ++ (9 ∷ []) ++ bytes "end\n" ++ (9 ∷ []) ++ bytes "end " ++ (13 ∷ []) ++ bytes "\n", bytes "4 192\n") ∷
-    (bytes "module \\X\nattribute \\x 8'0x-1x0zm\nwire upto \\3" ++ (156 ∷ []) ++ bytes "o\nwire \\6A\nprocess \\3" ++ (156 ∷ []) ++ bytes "o \\p\nend\nend\n", bytes "5 58\n") ∷
-    (bytes "autoidx 21\nmodule \\794\nconnect 3'mzm [ 2 : 2 ] 1'1\nend\n", bytes "autoidx 21\nmodule \\794\n  connect 1'm 1'1\nend\n") ∷
+    (bytes "module \\X\nattribute \\x 8'x-1x0\nwire upto offset -2147483648 width 9 \\3" ++ (156 ∷ []) ++ bytes "o\nwire offset 0 upto \\.1\ncell $adff $Z\nconnect \\A 1'0\nconnect \\B { -1 } [ 0 ]\nend\nend\n", bytes "module \\X\n  attribute \\x 8'xxxx-1x0\n  wire width 9 offset -2147483648 upto \\3" ++ (156 ∷ []) ++ bytes "o\n  wire upto \\.1\n  cell $adff $Z\n    connect \\A 1'0\n    connect \\B 1'1\n  end\nend\n") ∷
+    (bytes "autoidx 21\nmodule \\794\nconnect 3' [ 2 : 1 ] 2'\nend\n", bytes "autoidx 21\nmodule \\794\n  connect 2'xx 2'xx\nend\n") ∷
     (bytes "autoidx 34\nattribute" ++ (9 ∷ []) ++ bytes "\\hdlname" ++ (9 ∷ []) ++ bytes "3'-m-\n module \\1\nwire $5B\n\nend" ++ (13 ∷ []) ++ bytes "\nautoidx 34\n", bytes "5 62\n") ∷
     (bytes "module $y\nwire" ++ (9 ∷ []) ++ bytes "\\81\n  # note " ++ (0 ∷ []) ++ (13 ∷ []) ++ (9 ∷ []) ++ bytes "wire" ++ (9 ∷ []) ++ bytes "offset  " ++ (9 ∷ []) ++ bytes "0 $g6 #>" ++ (128 ∷ []) ++ (183 ∷ []) ++ (161 ∷ []) ++ bytes "p" ++ (145 ∷ []) ++ (205 ∷ []) ++ bytes "\n\nparameter \\p 0'\n\nparameter \\q 1'01" ++ (13 ∷ []) ++ bytes "attribute $p 2147483648" ++ (9 ∷ []) ++ bytes " \n  # note " ++ (0 ∷ []) ++ (13 ∷ []) ++ bytes "end\n\n", bytes "7 78\n") ∷
     (bytes "  module " ++ (9 ∷ []) ++ bytes " $yCx" ++ (13 ∷ []) ++ bytes "\n " ++ (9 ∷ []) ++ bytes "wire" ++ (9 ∷ []) ++ bytes "offset 1 \\1x #" ++ (22 ∷ []) ++ (222 ∷ []) ++ (156 ∷ []) ++ bytes "\nend\n  # note " ++ (0 ∷ []) ++ (13 ∷ []) ++ bytes "module \\d" ++ (13 ∷ []) ++ bytes "\nend\n", bytes "module $yCx\n  wire offset 1 \\1x\nend\nmodule \\d\nend\n") ∷
     (bytes "module \\_\ncell \\sub $e\nparameter signed $5Z \"\\141\"\nconnect \\gf3 1'm [ 0 ] [ 0 ] [ 0 ]\nparameter real \\_B \"7}77n\\c\"\nend\nend\n", bytes "module \\_\n  cell \\sub $e\n    parameter signed $5Z \"a\"\n    parameter real \\_B \"7}77nc\"\n    connect \\gf3 1'm\n  end\nend\n") ∷
-    (bytes "autoidx" ++ (9 ∷ []) ++ bytes "0" ++ (13 ∷ []) ++ bytes "\nmodule  " ++ (9 ∷ []) ++ bytes "\\a2\nc" ++ (0 ∷ []) ++ bytes "ell \\f.C \\e7x  \nparameter" ++ (9 ∷ []) ++ bytes "signed \\f3 7'zzxz-x0\n\nconnect" ++ (9 ∷ []) ++ bytes "\\._X 939970907#connect \\Y -0[" ++ (9 ∷ []) ++ bytes "16 :11] \nend#k" ++ (170 ∷ []) ++ bytes "~" ++ (247 ∷ []) ++ (222 ∷ []) ++ bytes "I" ++ (206 ∷ []) ++ bytes "\nend" ++ (13 ∷ []), bytes "4 24\n") ∷
+    (bytes "autoidx" ++ (9 ∷ []) ++ bytes "0" ++ (13 ∷ []) ++ bytes "bmodule  " ++ (9 ∷ []) ++ bytes "\\a2\ncell \\f.C \\e7x  \nparameter" ++ (9 ∷ []) ++ bytes "signed \\f3" ++ (9 ∷ []) ++ bytes "7'z" ++ (13 ∷ []) ++ bytes "\n" ++ (9 ∷ []) ++ bytes "connect" ++ (9 ∷ []) ++ bytes "\\yf 1'1" ++ (13 ∷ []) ++ bytes "connect $31" ++ (9 ∷ []) ++ bytes "{ {1'0 7'm1z11z-   [ 6   :5 ]" ++ (9 ∷ []) ++ bytes "[" ++ (9 ∷ []) ++ bytes "1: 0" ++ (9 ∷ []) ++ bytes "]9'1010m-10z" ++ (9 ∷ []) ++ bytes "}7'z-zz-z0 \"\" }\nend" ++ (13 ∷ []) ++ bytes "\nend  \n", bytes "4 10\n") ∷
     (bytes "autoix", bytes "4 0\n") ∷
     (bytes "autoidx 28832560\nmo", bytes "4 17\n") ∷
     (bytes "module" ++ (9 ∷ []) ++ bytes "$Y\n\nwire width 1" ++ (9 ∷ []) ++ bytes "\\5z" ++ (9 ∷ []) ++ bytes " \n  # note " ++ (0 ∷ []) ++ (13 ∷ []) ++ bytes "wire signed offset" ++ (9 ∷ []) ++ bytes " -10" ++ (9 ∷ []) ++ bytes "\\0\n  # note " ++ (0 ∷ []) ++ (13 ∷ []) ++ bytes "cell $adff \\gA1\n" ++ (9 ∷ []) ++ (9 ∷ []) ++ bytes "connect" ++ (9 ∷ []) ++ bytes "\\A" ++ (9 ∷ []) ++ bytes "1'0  \n  # note " ++ (0 ∷ []) ++ (13 ∷ []) ++ bytes "connect" ++ (9 ∷ []) ++ bytes "\\B {\\0" ++ (9 ∷ []) ++ bytes "{ 2048' 1' }}\nend\n\n " ++ (9 ∷ []) ++ bytes "end " ++ (13 ∷ []), bytes "11 125\n") ∷
@@ -636,33 +652,33 @@ cases =
     (bytes "[" ++ (9 ∷ []) ++ bytes " \\5. input ]\"{0\"\n\\m\n{] \\xX case \\m\n} input always " ++ (9 ∷ []) ++ bytes " 4\n  # note " ++ (0 ∷ []) ++ (13 ∷ []) ++ (9 ∷ []) ++ bytes "\\2Z negedge" ++ (9 ∷ []) ++ bytes "\\a" ++ (13 ∷ []) ++ bytes "\n", bytes "5 0\n") ∷
     (bytes "attribute \\3cA -138043\nmodule \\b_y\nend\nattribute \\y 1\ncell \\t \\u\nmodule \\after\nend\n", bytes "5 54\n") ∷
     (bytes "module \\7\nwire width 8 upto \\0\ncell \\8 $a\nend\nend\nattribute \\4X \"\"\nmodule \\03.\nparameter $6 -1120788068\nend\n", bytes "module \\7\n  wire width 8 upto \\0\n  cell \\8 $a\n  end\nend\nattribute \\4X \"\"\nmodule \\03.\n  parameter $6 -1120788068\nend\n") ∷
-    (bytes "module $z03\nwire input 15 width 4 signed \\e_1\nwire \\fBY\nattribute \\0Y8 1427800518\nattribute \\hdlname 9'-0z0-11-\nwire inout 38 $b8\nattribute \\x 1\nprocess \\e_1\nend\nend\n", bytes "6 145\n") ∷
+    (bytes "module $z03\nwire input 15 width 4 signed \\e_1\nwire \\fBY\nattribute \\0Y8 1427800518\nattribute \\hdlname 9'0-0z0-11-\nwire inout 38 $b8\nattribute \\x 1\nprocess \\e_1\nend\nend\n", bytes "6 146\n") ∷
     (bytes "module \\m\n: 2008824395" ++ (9 ∷ []) ++ bytes "\"\\042} \"" ++ (9 ∷ []) ++ bytes "cell}\n", bytes "5 10\n") ∷
-    (bytes "module \\2\nparameter \\1 007\nwire input 9 \\8fa\nmemory size 0 width 1 \\1Z\nattribute \\hdlname \"2" ++ (156 ∷ []) ++ bytes "\"\ncell $84x \\\\\nparameter real $9b -1\nend\ncell \\sub \\_ac\nconnect \\9 \\8fa\nconnect \\yXX { 03'mmx [ 2 ] [ 0 ] [ 0 ] } [ 0 ]\nparameter \\cCc \"\\a\\\\\\173b\"\nend\nend\n", bytes "module \\2\n  parameter \\1 7\n  wire input 9 \\8fa\n  memory \\1Z\n  attribute \\hdlname \"2" ++ (156 ∷ []) ++ bytes "\"\n  cell $84x \\\\\n    parameter real $9b -1\n  end\n  cell \\sub \\_ac\n    parameter \\cCc \"a\\\\{b\"\n    connect \\9 \\8fa\n    connect \\yXX 1'm\n  end\nend\n") ∷
+    (bytes "module \\2\nparameter \\1 007\nwire input 9 \\8fa\nmemory size 0 width 1 \\1Z\nattribute \\hdlname \"2" ++ (156 ∷ []) ++ bytes "\"\ncell $84x \\\\\nparameter real $9b -1\nend\ncell \\sub \\_ac\nconnect \\9 \\8fa\nconnect \\yXX { 3' }\nparameter \\\" -1\nend\nend\n", bytes "module \\2\n  parameter \\1 7\n  wire input 9 \\8fa\n  memory \\1Z\n  attribute \\hdlname \"2" ++ (156 ∷ []) ++ bytes "\"\n  cell $84x \\\\\n    parameter real $9b -1\n  end\n  cell \\sub \\_ac\n    parameter \\\" -1\n    connect \\9 \\8fa\n    connect \\yXX 3'xxx\n  end\nend\n") ∷
     (bytes "module $c\nwire offset -5 output 3 $gy\nwire width 8 upto \\C77\nconnect 0' { }\nwire $\\\nattribute $a \"n \\\\}\\72\"\nwire width 4 \\Y66\ncell $ZCg \\" ++ (158 ∷ []) ++ (205 ∷ []) ++ (229 ∷ []) ++ (156 ∷ []) ++ bytes "\nconnect $_y \\Y66\nend\nend\n", bytes "module $c\n  wire offset -5 output 3 $gy\n  wire width 8 upto \\C77\n  wire $\\\n  attribute $a \"n \\\\}:\"\n  wire width 4 \\Y66\n  cell $ZCg \\" ++ (158 ∷ []) ++ (205 ∷ []) ++ (229 ∷ []) ++ (156 ∷ []) ++ bytes "\n    connect $_y \\Y66\n  end\n  connect { } { }\nend\n") ∷
     (bytes "autoidx -1949255543\nmodule \\B32\nconnect 0' { }\nend\n", bytes "autoidx -1949255543\nmodule \\B32\n  connect { } { }\nend\n") ∷
     (bytes "module $0B\nwire signed width 2 $76\nwire offset -2147483648 width 5 signed $bg\nend\nmodule \\zz\nmemory offset 596153827 \\6\nend\n", bytes "module $0B\n  wire width 2 signed $76\n  wire width 5 offset -2147483648 signed $bg\nend\nmodule \\zz\n  memory offset 596153827 \\6\nend\n") ∷
-    (bytes "autoidx 16\nmodule \\5A9\nconnect 007 32'zx-x10z0xz10xmzmm0\nconnect { 5'zz011 0' } 8'x" ++ (255 ∷ []) ++ bytes "x00z1m [ 6 : 2 ]\nend\n", bytes "4 57\n") ∷
+    (bytes "autoidx 16\nmodule \\5A9\nconnect 007 32'zx-x10z0xz10xmz" ++ (255 ∷ []) ++ bytes "mm0\nconnect { 5'zz011 0' } 8'zxx00z1m [ 6 : 2 ]\nend\n", bytes "4 23\n") ∷
     (bytes "module \\A5\nwire input 5 width 6 $49f\nwire input 22 width 1 \\9ZC\nwire width 1 \\" ++ (253 ∷ []) ++ bytes "l" ++ (198 ∷ []) ++ bytes "`\n=\nend\n", bytes "4 83\n") ∷
-    (bytes "autoidx  8\n  # note " ++ (0 ∷ []) ++ (13 ∷ []) ++ bytes "module \\" ++ (157 ∷ []) ++ (253 ∷ []) ++ (9 ∷ []) ++ bytes "\nwire" ++ (9 ∷ []) ++ bytes "signed " ++ (9 ∷ []) ++ bytes " \\z.\n\nwire" ++ (9 ∷ []) ++ bytes "\\6\nconnect" ++ (9 ∷ []) ++ bytes "1'- \\z. [0" ++ (9 ∷ []) ++ bytes ":   0 ][0:" ++ (9 ∷ []) ++ bytes " 0" ++ (9 ∷ []) ++ bytes "  ]\nend\n\nmodule \\y  \nconnect  \"b\" {" ++ (9 ∷ []) ++ bytes "{   1'0 272044655[ 4 : 0" ++ (9 ∷ []) ++ bytes "]} { { {1'1" ++ (9 ∷ []) ++ bytes "0' }" ++ (9 ∷ []) ++ bytes " 0'} 1'-} }" ++ (13 ∷ []) ++ bytes "\nend\n", bytes "autoidx 8\nmodule \\" ++ (157 ∷ []) ++ (253 ∷ []) ++ bytes "\n  wire signed \\z.\n  wire \\6\n  connect 1'- \\z.\nend\nmodule \\y\n  connect 8'01100010 8'0011111-\nend\n") ∷
+    (bytes "autoidx  8\n  # note " ++ (0 ∷ []) ++ (13 ∷ []) ++ bytes "module \\" ++ (157 ∷ []) ++ (253 ∷ []) ++ (9 ∷ []) ++ bytes "\nwire" ++ (9 ∷ []) ++ bytes "signed " ++ (9 ∷ []) ++ bytes " \\z.\n\nwire" ++ (9 ∷ []) ++ bytes "\\6\nconnect 1'0 \\z. [ 0" ++ (9 ∷ []) ++ bytes ":   0 ][0:" ++ (9 ∷ []) ++ bytes " 0" ++ (9 ∷ []) ++ bytes "  ]\nend\n\nmodule \\y  \nconnect { { 1'0" ++ (9 ∷ []) ++ bytes "272044655   [4: 0 ] }" ++ (9 ∷ []) ++ bytes "{{ { 1'1  " ++ (9 ∷ []) ++ bytes "0'}0' }" ++ (9 ∷ []) ++ bytes " 1'} }\"b\"" ++ (13 ∷ []) ++ bytes "\nend\n", bytes "autoidx 8\nmodule \\" ++ (157 ∷ []) ++ (253 ∷ []) ++ bytes "\n  wire signed \\z.\n  wire \\6\n  connect 1'0 \\z.\nend\nmodule \\y\n  connect 8'0011111x 8'01100010\nend\n") ∷
     (bytes "module \\" ++ (245 ∷ []) ++ bytes "b" ++ (244 ∷ []) ++ (154 ∷ []) ++ bytes "\nwire inout 8 width 8 upto offset -1 signed \\{\nconnect \\{ \\{ [ 7 : 0 ]\nend\n", bytes "module \\" ++ (245 ∷ []) ++ bytes "b" ++ (244 ∷ []) ++ (154 ∷ []) ++ bytes "\n  wire width 8 offset -1 upto inout 8 signed \\{\n  connect \\{ \\{\nend\n") ∷
     (bytes "module \\$\nattribute \\hdlname \" nt\"\nwire width 3 output 1 $Xgz\ncell $adff \\bA\nconnect \\A 1'0\nconnect \\B { 4'01xz 4'0 [ 0 : 1 ] { } }\nend\nend\n", bytes "10 92\n") ∷
     (bytes "module \\{ \nconnect" ++ (9 ∷ []) ++ bytes "{" ++ (9 ∷ []) ++ bytes "1'0 { }}" ++ (9 ∷ []) ++ bytes "{" ++ (9 ∷ []) ++ bytes "1'0 {" ++ (9 ∷ []) ++ bytes "}}#" ++ (244 ∷ []) ++ (26 ∷ []) ++ (13 ∷ []) ++ bytes " end" ++ (9 ∷ []) ++ (13 ∷ []) ++ bytes "\n", bytes "module \\{\n  connect 1'0 1'0\nend\n") ∷
     (bytes "module $gZB" ++ (13 ∷ []) ++ bytes "wire upto \\Z\ncell \\f1 " ++ (9 ∷ []) ++ bytes " $c02 #R$\nparameter" ++ (9 ∷ []) ++ bytes "signed \\p" ++ (9 ∷ []) ++ bytes "2147483648\n\nparameter" ++ (9 ∷ []) ++ bytes " " ++ (9 ∷ []) ++ bytes "\\q 2049'0\nparameter" ++ (9 ∷ []) ++ bytes "signed" ++ (9 ∷ []) ++ bytes "\\q 0'\n\nend" ++ (13 ∷ []) ++ bytes "\nend  \n", bytes "7 45\n") ∷
-    (bytes "attribute \\03c   32 " ++ (9 ∷ []) ++ bytes "\nmodule \\" ++ (205 ∷ []) ++ (13 ∷ []) ++ bytes "wire output 16  signed  width 8 \\c \n  # note " ++ (0 ∷ []) ++ (13 ∷ []) ++ bytes "attribute" ++ (9 ∷ []) ++ bytes "\\hdlname" ++ (9 ∷ []) ++ bytes " 1'1\nwire" ++ (9 ∷ []) ++ bytes "width 4 \\zfx\n\n attribute \\BC   \"1nn0\"" ++ (13 ∷ []) ++ bytes "wire" ++ (9 ∷ []) ++ bytes "$4B6 #" ++ (163 ∷ []) ++ bytes "(" ++ (195 ∷ []) ++ (13 ∷ []) ++ bytes "parameter \\p \"a\"b", bytes "4 161\n") ∷
+    (bytes "attribute \\03c   32 " ++ (9 ∷ []) ++ bytes "\nmodule \\" ++ (205 ∷ []) ++ (13 ∷ []) ++ bytes "wire output 16  signed  width 8 \\c \n  # note " ++ (0 ∷ []) ++ (13 ∷ []) ++ bytes "attribute \\hdlname " ++ (9 ∷ []) ++ bytes "1'1\nwire \\zfx\n" ++ (9 ∷ []) ++ bytes " attribute \\C5B 8'1mm  \nwire   $g" ++ (13 ∷ []) ++ bytes "  connect{\\zfx [0  ]} { $g 2049'  " ++ (9 ∷ []) ++ bytes "}\n" ++ (9 ∷ []) ++ bytes " end#" ++ (0 ∷ []) ++ (18 ∷ []) ++ bytes "\n", bytes "7 150\n") ∷
     (bytes "module \\" ++ (244 ∷ []) ++ bytes "r\nwire width 3 output 20 upto $Z8z\nwire inout 30 offset 2147483647 \\.\ncell \\95. \\X\nparameter signed \\p 2049'0\nend\nend\n", bytes "7 92\n") ∷
     (bytes "mo" ++ (146 ∷ []) ++ bytes "ul", bytes "4 0\n") ∷
     (bytes " autoidx 2147483647\n\n", bytes "autoidx 2147483647\n") ∷
     (bytes "\"m -zd-[[0:m:1zna,\n,\"$d\\\n" ++ (13 ∷ []) ++ bytes "$\\\n}m[xz[0:n10\\:{}{\n\\[{an-\"m]-x:d{#:]\"['[}'\"{[d", bytes "4 0\n") ∷
     (bytes "  module $dZ" ++ (13 ∷ []) ++ bytes "wire width 5" ++ (9 ∷ []) ++ bytes "signed" ++ (9 ∷ []) ++ bytes "$f\n\nconnect{ $f $f " ++ (9 ∷ []) ++ bytes "}" ++ (9 ∷ []) ++ bytes "  [" ++ (9 ∷ []) ++ bytes "0   ]  {-1" ++ (9 ∷ []) ++ bytes "} [   0]\nend\n  # note " ++ (0 ∷ []) ++ (13 ∷ []), bytes "module $dZ\n  wire width 5 signed $f\n  connect $f [0] 1'1\nend\n") ∷
-    (bytes "attribute $0 \"\\" ++ (229 ∷ []) ++ bytes "A\\234U\"" ++ (13 ∷ []) ++ bytes "\nmodule $a\n  # note " ++ (0 ∷ []) ++ (13 ∷ []) ++ bytes "connect 1822367315 32'x110m1z-mz0-z1-1-0010mxxz0mzxm-m\n  # note " ++ (0 ∷ []) ++ (13 ∷ []) ++ bytes "connect" ++ (9 ∷ []) ++ bytes "{{" ++ (9 ∷ []) ++ bytes "0' { { 1'z 0'}0'" ++ (9 ∷ []) ++ bytes " }}  0' } 1'-" ++ (9 ∷ []) ++ bytes "\n\nend\n", bytes "attribute $0 \"" ++ (229 ∷ []) ++ bytes "A" ++ (156 ∷ []) ++ bytes "U\"\nmodule $a\n  connect 32'01101100100111110001111001010011 32'x110m1z-mz0-z1-1-0010mxxz0mzxm-m\n  connect 1'z 1'-\nend\n") ∷
+    (bytes "attribute $0 \"\\" ++ (229 ∷ []) ++ bytes "A\\234U\"" ++ (13 ∷ []) ++ bytes "\nmodule $a\n  # note " ++ (0 ∷ []) ++ (13 ∷ []) ++ bytes "connect 1822367315 32'x110m1z-mz0-z1-1-0010mxxz0mzxm-m\n  # note " ++ (0 ∷ []) ++ (13 ∷ []) ++ bytes "connect 1'-" ++ (9 ∷ []) ++ bytes "{{" ++ (9 ∷ []) ++ bytes "0' { { 1' 0'}0'" ++ (9 ∷ []) ++ bytes " }}  { } }" ++ (9 ∷ []) ++ bytes "\n\nend\n", bytes "attribute $0 \"" ++ (229 ∷ []) ++ bytes "A" ++ (156 ∷ []) ++ bytes "U\"\nmodule $a\n  connect 32'01101100100111110001111001010011 32'x110m1z-mz0-z1-1-0010mxxz0mzxm-m\n  connect 1'- 1'x\nend\n") ∷
     (bytes "module \\A4\nwire upto width 1 output 6 \\Y\nconnect \\Y \\Y\nend\nmodule \\}\nend\n", bytes "module \\A4\n  wire upto output 6 \\Y\n  connect \\Y \\Y\nend\nmodule \\}\nend\n") ∷
     ((9 ∷ []) ++ bytes "module ${\nparameter $788 #" ++ (213 ∷ []) ++ (205 ∷ []) ++ bytes "`" ++ (155 ∷ []) ++ (232 ∷ []) ++ (25 ∷ []) ++ (204 ∷ []) ++ bytes "\nend\n", bytes "module ${\n  parameter $788\nend\n") ∷
     (bytes "module \\m\n,," ++ (13 ∷ []) ++ bytes "\n\\b \\m" ++ (9 ∷ []) ++ bytes "\\m\n\n, size \"n1.\"" ++ (9 ∷ []) ++ bytes "attribute wire" ++ (13 ∷ []) ++ bytes "\"\\\\\\\"\" memory \\z6 \\m\n\n", bytes "5 10\n") ∷
     (bytes "autoidx 33\nmodule $" ++ (195 ∷ []) ++ (169 ∷ []) ++ bytes "=connect 0` 0'\nend\n", bytes "4 11\n") ∷
-    ((9 ∷ []) ++ bytes "attribute " ++ (9 ∷ []) ++ bytes "\\hdlname 38" ++ (9 ∷ []) ++ (13 ∷ []) ++ bytes "module" ++ (9 ∷ []) ++ bytes "\\61" ++ (13 ∷ []) ++ bytes " cell $adff $Y1\n\nparameter signed " ++ (9 ∷ []) ++ bytes " \\_ 5'xmx0x " ++ (9 ∷ []) ++ (13 ∷ []) ++ bytes "\nparameter signed ${O" ++ (131 ∷ []) ++ (223 ∷ []) ++ bytes " 4'\nend" ++ (13 ∷ []) ++ bytes "end#" ++ (248 ∷ []) ++ bytes "\n  # note " ++ (0 ∷ []) ++ (13 ∷ []), bytes "attribute \\hdlname 38\nmodule \\61\n  cell $adff $Y1\n    parameter signed \\_ 5'xmx0x\n    parameter signed ${O" ++ (131 ∷ []) ++ (223 ∷ []) ++ bytes " 4'0000\n  end\nend\n") ∷
-    (bytes "module" ++ (9 ∷ []) ++ bytes "\\" ++ (147 ∷ []) ++ bytes "X #c" ++ (238 ∷ []) ++ (192 ∷ []) ++ bytes "\nwire width 2" ++ (9 ∷ []) ++ bytes "signed" ++ (9 ∷ []) ++ bytes "\\[0:0]\nconnect{8'xz0-0mx1  " ++ (9 ∷ []) ++ bytes "24'-01m1xmmm1-z00-10-z-zzmm } -532498962\n  # note " ++ (0 ∷ []) ++ (13 ∷ []) ++ bytes "  end\n", bytes "module \\" ++ (147 ∷ []) ++ bytes "X\n  wire width 2 signed \\[0:0]\n  connect 32'xz0-0mx1-01m1xmmm1-z00-10-z-zzmm 32'11100000010000101011010111101110\nend\n") ∷
-    (bytes " autoidx -0 001\n\nmodule \\A00" ++ (13 ∷ []) ++ bytes "\nattribute" ++ (9 ∷ []) ++ bytes "\\hdlnaoe 9" ++ (13 ∷ []) ++ bytes "attribute \\E" ++ (9 ∷ []) ++ bytes "  \"" ++ (188 ∷ []) ++ bytes "\\1201\\0073\\167\"\n\ncell" ++ (9 ∷ []) ++ bytes "\\X" ++ (9 ∷ []) ++ bytes "\\z3e\n\nconnect $a 3'-\n" ++ (9 ∷ []) ++ (9 ∷ []) ++ bytes "parameter signed" ++ (9 ∷ []) ++ bytes "\\" ++ (158 ∷ []) ++ (237 ∷ []) ++ (143 ∷ []) ++ bytes " 6'z1-m-z#Pj" ++ (148 ∷ []) ++ bytes "<uR\n  9" ++ (13 ∷ []) ++ bytes "attribute # note " ++ (0 ∷ []) ++ (13 ∷ []) ++ (9 ∷ []) ++ bytes "end" ++ (13 ∷ []) ++ bytes "end\nmodule  \\'" ++ (9 ∷ []) ++ bytes " \n  end\n", bytes "5 1\n") ∷
+    ((9 ∷ []) ++ bytes "attribute " ++ (9 ∷ []) ++ bytes "\\hdlname 38" ++ (9 ∷ []) ++ (13 ∷ []) ++ bytes "module" ++ (9 ∷ []) ++ bytes "\\61" ++ (13 ∷ []) ++ bytes " cell $adff $Y1\n\nparameter" ++ (9 ∷ []) ++ bytes "signed \\_" ++ (9 ∷ []) ++ bytes "  5'mx0\n\nparameter signed \\y3 5'1mmz0" ++ (13 ∷ []) ++ bytes "\nend" ++ (13 ∷ []) ++ bytes "\nend\n\n", bytes "attribute \\hdlname 38\nmodule \\61\n  cell $adff $Y1\n    parameter signed \\_ 5'mmmx0\n    parameter signed \\y3 5'1mmz0\n  end\nend\n") ∷
+    (bytes "module" ++ (9 ∷ []) ++ bytes "\\" ++ (147 ∷ []) ++ bytes "X #c" ++ (238 ∷ []) ++ (192 ∷ []) ++ bytes "\nwire width 2" ++ (9 ∷ []) ++ bytes "signed" ++ (9 ∷ []) ++ bytes "\\[0:0]\nconnect { 8'z0-0{ \\[0:0]" ++ (9 ∷ []) ++ bytes "[" ++ (9 ∷ []) ++ bytes "0  : 0] 23'1m1xmmm1-z00-10-z-zzmm-} } -532498962" ++ (9 ∷ []) ++ bytes "#H" ++ (136 ∷ []) ++ (254 ∷ []) ++ bytes "8" ++ (212 ∷ []) ++ bytes "\n  # note " ++ (0 ∷ []) ++ (13 ∷ []) ++ bytes "end" ++ (9 ∷ []) ++ bytes "\n\n", bytes "module \\" ++ (147 ∷ []) ++ bytes "X\n  wire width 2 signed \\[0:0]\n  connect { 8'zzzzz0-0 \\[0:0] [0] 23'1m1xmmm1-z00-10-z-zzmm- } 32'11100000010000101011010111101110\nend\n") ∷
+    (bytes " au", bytes "4 1\n") ∷
     (bytes "module \\22.\nwire offset -2147483648" ++ (9 ∷ []) ++ bytes "width" ++ (9 ∷ []) ++ bytes "0 input 2" ++ (9 ∷ []) ++ bytes "  $e9d" ++ (13 ∷ []) ++ bytes "\ncell " ++ (9 ∷ []) ++ bytes "$mux $_ " ++ (9 ∷ []) ++ bytes "\n  connect" ++ (9 ∷ []) ++ bytes "\\A " ++ (9 ∷ []) ++ bytes "1'0\n\nconnect \\A   { $e9d [0] 1'1 [99999999999]  }\nend\nend\n  # note " ++ (0 ∷ []) ++ (13 ∷ []), bytes "7 95\n") ∷
     (bytes "module \\2." ++ (13 ∷ []) ++ bytes "wire" ++ (9 ∷ []) ++ bytes "offset 0" ++ (9 ∷ []) ++ bytes "width " ++ (9 ∷ []) ++ bytes "9 signed \\# " ++ (9 ∷ []) ++ bytes "\nattribute \\a" ++ (9 ∷ []) ++ bytes "1'm\nwire signed upto" ++ (9 ∷ []) ++ (9 ∷ []) ++ bytes "\\2g  #\nwire  width" ++ (9 ∷ []) ++ bytes "1 \\$ #" ++ (186 ∷ []) ++ (173 ∷ []) ++ (221 ∷ []) ++ (13 ∷ []) ++ bytes "\nend" ++ (13 ∷ []) ++ bytes "\nattribute " ++ (9 ∷ []) ++ (9 ∷ []) ++ bytes "\\x" ++ (9 ∷ []) ++ bytes " 1" ++ (13 ∷ []), bytes "5 134\n") ∷
     (bytes "[$\\[" ++ (9 ∷ []) ++ bytes "ax#\n#e0n}" ++ (13 ∷ []) ++ bytes "d\n$'[a" ++ (13 ∷ []) ++ bytes "'#m'az[101'$a'$\"}$a]\na][" ++ (13 ∷ []) ++ bytes "}$}\"{\"" ++ (9 ∷ []) ++ bytes "\"]ddd\"" ++ (9 ∷ []) ++ bytes "ddn#1e#e1n${\n" ++ (13 ∷ []) ++ bytes "{\"}}d 0-dm\\d" ++ (13 ∷ []) ++ bytes ":xz}{a:\\{m$z\\e'" ++ (13 ∷ []) ++ bytes "\"m\\##\\n'::,nz-$\\a" ++ (13 ∷ []) ++ bytes "xn$,e#]-[ }'$'1{m{e\"1 :z-e-", bytes "4 0\n") ∷
@@ -670,38 +686,38 @@ cases =
     (bytes "attribute \\\\ 1'1\nmodule \\Y\nwire width 4 upto signed \\f0\ncell \\C7 \\B\nconnect \\A 1'0\nconnect \\B { { \\missing } [ 0 ] 1'0 }\nend\nend\n", bytes "8 83\n") ∷
     (bytes "module \\81\nwire signed inout 6 \\z4\nwire offset -2147483648 width 1 $1_X\nconnect { \\missing } { \\missing }\nend\n", bytes "8 72\n") ∷
     ((9 ∷ []) ++ bytes " modul $.ef\n" ++ (9 ∷ []) ++ (9 ∷ []) ++ bytes "memory \\8.\n  # note " ++ (0 ∷ []) ++ (13 ∷ []) ++ bytes "cell \\sub \\gX\n\n connect  \\36 03'xm0[ " ++ (9 ∷ []) ++ bytes "2 : 2] [ [ 0:0 " ++ (9 ∷ []) ++ bytes "]\n connect $eX0 6'mm-1zz\"4" ++ (9 ∷ []) ++ bytes "  :" ++ (9 ∷ []) ++ bytes "3 ] [0: 0 ][   0][0: 0" ++ (9 ∷ []) ++ bytes " ] [0 ]\nend#" ++ (13 ∷ []) ++ bytes "end" ++ (13 ∷ []), bytes "4 2\n") ∷
-    (bytes "attribute \\" ++ (183 ∷ []) ++ bytes "w3 0'\nmodule $ax\nconnect { { { { { { { { { { { { { { { { 2'-1 } } } } } } } } } } } } } } } } [ 1 : 1 ] { 1'0 00' }\nwire width 7 \\6_\nend\nattribute \\z6b 6'zxzx00\nmodule $B\nend\n", bytes "attribute \\" ++ (183 ∷ []) ++ bytes "w3 0'\nmodule $ax\n  wire width 7 \\6_\n  connect 1'- 1'0\nend\nattribute \\z6b 6'zxzx00\nmodule $B\nend\n") ∷
-    (bytes "autoidx 1335852304\nmodule \\23x\nconnect 7'0zmmx0x [ 6 : 1 ] { 0' { 3'z0m { 1' 2'-x } } }\ncell $mux \\#\nconnect \\a[3] 06'0--z-m\nparameter real $xAy 04'zxm-\nend\nwire width 1 offset 0 \\4A\nend\n", bytes "autoidx 1335852304\nmodule \\23x\n  wire \\4A\n  cell $mux \\#\n    parameter real $xAy 4'zxm-\n    connect \\a[3] 6'0--z-m\n  end\n  connect 6'0zmmx0 6'z0m0-x\nend\n") ∷
-    (bytes "module $" ++ (255 ∷ []) ++ (249 ∷ []) ++ bytes "\ncell \\{ $bc\nend\nwira width " ++ (1 ∷ []) ++ bytes "8 offset 0 \\ea5\nattribute \\hdlname 745943289\nwire width 1 inout 2 \\e\nend\nmodule $9dC\nconnect 9'-z0zm { { 3'zx0 0' } { 5'x11x- 1'm } }\nparameter $3{d 36\nattribute \\_ 9'1xzx-m\nwire width 4 \\A\nend\n", bytes "4 27\n") ∷
+    (bytes "attribute \\" ++ (183 ∷ []) ++ bytes "w3 0'\nmodule \\zax\nconnect 2'- { { { { { { { { { { { { { { { { 2'- } } } } } } } } } } } } } } } }\nwire width 3 \\Y4\ncell \\yz $g\nconnect \\" ++ (207 ∷ []) ++ bytes "_" ++ (185 ∷ []) ++ bytes " 12\nend\nend\nmodule \\" ++ (208 ∷ []) ++ bytes "\nend\n", bytes "attribute \\" ++ (183 ∷ []) ++ bytes "w3 0'\nmodule \\zax\n  wire width 3 \\Y4\n  cell \\yz $g\n    connect \\" ++ (207 ∷ []) ++ bytes "_" ++ (185 ∷ []) ++ bytes " 32'00000000000000000000000000001100\n  end\n  connect 2'-- 2'--\nend\nmodule \\" ++ (208 ∷ []) ++ bytes "\nend\n") ∷
+    (bytes "autoidx 1335852304\nmodule \\23x\nconnect 7'0zmmx0x [ 6 : 1 ] { 0' { 3'0m { 1' 2'-x } } }\ncell $mux \\#\nconnect \\a[3] 06'0--z-m\nparameter real $xAy 04'zxm-\nend\nwire width 1 offset 0 \\4A\nend\n", bytes "autoidx 1335852304\nmodule \\23x\n  wire \\4A\n  cell $mux \\#\n    parameter real $xAy 4'zxm-\n    connect \\a[3] 6'0--z-m\n  end\n  connect 6'0zmmx0 6'00mx-x\nend\n") ∷
+    (bytes "module $" ++ (255 ∷ []) ++ (249 ∷ []) ++ bytes "\ncell \\{ $bc\nend\nwire width 8 offset 0 \\ea5\nattribute \\hdlname 745943289\nwire width 1 inout 2 \\e\nend\nmodule $9dC\nconnect 9'-z0zm }{ { 3'zx0 0' } { 3'mx1 3'0-m } }\ncell \\dcZ \\c\nconnect" ++ (128 ∷ []) ++ bytes " $aA { 3' 2'x1 }\nparameter re!l \\2c 1'z\nend\nnd\n", bytes "5 123\n") ∷
     (bytes "module \\" ++ (233 ∷ []) ++ (183 ∷ []) ++ bytes "\nmemory width 8 $" ++ (221 ∷ []) ++ (140 ∷ []) ++ bytes "=" ++ (144 ∷ []) ++ (13 ∷ []) ++ bytes "\nmemory width 8 $zZ\n wire" ++ (9 ∷ []) ++ (9 ∷ []) ++ bytes " signed upto" ++ (9 ∷ []) ++ bytes "\\94 #" ++ (139 ∷ []) ++ (128 ∷ []) ++ (138 ∷ []) ++ (191 ∷ []) ++ (188 ∷ []) ++ bytes "\n  # note " ++ (0 ∷ []) ++ (13 ∷ []) ++ bytes "end " ++ (13 ∷ []) ++ bytes "\nmodule \\_z9" ++ (9 ∷ []) ++ bytes "\n\nparameter \\5  -992489741" ++ (13 ∷ []) ++ bytes "wire upto \\1\nwire signed width 0" ++ (9 ∷ []) ++ bytes "offset 2147483647   \\0zB\nend" ++ (13 ∷ []) ++ bytes "\n", bytes "module \\" ++ (233 ∷ []) ++ (183 ∷ []) ++ bytes "\n  wire upto signed \\94\n  memory width 8 $" ++ (221 ∷ []) ++ (140 ∷ []) ++ bytes "=" ++ (144 ∷ []) ++ bytes "\n  memory width 8 $zZ\nend\nmodule \\_z9\n  parameter \\5 -992489741\n  wire upto \\1\n  wire width 0 offset 2147483647 signed \\0zB\nend\n") ∷
-    (bytes "autoidx 1183648109\nmodule $" ++ (215 ∷ []) ++ (199 ∷ []) ++ bytes "Jk\nparameter $yA 05'mm0--\nconnect { } 0'\ncell \\y \\9\nparameter $Y_ 1'z\nconnect \\01 4'x-11\nparameter real \\3a \"\\1750{\"\nend\nend\n", bytes "autoidx 1183648109\nmodule $" ++ (215 ∷ []) ++ (199 ∷ []) ++ bytes "Jk\n  parameter $yA 5'mm0--\n  cell \\y \\9\n    parameter $Y_ 1'z\n    parameter real \\3a \"}0{\"\n    connect \\01 4'x-11\n  end\n  connect { } { }\nend\n") ∷
+    (bytes "autoidx 1183648109\nmodule $" ++ (215 ∷ []) ++ (199 ∷ []) ++ bytes "Jk\nparameter $yA 05'm0--\nconnect { } 00'\nwire \\9\nwire offset 0 \\b\nend\n", bytes "autoidx 1183648109\nmodule $" ++ (215 ∷ []) ++ (199 ∷ []) ++ bytes "Jk\n  parameter $yA 5'mm0--\n  wire \\9\n  wire \\b\n  connect { } { }\nend\n") ∷
     (bytes "module \\cB4\n\nattribute \\hdlname" ++ (9 ∷ []) ++ bytes "30 \nwire offset" ++ (9 ∷ []) ++ bytes "2147483647 \\8B\n\nwire" ++ (9 ∷ []) ++ (9 ∷ []) ++ bytes "width 1 \\.." ++ (13 ∷ []) ++ bytes "  attribute \\26" ++ (9 ∷ []) ++ bytes "0\nwire" ++ (9 ∷ []) ++ bytes "width 6" ++ (9 ∷ []) ++ (9 ∷ []) ++ bytes "input" ++ (9 ∷ []) ++ bytes "21   \\36X\ncell \\+= \\g #`b" ++ (136 ∷ []) ++ (131 ∷ []) ++ (145 ∷ []) ++ bytes ")\n  connect \\A" ++ (9 ∷ []) ++ bytes "1'0\n\n " ++ (9 ∷ []) ++ bytes "connect \\A {" ++ (9 ∷ []) ++ bytes "  \\.. }\n  # note " ++ (0 ∷ []) ++ (13 ∷ []) ++ bytes "end#" ++ (251 ∷ []) ++ bytes "R\n  # note " ++ (0 ∷ []) ++ (13 ∷ []) ++ bytes "end" ++ (13 ∷ []) ++ bytes "\n", bytes "9 170\n") ∷
-    (bytes "autoidx -0001\nmodule \\L1" ++ (201 ∷ []) ++ bytes "\ncell $e \\a\nconnect $4cZ 1'\nparameter signed $2fY 39\nconnect $" ++ (254 ∷ []) ++ (156 ∷ []) ++ (195 ∷ []) ++ bytes " \"\"\nconnect \\C { 6'mmz101 [ 5 ] { } 1'z }\nend\nend\n", bytes "autoidx -1\nmodule \\L1" ++ (201 ∷ []) ++ bytes "\n  cell $e \\a\n    parameter signed $2fY 39\n    connect $4cZ 1'0\n    connect $" ++ (254 ∷ []) ++ (156 ∷ []) ++ (195 ∷ []) ++ bytes " { }\n    connect \\C 2'mz\n  end\nend\n") ∷
+    (bytes "autoidx -0001\nmodule \\L1" ++ (201 ∷ []) ++ bytes "\ncell $e \\a\nconnect $4cZ 01'\nconnect $Y2 8'\nconnect $" ++ (254 ∷ []) ++ (156 ∷ []) ++ (195 ∷ []) ++ bytes " \"\"\nconnect \\C { 6'm { 9'010m [ 1 : 0 ] 18 } [ 20 : 15 ] 5'zx-1m }\nend\nend\n", bytes "autoidx -1\nmodule \\L1" ++ (201 ∷ []) ++ bytes "\n  cell $e \\a\n    connect $4cZ 1'x\n    connect $Y2 8'xxxxxxxx\n    connect $" ++ (254 ∷ []) ++ (156 ∷ []) ++ (195 ∷ []) ++ bytes " { }\n    connect \\C 17'mmmmmm000000zx-1m\n  end\nend\n") ∷
     (bytes " z00}m0,# {\"{01\nx[x$[\n[z" ++ (9 ∷ []) ++ bytes "\\" ++ (9 ∷ []) ++ bytes "xd{}znd:]\\" ++ (13 ∷ []) ++ (9 ∷ []) ++ bytes "{[n,\"}" ++ (13 ∷ []) ++ bytes "$\" }x0", bytes "4 1\n") ∷
     (bytes "mod", bytes "4 0\n") ∷
-    (bytes "module \\zX\ncell \\" ++ (238 ∷ []) ++ bytes " \\\\\nparameter signed $D6 7'\nconnect \\3XB 7'zz-00m1 [ 4 : 0 ]\nend\nend\nmodule \\@" ++ (241 ∷ []) ++ (127 ∷ []) ++ bytes "A\nattribute \\hdlname \"n1a\\\"\"\nmemory width 6 \\7y\nwire signed $.b\nwire offset 0 \\bd\nconnect \\bd $.b\nend\n", bytes "module \\zX\n  cell \\" ++ (238 ∷ []) ++ bytes " \\\\\n    parameter signed $D6 7'0000000\n    connect \\3XB 5'-00m1\n  end\nend\nmodule \\@" ++ (241 ∷ []) ++ (127 ∷ []) ++ bytes "A\n  wire signed $.b\n  wire \\bd\n  attribute \\hdlname \"n1a\\\"\"\n  memory width 6 \\7y\n  connect \\bd $.b\nend\n") ∷
+    (bytes "module \\zX\ncell \\" ++ (238 ∷ []) ++ bytes " \\\\\nparameter signed $D6 7'\nconnect \\3XB 7'z [ 6 ]\nend\nconnect 2'm \"" ++ (179 ∷ []) ++ bytes "\" [ 7 : 6 ]\nend\n", bytes "module \\zX\n  cell \\" ++ (238 ∷ []) ++ bytes " \\\\\n    parameter signed $D6 7'xxxxxxx\n    connect \\3XB 1'z\n  end\n  connect 2'mm 2'10\nend\n") ∷
     (bytes "module \\X3_\nwire upto width 3 output 13 \\BC\nwire $dZa\nwire offset 2147483639 width 9 input 14 \\ZX\nconnect\nend\nend\n", bytes "5 98\n") ∷
     (bytes "module" ++ (9 ∷ []) ++ bytes "  \\$ " ++ (13 ∷ []) ++ bytes "attribute \\703 1337 \n  wire \\5\nparameter \\q 99999999999'1" ++ (13 ∷ []) ++ bytes "attribute \\p" ++ (9 ∷ []) ++ bytes "0'0\nend\n\n", bytes "7 44\n") ∷
-    (bytes "autoidx 11\nmodule $5\ncell $mux $d.\nconnect $f \"\"\nconnect \\13 5'0 [ 4 : 1 ]\nend\nparameter \\A5 7'zmxm0z0\nwire inout 3 upto width 9 signed \\faf\nend\nmodule $Z9C\nconnect -1 32'0mm1z0mzx0--1m0--m--0101-1z-xzmx\nend\n", bytes "autoidx 11\nmodule $5\n  parameter \\A5 7'zmxm0z0\n  wire width 9 upto inout 3 signed \\faf\n  cell $mux $d.\n    connect $f { }\n    connect \\13 4'0000\n  end\nend\nmodule $Z9C\n  connect 32'11111111111111111111111111111111 32'0mm1z0mzx0--1m0--m--0101-1z-xzmx\nend\n") ∷
+    (bytes "autoidx 11\nmodule $5\ncell $mux $d.\nconnect $f \"\"\nconnect \\13 5'x0z-1\nend\nparameter \\A5 7'm\nconnect 0' 0'\nconnect 8' 08'1xx-0--1\nend\nmodule \\9\nmemory width 1 size 0 $.7\nwire width 9 \\dC1\nattribute $Xe2 1'-\nwire width 4 $_Cc\nend\n", bytes "autoidx 11\nmodule $5\n  parameter \\A5 7'mmmmmmm\n  cell $mux $d.\n    connect $f { }\n    connect \\13 5'x0z-1\n  end\n  connect { } { }\n  connect 8'xxxxxxxx 8'1xx-0--1\nend\nmodule \\9\n  wire width 9 \\dC1\n  attribute $Xe2 1'-\n  wire width 4 $_Cc\n  memory $.7\nend\n") ∷
     (bytes "module \\e7\n\nwire" ++ (9 ∷ []) ++ bytes "\\Y" ++ (13 ∷ []) ++ bytes "\nwire upto offset -2147483648 \\(" ++ (243 ∷ []) ++ (9 ∷ []) ++ bytes "#" ++ (183 ∷ []) ++ bytes "\n  process" ++ (9 ∷ []) ++ bytes "\\(" ++ (243 ∷ []) ++ bytes " \\ #" ++ (185 ∷ []) ++ (16 ∷ []) ++ bytes " " ++ (193 ∷ []) ++ bytes "%3\n  # note " ++ (0 ∷ []) ++ (13 ∷ []) ++ bytes "end" ++ (13 ∷ []) ++ bytes "end " ++ (9 ∷ []) ++ bytes "\n", bytes "4 59\n") ∷
-    (bytes " autoidx 297758171" ++ (13 ∷ []) ++ bytes "module \\#" ++ (9 ∷ []) ++ bytes " \n\nconnect 7'x1mxz0m" ++ (9 ∷ []) ++ bytes "7'0-xz-#o" ++ (220 ∷ []) ++ (136 ∷ []) ++ (167 ∷ []) ++ bytes "\nconnect \"\\143\" 1960403765 [" ++ (9 ∷ []) ++ bytes "12 : 5]\n  # noe " ++ (0 ∷ []) ++ (13 ∷ []) ++ bytes "end\nmodule" ++ (9 ∷ []) ++ bytes "$yz\n\nconnect 1'x 1'-\n\nend ", bytes "5 142\n") ∷
+    (bytes " autoidx 297758171" ++ (13 ∷ []) ++ bytes "module \\#" ++ (9 ∷ []) ++ bytes " \n\n \"\\143\" " ++ (9 ∷ []) ++ bytes "connect 7'" ++ (9 ∷ []) ++ bytes "7'x1mxz0m" ++ (9 ∷ []) ++ (9 ∷ []) ++ bytes "#o" ++ (220 ∷ []) ++ (136 ∷ []) ++ (167 ∷ []) ++ bytes "\nconnect \"\\143\" 1960403765 [" ++ (9 ∷ []) ++ bytes "12 : 5]\n  # note " ++ (0 ∷ []) ++ (13 ∷ []) ++ bytes "end\nmodule" ++ (9 ∷ []) ++ bytes "$yz\n\nconnect  1'x" ++ (9 ∷ []) ++ bytes "1'\n\nend" ++ (13 ∷ []), bytes "5 33\n") ∷
     (bytes " autoidx -0001\nmodule $B\n wire width 8 input 15 signed   $1 #" ++ (186 ∷ []) ++ (161 ∷ []) ++ (233 ∷ []) ++ bytes "\nend" ++ (13 ∷ []), bytes "autoidx -1\nmodule $B\n  wire width 8 input 15 signed $1\nend\n") ∷
     (bytes "module $f7\nwire width 1 upto \\a[3]\nwire width 8 \\" ++ (195 ∷ []) ++ (169 ∷ []) ++ bytes "\nwire inout 12 \\#\ncell \\t\nend\nend\n", bytes "5 69\n") ∷
     (bytes "attribute \\hdlname 467475600\nmodule $1\nwire width 3 \\a5\nwire signed width 7 $z2\nwire input 3 \\" ++ (235 ∷ []) ++ bytes "!\nattribute \\x 1\nmemory width 2048 offset 2147483647 $z2\nwire input 0 \\" ++ (235 ∷ []) ++ bytes "!\nend\n", bytes "9 112\n") ∷
     (bytes "module \\1'0\nparameter $" ++ (191 ∷ []) ++ bytes "\nwire width 9 \\8\nattribute \\hdlname 284058026\nmemory $dC_\nparameter \\B 24\nconnect { \\8 [ 4 : 2 ] \\8 [ 5 : 0 ] } \\8\nend\nmodule \\" ++ (179 ∷ []) ++ bytes "x" ++ (138 ∷ []) ++ (184 ∷ []) ++ bytes "\nwire signed input 5 $\\\nend\n", bytes "module \\1'0\n  parameter $" ++ (191 ∷ []) ++ bytes "\n  parameter \\B 24\n  wire width 9 \\8\n  attribute \\hdlname 284058026\n  memory $dC_\n  connect { \\8 [4:2] \\8 [5:0] } \\8\nend\nmodule \\" ++ (179 ∷ []) ++ bytes "x" ++ (138 ∷ []) ++ (184 ∷ []) ++ bytes "\n  wire input 5 signed $\\\nend\n") ∷
     (bytes "module" ++ (9 ∷ []) ++ bytes " \\2e9\n wire signed \\_Z_\n\nwire $e  \n\nwire upto width 1 inout 4 \\# \n\nparameter \\p \"a\"1", bytes "4 74\n") ∷
-    (bytes "autoidx -1770145506\nattribute \\" ++ (138 ∷ []) ++ bytes " -1889276350\nmodule \\aX5\nconnect 6'xz0z-m [ s ] : 0 4'01xx\nend\n", bytes "4 57\n") ∷
+    (bytes "autoidx -1770145506\nattribute \\" ++ (138 ∷ []) ++ bytes " -18892763" ++ (0 ∷ []) ++ bytes "0\nmodule \\" ++ (138 ∷ []) ++ bytes " \\aX5\nconnect 4'1xxm \\" ++ (138 ∷ []) ++ bytes " 6'xz0z-m [ 3 : 0 ]\nend\n", bytes "4 20\n") ∷
     (bytes "autoidx 445284512\nmodule \\.\nmemory \\X6a\nparameter $C5\nend\nmodule $A1_\nend\n", bytes "autoidx 445284512\nmodule \\.\n  parameter $C5\n  memory \\X6a\nend\nmodule $A1_\nend\n") ∷
     (bytes "module" ++ (9 ∷ []) ++ bytes "\\bg" ++ (9 ∷ []) ++ bytes " \n\nwire" ++ (9 ∷ []) ++ bytes "signed $z\n\nwire input" ++ (9 ∷ []) ++ bytes "23 signed \\8B" ++ (13 ∷ []) ++ bytes "\n wire   upto  width 6 \\\"\n  # note " ++ (0 ∷ []) ++ (13 ∷ []) ++ bytes "memory upto " ++ (9 ∷ []) ++ bytes " \\a\nend" ++ (13 ∷ []) ++ bytes "\nend\n  # note " ++ (0 ∷ []) ++ (13 ∷ []), bytes "5 92\n") ∷
     (bytes "module \\0\nwire offset 2147483640 width 8" ++ (9 ∷ []) ++ bytes "\\YZc #\nend" ++ (13 ∷ []), bytes "module \\0\n  wire width 8 offset 2147483640 \\YZc\nend\n") ∷
     (bytes "'", bytes "4 0\n") ∷
-    (bytes "attribute \\f0x 1'x  #" ++ (248 ∷ []) ++ bytes "0r" ++ (199 ∷ []) ++ (190 ∷ []) ++ (195 ∷ []) ++ bytes "\n\nmodule $4" ++ (9 ∷ []) ++ bytes " " ++ (13 ∷ []) ++ bytes "\nwire output  14" ++ (9 ∷ []) ++ bytes " width 4 \\_aZ" ++ (13 ∷ []) ++ bytes "\nattribute   \\hdlname \"\"  " ++ (13 ∷ []) ++ bytes "\n attribute $xb 1'\nattribute \\x&" ++ (183 ∷ []) ++ bytes "\" \"n{\\134: \"" ++ (13 ∷ []) ++ bytes "\nwire" ++ (9 ∷ []) ++ bytes "width 1" ++ (9 ∷ []) ++ bytes "upto output" ++ (9 ∷ []) ++ bytes "25 signed \\}" ++ (190 ∷ []) ++ bytes " \n\nmemory width 2048 offset" ++ (9 ∷ []) ++ bytes "2147483647 \\1 " ++ (13 ∷ []) ++ bytes "end" ++ (9 ∷ []) ++ bytes "\n", bytes "attribute \\f0x 1'x\nmodule $4\n  wire width 4 output 14 \\_aZ\n  attribute \\hdlname \"\"\n  attribute $xb 1'0\n  attribute \\x&" ++ (183 ∷ []) ++ bytes "\" \"n{\\\\: \"\n  wire upto output 25 signed \\}" ++ (190 ∷ []) ++ bytes "\n  memory width 2048 offset 2147483647 \\1\nend\n") ∷
+    (bytes "attribute \\f0x 1'x  #" ++ (248 ∷ []) ++ bytes "0r" ++ (199 ∷ []) ++ (190 ∷ []) ++ (195 ∷ []) ++ bytes "\n\nmodule $4" ++ (9 ∷ []) ++ bytes " " ++ (13 ∷ []) ++ bytes "\nwire output  14" ++ (9 ∷ []) ++ bytes " width 4 \\_aZ" ++ (13 ∷ []) ++ bytes "\nattribute   \\hdlname \"\"  " ++ (13 ∷ []) ++ bytes "\n attribute $xb 1'\nattribute \\x&" ++ (183 ∷ []) ++ bytes "\" \"n{\\134: \"" ++ (13 ∷ []) ++ bytes "\nwire" ++ (9 ∷ []) ++ bytes "width 1" ++ (9 ∷ []) ++ bytes "upto output" ++ (9 ∷ []) ++ bytes "25 signed \\}" ++ (190 ∷ []) ++ bytes " \n\nmemory width 2048 offset" ++ (9 ∷ []) ++ bytes "2147483647 \\1 " ++ (13 ∷ []) ++ bytes "end" ++ (9 ∷ []) ++ bytes "\n", bytes "attribute \\f0x 1'x\nmodule $4\n  wire width 4 output 14 \\_aZ\n  attribute \\hdlname \"\"\n  attribute $xb 1'x\n  attribute \\x&" ++ (183 ∷ []) ++ bytes "\" \"n{\\\\: \"\n  wire upto output 25 signed \\}" ++ (190 ∷ []) ++ bytes "\n  memory width 2048 offset 2147483647 \\1\nend\n") ∷
     ([], []) ∷
-    (bytes "module " ++ (9 ∷ []) ++ bytes "\\cBZ\n\nwire width 1   \\end\n\ncell $mux" ++ (9 ∷ []) ++ bytes "\\xg #" ++ (133 ∷ []) ++ bytes "Y" ++ (193 ∷ []) ++ (152 ∷ []) ++ bytes "\nconnect   \\41 4'm\n  # note " ++ (0 ∷ []) ++ (13 ∷ []) ++ bytes "connect \\X \"" ++ (169 ∷ []) ++ bytes "\" \nconnect \\g {\\end } [ 0: 0 ]  \nend#Kz" ++ (129 ∷ []) ++ bytes "(J" ++ (15 ∷ []) ++ bytes "D\nend\n", bytes "module \\cBZ\n  wire \\end\n  cell $mux \\xg\n    connect \\41 4'000m\n    connect \\X 8'10101001\n    connect \\g \\end\n  end\nend\n") ∷
+    (bytes "module " ++ (9 ∷ []) ++ bytes "\\cBZ\n\nwire width 1   \\end\n\ncell $mux" ++ (9 ∷ []) ++ bytes "\\xg #" ++ (133 ∷ []) ++ bytes "Y" ++ (193 ∷ []) ++ (152 ∷ []) ++ bytes "\n" ++ (9 ∷ []) ++ bytes " connect \\41" ++ (9 ∷ []) ++ bytes "  4'" ++ (13 ∷ []) ++ bytes "connect " ++ (9 ∷ []) ++ bytes " \\{" ++ (173 ∷ []) ++ bytes " \"\" \nconnect \\g {\\end } [ 0: 0 ]  \nend#Kz" ++ (129 ∷ []) ++ bytes "(J" ++ (15 ∷ []) ++ bytes "D\nend\n", bytes "module \\cBZ\n  wire \\end\n  cell $mux \\xg\n    connect \\41 4'xxxx\n    connect \\{" ++ (173 ∷ []) ++ bytes " { }\n    connect \\g \\end\n  end\nend\n") ∷
     (bytes "autoidx" ++ (9 ∷ []) ++ (9 ∷ []) ++ bytes " 1337\n module \\xd4\n\nend\n\n", bytes "autoidx 1337\nmodule \\xd4\nend\n") ∷
     (bytes "module  \\27  #" ++ (26 ∷ []) ++ (24 ∷ []) ++ bytes "b" ++ (13 ∷ []) ++ bytes "\nend" ++ (13 ∷ []) ++ bytes "  # last " ++ (0 ∷ []), bytes "module \\27\nend\n") ∷
     (bytes "module $_\nwire input 0 \\OR\nmemory width 0 \\80a\nwire inout 1023 \\Z\nend\n", bytes "7 10\n") ∷
-    (bytes "autoidx 1417525855\nmodule $c_\ncell $adff \\1A\nconnect \\x" ++ (132 ∷ []) ++ bytes "r 758894229\nparameter signed \\b 3'10m\ncnect $d \"\"\nconnect $a10 5'xz1zm [ 0 : 0 ]\nend\nend\n", bytes "4 94\n") ∷
+    (bytes "autoidx 1417z525855\nmodule $c_\ncell $adff \\1A\nconnect \\x" ++ (132 ∷ []) ++ bytes "r 758894229\nparameter signed \\b 3'1-0m\nconnect $d \"\"\nconnect $a10 05'z1z\nend\nend\n", bytes "4 0\n") ∷
     (bytes "attribute $1z \"\\" ++ (7 ∷ []) ++ bytes "cN?\"\nmodule \\c\ncell $adff $6\n", bytes "5 46\n") ∷
     (bytes "\"1x\nx" ++ (13 ∷ []) ++ bytes "}:}e1-\n:\"" ++ (13 ∷ []) ++ bytes "z\\#" ++ (9 ∷ []) ++ bytes "\\-", bytes "4 0\n") ∷
     (bytes "attribute \\.a 11\nmodule" ++ (9 ∷ []) ++ (9 ∷ []) ++ bytes "\\#" ++ (13 ∷ []) ++ bytes "\nconnect{-1 -1 {} } {  {2048' 2048' }" ++ (9 ∷ []) ++ bytes "[ 2:0] }\n  # note " ++ (0 ∷ []) ++ (13 ∷ []) ++ bytes "end\n\n", bytes "10 29\n") ∷
@@ -715,19 +731,19 @@ cases =
     (bytes "module $aBX\nwire \\" ++ (207 ∷ []) ++ bytes "y\n;\nend\n", bytes "4 21\n") ∷
     (bytes "attribute \\hdlname -0001\n\n attribute" ++ (9 ∷ []) ++ bytes "$5_z 4'z\nmodule \\g\n  # note " ++ (0 ∷ []) ++ (13 ∷ []) ++ bytes "wire signed" ++ (9 ∷ []) ++ bytes "\\63C #" ++ (139 ∷ []) ++ bytes "q\n\nwire inout 1 width 1 \\yb" ++ (13 ∷ []) ++ bytes "attribute $cc \"\"" ++ (13 ∷ []) ++ bytes "\ncell \\39 \\" ++ (195 ∷ []) ++ (169 ∷ []) ++ bytes " \n  # note " ++ (0 ∷ []) ++ (13 ∷ []) ++ bytes "parameter signed $p 2049'0  " ++ (13 ∷ []) ++ bytes "\nparameter" ++ (9 ∷ []) ++ bytes "signed \\p   1'01\n end\nend \n", bytes "7 157\n") ∷
     (bytes "\\m " ++ (9 ∷ []) ++ bytes "\nmodule" ++ (9 ∷ []) ++ bytes " end \\A {" ++ (13 ∷ []) ++ bytes "\n", bytes "5 0\n") ∷
-    (bytes "module $Bd\nwire width 0 \\y\nattribute \\f5 1'z\nwire input 7 $fcY\nwire offset 0 inout 20 \\x28\nend\nattribute \\y 1\nwire \\a\n", bytes "5 110\n") ∷
+    (bytes "module $Bd\nwire width 0 \\y\nattribute \\f5 1'\nwire $c\nwire upto \\8YZ\nconnect { { \\missing } [ 0 ] } { \\8YZ 2'000 \\8YZ [ 0 ] }\nend\n", bytes "7 67\n") ∷
     (bytes "module \\1\nwire upto offset -9 $8\nend\nconnect { } { }\nmodule \\after\nend\n", bytes "5 37\n") ∷
     (bytes "autoidx 1488912862" ++ (13 ∷ []) ++ bytes "\nmodule" ++ (9 ∷ []) ++ bytes "\\dZB\nwire" ++ (9 ∷ []) ++ bytes "inout" ++ (9 ∷ []) ++ bytes "14 width  7" ++ (9 ∷ []) ++ bytes " offset 2147483641 \\C3A\nend \n\nmodule" ++ (9 ∷ []) ++ bytes "\\$ \nend\n", bytes "autoidx 1488912862\nmodule \\dZB\n  wire width 7 offset 2147483641 inout 14 \\C3A\nend\nmodule \\$\nend\n") ∷
-    (bytes "module \\5Y\nconnect 32'00-xx110z11zm0xxxxzx10xm-1mm-xz- 4\ncell $adff $x2b\nparameter \\Xd \"" ++ (16 ∷ []) ++ bytes "\\B\"\nparameter signed \\55 6'xm-z1x\nconnect \\da 3'mzm\nend\nend\n", bytes "module \\5Y\n  cell $adff $x2b\n    parameter \\Xd \"\\020B\"\n    parameter signed \\55 6'xm-z1x\n    connect \\da 3'mzm\n  end\n  connect 32'00-xx110z11zm0xxxxzx10xm-1mm-xz- 32'00000000000000000000000000000100\nend\n") ∷
+    (bytes "module \\5Y\nconnect 4 032'0-xx110z11zm0xx\nconnect 5'-xz-- 127083225 [ 20 : 16 ]\nwire \\7\nattribute \\hdlname -2147483648\nwire input 3 \\55\nend\n", bytes "module \\5Y\n  wire \\7\n  attribute \\hdlname -2147483648\n  wire input 3 \\55\n  connect 32'00000000000000000000000000000100 32'000000000000000000-xx110z11zm0xx\n  connect 5'-xz-- 5'10011\nend\n") ∷
     (bytes "attribute" ++ (9 ∷ []) ++ bytes "\\q \"J" ++ (178 ∷ []) ++ bytes "\"\n  # note " ++ (0 ∷ []) ++ (13 ∷ []) ++ bytes "attribute $xZz \"}\"\nmodule \\gxx" ++ (13 ∷ []) ++ bytes " wire  \\C\n  # note " ++ (0 ∷ []) ++ (13 ∷ []) ++ bytes "cell " ++ (9 ∷ []) ++ (9 ∷ []) ++ bytes "\\sub \\8gz" ++ (9 ∷ []) ++ bytes " \nconnect \\A 1'0\nconnect  \\A {" ++ (9 ∷ []) ++ bytes "\\missing [ 0]}#" ++ (13 ∷ []) ++ bytes "end\n\nend " ++ (9 ∷ []) ++ bytes "\n  # note " ++ (0 ∷ []) ++ (13 ∷ []), bytes "8 115\n") ∷
     (bytes "module" ++ (9 ∷ []) ++ bytes "\\a\n  # note " ++ (0 ∷ []) ++ (13 ∷ []) ++ bytes "wire upto" ++ (9 ∷ []) ++ bytes "output 3   signed $y57\n" ++ (9 ∷ []) ++ bytes " attribute \\hdlname  1'0\n\nattribute \\7" ++ (9 ∷ []) ++ bytes "\"u#z=" ++ (192 ∷ []) ++ bytes "\nwire" ++ (9 ∷ []) ++ bytes "offset -2" ++ (9 ∷ []) ++ (9 ∷ []) ++ bytes "inout" ++ (9 ∷ []) ++ bytes " " ++ (9 ∷ []) ++ bytes "14" ++ (9 ∷ []) ++ bytes "upto" ++ (9 ∷ []) ++ bytes "width" ++ (9 ∷ []) ++ bytes "4" ++ (9 ∷ []) ++ bytes "$b " ++ (9 ∷ []) ++ bytes "\n  # note " ++ (0 ∷ []) ++ (13 ∷ []) ++ bytes "wire" ++ (9 ∷ []) ++ bytes "signed" ++ (9 ∷ []) ++ bytes " " ++ (9 ∷ []) ++ bytes "off$et" ++ (9 ∷ []) ++ bytes "2147483647 \\" ++ (144 ∷ []) ++ bytes "u@4" ++ (13 ∷ []) ++ bytes "\nparameter \\p \"\\000\"\nend\n", bytes "4 81\n") ∷
     (bytes "module \\" ++ (197 ∷ []) ++ (181 ∷ []) ++ (194 ∷ []) ++ bytes "\n\nend" ++ (13 ∷ []) ++ bytes "module $7x" ++ (13 ∷ []) ++ bytes "\nenxd \n", bytes "4 29\n") ∷
     (bytes "module $3b\nwire" ++ (9 ∷ []) ++ bytes "width " ++ (164 ∷ []) ++ (9 ∷ []) ++ bytes "\\3{b  \n  # note " ++ (0 ∷ []) ++ (13 ∷ []) ++ bytes "end#" ++ (244 ∷ []) ++ (183 ∷ []) ++ bytes "AA" ++ (227 ∷ []) ++ (193 ∷ []) ++ bytes "z\n  # last " ++ (0 ∷ []), bytes "4 11\n") ∷
-    (bytes "attribute \\" ++ (187 ∷ []) ++ bytes "S" ++ (181 ∷ []) ++ (175 ∷ []) ++ bytes " -1916415394\nmodule $2g\ncell \\95C $ee1\nconnect \\\\D { }\nend\nend\nattribute \\hdlname \"-" ++ (250 ∷ []) ++ bytes "w" ++ (134 ∷ []) ++ (137 ∷ []) ++ (8 ∷ []) ++ bytes "\"\nmodule \\\nparameter $9C1\ncell $x $g7\nconnect \\Xe 0'\nend\ncell\"$$z $6zC\nparamet:a\"\nparameter signed \\" ++ (221 ∷ []) ++ (163 ∷ []) ++ bytes "6 4\nconnect \\29A 2' [ 1 : 1 ]\nconnect \\8 7'zz\nend\nend\n", bytes "4 106\n") ∷
+    (bytes "attribute \\" ++ (187 ∷ []) ++ bytes "S" ++ (181 ∷ []) ++ (175 ∷ []) ++ bytes " -1916415394\nmodule $2g\ncell \\95C $ee1\nconnect \\\\D { }\nend\nend\nattribute \\hdlname \"-" ++ (250 ∷ []) ++ bytes "w" ++ (134 ∷ []) ++ (137 ∷ []) ++ (8 ∷ []) ++ bytes "\"\nmodule \\2\nparameter $9C1\ncell $x $g7\nconnect \\Xe 0'\nend\ncell $8z $zC\nparameter \\3Cb \\\" nn:a\"\nparameter signed \\" ++ (221 ∷ []) ++ (163 ∷ []) ++ bytes "6 4\nconnect \\29A 2' [ 1 : 1 ]\nconnect \\68 07'zzzx-10\nend\nend\n", bytes "4 175\n") ∷
     (bytes "\"xmz'}}n$$n'\"" ++ (9 ∷ []) ++ (9 ∷ []) ++ bytes "\\[$me0zexa'x}0:eee" ++ (9 ∷ []) ++ bytes "}z']z", bytes "4 0\n") ∷
     (bytes "module \\M\nconnect 1'm\ncell { 'zm11-1 0'", bytes "5 10\n") ∷
     (bytes "ttribute" ++ (9 ∷ []) ++ bytes "\\" ++ (219 ∷ []) ++ (191 ∷ []) ++ bytes " 31\nmodule \\$\n  # note " ++ (0 ∷ []) ++ bytes "`" ++ (13 ∷ []) ++ bytes "ene#" ++ (133 ∷ []) ++ (29 ∷ []) ++ bytes "}\n", bytes "4 0\n") ∷
-    (bytes "autoidx 24\nmodule \\a\nparameter $Aa 06'z\nconnect { { 1' -1810383147 [ 22 : 18 ] } { { 0' { 0' 1 [ 9 : 9 ] } } { } } } 7'0xz-zzm\nend\n", bytes "autoidx 24\nmodule \\a\n  parameter $Aa 6'00000z\n  connect 7'0001010 7'0xz-zzm\nend\n") ∷
+    (bytes "autoidx 24\nmodule \\a\nparameter $Aa 06'z\nconnect 7'0 { { { { { 2' 0' } 0' } 007 [ 7 : 7 ] } 0' } { 1 [ 15 : 13 ] 1' } }\nend\n", bytes "autoidx 24\nmodule \\a\n  parameter $Aa 6'zzzzzz\n  connect 7'0000000 7'xx0000x\nend\n") ∷
     (bytes "module $ce\nend\n", bytes "module $ce\nend\n") ∷
     (bytes "module \\d7\nattribute \\hdlname \"3" ++ (255 ∷ []) ++ bytes "\\\"3" ++ (30 ∷ []) ++ bytes "\"\nwire width 1 \\.f3\ncell \\4x \\1Y\nconnect \\A 1'0\nconnect \\B { \\.f3 \\.f3 }\nend\nend\n", bytes "module \\d7\n  attribute \\hdlname \"3" ++ (255 ∷ []) ++ bytes "\\\"3\\036\"\n  wire \\.f3\n  cell \\4x \\1Y\n    connect \\A 1'0\n    connect \\B { \\.f3 \\.f3 }\n  end\nend\n") ∷
     (bytes "module \\Y\ncell $mux $9d\nconnect \\yX -1 [ 20 : 19 ]\nend\nmemory size 2147483647 \\x\nend\nattribute $b \"\\040\"\nmodule $c9f\nwire output 15 offset -2147483648 \\\"\nend\n", bytes "module \\Y\n  memory size 2147483647 \\x\n  cell $mux $9d\n    connect \\yX 2'11\n  end\nend\nattribute $b \" \"\nmodule $c9f\n  wire offset -2147483648 output 15 \\\"\nend\n") ∷
@@ -742,16 +758,16 @@ cases =
     (bytes "module \\m\n\\X2c \"" ++ (195 ∷ []) ++ bytes "\\G9\" end\n  # note " ++ (0 ∷ []) ++ (13 ∷ []) ++ bytes "[\\a [ $A8  " ++ (9 ∷ []) ++ bytes "input " ++ (9 ∷ []) ++ bytes "\n\n]   $Z \\b " ++ (13 ∷ []) ++ bytes "module memory edge {attribute\n", bytes "5 10\n") ∷
     (bytes "module" ++ (9 ∷ []) ++ bytes "$" ++ (184 ∷ []) ++ (13 ∷ []) ++ bytes "  wire output 9 offset -1 \\1" ++ (13 ∷ []) ++ bytes "\nattribute" ++ (9 ∷ []) ++ (9 ∷ []) ++ bytes "\\\" 05'1m1mx\nwire input 13 width 0 \\X5\nparameter \\q 0'0" ++ (13 ∷ []) ++ bytes "\nend#" ++ (196 ∷ []) ++ (199 ∷ []) ++ (230 ∷ []) ++ (129 ∷ []) ++ bytes "\n", bytes "7 89\n") ∷
     (bytes "{" ++ (239 ∷ []) ++ (24 ∷ []) ++ (211 ∷ []) ++ bytes "w" ++ (21 ∷ []) ++ (188 ∷ []) ++ (11 ∷ []) ++ (164 ∷ []) ++ bytes "i" ++ (4 ∷ []) ++ (206 ∷ []) ++ bytes "^D", bytes "4 0\n") ∷
-    (bytes "module" ++ (9 ∷ []) ++ bytes "\\X6  \nparameter \\.4\n  # note " ++ (0 ∷ []) ++ (13 ∷ []) ++ bytes "attribute \\hdlname -217752004#" ++ (128 ∷ []) ++ (165 ∷ []) ++ bytes "0" ++ (3 ∷ []) ++ bytes "\ncell" ++ (9 ∷ []) ++ bytes "\\sub \\.3\n  connect \\xA 8'x1-mz0-0#" ++ (13 ∷ []) ++ bytes "parameter signed \\" ++ (195 ∷ []) ++ (169 ∷ []) ++ bytes "  0\nconnect \\&( 3'-z-\nconnect" ++ (9 ∷ []) ++ bytes "\\\"" ++ (9 ∷ []) ++ bytes "{ 6' }" ++ (9 ∷ []) ++ bytes "\nend\nend\n  # note " ++ (0 ∷ []) ++ (13 ∷ []), bytes "module \\X6\n  parameter \\.4\n  attribute \\hdlname -217752004\n  cell \\sub \\.3\n    parameter signed \\" ++ (195 ∷ []) ++ (169 ∷ []) ++ bytes " 0\n    connect \\xA 8'x1-mz0-0\n    connect \\&( 3'-z-\n    connect \\\" 6'000000\n  end\nend\n") ∷
-    (bytes "module \\" ++ (176 ∷ []) ++ (226 ∷ []) ++ (240 ∷ []) ++ (235 ∷ []) ++ bytes "\nwire width 7 \\804\nattribute \\X9 8'1zx-00mz\nwire width 4 \\1e\nwire width 2 upto $b4\ncell $8 \\5\nconnect \\A 1'0\nconnect \\B { 2'000 2049' } [ 0 ]\nend\nend\n", bytes "7 121\n") ∷
-    (bytes "attribute $Y 6'-0mx-\nattribute $y 0'\nmodule \\4\nwire width 9 upto signed \\9\nwire input 23 upto $eB\nconnect { \\9 \\9 $eB } { \\9 \\9 $eB }\nend\n", bytes "attribute $Y 6'0-0mx-\nattribute $y 0'\nmodule \\4\n  wire width 9 upto signed \\9\n  wire upto input 23 $eB\n  connect { \\9 \\9 $eB } { \\9 \\9 $eB }\nend\n") ∷
-    (bytes " autoidx" ++ (9 ∷ []) ++ bytes "27\nmodule \\_cY" ++ (13 ∷ []) ++ bytes "\nparameter \\5 \"}}:0\"\n\nattribute \\hdlname 8" ++ (13 ∷ []) ++ bytes "cell \\f" ++ (9 ∷ []) ++ bytes "\\a " ++ (13 ∷ []) ++ bytes "\nconnect  \\c0 29" ++ (13 ∷ []) ++ bytes " connect" ++ (9 ∷ []) ++ bytes "  $" ++ (195 ∷ []) ++ (169 ∷ []) ++ bytes " \"17\\\"\"[ 20: 1]\nend\n\nconnect 1'1{0'" ++ (9 ∷ []) ++ bytes "1' }" ++ (13 ∷ []) ++ bytes "end\n  # note " ++ (0 ∷ []) ++ (13 ∷ []), bytes "autoidx 27\nmodule \\_cY\n  parameter \\5 \"}}:0\"\n  attribute \\hdlname 8\n  cell \\f \\a\n    connect \\c0 32'00000000000000000000000000011101\n    connect $" ++ (195 ∷ []) ++ (169 ∷ []) ++ bytes " 20'10001001101110010001\n  end\n  connect 1'1 1'0\nend\n") ∷
+    (bytes "module" ++ (9 ∷ []) ++ bytes "\\X6  \nparameter \\.4\n  # note " ++ (0 ∷ []) ++ (13 ∷ []) ++ bytes "attribute \\hdlname -217752004#" ++ (128 ∷ []) ++ (165 ∷ []) ++ bytes "0" ++ (3 ∷ []) ++ bytes "\ncell" ++ (9 ∷ []) ++ bytes "\\sub \\.3\n  connect \\xA 8'x1-mz0-0#" ++ (13 ∷ []) ++ bytes "parameter signed \\" ++ (195 ∷ []) ++ (169 ∷ []) ++ bytes "  0\nconnect \\&( 3'-z-\nconnect \\\"" ++ (9 ∷ []) ++ bytes "{6'   }" ++ (13 ∷ []) ++ bytes "\n" ++ (9 ∷ []) ++ bytes " end\nend\n\n", bytes "module \\X6\n  parameter \\.4\n  attribute \\hdlname -217752004\n  cell \\sub \\.3\n    parameter signed \\" ++ (195 ∷ []) ++ (169 ∷ []) ++ bytes " 0\n    connect \\xA 8'x1-mz0-0\n    connect \\&( 3'-z-\n    connect \\\" 6'xxxxxx\n  end\nend\n") ∷
+    (bytes "module \\" ++ (176 ∷ []) ++ (226 ∷ []) ++ (240 ∷ []) ++ (235 ∷ []) ++ bytes "\nwire width 7 \\804\nattribute \\X9 8'1\nattribute \\Y 1342870902\nwire \\e\nwire width 0 inout 21 $b4\ncell $8 \\5\nconnect \\A 1'0\nconnect \\B { 2'000 2049' } [ 0 ]\nend\nend\n", bytes "7 133\n") ∷
+    (bytes "attribute $Y 6'\nmodule \\45\nwire input 8 \\g\nattribute \\x 1\nwire \\Y\nwire input 7 input 7 \\1\nmemory size -1 \\g\nend\n", bytes "7 66\n") ∷
+    (bytes " autoidx" ++ (9 ∷ []) ++ bytes "27\nmodule \\_cY" ++ (13 ∷ []) ++ bytes "\nparameter \\5 \"}}:0\"\n\nattribute \\hdlname 8" ++ (13 ∷ []) ++ bytes "cell \\f" ++ (9 ∷ []) ++ bytes "\\a " ++ (13 ∷ []) ++ bytes "\nconnect  \\c0 29" ++ (13 ∷ []) ++ bytes " connect" ++ (9 ∷ []) ++ bytes "  $" ++ (195 ∷ []) ++ (169 ∷ []) ++ bytes " \"17\\\"\"[ 20: 1]\nend\n\nconnect{" ++ (9 ∷ []) ++ bytes "0' 1'0} 1'1" ++ (13 ∷ []) ++ bytes "end\n  # note " ++ (0 ∷ []) ++ (13 ∷ []), bytes "autoidx 27\nmodule \\_cY\n  parameter \\5 \"}}:0\"\n  attribute \\hdlname 8\n  cell \\f \\a\n    connect \\c0 32'00000000000000000000000000011101\n    connect $" ++ (195 ∷ []) ++ (169 ∷ []) ++ bytes " 20'10001001101110010001\n  end\n  connect 1'0 1'1\nend\n") ∷
     (bytes " " ++ (9 ∷ []) ++ bytes "attribute" ++ (9 ∷ []) ++ bytes "$} 2'1-\n\nmodule \\a[3]\n\n", bytes "5 35\n") ∷
-    (bytes "autoidx -2147483648\nattribute $dXZ 8'm1-x110-\nmodule \\9Y\ncell $e" ++ (204 ∷ []) ++ (129 ∷ []) ++ bytes " $3\nconnect $e" ++ (204 ∷ []) ++ (129 ∷ []) ++ bytes " 6'--1z10\nparameter signed \\1'0 \"" ++ (197 ∷ []) ++ bytes "\\015\"\nconnect \\\\ 9'1zx\nend\nwire width 5 \\a[3]\nwire \\94\nend\n", bytes "autoidx -2147483648\nattribute $dXZ 8'm1-x110-\nmodule \\9Y\n  wire width 5 \\a[3]\n  wire \\94\n  cell $e" ++ (204 ∷ []) ++ (129 ∷ []) ++ bytes " $3\n    parameter signed \\1'0 \"" ++ (197 ∷ []) ++ bytes "\\015\"\n    connect $e" ++ (204 ∷ []) ++ (129 ∷ []) ++ bytes " 6'--1z10\n    connect \\\\ 9'0000001zx\n  end\nend\n") ∷
-    (bytes "autoidx 2147483647 \nmodule" ++ (9 ∷ []) ++ bytes "\\end #!" ++ (237 ∷ []) ++ bytes "." ++ (246 ∷ []) ++ (27 ∷ []) ++ bytes "\n  # note " ++ (0 ∷ []) ++ (13 ∷ []) ++ bytes "attribute" ++ (9 ∷ []) ++ bytes " " ++ (9 ∷ []) ++ bytes "$5b6 4'0\nwire" ++ (9 ∷ []) ++ bytes "$X\nend\n\n", bytes "autoidx 2147483647\nmodule \\end\n  attribute $5b6 4'0000\n  wire $X\nend\n") ∷
-    (bytes "module $3" ++ (241 ∷ []) ++ bytes "\ncell \\7 $Ba\nconnect $5X3 { 00' 3'0zx 1'm } [ 3 : 3 ] [ 0 : 0 ]\nconnect \\.g { 4'm1-1 5'-z-1m { 8'0xmzz-zz [ 7 : 1 ] module [ 2 ] [ 0 : 0 ] } }\nprameter \\dax \"\"\nconnect $" ++ (212 ∷ []) ++ bytes "ny" ++ (164 ∷ []) ++ bytes " 7'mz0-m0m\nend\nend\n", bytes "5 74\n") ∷
+    (bytes "autoidx -2147483648\nattribute $dXZ 08'1-x110--\nmodule \\Yy\nparameter \\6 1337\nwire upto \\5b7\nparameter \\a3 \"" ++ (197 ∷ []) ++ bytes "\\015\"\nconnect { \\5b7 \\5b7 -2147483648 } 34'1xzm-mx0xm---1x-mm01-x-mxx111-mxm1\nend\n", bytes "autoidx -2147483648\nattribute $dXZ 8'1-x110--\nmodule \\Yy\n  parameter \\6 1337\n  parameter \\a3 \"" ++ (197 ∷ []) ++ bytes "\\015\"\n  wire upto \\5b7\n  connect { \\5b7 \\5b7 32'10000000000000000000000000000000 } 34'1xzm-mx0xm---1x-mm01-x-mxx111-mxm1\nend\n") ∷
+    (bytes "autoidx 2147483647 \nmodule" ++ (9 ∷ []) ++ bytes "\\end #!" ++ (237 ∷ []) ++ bytes "." ++ (246 ∷ []) ++ (27 ∷ []) ++ bytes "\n  # note " ++ (0 ∷ []) ++ (13 ∷ []) ++ bytes "attribute $5b6" ++ (9 ∷ []) ++ bytes " " ++ (9 ∷ []) ++ bytes "4'\nwire output" ++ (9 ∷ []) ++ (9 ∷ []) ++ bytes " 2 $X\n " ++ (9 ∷ []) ++ bytes "end\n  # note " ++ (0 ∷ []) ++ (13 ∷ []) ++ bytes "module" ++ (9 ∷ []) ++ bytes " \\z" ++ (13 ∷ []) ++ bytes "\nparameter" ++ (9 ∷ []) ++ bytes "\\n" ++ (190 ∷ []) ++ (251 ∷ []) ++ bytes "* 5'x-\n\nattribute \\" ++ (186 ∷ []) ++ bytes "q" ++ (228 ∷ []) ++ (182 ∷ []) ++ (9 ∷ []) ++ bytes "2" ++ (13 ∷ []) ++ bytes "\nattribute \\hdlname 6'xz1mmm\n  # note " ++ (0 ∷ []) ++ (13 ∷ []) ++ (9 ∷ []) ++ bytes "attribute \\end" ++ (9 ∷ []) ++ bytes "-1441194538#" ++ (16 ∷ []) ++ bytes "r" ++ (13 ∷ []) ++ bytes "memory $z5f\n  # note " ++ (0 ∷ []) ++ (13 ∷ []) ++ bytes "end\n", bytes "autoidx 2147483647\nmodule \\end\n  attribute $5b6 4'xxxx\n  wire output 2 $X\nend\nmodule \\z\n  parameter \\n" ++ (190 ∷ []) ++ (251 ∷ []) ++ bytes "* 5'xxxx-\n  attribute \\" ++ (186 ∷ []) ++ bytes "q" ++ (228 ∷ []) ++ (182 ∷ []) ++ bytes " 2\n  attribute \\hdlname 6'xz1mmm\n  attribute \\end -1441194538\n  memory $z5f\nend\n") ∷
+    (bytes "module $3" ++ (241 ∷ []) ++ bytes "\ncell \\7 $Ba\nconnect $5X3 { 0' 5'0z { 28 } [ 27 : 7 ] } [ 5 : 2 ]\nconnect \\a. 1'\nparameter signed $2 \".\"\nconnect $3 37\nend\nend\nmodule $a\nend\n", bytes "module $3" ++ (241 ∷ []) ++ bytes "\n  cell \\7 $Ba\n    parameter signed $2 \".\"\n    connect $5X3 4'0000\n    connect \\a. 1'x\n    connect $3 32'00000000000000000000000000100101\n  end\nend\nmodule $a\nend\n") ∷
     (bytes "d\"za#'']]'$]xn$m]ede$a}\\nx" ++ (13 ∷ []) ++ bytes "]'e\\de1" ++ (9 ∷ []) ++ bytes "dd1x11[mz\\#[", bytes "4 0\n") ∷
-    (bytes "module \\A\nmemory width 1 offset -561302204 size 16 \\dg\nconnect 32'0m11z1xxzz-m-zmxmmxm1xz-1mz1--m0 576896686\nend\nmodule \\W\\" ++ (148 ∷ []) ++ (254 ∷ []) ++ bytes "\nwire upto \\#\ncell \\sub $f\nparameter $ee \"" ++ (177 ∷ []) ++ bytes "\"\nconnect \\B[Z \\#\nconnect \\g 5'mmzzx [ 2 : 2 ]\nend\nend\n", bytes "module \\A\n  memory size 16 offset -561302204 \\dg\n  connect 32'0m11z1xxzz-m-zmxmmxm1xz-1mz1--m0 32'00100010011000101011111010101110\nend\nmodule \\W\\" ++ (148 ∷ []) ++ (254 ∷ []) ++ bytes "\n  wire upto \\#\n  cell \\sub $f\n    parameter $ee \"" ++ (177 ∷ []) ++ bytes "\"\n    connect \\B[Z \\#\n    connect \\g 1'z\n  end\nend\n") ∷
+    (bytes "module \\A\nmemory width 1 offset -561302204 size 16 \\dg\nconnect 576896686 32'0\nmemory width 1 offset -561302204 size 16 \\dg\nmemory \\1\nconnect 5'mxm1x [ 1 : 0 ] { 1'0", bytes "9 78\n") ∷
     (bytes " " ++ (9 ∷ []) ++ bytes "attribute" ++ (9 ∷ []) ++ bytes " $y1Y " ++ (9 ∷ []) ++ bytes "59755169\n\nattribute $$ \"1\"\nattribute" ++ (9 ∷ []) ++ bytes "$b" ++ (9 ∷ []) ++ bytes "7'0z--0m-  \n  # note " ++ (0 ∷ []) ++ (13 ∷ []) ++ bytes "module " ++ (9 ∷ []) ++ (9 ∷ []) ++ bytes "\\[0:0]\ncell \\" ++ (158 ∷ []) ++ (248 ∷ []) ++ (9 ∷ []) ++ (9 ∷ []) ++ bytes "$2Y\nconnect" ++ (9 ∷ []) ++ bytes "\\A 1'0\nconnect" ++ (9 ∷ []) ++ bytes "\\A {4'01xz 1'1 [  99999999999" ++ (9 ∷ []) ++ bytes "  ]\"A\"}\n  # note " ++ (0 ∷ []) ++ (13 ∷ []) ++ (9 ∷ []) ++ (9 ∷ []) ++ bytes "end\nend\n\n", bytes "7 127\n") ∷
     (bytes "module $Y\nwire output 6 width 4 upto \\2\nattribute \\hdlname \"" ++ (5 ∷ []) ++ bytes "\"\nwire inout 15 $$\ncell \\sub $" ++ (185 ∷ []) ++ bytes "\nconnect \\A 1'0\nconnect \\A { \"A\" }\nend\nend\n", bytes "9 108\n") ∷
     (bytes "module" ++ (9 ∷ []) ++ bytes "\\$ " ++ (13 ∷ []) ++ bytes "wire width" ++ (9 ∷ []) ++ bytes "1 offset -2147483648 \\d.6" ++ (13 ∷ []) ++ bytes "\nconnect{\\d.6 {2048' 1'}  } { \\d.6" ++ (9 ∷ []) ++ bytes "{ 2048' 1' } }\n" ++ (9 ∷ []) ++ bytes "end\n  # note " ++ (0 ∷ []) ++ (13 ∷ []), bytes "11 49\n") ∷

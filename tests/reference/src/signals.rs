@@ -10,10 +10,19 @@ pub trait Wires {
     fn wire(&self, name: &Name) -> Option<(WireNumber, usize)>;
 }
 
-/// The digits of a value, filled at the top with zeros, highest first.
+/// The digit that fills a value with these digits, highest first, up to its width.
+fn filler(digits: &[Digit]) -> Digit {
+    match digits.first() {
+        None => b'x',
+        Some(b'0' | b'1') => b'0',
+        Some(&top) => top,
+    }
+}
+
+/// The digits of a value, filled at the top, highest first.
 fn filled(width: u64, digits: &[Digit]) -> Vec<Digit> {
     let missing = width as usize - digits.len();
-    [vec![b'0'; missing], digits.to_vec()].concat()
+    [vec![filler(digits); missing], digits.to_vec()].concat()
 }
 
 /// The constant meant; its numbers have been judged.

@@ -1,6 +1,7 @@
 -- The loop's invariant: the codes of the first j places are stored.
 use mathlib.Core.Path.{_≡_, refl, sym}
 use Prim.Native.Nat.{_-_, _≤_}
+use borrow.Author.Needs.{needs}
 use native.Mathlib.Omega.{arith}
 use denote.Ref.{now}
 use lib.ListN.{length, take, length-set}
@@ -11,13 +12,16 @@ use Rattle.literals.proofs.put_digits.Statement.{statement}
 use Rattle.literals.proofs.put_digits.Tie as tie
 
 abbrev Inv-loop : tie.InvT-loop
-Inv-loop width ds out₀ at zeros j₀ out j = (j ≤ width) × (length out ≡ length out₀) × (out ≡ store out₀ at (take j (filledCodes zeros ds)))
+Inv-loop width ds out₀ at fills filler j₀ out j = (j ≤ width) × (length out ≡ length out₀) × (out ≡ store out₀ at (take j (filledCodes filler fills ds)))
 
 abbrev μ-loop : tie.MeasureT-loop
-μ-loop width ds out₀ at zeros j₀ out j = width - j
+μ-loop width ds out₀ at fills filler j₀ out j = width - j
 
-sub-zeros : tie.Need-sub-zeros Inv-loop μ-loop
-sub-zeros c = omega arith
+sub-fills : tie.Need-sub-fills Inv-loop μ-loop
+sub-fills c = omega arith
+
+filler-code-requires : tie.Need-filler-code-requires Inv-loop μ-loop
+filler-code-requires c κs = search needs
 
 loop-holds : tie.Need-loop-holds Inv-loop μ-loop
 loop-holds c = (omega arith, refl, sym (store-none _ _))
@@ -42,8 +46,8 @@ loop-less c = omega arith
 
 loop-again : tie.Need-loop-again Inv-loop μ-loop
 loop-again c =
-    let ds = now (c .before .before .before .before .before .args .ds) in
-    let n = filled-long (c .before .before .before .before .before .args .width - length ds) ds in
+    let ds = now (c .before .before .before .before .before .before .args .ds) in
+    let n = filled-long (c .before .before .before .filler-code .result) (c .before .before .before .before .before .before .args .width - length ds) ds in
     (omega arith, simp length-set (c .before .before .loop .inv .1), filled _ _ _ _ _ (c .before .before .loop .inv .2) _ (omega arith) (c .filled-code .ensures))
 
 same-length : tie.Need-same-length Inv-loop μ-loop
@@ -51,10 +55,11 @@ same-length c = omega arith
 
 returns : tie.Need-returns Inv-loop μ-loop
 returns c =
-    let ds = now (c .before .before .before .before .args .ds) in
-    let zeros = c .before .before .before .before .args .width - length ds in
-    let n = filled-long zeros ds in
-    rw (value-codes (c .before .before .before .before .args .width) ds) (filled-end _ _ (filledCodes zeros ds) _ (c .before .loop .j) (c .before .loop .inv .2) (omega arith))
+    let ds = now (c .before .before .before .before .before .args .ds) in
+    let fills = c .before .before .before .before .before .args .width - length ds in
+    let x = c .before .before .filler-code .result in
+    let n = filled-long x fills ds in
+    rw (value-codes (c .before .before .before .before .before .args .width) ds, ← c .before .before .filler-code .ensures) (filled-end _ _ (filledCodes x fills ds) _ (c .before .loop .j) (c .before .loop .inv .2) (omega arith))
 
 pub put-digits-spec : {M : Type 1} → statement M
 put-digits-spec =
@@ -62,7 +67,8 @@ put-digits-spec =
     (tie.spec
     Inv-loop
     μ-loop
-    sub-zeros
+    sub-fills
+    filler-code-requires
     loop-holds
     filled-code-requires
     add-out

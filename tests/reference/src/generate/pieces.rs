@@ -80,13 +80,19 @@ fn digits(random: &mut Random, count: usize) -> Vec<u8> {
     (0..count).map(|_| *random.pick(b"01xzm-")).collect()
 }
 
+/// How many digits a value of this width is written with: mostly all, sometimes fewer, then often one or none.
+fn digit_count(random: &mut Random, width: usize) -> usize {
+    match random.below(9) {
+        0 => 0,
+        1 => width.min(1),
+        2 | 3 => random.between(0, width),
+        _ => width,
+    }
+}
+
 /// A value of this width, sometimes with too few digits or zeros before the width.
 pub fn value(random: &mut Random, width: usize) -> Vec<u8> {
-    let count = if random.one_in(3) {
-        random.between(0, width)
-    } else {
-        width
-    };
+    let count = digit_count(random, width);
     let zeros = if random.one_in(10) { "0" } else { "" };
     [
         format!("{zeros}{width}'").into_bytes(),
