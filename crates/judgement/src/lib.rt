@@ -1,7 +1,7 @@
 // The verdict on one line after the statements so far: its statement with the sums of each size, or the lowest number that it is refused with.
 use forms::Span;
 use literals::literal_width;
-use netlist::spaces::name_found;
+use name_index::indexed_found;
 use past::place::Place;
 use past::sizes::Sizes;
 use past::sizes::kind_sizes;
@@ -20,6 +20,7 @@ ghost use Prim.Native.Nat.{_-_, _≤_};
 ghost use lib.ListN.{length};
 ghost use Rattle.forms.specs.Forms.{nameIn};
 ghost use Rattle.syntax.specs.Statements.{numberOf, lateOf, Sound, GoodOptional, Ready};
+ghost use Rattle.name_index.specs.Index.{keyAt, Indexed, LinesIndexed};
 ghost use Rattle.past.specs.Place.{Bounds};
 ghost use Rattle.past.specs.Sizes.{Within, AtMost};
 ghost use Rattle.judgement.specs.Parts.{namedParts, refusalParts, connectionParts, partsOf, digitsIn, bytesIn, SizesAre, takenIn};
@@ -182,15 +183,26 @@ fn statement_sizes(f: &[u8], statement: Statement) -> Sizes
 }
 
 // Whether the statement's own name is taken in its name space.
-fn name_is_taken(f: &[u8], names: &[u8], rows: &[u32], place: Place, statement: Statement) -> bool
+fn name_is_taken(
+    f: &[u8],
+    names: &[u8],
+    rows: &[u32],
+    place: Place,
+    statement: Statement,
+    heads: &[u32],
+    chain: &[u32],
+) -> bool
     requires { ⌜ Bounds place ⌝ }
+    requires { ⌜ Indexed (now heads) (now chain) (keyAt (now names) (now rows)) (place .rows) ⌝ }
     ensures { λ r. ⌜ r ≡ takenIn (now (f .entry)) (now (names .entry)) (now (rows .entry)) place statement ⌝ }
 {
     let parts = parts_of(statement);
     let name = parts.name;
-    name_found(
+    indexed_found(
         names,
         rows,
+        heads,
+        chain,
         place,
         parts.kind,
         part(f, name.start, name.end),
@@ -205,11 +217,14 @@ fn judge_statement(
     place: Place,
     sums: Sizes,
     statement: Statement,
+    heads: &[u32],
+    chain: &[u32],
 ) -> Judged
     requires { ⌜ length (now f) ≤ 32768 ⌝ }
     requires { ⌜ Sound (now f) statement ⌝ }
     requires { ⌜ Within sums ⌝ }
     requires { ⌜ Bounds place ⌝ }
+    requires { ⌜ Indexed (now heads) (now chain) (keyAt (now names) (now rows)) (place .rows) ⌝ }
     ensures { λ r. ⌜ Storable (now (f .entry)) r ⌝ }
     ensures { λ r. ⌜ JudgesAs (now (f .entry)) (now (names .entry)) (now (rows .entry)) place sums statement r ⌝ }
 {
@@ -217,7 +232,7 @@ fn judge_statement(
     if parts.number != 0 {
         return Judged::Refused(parts.number);
     }
-    if name_is_taken(f, names, rows, place, statement) {
+    if name_is_taken(f, names, rows, place, statement, heads, chain) {
         return Judged::Refused(9);
     }
     if parts.late != 0 {
@@ -240,10 +255,13 @@ pub fn judge_line(
     wires: &[u32],
     rows: &[u32],
     scratch: &mut [u32],
+    heads: &[u32],
+    chain: &[u32],
 ) -> Judged
     requires { ⌜ Ready (now f) (now tokens) (now scratch) (place .wires - place .«wires_from») ⌝ }
     requires { ⌜ Within sums ⌝ }
     requires { ⌜ Bounds place ⌝ }
+    requires { ⌜ LinesIndexed (now heads) (now chain) (now names) (now wires) (now rows) (place .rows) (place .wires) ⌝ }
     ensures { λ r. ⌜ Storable (now (f .entry)) r ⌝ }
     ensures { λ r. ⌜ JudgedAs (now (f .entry)) (now (tokens .entry)) place sums (now (names .entry)) (now (wires .entry)) (now (rows .entry)) (now (scratch .exit)) r ⌝ }
 {
@@ -251,6 +269,6 @@ pub fn judge_line(
         first: place.wires_from,
         count: place.wires - place.wires_from,
     };
-    let statement = line_statement(f, tokens, place, names, wires, scope, scratch);
-    judge_statement(f, names, rows, place, sums, statement)
+    let statement = line_statement(f, tokens, place, names, wires, scope, scratch, heads, chain);
+    judge_statement(f, names, rows, place, sums, statement, heads, chain)
 }

@@ -68,7 +68,7 @@ fn is_kind(kinds: Kinds, kind: u32) -> bool
 }
 
 // The kind first, which is one word; then the name.
-fn has_name(names: &[u8], rows: &[u32], row: usize, kinds: Kinds, name: &[u8]) -> bool
+pub fn has_name(names: &[u8], rows: &[u32], row: usize, kinds: Kinds, name: &[u8]) -> bool
     requires { ⌜ row < 8589934592 ⌝ }
     ensures { λ r. ⌜ r ≡ isKind kinds (kindAt (now (rows .entry)) row) && same (now (name .entry)) (nameAt (now (names .entry)) (now (rows .entry)) row) ⌝ }
 {

@@ -7,7 +7,7 @@ ghost use Rattle.past.specs.Place.{Bounds};
 ghost use Rattle.netlist.specs.Found.{spaceFrom, kindsFrom, foundIn};
 
 // Its first row; of a kind without a name the rows are none.
-fn space_from(place: Place, kind: u32) -> u32
+pub fn space_from(place: Place, kind: u32) -> u32
     ensures { λ r. ⌜ r ≡ spaceFrom place kind ⌝ }
 {
     if kind == 2 {
@@ -29,7 +29,7 @@ fn space_from(place: Place, kind: u32) -> u32
 }
 
 // Wires, memories and cells share one.
-fn space_kinds(kind: u32) -> Kinds
+pub fn space_kinds(kind: u32) -> Kinds
     ensures { λ r. ⌜ r ≡ kindsFrom kind ⌝ }
 {
     let shared = Kinds { a: 5, b: 6, c: 7 };

@@ -26,9 +26,11 @@ use Rattle.past.proofs.PlaceLaws.{bounds, place-rows}
 use Rattle.past.proofs.SizeLaws.{same-wires}
 use Rattle.admitted.specs.Admitted.{admitted}
 use Rattle.admitted.specs.AdmitLaws.{admitted-offsets, admitted-within, admitted-few}
-use Rattle.netlist.specs.Laid.{roomsOf}
+use Rattle.netlist.specs.Laid.{roomsOf, Laid, Wired}
+use Rattle.name_index.specs.Index.{LinesIndexed}
+use Rattle.name_index.specs.LaidLaws.{lines-grown}
 use Rattle.netlist.specs.LaidLaws.{laid-padded, eights-rows}
-use Rattle.netlist.specs.WireLaws.{eights-wires, wires-past}
+use Rattle.netlist.specs.WireLaws.{eights-wires, wires-past, wired-padded}
 use Rattle.syntax.specs.Statements.{lateOf, statementIn, kindIn, Sound}
 use Rattle.syntax.specs.declared.Statement.{Statement}
 use Rattle.syntax.specs.declared.Statement.the-variants.{Autoidx, Attribute, Module, Parameter, Wire, Memory, Cell, CellParameter, CellConnection, Connection, End, NoShape, Process, BadNumber, MissingWire}
@@ -39,13 +41,15 @@ use Rattle.layout.specs.Stored as stored
 use Rattle.layout.specs.Stored.{Sized, PutIs}
 use Rattle.netlist.specs.declared.used.Used.{Used}
 use Rattle.netlist.specs.Used.{usedOf, usedBy}
-use Rattle.netlist.specs.UsedLaws.{used-past}
+use Rattle.netlist.specs.UsedLaws.{used-past, used-wires}
 use Rattle.layout.proofs.PastLaws.{room-past}
 use Rattle.judgement.specs.Judged.{Stands}
 use Rattle.soundness.specs.ReadLaws.{states-admitted}
-use Rattle.reader.specs.Steps.{PlaceFits, States, OutcomeIs, Storable, Done, Goes}
+use Rattle.reader.specs.Steps.{PlaceFits, States, OutcomeIs, Storable, Done, Goes, StepIndexed}
 use Rattle.reader.specs.declared.Outcome.{Outcome}
 use Rattle.reader.specs.declared.Outcome.the-variants as outcomes
+use Rattle.reader.specs.declared.Step.{Step}
+use Rattle.reader.specs.declared.Step.the-variants.{Next}
 
 -- ---- what the statements so far give
 
@@ -86,6 +90,12 @@ module _ {ss : Past} {p : Place} {u : Sizes} {t : Tables} (d : Done ss p u t) wh
   pub done-sized : Sized t
   done-sized = rw (d .tables-are) (sized-past ss (d .admits))
 
+  pub done-few : p .rows ≤ 4705
+  done-few = omega (arith, place-rows ss (d .place-is), admitted-few ss (d .admits))
+
+  pub done-wires : p .wires < 513
+  done-wires = rw (← d .place-is) (omega (arith, same-wires ss, admitted-within ss (d .admits) .wires))
+
   pub done-rows : p .rows < 4294967295
   done-rows = omega (arith, place-rows ss (d .place-is), admitted-few ss (d .admits))
 
@@ -116,6 +126,18 @@ kind-is f s Process x e = cc
 kind-is f s BadNumber x e = cc
 kind-is f s MissingWire x e = cc
 
+laid-now : (ss : Past) (t : Tables) → t ≡ tablesOf (memory (roomsOf ss) 0) → Laid (roomsOf ss) (t .names) (t .rows)
+unfolding tablesOf memory
+laid-now ss t e = rw e (laid-padded 16384 (8 * 4769) (roomsOf ss))
+
+wired-now : (ss : Past) (t : Tables) → t ≡ tablesOf (memory (roomsOf ss) 0) → Wired (roomsOf ss) (t .names) (t .wires)
+unfolding tablesOf memory
+wired-now ss t e = rw e (wired-padded 16384 (8 * 512) (roomsOf ss))
+
+wires-now : (ss : Past) {p : Place} → placeOf ss ≡ p → p .wires ≡ length (roomsOf ss .wires)
+unfolding placeOf
+wires-now ss e = sym (used-wires ss ∙ ap (λ (q : Place). q .wires) e)
+
 module _ {ss : Past} {p : Place} {u : Sizes} {t : Tables} (d : Done ss p u t) (l : rules.Line) (f s : List ℕ) (r : Statement) (more : Sizes)
     (x : Outcome) (is : x ≡ outcomes.Stated r more) (st : OutcomeIs ss l f s x) (sound : Storable f x) where
   states : States ss l f s r more
@@ -138,6 +160,23 @@ module _ {ss : Past} {p : Place} {u : Sizes} {t : Tables} (d : Done ss p u t) (l
   put-storable v us k =
       record { sound = storable .0; settled = storable .1; room = room v us; sized = done-sized d; scratch = omega arith }
 
+  tables-now : (v : Used) (t′ : Tables) → usedOf v ≡ usedBy p u → PutIs f s r v t t′ → t′ ≡ tablesOf (memory (roomsOf (states .statement ∷ ss)) 0)
+  unfolding roomsOf
+  tables-now v t′ us put =
+      let y : statements.Statement = states .statement in
+      tables-put (roomsOf ss) y 0 (usedOf v) t t′ (d .tables-are) (used-rooms v us) (record { wires = eights-wires ss; rows = eights-rows ss })
+      (room v us y (states .stated)) (rw (states .stated) at put)
+
+  -- the names that are indexed stay so
+  pub step-indexed :
+      (v : Used) (t′ : Tables) → usedOf v ≡ usedBy p u → PutIs f s r v t t′ → (heads chain : List ℕ) →
+      LinesIndexed heads chain (t .names) (t .wires) (t .rows) (p .rows) (p .wires) → LinesIndexed heads chain (t′ .names) (t′ .wires) (t′ .rows) (p .rows) (p .wires)
+  step-indexed v t′ us put heads chain x =
+      let y : statements.Statement = states .statement in
+      let e : t′ ≡ tablesOf (memory (roomsOf (y ∷ ss)) 0) = tables-now v t′ us put in
+      lines-grown heads chain y ss (p .rows) (p .wires) (sym (place-rows ss (d .place-is))) (wires-now ss (d .place-is)) (laid-now ss t (d .tables-are))
+      (laid-now (y ∷ ss) t′ e) (wired-now ss t (d .tables-are)) (wired-now (y ∷ ss) t′ e) x
+
   pub step-stated : (v : Used) (t′ : Tables) (k : ℕ) (q : Place) → usedOf v ≡ usedBy p u → PutIs f s r v t t′ → k ≡ code (kindIn r) → AfterIs p k q → Goes ss l q more t′
   unfolding next roomsOf
   step-stated v t′ k q us put e after =
@@ -148,9 +187,7 @@ module _ {ss : Past} {p : Place} {u : Sizes} {t : Tables} (d : Done ss p u t) (l
           admits = states-admitted ss l y (states .is) (d .admits);
           place-is = after ss y (sym (d .place-is)) (e ∙ ap code (kind-is f s r y (states .stated)));
           sums-are = states .sums-are;
-          tables-are =
-              tables-put (roomsOf ss) y 0 (usedOf v) t t′ (d .tables-are) (used-rooms v us) (record { wires = eights-wires ss; rows = eights-rows ss })
-              (room v us y (states .stated)) (rw (states .stated) at put);
+          tables-are = tables-now v t′ us put;
         };
         goes = λ m. ap (next m ss) (states .is);
       }
@@ -163,3 +200,8 @@ module _ {ss : Past} {p : Place} {u : Sizes} {t : Tables} (d : Done ss p u t) (l
 
   pub step-refused : (n : ℕ) → x ≡ outcomes.Refused n → outcome ss l ≡ reading.Outcome.refused n (place l)
   step-refused n e = subst (OutcomeIs ss l f s) e st
+
+pub next-indexed :
+    {heads chain names wires rows : List ℕ} {r : Step} {p : Place} {u : Sizes} → r ≡ Next p u → StepIndexed heads chain names wires rows r →
+    LinesIndexed heads chain names wires rows (p .rows) (p .wires)
+next-indexed {heads} {chain} {names} {wires} {rows} e x = subst (StepIndexed heads chain names wires rows) e x

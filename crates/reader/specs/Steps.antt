@@ -24,6 +24,7 @@ use Rattle.syntax.specs.Statements.{lateOf, statementIn, Sound}
 use Rattle.syntax.specs.declared.Statement.{Statement}
 use Rattle.netlist.specs.Tables.{Tables}
 use Rattle.layout.specs.Put.{tablesOf}
+use Rattle.name_index.specs.Index.{LinesIndexed}
 use Rattle.judgement.specs.Judged.{Stands}
 use Rattle.judgement.specs.declared.Judged.{Judged}
 use Rattle.judgement.specs.declared.Judged.the-variants as judged
@@ -116,3 +117,8 @@ finishOf size p u = cond (closesAt p) (answer.Accepted (u .«name_bytes»)) (ans
 abbrev pub Landed : reading.Answer → Tables → Answer → Type 0
 Landed (reading.accepted ss) t r = (r ≡ answer.Accepted (length (putAll empty ss .names))) × (t ≡ tablesOf (memory (putAll empty ss) 0))
 Landed (reading.refused n p) t r = r ≡ answer.Refused n p
+
+-- the names of the statements so far are indexed
+abbrev pub StepIndexed : (heads chain names wires rows : List ℕ) → Step → Type 0
+StepIndexed heads chain names wires rows (Next p u) = LinesIndexed heads chain names wires rows (p .rows) (p .wires)
+StepIndexed heads chain names wires rows (Stop n) = Unit {0}

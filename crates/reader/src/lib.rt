@@ -5,6 +5,7 @@ use layout::put_statement;
 use lexer::Lexed;
 use lexer::lex_line;
 use line_reader::line_at;
+use name_index::index_line;
 use netlist::lengths::right_lengths;
 use netlist::used::used_from;
 use past::place::Place;
@@ -25,11 +26,12 @@ ghost use Rattle.rules.specs.Statements.{code};
 ghost use Rattle.rules.specs.Reading.{readAny, read};
 ghost use Rattle.rules.specs.Layout.{empty, memory};
 ghost use Rattle.syntax.specs.Statements.{kindIn};
+ghost use Rattle.name_index.specs.Index.{LinesIndexed};
 ghost use Rattle.layout.specs.Put.{tablesOf};
 ghost use Rattle.netlist.specs.Tables.{tabled};
 ghost use Rattle.layout.specs.Stored.{Sized};
 ghost use Rattle.reader.specs.Read.{result, lent, leaves, readInto};
-ghost use Rattle.reader.specs.Steps.{LineFits, PlaceFits, judgedAs, OutcomeAs, Storable, SomeDone, StepAs, refusalOf, finishOf, Landed};
+ghost use Rattle.reader.specs.Steps.{LineFits, PlaceFits, judgedAs, OutcomeAs, Storable, SomeDone, StepAs, StepIndexed, refusalOf, finishOf, Landed};
 
 // Number 0 is none. The counts of the session card go in and out by value.
 pub struct Left {
@@ -78,9 +80,12 @@ fn line_outcome(
     rows: &[u32],
     tokens: &mut [u32],
     scratch: &mut [u32],
+    heads: &[u32],
+    chain: &[u32],
 ) -> Outcome
     requires { ⌜ LineFits (now f) line (now tokens) (now scratch) ⌝ }
     requires { ⌜ PlaceFits place sums ⌝ }
+    requires { ⌜ LinesIndexed (now heads) (now chain) (now names) (now wires) (now rows) (place .rows) (place .wires) ⌝ }
     ensures { λ r. ⌜ Storable (now (f .entry)) r ⌝ }
     ensures { λ r. ⌜ OutcomeAs (now (f .entry)) (now (scratch .exit)) line place sums (now (names .entry)) (now (wires .entry)) (now (rows .entry)) r ⌝ }
 {
@@ -103,6 +108,8 @@ fn line_outcome(
         wires,
         rows,
         scratch,
+        heads,
+        chain,
     ))
 }
 
@@ -118,12 +125,28 @@ fn take_line(
     bits: &mut [u32],
     wires: &mut [u32],
     rows: &mut [u32],
+    heads: &mut [u32],
+    chain: &mut [u32],
 ) -> Step
     requires { ⌜ LineFits (now f) line (now tokens) (now scratch) ⌝ }
     requires { ⌜ SomeDone place sums (tabled (now names) (now strings) (now bits) (now wires) (now rows)) ⌝ }
+    requires { ⌜ LinesIndexed (now heads) (now chain) (now names) (now wires) (now rows) (place .rows) (place .wires) ⌝ }
     ensures { λ r. ⌜ StepAs (now (f .entry)) line place sums (tabled (now (names .entry)) (now (strings .entry)) (now (bits .entry)) (now (wires .entry)) (now (rows .entry))) (tabled (now (names .exit)) (now (strings .exit)) (now (bits .exit)) (now (wires .exit)) (now (rows .exit))) r ⌝ }
+    ensures { λ r. ⌜ StepIndexed (now (heads .exit)) (now (chain .exit)) (now (names .exit)) (now (wires .exit)) (now (rows .exit)) r ⌝ }
 {
-    match line_outcome(f, line, place, sums, names, wires, rows, tokens, scratch) {
+    match line_outcome(
+        f,
+        line,
+        place,
+        sums,
+        names,
+        wires,
+        rows,
+        tokens,
+        scratch,
+        heads,
+        chain,
+    ) {
         Outcome::Skipped => Step::Next { place, sums },
         Outcome::Refused(n) => Step::Stop(n),
         Outcome::Stated {
@@ -132,8 +155,19 @@ fn take_line(
         } => {
             let u = used_from(place, sums);
             put_statement(f, statement, u, scratch, names, strings, bits, wires, rows);
+            let kind = kind_code(statement);
+            index_line(
+                names,
+                wires,
+                rows,
+                heads,
+                chain,
+                place.rows,
+                place.wires,
+                kind,
+            );
             Step::Next {
-                place: after(place, kind_code(statement)),
+                place: after(place, kind),
                 sums: more,
             }
         }
@@ -203,8 +237,11 @@ fn read_lines(
     bits: &mut [u32],
     wires: &mut [u32],
     rows: &mut [u32],
+    heads: &mut [u32],
+    chain: &mut [u32],
 ) -> Answer
     requires { ⌜ (length (now f) ≤ 32768) × (length (now tokens) ≡ 131072) × (length (now scratch) ≡ 36864) × (tabled (now names) (now strings) (now bits) (now wires) (now rows) ≡ tablesOf (memory empty 0)) ⌝ }
+    requires { ⌜ LinesIndexed (now heads) (now chain) (now names) (now wires) (now rows) 0 0 ⌝ }
     ensures { λ r. ⌜ Landed (readAny (now (f .entry))) (tabled (now (names .exit)) (now (strings .exit)) (now (bits .exit)) (now (wires .exit)) (now (rows .exit))) r ⌝ }
 {
     let mut line = line_at(f, 0);
@@ -223,6 +260,8 @@ fn read_lines(
             bits,
             wires,
             rows,
+            heads,
+            chain,
         );
         let Step::Next { place: p, sums: u } = step else {
             return refusal(f, line, step);
@@ -266,6 +305,8 @@ fn read_file(
 {
     let mut tokens = [0u32; 131072];
     let mut scratch = [0u32; 36864];
+    let mut heads = [0u32; 1026];
+    let mut chain = [0u32; 5219];
     read_lines(
         f,
         &mut tokens,
@@ -275,6 +316,8 @@ fn read_file(
         bits,
         wires,
         rows,
+        &mut heads,
+        &mut chain,
     )
 }
 

@@ -1,5 +1,6 @@
 // Whether tables hold statements that may stand one after another. The statements are replayed from the first row on, whatever the tables hold:
 // each row says where its parts are, and has to be the row of the statement that they make.
+use name_index::index_row;
 use past::place::Place;
 use past::place::is_closed;
 use past::place::start;
@@ -15,6 +16,9 @@ mod wiring;
 use turns::Turn;
 use turns::one_more;
 ghost use mathlib.Core.Path.{_≡_};
+ghost use Prim.Native.Nat.{_≤_};
+ghost use lib.ListN.{length};
+ghost use Rattle.name_index.specs.Index.{keyAt, Indexed};
 ghost use Rattle.replay.specs.Reads.{tabled};
 ghost use Rattle.replay.specs.Begins.{isStatement, Replays};
 
@@ -33,7 +37,18 @@ fn is_statement(kind: u32) -> bool
     kind <= 12
 }
 
-pub fn replay(names: &[u8], strings: &[u8], bits: &[u32], wires: &[u32], rows: &[u32]) -> Replayed
+// With an index of the names, of no row yet.
+fn replay_indexed(
+    names: &[u8],
+    strings: &[u8],
+    bits: &[u32],
+    wires: &[u32],
+    rows: &[u32],
+    heads: &mut [u32],
+    chain: &mut [u32],
+) -> Replayed
+    requires { ⌜ Indexed (now heads) (now chain) (keyAt (now names) (now rows)) 0 ⌝ }
+    requires { ⌜ 4706 ≤ length (now chain) ⌝ }
     ensures { λ r. ⌜ Replays (tabled (now (names .entry)) (now (strings .entry)) (now (bits .entry)) (now (wires .entry))) (now (rows .entry)) r ⌝ }
 {
     let mut place = start();
@@ -45,9 +60,10 @@ pub fn replay(names: &[u8], strings: &[u8], bits: &[u32], wires: &[u32], rows: &
             }
             return Replayed::Damaged;
         }
-        let t = one_more(names, strings, bits, wires, rows, place, sums);
+        let t = one_more(names, strings, bits, wires, rows, heads, chain, place, sums);
         match t {
             Turn::Next { place: p, sums: u } => {
+                index_row(names, rows, heads, chain, place.rows);
                 place = p;
                 sums = u;
             }
@@ -56,4 +72,12 @@ pub fn replay(names: &[u8], strings: &[u8], bits: &[u32], wires: &[u32], rows: &
             }
         }
     }
+}
+
+pub fn replay(names: &[u8], strings: &[u8], bits: &[u32], wires: &[u32], rows: &[u32]) -> Replayed
+    ensures { λ r. ⌜ Replays (tabled (now (names .entry)) (now (strings .entry)) (now (bits .entry)) (now (wires .entry))) (now (rows .entry)) r ⌝ }
+{
+    let mut heads = [0u32; 513];
+    let mut chain = [0u32; 4706];
+    replay_indexed(names, strings, bits, wires, rows, &mut heads, &mut chain)
 }

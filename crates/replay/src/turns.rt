@@ -1,8 +1,8 @@
 // One statement more behind those that stand.
 use crate::statements::Found;
 use crate::statements::statement_at;
+use name_index::indexed_found;
 use netlist::rows::row_name;
-use netlist::spaces::name_found;
 use netlist::used::used_from;
 use past::place::Place;
 use past::place::after;
@@ -15,6 +15,7 @@ ghost use mathlib.Core.Path.{_≡_};
 ghost use Rattle.rules.specs.Shapes.{top, inModule};
 ghost use Rattle.admitted.specs.Admitted.{kinds};
 ghost use Rattle.netlist.specs.Kinds.{ofKinds};
+ghost use Rattle.name_index.specs.Index.{keyAt, Indexed};
 ghost use Rattle.replay.specs.Reads.{tabled};
 ghost use Rattle.replay.specs.Turns.{standsAt, Ready, Told, TurnIs, Counted, smallParts};
 ghost use Rattle.replay.specs.Objects.{objectKinds};
@@ -118,6 +119,8 @@ fn small_parts(signals: u32, values: u32, strings: u32, names: u32) -> bool
 fn counted(
     names: &[u8],
     rows: &[u32],
+    heads: &[u32],
+    chain: &[u32],
     p: Place,
     u: Sizes,
     kind: u32,
@@ -128,9 +131,18 @@ fn counted(
 ) -> Turn
     requires { ⌜ Ready p u ⌝ }
     requires { ⌜ Told kind signals values strings bytes ⌝ }
+    requires { ⌜ Indexed (now heads) (now chain) (keyAt (now names) (now rows)) (p .rows) ⌝ }
     ensures { λ r. ⌜ Counted (now (names .entry)) (now (rows .entry)) p u kind signals values strings bytes r ⌝ }
 {
-    if name_found(names, rows, p, kind, row_name(names, rows, p.rows)) {
+    if indexed_found(
+        names,
+        rows,
+        heads,
+        chain,
+        p,
+        kind,
+        row_name(names, rows, p.rows),
+    ) {
         return Turn::Nothing;
     }
     if !small_parts(signals, values, strings, bytes) {
@@ -153,10 +165,13 @@ pub fn one_more(
     bits: &[u32],
     wires: &[u32],
     rows: &[u32],
+    heads: &[u32],
+    chain: &[u32],
     p: Place,
     u: Sizes,
 ) -> Turn
     requires { ⌜ Ready p u ⌝ }
+    requires { ⌜ Indexed (now heads) (now chain) (keyAt (now names) (now rows)) (p .rows) ⌝ }
     ensures { λ r. ⌜ TurnIs (tabled (now (names .entry)) (now (strings .entry)) (now (bits .entry)) (now (wires .entry))) (now (rows .entry)) p u r ⌝ }
 {
     let at = 8 * (p.rows as usize);
@@ -176,7 +191,19 @@ pub fn one_more(
             values,
             strings: text,
             names: bytes,
-        } => counted(names, rows, p, u, kind, signals, values, text, bytes),
+        } => counted(
+            names,
+            rows,
+            heads,
+            chain,
+            p,
+            u,
+            kind,
+            signals,
+            values,
+            text,
+            bytes,
+        ),
         Found::Nothing => Turn::Nothing,
     }
 }

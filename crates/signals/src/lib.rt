@@ -1,6 +1,7 @@
 // Signals: the signal reader and the bundle reader call each other, the unread part of the line and the depth falling. Bits are put
 // into a scratch table from the top, the members of a bundle as they come; a slice moves its part down to where its operand began.
 use literals::Number;
+use name_index::indexed_wire;
 use numbers::kinds::SignalBit;
 use numbers::kinds::WireNumber;
 use tokens::Constant;
@@ -18,6 +19,7 @@ ghost use Rattle.tables.specs.Store.{store};
 ghost use Rattle.tokens.specs.Rows.{integerIn, literalIn};
 ghost use Rattle.literals.specs.Codes.{Whole};
 ghost use Rattle.wires.specs.Rows.{wiresFrom};
+ghost use Rattle.name_index.specs.Index.{WiresIndexed};
 ghost use Rattle.signals.specs.Faults.{merge, tooWide};
 ghost use Rattle.signals.specs.Held.{codes, Put, PutAny, CutIs};
 ghost use Rattle.signals.specs.Reads.{markAt, slotIn, BoundsIs, SliceIs, SlicesIs, AtomIs, SignalIs, BundleIs, Readable};
@@ -90,11 +92,13 @@ fn wire_bits(
     name: &[u8],
     scratch: &mut [u32],
     o: usize,
+    heads: &[u32],
+    chain: &[u32],
 ) -> Bits
-    requires { ⌜ (o + 2048 ≤ length (now scratch)) × (scope .count ≤ 512) ⌝ }
+    requires { ⌜ (o + 2048 ≤ length (now scratch)) × (scope .count ≤ 512) × WiresIndexed (now heads) (now chain) (now names) (now wires) (scope .first + scope .count) ⌝ }
     ensures { λ r. ⌜ Put (wiresFrom (now (names .entry)) (now (wires .entry)) (scope .first) (scope .count)) (rules.wire (now (name .entry))) o (now (scratch .entry)) (now (scratch .exit)) r ⌝ }
 {
-    match wires::find_wire(names, wires, scope.first, scope.count, name) {
+    match indexed_wire(names, wires, heads, chain, scope.first, scope.count, name) {
         Found::At(number, w) => {
             let width = w as usize;
             if 2048 < width {
@@ -227,9 +231,11 @@ fn atom(
     scope: Scope,
     scratch: &mut [u32],
     o: usize,
+    heads: &[u32],
+    chain: &[u32],
 ) -> Answer
     requires { ⌜ Readable (now f) (now tokens) i ⌝ }
-    requires { ⌜ (o + 2048 ≤ length (now scratch)) × (scope .count ≤ 512) ⌝ }
+    requires { ⌜ (o + 2048 ≤ length (now scratch)) × (scope .count ≤ 512) × WiresIndexed (now heads) (now chain) (now names) (now wires) (scope .first + scope .count) ⌝ }
     ensures { λ r. ⌜ AtomIs (now (f .entry)) (now (tokens .entry)) (wiresFrom (now (names .entry)) (now (wires .entry)) (scope .first) (scope .count)) i o (now (scratch .entry)) (now (scratch .exit)) r ⌝ }
 {
     match tokens::token_at(tokens, i) {
@@ -241,6 +247,8 @@ fn atom(
                 scanner::parts::part(f, start, end),
                 scratch,
                 o,
+                heads,
+                chain,
             );
             Answer::Read { next: i + 1, bits }
         }
@@ -310,22 +318,36 @@ pub fn signal(
     scope: Scope,
     scratch: &mut [u32],
     o: usize,
+    heads: &[u32],
+    chain: &[u32],
 ) -> Answer
     requires { ⌜ Readable (now f) (now tokens) i ⌝ }
-    requires { ⌜ (o + 2048 * (depth + 1) ≤ length (now scratch)) × (scope .count ≤ 512) ⌝ }
+    requires { ⌜ (o + 2048 * (depth + 1) ≤ length (now scratch)) × (scope .count ≤ 512) × WiresIndexed (now heads) (now chain) (now names) (now wires) (scope .first + scope .count) ⌝ }
     ensures { λ r. ⌜ SignalIs (now (f .entry)) (now (tokens .entry)) (wiresFrom (now (names .entry)) (now (wires .entry)) (scope .first) (scope .count)) i depth o (now (scratch .entry)) (now (scratch .exit)) r ⌝ }
 {
     if is_mark(tokens, i, 123) {
         if depth == 0 {
             return Answer::NoShape;
         }
-        let b = bundle(f, tokens, i + 1, depth - 1, names, wires, scope, scratch, o);
+        let b = bundle(
+            f,
+            tokens,
+            i + 1,
+            depth - 1,
+            names,
+            wires,
+            scope,
+            scratch,
+            o,
+            heads,
+            chain,
+        );
         let Answer::Read { next, bits } = b else {
             return Answer::NoShape;
         };
         return slices(f, tokens, next, bits, scratch, o);
     }
-    let a = atom(f, tokens, i, names, wires, scope, scratch, o);
+    let a = atom(f, tokens, i, names, wires, scope, scratch, o, heads, chain);
     let Answer::Read { next, bits } = a else {
         return Answer::NoShape;
     };
@@ -344,9 +366,11 @@ fn bundle(
     scope: Scope,
     scratch: &mut [u32],
     o: usize,
+    heads: &[u32],
+    chain: &[u32],
 ) -> Answer
     requires { ⌜ Readable (now f) (now tokens) i ⌝ }
-    requires { ⌜ (o + 2048 * (depth + 2) ≤ length (now scratch)) × (scope .count ≤ 512) ⌝ }
+    requires { ⌜ (o + 2048 * (depth + 2) ≤ length (now scratch)) × (scope .count ≤ 512) × WiresIndexed (now heads) (now chain) (now names) (now wires) (scope .first + scope .count) ⌝ }
     ensures { λ r. ⌜ BundleIs (now (f .entry)) (now (tokens .entry)) (wiresFrom (now (names .entry)) (now (wires .entry)) (scope .first) (scope .count)) i depth o (now (scratch .entry)) (now (scratch .exit)) r ⌝ }
 {
     let mut at = i;
@@ -354,7 +378,19 @@ fn bundle(
     let mut fault: u32 = 0;
     while !is_mark(tokens, at, 125) {
         let put = if width < 2048 { o + width } else { o + 2048 };
-        let m = signal(f, tokens, at, depth, names, wires, scope, scratch, put);
+        let m = signal(
+            f,
+            tokens,
+            at,
+            depth,
+            names,
+            wires,
+            scope,
+            scratch,
+            put,
+            heads,
+            chain,
+        );
         let Answer::Read { next, bits } = m else {
             return Answer::NoShape;
         };

@@ -1,11 +1,14 @@
 -- The search for a wire of a module by its name now.
-use Prim.Native.Nat.{ℕ, zero, suc, _+_}
-use mathlib.Core.Bool.{Bool, true, false, cond}
+use Prim.Native.Nat.{ℕ, zero, suc, _+_, _<_, _≤_}
+use mathlib.Core.Path.{_≡_}
+use mathlib.Core.Bool.{Bool, true, false, cond, _&&_}
 use mathlib.Core.List.{List}
 use Rattle.rules.specs.Bytes.{same}
 use Rattle.rules.specs.Tokens.{Name}
 use Rattle.rules.specs.Judgement.{Verdict, accepted, refused}
-use Rattle.wire_names.specs.Now.{nameNow}
+use lib.Dec.{eqb}
+use Rattle.wires.specs.Rows.{spanAt}
+use Rattle.wire_names.specs.Now.{lastRename, nameNow}
 use Rattle.wire_names.specs.declared.Module.{Module}
 use Rattle.standing.specs.declared.Named.{Named}
 use Rattle.standing.specs.declared.Named.the-variants.{At, Nothing}
@@ -26,3 +29,17 @@ named Nothing = refused 8
 unfoldable pub isFound : Verdict ℕ → Bool
 isFound (accepted k) = true
 isFound (refused n) = false
+
+-- the last rename of a wire of a module, counted from 1; 0 if it has none
+abbrev pub lastOf : List ℕ → Module → ℕ → ℕ
+lastOf rows m k = lastRename rows (m .from) (m .renames) (m .number .0) k
+
+-- of the wires whose last rename is among the first i the least that it gives this name is r, or there is none
+pub record Renamed (names rows : List ℕ) (m : Module) (n : Name) (i r : ℕ) : Type 0 where
+  pub below : r ≤ m .wires
+  pub others : (k j : ℕ) → k < r → j < i → lastOf rows m k ≡ suc j → same (spanAt names rows (m .from + j) 1) n ≡ false
+  pub here : r < m .wires → (j : ℕ) × (lastOf rows m r ≡ suc j) × (same (spanAt names rows (m .from + j) 1) n ≡ true)
+
+-- whether wire k has this name from its own line, and no rename
+unfoldable pub keepsName : (names wires rows : List ℕ) → Module → Name → ℕ → Bool
+keepsName names wires rows m n k = same (spanAt names wires (m .first + k) 1) n && eqb (lastOf rows m k) 0

@@ -11,14 +11,16 @@ use scanner::names::legal;
 use scanner::names::same_bytes;
 use tables::word;
 use wire_names::Module;
-use wire_names::name_now;
+use wire_names::last_rename;
+use wires::bytes_at;
+use wires::column;
 ghost use mathlib.Core.Path.{_≡_};
-ghost use Prim.Native.Nat.{_<_, _≤_};
+ghost use Prim.Native.Nat.{_+_, _<_, _≤_};
 ghost use Rattle.rules.specs.Bytes.{same, any};
 ghost use Rattle.rules.specs.Session.{isPort};
 ghost use Rattle.wires.specs.Rows.{wireOf};
 ghost use Rattle.wire_names.specs.Now.{wiresIn};
-ghost use Rattle.standing.specs.Search.{searchNow, named};
+ghost use Rattle.standing.specs.Search.{searchNow, named, Renamed, keepsName};
 ghost use Rattle.standing.specs.Judged.{objectTaken, nameTaken, exceedsRoom, judged};
 
 pub enum Named {
@@ -38,18 +40,64 @@ fn is_port(wires: &[u32], row: usize) -> bool
     direction <= 3
 }
 
+// The least wire so far; or the wire of rename row i, where it is less, has its name by that rename, and the name is this one.
+fn renamed_by(names: &[u8], rows: &[u32], m: Module, name: &[u8], i: u32, least: u32) -> u32
+    requires { ⌜ Renamed (now names) (now rows) m (now name) i least ⌝ }
+    requires { ⌜ i < m .renames ⌝ }
+    ensures { λ r. ⌜ Renamed (now (names .entry)) (now (rows .entry)) m (now (name .entry)) (i + 1) r ⌝ }
+{
+    let row = m.from as usize + i as usize;
+    let wire = column(rows, row, 4);
+    if least <= wire {
+        return least;
+    }
+    if !same_bytes(bytes_at(names, rows, row, 1), name) {
+        return least;
+    }
+    if last_rename(rows, m.from, m.renames, m.number, WireNumber(wire)) != i + 1 {
+        return least;
+    }
+    wire
+}
+
+// The least wire whose last rename gives it this name; how many wires there are, if there is none.
+fn renamed_to(names: &[u8], rows: &[u32], m: Module, name: &[u8]) -> u32
+    ensures { λ r. ⌜ Renamed (now (names .entry)) (now (rows .entry)) m (now (name .entry)) (m .renames) r ⌝ }
+{
+    let mut least = m.wires;
+    let mut i = 0;
+    while i < m.renames {
+        least = renamed_by(names, rows, m, name, i, least);
+        i = i + 1;
+    }
+    least
+}
+
+// Whether wire k has this name from its own line, and no rename.
+fn keeps_name(names: &[u8], wires: &[u32], rows: &[u32], m: Module, k: u32, name: &[u8]) -> bool
+    ensures { λ r. ⌜ r ≡ keepsName (now (names .entry)) (now (wires .entry)) (now (rows .entry)) m (now (name .entry)) k ⌝ }
+{
+    let own = bytes_at(names, wires, m.first as usize + k as usize, 1);
+    if !same_bytes(own, name) {
+        return false;
+    }
+    last_rename(rows, m.from, m.renames, m.number, WireNumber(k)) == 0
+}
+
 // The first wire of the module that has this name now.
 pub fn find_named(names: &[u8], wires: &[u32], rows: &[u32], m: Module, name: &[u8]) -> Named
     ensures { λ r. ⌜ named r ≡ searchNow (now (names .entry)) (now (wires .entry)) (now (rows .entry)) m (now (name .entry)) (m .wires) 0 ⌝ }
 {
-    let first = m.first as usize;
+    let least = renamed_to(names, rows, m, name);
     let mut k = 0;
-    while k < m.wires {
-        let own = name_now(names, wires, rows, m, WireNumber(k), first + k as usize);
-        if same_bytes(own, name) {
+    while k < least {
+        if keeps_name(names, wires, rows, m, k, name) {
             return Named::At(WireNumber(k));
         }
         k = k + 1;
+    }
+    if least < m.wires {
+        return Named::At(WireNumber(least));
     }
     Named::Nothing
 }

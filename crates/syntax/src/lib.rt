@@ -29,7 +29,9 @@ use tokens::Literal;
 use tokens::id_at;
 use wires::port_taken;
 ghost use mathlib.Core.Path.{_≡_};
+ghost use Prim.Native.Nat.{_+_};
 ghost use Rattle.wires.specs.Rows.{wiresFrom};
+ghost use Rattle.name_index.specs.Index.{WiresIndexed};
 ghost use Rattle.forms.specs.Forms.{kindOf, cellKindOf};
 ghost use Rattle.forms.specs.declared.CellKind.the-variants as cellKind;
 ghost use Rattle.forms.specs.declared.Form.the-variants as form;
@@ -233,8 +235,11 @@ fn connection_statement(
     wires: &[u32],
     scope: Scope,
     scratch: &mut [u32],
+    heads: &[u32],
+    chain: &[u32],
 ) -> Statement
     requires { ⌜ Ready (now f) (now tokens) (now scratch) (scope .count) ⌝ }
+    requires { ⌜ WiresIndexed (now heads) (now chain) (now names) (now wires) (scope .first + scope .count) ⌝ }
     ensures { λ r. ⌜ Says (wiresFrom (now (names .entry)) (now (wires .entry)) (scope .first) (scope .count)) (now (f .entry)) (now (scratch .exit)) (kindOf (now (f .entry)) (now (tokens .entry)) kind.Connect) r ⌝ }
 {
     let Answer::Read { next, bits: left } = signal(
@@ -247,13 +252,27 @@ fn connection_statement(
         scope,
         scratch,
         0,
+        heads,
+        chain,
     ) else {
         return Statement::NoShape;
     };
     let Answer::Read {
         next: end,
         bits: right,
-    } = signal(f, tokens, next, 16, names, wires, scope, scratch, 2048)
+    } = signal(
+        f,
+        tokens,
+        next,
+        16,
+        names,
+        wires,
+        scope,
+        scratch,
+        2048,
+        heads,
+        chain,
+    )
     else {
         return Statement::NoShape;
     };
@@ -270,15 +289,29 @@ fn cell_connection_statement(
     wires: &[u32],
     scope: Scope,
     scratch: &mut [u32],
+    heads: &[u32],
+    chain: &[u32],
 ) -> Statement
     requires { ⌜ Ready (now f) (now tokens) (now scratch) (scope .count) ⌝ }
+    requires { ⌜ WiresIndexed (now heads) (now chain) (now names) (now wires) (scope .first + scope .count) ⌝ }
     ensures { λ r. ⌜ Says (wiresFrom (now (names .entry)) (now (wires .entry)) (scope .first) (scope .count)) (now (f .entry)) (now (scratch .exit)) (cellKindOf (now (f .entry)) (now (tokens .entry)) cellKind.Connect) r ⌝ }
 {
     let Id::Span { start, end } = id_at(tokens, 1) else {
         return Statement::NoShape;
     };
-    let Answer::Read { next, bits } = signal(f, tokens, 2, 16, names, wires, scope, scratch, 0)
-    else {
+    let Answer::Read { next, bits } = signal(
+        f,
+        tokens,
+        2,
+        16,
+        names,
+        wires,
+        scope,
+        scratch,
+        0,
+        heads,
+        chain,
+    ) else {
         return Statement::NoShape;
     };
     if next < tokens.len() / 4 {
@@ -303,15 +336,27 @@ fn module_statement(
     wires: &[u32],
     scope: Scope,
     scratch: &mut [u32],
+    heads: &[u32],
+    chain: &[u32],
 ) -> Statement
     requires { ⌜ Ready (now f) (now tokens) (now scratch) (scope .count) ⌝ }
+    requires { ⌜ WiresIndexed (now heads) (now chain) (now names) (now wires) (scope .first + scope .count) ⌝ }
     ensures { λ r. ⌜ ModuleIs attributed (now (f .entry)) (now (tokens .entry)) (wiresFrom (now (names .entry)) (now (wires .entry)) (scope .first) (scope .count)) (now (scratch .exit)) r ⌝ }
 {
     match module_line_kind(tokens, attributed) {
         Kind::Form(form) => form_statement(f, form),
         Kind::Wire => wire_statement(f, tokens, wires, scope.first, scope.count),
         Kind::Memory => memory_statement(f, tokens),
-        Kind::Connect => connection_statement(f, tokens, names, wires, scope, scratch),
+        Kind::Connect => connection_statement(
+            f,
+            tokens,
+            names,
+            wires,
+            scope,
+            scratch,
+            heads,
+            chain,
+        ),
     }
 }
 
@@ -322,13 +367,25 @@ fn cell_statement(
     wires: &[u32],
     scope: Scope,
     scratch: &mut [u32],
+    heads: &[u32],
+    chain: &[u32],
 ) -> Statement
     requires { ⌜ Ready (now f) (now tokens) (now scratch) (scope .count) ⌝ }
+    requires { ⌜ WiresIndexed (now heads) (now chain) (now names) (now wires) (scope .first + scope .count) ⌝ }
     ensures { λ r. ⌜ CellIs (now (f .entry)) (now (tokens .entry)) (wiresFrom (now (names .entry)) (now (wires .entry)) (scope .first) (scope .count)) (now (scratch .exit)) r ⌝ }
 {
     match cell_line_kind(tokens) {
         CellKind::Form(form) => form_statement(f, form),
-        CellKind::Connect => cell_connection_statement(f, tokens, names, wires, scope, scratch),
+        CellKind::Connect => cell_connection_statement(
+            f,
+            tokens,
+            names,
+            wires,
+            scope,
+            scratch,
+            heads,
+            chain,
+        ),
     }
 }
 
@@ -341,15 +398,28 @@ pub fn line_statement(
     wires: &[u32],
     scope: Scope,
     scratch: &mut [u32],
+    heads: &[u32],
+    chain: &[u32],
 ) -> Statement
     requires { ⌜ Ready (now f) (now tokens) (now scratch) (scope .count) ⌝ }
+    requires { ⌜ WiresIndexed (now heads) (now chain) (now names) (now wires) (scope .first + scope .count) ⌝ }
     ensures { λ r. ⌜ StatementIs place (now (f .entry)) (now (tokens .entry)) (wiresFrom (now (names .entry)) (now (wires .entry)) (scope .first) (scope .count)) (now (scratch .exit)) r ⌝ }
 {
     if place.scope == 0 {
         return form_statement(f, top_line(tokens, place.first));
     }
     if place.scope == 1 {
-        return module_statement(f, tokens, place.attributed, names, wires, scope, scratch);
+        return module_statement(
+            f,
+            tokens,
+            place.attributed,
+            names,
+            wires,
+            scope,
+            scratch,
+            heads,
+            chain,
+        );
     }
-    cell_statement(f, tokens, names, wires, scope, scratch)
+    cell_statement(f, tokens, names, wires, scope, scratch, heads, chain)
 }

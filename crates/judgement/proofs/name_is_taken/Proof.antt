@@ -11,12 +11,12 @@ parts-of-requires c κs = search needs
 part-requires : tie.Need-part-requires
 part-requires c κs = search needs
 
-name-found-requires : tie.Need-name-found-requires
-name-found-requires c κs = search needs
+indexed-found-requires : tie.Need-indexed-found-requires
+indexed-found-requires c κs = search needs
 
 returns : tie.Need-returns
 unfolding takenIn nameIn
-returns c = rw (← c .before .before .before .parts-of .ensures, ← c .before .part .ensures) (c .name-found .ensures)
+returns c = rw (← c .before .before .before .parts-of .ensures, ← c .before .part .ensures) (c .indexed-found .ensures)
 
 pub name-is-taken-spec : {M : Type 1} → statement M
-name-is-taken-spec = tie.close (tie.spec parts-of-requires part-requires name-found-requires returns)
+name-is-taken-spec = tie.close (tie.spec parts-of-requires part-requires indexed-found-requires returns)

@@ -1,13 +1,17 @@
-use mathlib.Core.Path.{refl, _∙_}
+use mathlib.Core.Path.{refl, ap, _∙_}
+use native.Mathlib.Omega.{arith}
 use denote.Ref.{now}
 use Rattle.past.proofs.PlaceLaws.{after-is}
+use Rattle.past.specs.Place.{placeAfter}
+use Rattle.past.specs.declared.place.Place.{Place}
+use Rattle.name_index.specs.LineLaws.{lines-upto}
 use Rattle.reader.specs.Steps.{lineOf}
-use Rattle.reader.proofs.StepLaws.{done-fits, done-stands, done-rows, put-storable, step-stated, step-skipped, step-refused}
+use Rattle.reader.proofs.StepLaws.{done-fits, done-stands, done-rows, put-storable, step-stated, step-skipped, step-refused, step-indexed, done-few, done-wires}
 use Rattle.reader.proofs.take_line.Statement.{statement}
 use Rattle.reader.proofs.take_line.Tie as tie
 
 line-outcome-requires : tie.Need-line-outcome-requires
-line-outcome-requires c κs = (c .before .before .before .before .before .before .before .before .before .before .before .before .before .pre .0, done-fits (c .before .before .before .before .before .before .before .before .before .before .before .before .before .pre .1 .done))
+line-outcome-requires c κs = (c .before .before .before .before .before .before .before .before .before .before .before .before .before .before .before .before .before .pre .0, (done-fits (c .before .before .before .before .before .before .before .before .before .before .before .before .before .before .before .before .before .pre .1 .0 .done), c .before .before .before .before .before .before .before .before .before .before .before .before .before .before .before .before .before .pre .1 .1))
 
 enum-told : tie.Need-enum-told
 enum-told c = c .match .keys1
@@ -19,16 +23,22 @@ enum-known-statement : tie.Need-enum-known-statement
 enum-known-statement c = c .match .keys3
 
 used-from-requires : tie.Need-used-from-requires
-used-from-requires c κs = done-fits (c .before .before .before .before .before .before .before .before .before .before .before .before .before .before .before .before .before .before .before .before .before .pre .1 .done) .within
+used-from-requires c κs = done-fits (c .before .before .before .before .before .before .before .before .before .before .before .before .before .before .before .before .before .before .before .before .before .before .before .before .before .pre .1 .0 .done) .within
 
 put-statement-requires : tie.Need-put-statement-requires
-put-statement-requires c κs = put-storable (c .before .before .before .before .before .before .before .before .before .before .before .before .before .before .before .before .before .before .before .before .before .before .before .before .before .before .before .before .pre .1 .done) (lineOf (now (c .before .before .before .before .before .before .before .before .before .before .before .before .before .before .before .before .before .before .before .before .before .before .before .before .before .before .before .before .args .f)) (c .before .before .before .before .before .before .before .before .before .before .before .before .before .before .before .before .before .before .before .before .before .before .before .before .before .before .before .before .args .line)) _ _ _ _ _ (c .before .before .before .before .before .before .before .before .statement .given .1) (c .before .before .before .before .before .before .before .before .before .before .before .before .before .before .line-outcome .ensures .1 _ (done-stands (c .before .before .before .before .before .before .before .before .before .before .before .before .before .before .before .before .before .before .before .before .before .before .before .before .before .before .before .before .pre .1 .done))) (c .before .before .before .before .before .before .before .before .before .before .before .before .before .before .line-outcome .ensures .0) _ (c .before .before .before .before .before .before .used-from .ensures) (c .before .before .before .before .before .before .before .before .before .before .before .before .before .before .line-outcome .kept .1 .1 .1 .1 .1 .1 .1 .1 .0 ∙ c .before .before .before .before .before .before .before .before .before .before .before .before .before .before .before .before .before .before .before .before .before .before .before .before .before .before .before .before .pre .0 .scratch-long)
+put-statement-requires c κs = put-storable (c .before .before .before .before .before .before .before .before .before .before .before .before .before .before .before .before .before .before .before .before .before .before .before .before .before .before .before .before .before .before .before .before .pre .1 .0 .done) (lineOf (now (c .before .before .before .before .before .before .before .before .before .before .before .before .before .before .before .before .before .before .before .before .before .before .before .before .before .before .before .before .before .before .before .before .args .f)) (c .before .before .before .before .before .before .before .before .before .before .before .before .before .before .before .before .before .before .before .before .before .before .before .before .before .before .before .before .before .before .before .before .args .line)) _ _ _ _ _ (c .before .before .before .before .before .before .before .before .statement .given .1) (c .before .before .before .before .before .before .before .before .before .before .before .before .before .before .line-outcome .ensures .1 _ (done-stands (c .before .before .before .before .before .before .before .before .before .before .before .before .before .before .before .before .before .before .before .before .before .before .before .before .before .before .before .before .before .before .before .before .pre .1 .0 .done))) (c .before .before .before .before .before .before .before .before .before .before .before .before .before .before .line-outcome .ensures .0) _ (c .before .before .before .before .before .before .used-from .ensures) (c .before .before .before .before .before .before .before .before .before .before .before .before .before .before .line-outcome .kept .1 .1 .1 .1 .1 .1 .1 .1 .0 ∙ c .before .before .before .before .before .before .before .before .before .before .before .before .before .before .before .before .before .before .before .before .before .before .before .before .before .before .before .before .before .before .before .before .pre .0 .scratch-long)
 
 kind-code-requires : tie.Need-kind-code-requires
 kind-code-requires c κs = tt
 
+index-line-requires : tie.Need-index-line-requires
+index-line-requires c κs = (
+  step-indexed (c .before .before .before .before .before .before .before .before .before .before .before .before .before .before .before .before .before .before .before .before .before .before .before .before .before .before .before .before .before .before .before .before .before .before .before .before .before .before .before .before .before .before .before .before .before .before .before .before .before .before .before .pre .1 .0 .done) (lineOf (now (c .before .before .before .before .before .before .before .before .before .before .before .before .before .before .before .before .before .before .before .before .before .before .before .before .before .before .before .before .before .before .before .before .before .before .before .before .before .before .before .before .before .before .before .before .before .before .before .before .before .before .before .args .f)) (c .before .before .before .before .before .before .before .before .before .before .before .before .before .before .before .before .before .before .before .before .before .before .before .before .before .before .before .before .before .before .before .before .before .before .before .before .before .before .before .before .before .before .before .before .before .before .before .before .before .before .before .args .line)) _ _ _ _ _ (c .before .before .before .before .before .before .before .before .before .before .before .before .before .before .before .before .before .before .before .before .before .before .before .before .before .before .before .statement .given .1) (c .before .before .before .before .before .before .before .before .before .before .before .before .before .before .before .before .before .before .before .before .before .before .before .before .before .before .before .before .before .before .before .before .before .line-outcome .ensures .1 _ (done-stands (c .before .before .before .before .before .before .before .before .before .before .before .before .before .before .before .before .before .before .before .before .before .before .before .before .before .before .before .before .before .before .before .before .before .before .before .before .before .before .before .before .before .before .before .before .before .before .before .before .before .before .before .pre .1 .0 .done))) (c .before .before .before .before .before .before .before .before .before .before .before .before .before .before .before .before .before .before .before .before .before .before .before .before .before .before .before .before .before .before .before .before .before .line-outcome .ensures .0) _ _ (c .before .before .before .before .before .before .before .before .before .before .before .before .before .before .before .before .before .before .before .before .before .before .before .before .before .used-from .ensures) (c .before .before .before .before .before .before .before .before .before .before .before .before .before .before .before .before .before .before .put-statement .ensures) _ _ (c .before .before .before .before .before .before .before .before .before .before .before .before .before .before .before .before .before .before .before .before .before .before .before .before .before .before .before .before .before .before .before .before .before .before .before .before .before .before .before .before .before .before .before .before .before .before .before .before .before .before .before .pre .1 .1),
+  (omega (arith, done-few (c .before .before .before .before .before .before .before .before .before .before .before .before .before .before .before .before .before .before .before .before .before .before .before .before .before .before .before .before .before .before .before .before .before .before .before .before .before .before .before .before .before .before .before .before .before .before .before .before .before .before .before .pre .1 .0 .done)), done-wires (c .before .before .before .before .before .before .before .before .before .before .before .before .before .before .before .before .before .before .before .before .before .before .before .before .before .before .before .before .before .before .before .before .before .before .before .before .before .before .before .before .before .before .before .before .before .before .before .before .before .before .before .pre .1 .0 .done)),
+)
+
 after-requires : tie.Need-after-requires
-after-requires c κs = (done-rows (c .before .before .before .before .before .before .before .before .before .before .before .before .before .before .before .before .before .before .before .before .before .before .before .before .before .before .before .before .before .before .before .before .before .before .before .before .before .before .before .before .before .before .pre .1 .done), done-fits (c .before .before .before .before .before .before .before .before .before .before .before .before .before .before .before .before .before .before .before .before .before .before .before .before .before .before .before .before .before .before .before .before .before .before .before .before .before .before .before .before .before .before .pre .1 .done) .bounds)
+after-requires c κs = (done-rows (c .before .before .before .before .before .before .before .before .before .before .before .before .before .before .before .before .before .before .before .before .before .before .before .before .before .before .before .before .before .before .before .before .before .before .before .before .before .before .before .before .before .before .before .before .before .before .before .before .before .before .before .before .before .before .before .before .pre .1 .0 .done), done-fits (c .before .before .before .before .before .before .before .before .before .before .before .before .before .before .before .before .before .before .before .before .before .before .before .before .before .before .before .before .before .before .before .before .before .before .before .before .before .before .before .before .before .before .before .before .before .before .before .before .before .before .before .before .before .before .before .before .pre .1 .0 .done) .bounds)
 
 same-length : tie.Need-same-length
 same-length c = c .before .before .before .before .before .before .line-outcome .kept .1 .1 .1 .1 .1 .1 .1 .0
@@ -45,50 +55,75 @@ same-length-4 c = refl
 same-length-5 : tie.Need-same-length-5
 same-length-5 c = refl
 
-returns : tie.Need-returns
-returns c = λ ss d. step-skipped d _ _ _ _ (c .before .before .before .before .before .before .line-outcome .ensures .1 ss (done-stands d)) (c .enum-told .given .1)
-
 same-length-6 : tie.Need-same-length-6
-same-length-6 c = c .before .before .before .before .before .before .before .line-outcome .kept .1 .1 .1 .1 .1 .1 .1 .0
+same-length-6 c = refl
 
 same-length-7 : tie.Need-same-length-7
-same-length-7 c = c .before .before .before .before .before .before .before .line-outcome .kept .1 .1 .1 .1 .1 .1 .1 .1 .0
+same-length-7 c = refl
+
+returns : tie.Need-returns
+returns c = (
+  λ ss d. step-skipped d _ _ _ _ (c .before .before .before .before .before .before .line-outcome .ensures .1 ss (done-stands d)) (c .enum-told .given .1),
+  c .before .before .before .before .before .before .before .before .before .before .before .before .before .before .before .before .before .before .before .before .before .before .before .before .pre .1 .1,
+)
 
 same-length-8 : tie.Need-same-length-8
-same-length-8 c = refl
+same-length-8 c = c .before .before .before .before .before .before .before .line-outcome .kept .1 .1 .1 .1 .1 .1 .1 .0
 
 same-length-9 : tie.Need-same-length-9
-same-length-9 c = refl
+same-length-9 c = c .before .before .before .before .before .before .before .line-outcome .kept .1 .1 .1 .1 .1 .1 .1 .1 .0
 
 same-length-10 : tie.Need-same-length-10
 same-length-10 c = refl
 
-returns-2 : tie.Need-returns-2
-returns-2 c = λ ss d. step-refused d _ _ _ _ (c .before .before .before .before .before .before .before .line-outcome .ensures .1 ss (done-stands d)) _ (c .before .n .given .1)
-
 same-length-11 : tie.Need-same-length-11
-same-length-11 c = c .before .before .before .before .before .before .before .before .before .before .before .before .before .before .before .before .before .before .before .before .before .before .before .before .before .before .before .before .before .line-outcome .kept .1 .1 .1 .1 .1 .1 .1 .0
+same-length-11 c = refl
 
 same-length-12 : tie.Need-same-length-12
-same-length-12 c = c .before .before .before .before .before .before .before .before .before .before .before .before .before .before .put-statement .kept .1 .1 .1 .0 ∙ c .before .before .before .before .before .before .before .before .before .before .before .before .before .before .before .before .before .before .before .before .before .before .before .before .before .before .before .before .before .line-outcome .kept .1 .1 .1 .1 .1 .1 .1 .1 .0
+same-length-12 c = refl
 
 same-length-13 : tie.Need-same-length-13
-same-length-13 c = c .before .before .before .before .before .before .before .before .before .before .before .before .before .before .put-statement .kept .1 .1 .1 .1 .0
+same-length-13 c = refl
 
 same-length-14 : tie.Need-same-length-14
-same-length-14 c = c .before .before .before .before .before .before .before .before .before .before .before .before .before .before .put-statement .kept .1 .1 .1 .1 .1 .0
+same-length-14 c = refl
+
+returns-2 : tie.Need-returns-2
+returns-2 c = (λ ss d. step-refused d _ _ _ _ (c .before .before .before .before .before .before .before .line-outcome .ensures .1 ss (done-stands d)) _ (c .before .n .given .1), tt)
 
 same-length-15 : tie.Need-same-length-15
-same-length-15 c = c .before .before .before .before .before .before .before .before .before .before .before .before .before .before .put-statement .kept .1 .1 .1 .1 .1 .1 .0
+same-length-15 c = c .before .before .before .before .before .before .before .before .before .before .before .before .before .before .before .before .before .before .before .before .before .before .before .before .before .before .before .before .before .before .before .before .before .before .before .before .before .before .before .line-outcome .kept .1 .1 .1 .1 .1 .1 .1 .0
 
 same-length-16 : tie.Need-same-length-16
-same-length-16 c = c .before .before .before .before .before .before .before .before .before .before .before .before .before .before .put-statement .kept .1 .1 .1 .1 .1 .1 .1 .0
+same-length-16 c = c .before .before .before .before .before .before .before .before .before .before .before .before .before .before .before .before .before .before .before .before .before .before .before .before .put-statement .kept .1 .1 .1 .0 ∙ c .before .before .before .before .before .before .before .before .before .before .before .before .before .before .before .before .before .before .before .before .before .before .before .before .before .before .before .before .before .before .before .before .before .before .before .before .before .before .before .line-outcome .kept .1 .1 .1 .1 .1 .1 .1 .1 .0
 
 same-length-17 : tie.Need-same-length-17
-same-length-17 c = c .before .before .before .before .before .before .before .before .before .before .before .before .before .before .put-statement .kept .1 .1 .1 .1 .1 .1 .1 .1 .0
+same-length-17 c = c .before .before .before .before .before .before .before .before .before .before .before .before .before .before .before .before .before .before .before .before .before .before .before .before .put-statement .kept .1 .1 .1 .1 .0
+
+same-length-18 : tie.Need-same-length-18
+same-length-18 c = c .before .before .before .before .before .before .before .before .before .before .before .before .before .before .before .before .before .before .before .before .before .before .before .before .put-statement .kept .1 .1 .1 .1 .1 .0
+
+same-length-19 : tie.Need-same-length-19
+same-length-19 c = c .before .before .before .before .before .before .before .before .before .before .before .before .before .before .before .before .before .before .before .before .before .before .before .before .put-statement .kept .1 .1 .1 .1 .1 .1 .0
+
+same-length-20 : tie.Need-same-length-20
+same-length-20 c = c .before .before .before .before .before .before .before .before .before .before .before .before .before .before .before .before .before .before .before .before .before .before .before .before .put-statement .kept .1 .1 .1 .1 .1 .1 .1 .0
+
+same-length-21 : tie.Need-same-length-21
+same-length-21 c = c .before .before .before .before .before .before .before .before .before .before .before .before .before .before .before .before .before .before .before .before .before .before .before .before .put-statement .kept .1 .1 .1 .1 .1 .1 .1 .1 .0
+
+same-length-22 : tie.Need-same-length-22
+same-length-22 c = c .before .before .before .before .before .index-line .kept .1 .1 .1 .0
+
+same-length-23 : tie.Need-same-length-23
+same-length-23 c = c .before .before .before .before .before .index-line .kept .1 .1 .1 .1 .0
 
 returns-3 : tie.Need-returns-3
-returns-3 c = λ ss d. step-stated d _ _ _ _ _ _ (c .before .before .before .before .before .before .before .before .before .before .before .before .before .before .before .before .before .before .before .before .before .before .before .statement .given .1) (c .before .before .before .before .before .before .before .before .before .before .before .before .before .before .before .before .before .before .before .before .before .before .before .before .before .before .before .before .before .line-outcome .ensures .1 ss (done-stands d)) (c .before .before .before .before .before .before .before .before .before .before .before .before .before .before .before .before .before .before .before .before .before .before .before .before .before .before .before .before .before .line-outcome .ensures .0) _ _ _ _ (c .before .before .before .before .before .before .before .before .before .before .before .before .before .before .before .before .before .before .before .before .before .used-from .ensures) (c .before .before .before .before .before .before .before .before .before .before .before .before .before .before .put-statement .ensures) (c .before .kind-code .ensures) (after-is _ _ _ (c .after .ensures))
+unfolding placeAfter
+returns-3 c = (
+  λ ss d. step-stated d _ _ _ _ _ _ (c .before .before .before .before .before .before .before .before .before .before .before .before .before .before .before .before .before .before .before .before .before .before .before .before .before .before .before .before .before .before .before .before .before .statement .given .1) (c .before .before .before .before .before .before .before .before .before .before .before .before .before .before .before .before .before .before .before .before .before .before .before .before .before .before .before .before .before .before .before .before .before .before .before .before .before .before .before .line-outcome .ensures .1 ss (done-stands d)) (c .before .before .before .before .before .before .before .before .before .before .before .before .before .before .before .before .before .before .before .before .before .before .before .before .before .before .before .before .before .before .before .before .before .before .before .before .before .before .before .line-outcome .ensures .0) _ _ _ _ (c .before .before .before .before .before .before .before .before .before .before .before .before .before .before .before .before .before .before .before .before .before .before .before .before .before .before .before .before .before .before .before .used-from .ensures) (c .before .before .before .before .before .before .before .before .before .before .before .before .before .before .before .before .before .before .before .before .before .before .before .before .put-statement .ensures) (c .before .before .before .before .before .before .before .before .before .before .before .kind-code .ensures) (after-is _ _ _ (c .after .ensures)),
+  lines-upto (ap (λ (p : Place). p .rows) (c .after .ensures)) (ap (λ (p : Place). p .wires) (c .after .ensures)) (c .before .before .before .before .before .index-line .ensures),
+)
 
 pub take-line-spec : {M : Type 1} → statement M
 take-line-spec =
@@ -101,24 +136,31 @@ take-line-spec =
     used-from-requires
     put-statement-requires
     kind-code-requires
+    index-line-requires
     after-requires
     same-length
     same-length-2
     same-length-3
     same-length-4
     same-length-5
-    returns
     same-length-6
     same-length-7
+    returns
     same-length-8
     same-length-9
     same-length-10
-    returns-2
     same-length-11
     same-length-12
     same-length-13
     same-length-14
+    returns-2
     same-length-15
     same-length-16
     same-length-17
+    same-length-18
+    same-length-19
+    same-length-20
+    same-length-21
+    same-length-22
+    same-length-23
     returns-3)

@@ -27,23 +27,23 @@ use Rattle.signals.proofs.too_wide.Reads as too-wide-reads
 use Rattle.signals.proofs.+bundle+signal.{statement}
 use Rattle.signals.proofs.+bundle+signal.Tie.{close}
 
-abbrev μ-bundle : Measures 5 bundle-kinds.ps ℕ
+abbrev μ-bundle : Measures 7 bundle-kinds.ps ℕ
 μ-bundle κs a = 2 * a .1 .1 .1 .0 + 1
 
-abbrev μ-signal : Measures 5 signal-kinds.ps ℕ
+abbrev μ-signal : Measures 7 signal-kinds.ps ℕ
 μ-signal κs a = 2 * a .1 .1 .1 .0
 
-abbrev bundle-at : ℕ → In 5 bundle-kinds.ps
-bundle-at t = and 5 bundle-kinds.ps (is 5 bundle-kinds.ps μ-bundle t) bundle.Pre
+abbrev bundle-at : ℕ → In 7 bundle-kinds.ps
+bundle-at t = and 7 bundle-kinds.ps (is 7 bundle-kinds.ps μ-bundle t) bundle.Pre
 
-abbrev bundle-below : ℕ → In 5 bundle-kinds.ps
-bundle-below t = and 5 bundle-kinds.ps (falls 5 bundle-kinds.ps _<_ μ-bundle t) bundle.Pre
+abbrev bundle-below : ℕ → In 7 bundle-kinds.ps
+bundle-below t = and 7 bundle-kinds.ps (falls 7 bundle-kinds.ps _<_ μ-bundle t) bundle.Pre
 
-abbrev signal-at : ℕ → In 5 signal-kinds.ps
-signal-at t = and 5 signal-kinds.ps (is 5 signal-kinds.ps μ-signal t) signal.Pre
+abbrev signal-at : ℕ → In 7 signal-kinds.ps
+signal-at t = and 7 signal-kinds.ps (is 7 signal-kinds.ps μ-signal t) signal.Pre
 
-abbrev signal-below : ℕ → In 5 signal-kinds.ps
-signal-below t = and 5 signal-kinds.ps (falls 5 signal-kinds.ps _<_ μ-signal t) signal.Pre
+abbrev signal-below : ℕ → In 7 signal-kinds.ps
+signal-below t = and 7 signal-kinds.ps (falls 7 signal-kinds.ps _<_ μ-signal t) signal.Pre
 
 abbrev bundle-calls : ℕ → bundle-lts.Claims
 bundle-calls t =
@@ -54,29 +54,29 @@ signal-calls t =
     (is-mark-reads.Asked, is-mark-reads.Learnt, bundle-below t, bundle.Post, slices-reads.Asked, slices-reads.Learnt, atom-reads.Asked, atom-reads.Learnt)
 
 abbrev bundle-Inv-loop : bundle-lts.InvT-loop
-bundle-Inv-loop f tokens i depth names wires scope scratch₀ o at₀ width₀ fault₀ scratch at width fault =
+bundle-Inv-loop f tokens i depth names wires scope scratch₀ o heads chain at₀ width₀ fault₀ scratch at width fault =
     MembersOn f tokens (wiresFrom names wires (scope .first) (scope .count)) i depth o scratch₀ scratch at width fault
 
 abbrev bundle-μ-loop : bundle-lts.MeasureT-loop
-bundle-μ-loop f tokens i depth names wires scope scratch₀ o at₀ width₀ fault₀ scratch at width fault =
+bundle-μ-loop f tokens i depth names wires scope scratch₀ o heads chain at₀ width₀ fault₀ scratch at width fault =
     length tokens / 4 - at
 
 bundle-loop-holds : (t : ℕ) → bundle-lts.Need-loop-holds (bundle-calls t) (bundle-at t) bundle.Post bundle-Inv-loop bundle-μ-loop
-bundle-loop-holds t c = members-on-start _ _ _ _ _ _ _ (c .before .before .before .before .before .pre .1 .0 .here)
+bundle-loop-holds t c = members-on-start _ _ _ _ _ _ _ (c .before .before .before .before .before .before .before .pre .1 .0 .here)
 
 bundle-is-mark-requires : (t : ℕ) → bundle-lts.Need-is-mark-requires (bundle-calls t) (bundle-at t) bundle.Post bundle-Inv-loop bundle-μ-loop
 bundle-is-mark-requires t c κs = tt
 
 bundle-add-put : (t : ℕ) → bundle-lts.Need-add-put (bundle-calls t) (bundle-at t) bundle.Post bundle-Inv-loop bundle-μ-loop
-bundle-add-put t c = omega (arith, c .before .before .before .before .before .before .before .before .before .pre .1 .1 .0, c .if2 .taken)
+bundle-add-put t c = omega (arith, c .before .before .before .before .before .before .before .before .before .before .before .pre .1 .1 .0, c .if2 .taken)
 
 bundle-add-put-2 : (t : ℕ) → bundle-lts.Need-add-put-2 (bundle-calls t) (bundle-at t) bundle.Post bundle-Inv-loop bundle-μ-loop
-bundle-add-put-2 t c = omega (arith, c .before .before .before .before .before .before .before .before .before .pre .1 .1 .0)
+bundle-add-put-2 t c = omega (arith, c .before .before .before .before .before .before .before .before .before .before .before .pre .1 .1 .0)
 
 bundle-signal-requires : (t : ℕ) → bundle-lts.Need-signal-requires (bundle-calls t) (bundle-at t) bundle.Post bundle-Inv-loop bundle-μ-loop
 bundle-signal-requires t c κs =
-    let P : Place (c .before .before .before .before .before .before .before .before .before .before .args .o) (c .before .before .before .before .loop .width) (c .before .if2 .put) = ⊎-elim (λ w. place-behind _ _ _ (w .0 .taken) (w .1)) (λ w. place-end _ _ _ (w .0 .left) (w .1)) (c .before .if2 .came) in
-    (omega (arith, c .before .before .before .before .before .before .before .before .before .before .pre .0), (readable-on _ _ _ _ (c .before .before .before .before .before .before .before .before .before .before .pre .1 .0) (c .before .before .before .before .loop .inv .within), (omega (arith, c .before .before .before .before .before .before .before .before .before .before .pre .1 .1 .0, c .before .before .before .before .loop .inv .kept .long, P .upto), c .before .before .before .before .before .before .before .before .before .before .pre .1 .1 .1)))
+    let P : Place (c .before .before .before .before .before .before .before .before .before .before .before .before .args .o) (c .before .before .before .before .loop .width) (c .before .if2 .put) = ⊎-elim (λ w. place-behind _ _ _ (w .0 .taken) (w .1)) (λ w. place-end _ _ _ (w .0 .left) (w .1)) (c .before .if2 .came) in
+    (omega (arith, c .before .before .before .before .before .before .before .before .before .before .before .before .pre .0), (readable-on _ _ _ _ (c .before .before .before .before .before .before .before .before .before .before .before .before .pre .1 .0) (c .before .before .before .before .loop .inv .within), (omega (arith, c .before .before .before .before .before .before .before .before .before .before .before .before .pre .1 .1 .0, c .before .before .before .before .loop .inv .kept .long, P .upto), c .before .before .before .before .before .before .before .before .before .before .before .before .pre .1 .1 .1, c .before .before .before .before .before .before .before .before .before .before .before .before .pre .1 .1 .2)))
 
 bundle-enum-known-m : (t : ℕ) → bundle-lts.Need-enum-known-m (bundle-calls t) (bundle-at t) bundle.Post bundle-Inv-loop bundle-μ-loop
 bundle-enum-known-m t c = search needs
@@ -89,13 +89,13 @@ bundle-same-length t c = c .before .before .before .before .signal .ensures .kep
 
 bundle-returns : (t : ℕ) → bundle-lts.Need-returns (bundle-calls t) (bundle-at t) bundle.Post bundle-Inv-loop bundle-μ-loop
 bundle-returns t c =
-    let P : Place (c .before .before .before .before .before .before .before .before .before .before .before .before .before .before .before .args .o) (c .before .before .before .before .before .before .before .before .before .loop .width) (c .before .before .before .before .before .before .if2 .put) = ⊎-elim (λ w. place-behind _ _ _ (w .0 .taken) (w .1)) (λ w. place-end _ _ _ (w .0 .left) (w .1)) (c .before .before .before .before .before .before .if2 .came) in
+    let P : Place (c .before .before .before .before .before .before .before .before .before .before .before .before .before .before .before .before .before .args .o) (c .before .before .before .before .before .before .before .before .before .loop .width) (c .before .before .before .before .before .before .if2 .put) = ⊎-elim (λ w. place-behind _ _ _ (w .0 .taken) (w .1)) (λ w. place-end _ _ _ (w .0 .left) (w .1)) (c .before .before .before .before .before .before .if2 .came) in
     bundle-broken _ _ _ _ _ _ _ _ _ _ _ (c .before .before .before .before .before .before .before .before .before .loop .inv) _ P _ (sym (c .before .before .before .before .before .before .before .before .is-mark .ensures) ∙ not-true _ (c .before .before .before .before .before .before .before .if1 .taken)) (rw (c .enum-told .given .1) at (c .before .before .before .before .signal .ensures))
 
 bundle-add-width : (t : ℕ) → bundle-lts.Need-add-width (bundle-calls t) (bundle-at t) bundle.Post bundle-Inv-loop bundle-μ-loop
 bundle-add-width t c =
     let A = rw (c .before .before .m .given .1) at (c .before .before .before .before .before .before .signal .ensures) in
-    omega (arith, c .before .before .before .before .before .before .before .before .before .before .before .loop .inv .few, c .before .before .before .before .before .before .before .before .before .before .before .loop .inv .from, A .read .0, A .read .1, A .read .2, c .before .before .before .before .before .before .before .before .before .before .before .before .before .before .before .before .before .pre .1 .0 .rows)
+    omega (arith, c .before .before .before .before .before .before .before .before .before .before .before .loop .inv .few, c .before .before .before .before .before .before .before .before .before .before .before .loop .inv .from, A .read .0, A .read .1, A .read .2, c .before .before .before .before .before .before .before .before .before .before .before .before .before .before .before .before .before .before .before .pre .1 .0 .rows)
 
 bundle-merge-requires : (t : ℕ) → bundle-lts.Need-merge-requires (bundle-calls t) (bundle-at t) bundle.Post bundle-Inv-loop bundle-μ-loop
 bundle-merge-requires t c κs = tt
@@ -107,12 +107,12 @@ bundle-loop-less t c =
 
 bundle-loop-again : (t : ℕ) → bundle-lts.Need-loop-again (bundle-calls t) (bundle-at t) bundle.Post bundle-Inv-loop bundle-μ-loop
 bundle-loop-again t c =
-    let P : Place (c .before .before .before .before .before .before .before .before .before .before .before .before .before .before .before .before .before .before .args .o) (c .before .before .before .before .before .before .before .before .before .before .before .before .loop .width) (c .before .before .before .before .before .before .before .before .before .if2 .put) = ⊎-elim (λ w. place-behind _ _ _ (w .0 .taken) (w .1)) (λ w. place-end _ _ _ (w .0 .left) (w .1)) (c .before .before .before .before .before .before .before .before .before .if2 .came) in
+    let P : Place (c .before .before .before .before .before .before .before .before .before .before .before .before .before .before .before .before .before .before .before .before .args .o) (c .before .before .before .before .before .before .before .before .before .before .before .before .loop .width) (c .before .before .before .before .before .before .before .before .before .if2 .put) = ⊎-elim (λ w. place-behind _ _ _ (w .0 .taken) (w .1)) (λ w. place-end _ _ _ (w .0 .left) (w .1)) (c .before .before .before .before .before .before .before .before .before .if2 .came) in
     let A = rw (c .before .before .before .m .given .1) at (c .before .before .before .before .before .before .before .signal .ensures) in
     bundle-on _ _ _ _ _ _ _ _ _ _ _ (c .before .before .before .before .before .before .before .before .before .before .before .before .loop .inv) _ P _ (sym (c .before .before .before .before .before .before .before .before .before .before .before .is-mark .ensures) ∙ not-true _ (c .before .before .before .before .before .before .before .before .before .before .if1 .taken)) _ _ _ (c .merge .ensures) A
 
-bundle-add-t22 : (t : ℕ) → bundle-lts.Need-add-t22 (bundle-calls t) (bundle-at t) bundle.Post bundle-Inv-loop bundle-μ-loop
-bundle-add-t22 t c = omega (arith, mark-below _ _ _ (sym (c .before .is-mark .ensures) ∙ not-false _ (c .if1 .left)))
+bundle-add-t24 : (t : ℕ) → bundle-lts.Need-add-t24 (bundle-calls t) (bundle-at t) bundle.Post bundle-Inv-loop bundle-μ-loop
+bundle-add-t24 t c = omega (arith, mark-below _ _ _ (sym (c .before .is-mark .ensures) ∙ not-false _ (c .if1 .left)))
 
 bundle-too-wide-requires : (t : ℕ) → bundle-lts.Need-too-wide-requires (bundle-calls t) (bundle-at t) bundle.Post bundle-Inv-loop bundle-μ-loop
 bundle-too-wide-requires t c κs = tt
@@ -139,7 +139,7 @@ signal-sub-bundle : (t : ℕ) → signal-lts.Need-sub-bundle (signal-calls t) (s
 signal-sub-bundle t c = omega (arith, c .if2 .left)
 
 signal-bundle-requires : (t : ℕ) → signal-lts.Need-bundle-requires (signal-calls t) (signal-at t) signal.Post
-signal-bundle-requires t c κs = (omega (arith, c .before .before .before .before .before .before .before .before .before .pre .0, c .before .if2 .left), (readable-on _ _ _ _ (c .before .before .before .before .before .before .before .before .before .pre .1 .0) (omega (arith, mark-below _ _ _ (sym (c .before .before .before .is-mark .ensures) ∙ c .before .before .if1 .taken))), (omega (arith, c .before .before .before .before .before .before .before .before .before .pre .1 .1 .0, c .before .if2 .left), c .before .before .before .before .before .before .before .before .before .pre .1 .1 .1)))
+signal-bundle-requires t c κs = (omega (arith, c .before .before .before .before .before .before .before .before .before .before .before .pre .0, c .before .if2 .left), (readable-on _ _ _ _ (c .before .before .before .before .before .before .before .before .before .before .before .pre .1 .0) (omega (arith, mark-below _ _ _ (sym (c .before .before .before .is-mark .ensures) ∙ c .before .before .if1 .taken))), (omega (arith, c .before .before .before .before .before .before .before .before .before .before .before .pre .1 .1 .0, c .before .if2 .left), c .before .before .before .before .before .before .before .before .before .before .before .pre .1 .1 .1, c .before .before .before .before .before .before .before .before .before .before .before .pre .1 .1 .2)))
 
 signal-enum-known-b : (t : ℕ) → signal-lts.Need-enum-known-b (signal-calls t) (signal-at t) signal.Post
 signal-enum-known-b t c = search needs
@@ -156,7 +156,7 @@ signal-returns-2 t c = signal-no-head _ _ _ _ _ _ _ _ _ _ (head-bundle _ _ _ _ (
 signal-slices-requires : (t : ℕ) → signal-lts.Need-slices-requires (signal-calls t) (signal-at t) signal.Post
 signal-slices-requires t c κs =
     let A = rw (c .before .before .b .given .1) at (c .before .before .before .before .before .before .bundle .ensures) in
-    ((c .before .before .before .before .before .before .before .before .before .before .before .before .before .before .before .before .pre .1 .0 .rows, A .read .1), (omega (arith, c .before .before .before .before .before .before .before .before .before .before .before .before .before .before .before .before .pre .1 .1 .0, c .before .before .before .before .before .before .bundle .ensures .kept .long), A .read .3 .held .small))
+    ((c .before .before .before .before .before .before .before .before .before .before .before .before .before .before .before .before .before .before .pre .1 .0 .rows, A .read .1), (omega (arith, c .before .before .before .before .before .before .before .before .before .before .before .before .before .before .before .before .before .before .pre .1 .1 .0, c .before .before .before .before .before .before .bundle .ensures .kept .long), A .read .3 .held .small))
 
 signal-same-length-2 : (t : ℕ) → signal-lts.Need-same-length-2 (signal-calls t) (signal-at t) signal.Post
 signal-same-length-2 t c = c .before .before .slices .ensures .kept .long ∙ c .before .before .before .before .before .before .before .before .before .bundle .ensures .kept .long
@@ -165,7 +165,7 @@ signal-returns-3 : (t : ℕ) → signal-lts.Need-returns-3 (signal-calls t) (sig
 signal-returns-3 t c = signal-with _ _ _ _ _ _ _ _ _ _ (head-bundle _ _ _ _ (c .before .before .before .before .before .before .before .before .before .before .before .if2 .left) (sym (c .before .before .before .before .before .before .before .before .before .before .before .before .before .is-mark .ensures) ∙ c .before .before .before .before .before .before .before .before .before .before .before .before .if1 .taken)) _ _ (rw (c .before .before .before .before .before .b .given .1) at (c .before .before .before .before .before .before .before .before .before .bundle .ensures)) _ _ (c .before .before .slices .ensures) (omega arith)
 
 signal-atom-requires : (t : ℕ) → signal-lts.Need-atom-requires (signal-calls t) (signal-at t) signal.Post
-signal-atom-requires t c κs = (c .before .before .before .before .before .before .before .before .pre .1 .0, (omega (arith, c .before .before .before .before .before .before .before .before .pre .1 .1 .0), c .before .before .before .before .before .before .before .before .pre .1 .1 .1))
+signal-atom-requires t c κs = (c .before .before .before .before .before .before .before .before .before .before .pre .1 .0, (omega (arith, c .before .before .before .before .before .before .before .before .before .before .pre .1 .1 .0), c .before .before .before .before .before .before .before .before .before .before .pre .1 .1 .1, c .before .before .before .before .before .before .before .before .before .before .pre .1 .1 .2))
 
 signal-enum-known-a : (t : ℕ) → signal-lts.Need-enum-known-a (signal-calls t) (signal-at t) signal.Post
 signal-enum-known-a t c = search needs
@@ -182,7 +182,7 @@ signal-returns-4 t c = signal-no-head _ _ _ _ _ _ _ _ _ _ (head-atom _ _ _ _ (sy
 signal-slices-requires-2 : (t : ℕ) → signal-lts.Need-slices-requires-2 (signal-calls t) (signal-at t) signal.Post
 signal-slices-requires-2 t c κs =
     let A = rw (c .before .before .a .given .1) at (c .before .before .before .before .before .before .atom .ensures) in
-    ((c .before .before .before .before .before .before .before .before .before .before .before .before .before .before .before .pre .1 .0 .rows, A .read .1), (omega (arith, c .before .before .before .before .before .before .before .before .before .before .before .before .before .before .before .pre .1 .1 .0, c .before .before .before .before .before .before .atom .ensures .kept .long), A .read .3 .held .small))
+    ((c .before .before .before .before .before .before .before .before .before .before .before .before .before .before .before .before .before .pre .1 .0 .rows, A .read .1), (omega (arith, c .before .before .before .before .before .before .before .before .before .before .before .before .before .before .before .before .before .pre .1 .1 .0, c .before .before .before .before .before .before .atom .ensures .kept .long), A .read .3 .held .small))
 
 signal-same-length-4 : (t : ℕ) → signal-lts.Need-same-length-4 (signal-calls t) (signal-at t) signal.Post
 signal-same-length-4 t c = c .before .before .slices2 .ensures .kept .long ∙ c .before .before .before .before .before .before .before .before .before .atom .ensures .kept .long
@@ -209,7 +209,7 @@ pub +bundle+signal-spec : {M : Type 1} → statement M
     (bundle-merge-requires t)
     (bundle-loop-less t)
     (bundle-loop-again t)
-    (bundle-add-t22 t)
+    (bundle-add-t24 t)
     (bundle-too-wide-requires t)
     (bundle-merge-requires-2 t)
     (bundle-same-length-2 t)

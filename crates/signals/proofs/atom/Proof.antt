@@ -21,19 +21,19 @@ part-requires : tie.Need-part-requires
 part-requires c κs = tt
 
 wire-bits-requires : tie.Need-wire-bits-requires
-wire-bits-requires c κs = c .before .before .before .before .before .before .before .before .before .before .before .pre .1
+wire-bits-requires c κs = c .before .before .before .before .before .before .before .before .before .before .before .before .before .pre .1
 
-add-t19 : tie.Need-add-t19
-add-t19 c = search needs
+add-t21 : tie.Need-add-t21
+add-t21 c = search needs
 
 enum-known-c : tie.Need-enum-known-c
 enum-known-c c = search needs
 
 literal-bits-requires : tie.Need-literal-bits-requires
-literal-bits-requires c κs = (c .before .before .before .before .before .before .before .before .before .before .pre .0 .file, c .before .before .before .before .before .before .before .before .before .before .pre .1 .0, subst (WholeToken (now (c .before .before .before .before .before .before .before .before .before .before .args .f))) (sym (c .before .before .before .before .token-at .ensures) ∙ c .before .before .c .given .1) (c .before .before .before .before .before .before .before .before .before .before .pre .0 .closed .whole (c .before .before .before .before .before .before .before .before .before .before .args .i)))
+literal-bits-requires c κs = (c .before .before .before .before .before .before .before .before .before .before .before .before .pre .0 .file, c .before .before .before .before .before .before .before .before .before .before .before .before .pre .1 .0, subst (WholeToken (now (c .before .before .before .before .before .before .before .before .before .before .before .before .args .f))) (sym (c .before .before .before .before .token-at .ensures) ∙ c .before .before .c .given .1) (c .before .before .before .before .before .before .before .before .before .before .before .before .pre .0 .closed .whole (c .before .before .before .before .before .before .before .before .before .before .before .before .args .i)))
 
-add-t22 : tie.Need-add-t22
-add-t22 c = search needs
+add-t24 : tie.Need-add-t24
+add-t24 c = search needs
 
 enum-told : tie.Need-enum-told
 enum-told c = search needs
@@ -76,10 +76,10 @@ atom-spec =
     enum-known-start
     part-requires
     wire-bits-requires
-    add-t19
+    add-t21
     enum-known-c
     literal-bits-requires
-    add-t22
+    add-t24
     enum-told
     enum-told-2
     enum-told-3

@@ -10,8 +10,8 @@ use borrow.Author.Needs.{needs}
 use Rattle.signals.proofs.wire_bits.Statement.{statement}
 use Rattle.signals.proofs.wire_bits.Tie as tie
 
-find-wire-requires : tie.Need-find-wire-requires
-find-wire-requires c κs = tt
+indexed-wire-requires : tie.Need-indexed-wire-requires
+indexed-wire-requires c κs = c .before .before .before .before .before .before .pre .2
 
 enum-known-number : tie.Need-enum-known-number
 enum-known-number c = search needs
@@ -20,12 +20,12 @@ cast-width : tie.Need-cast-width
 cast-width c = search needs
 
 returns : tie.Need-returns
-returns c = wire-over _ _ _ _ (c .before .before .before .before .find-wire .ensures ∙ ap foundOf (c .before .before .number .given .1)) _ _ (omega arith) (c .if1 .taken)
+returns c = wire-over _ _ _ _ (c .before .before .before .before .indexed-wire .ensures ∙ ap foundOf (c .before .before .number .given .1)) _ _ (omega arith) (c .if1 .taken)
 
 put-wire-requires : tie.Need-put-wire-requires
 put-wire-requires c κs =
-    let F = c .before .before .before .before .before .find-wire .ensures ∙ ap foundOf (c .before .before .before .number .given .1) in
-    (omega (arith, c .before .if1 .left), omega (arith, wire-number _ _ _ _ F, length-wires (now (c .before .before .before .before .before .before .before .before .before .before .args .names)) (now (c .before .before .before .before .before .before .before .before .before .before .args .wires)) (c .before .before .before .before .before .before .before .before .before .before .args .scope .first) (c .before .before .before .before .before .before .before .before .before .before .args .scope .count), c .before .before .before .before .before .before .before .before .before .before .pre), c .before .if1 .left)
+    let F = c .before .before .before .before .before .indexed-wire .ensures ∙ ap foundOf (c .before .before .before .number .given .1) in
+    (omega (arith, c .before .if1 .left), omega (arith, wire-number _ _ _ _ F, length-wires (now (c .before .before .before .before .before .before .before .before .before .before .before .before .args .names)) (now (c .before .before .before .before .before .before .before .before .before .before .before .before .args .wires)) (c .before .before .before .before .before .before .before .before .before .before .before .before .args .scope .first) (c .before .before .before .before .before .before .before .before .before .before .before .before .args .scope .count), c .before .before .before .before .before .before .before .before .before .before .before .before .pre .1), c .before .if1 .left)
 
 enum-told : tie.Need-enum-told
 enum-told c = search needs
@@ -34,16 +34,16 @@ same-length : tie.Need-same-length
 same-length c = search needs
 
 returns-2 : tie.Need-returns-2
-returns-2 c = wire-put-fits _ _ _ _ (c .before .before .before .before .before .before .before .before .find-wire .ensures ∙ ap foundOf (c .before .before .before .before .before .before .number .given .1)) _ _ _ (c .before .before .before .before .if1 .left) (c .before .before .before .before .before .before .before .before .before .before .before .before .before .pre .0) (c .before .before .put-wire .ensures)
+returns-2 c = wire-put-fits _ _ _ _ (c .before .before .before .before .before .before .before .before .indexed-wire .ensures ∙ ap foundOf (c .before .before .before .before .before .before .number .given .1)) _ _ _ (c .before .before .before .before .if1 .left) (c .before .before .before .before .before .before .before .before .before .before .before .before .before .before .before .pre .0) (c .before .before .put-wire .ensures)
 
 returns-3 : tie.Need-returns-3
-returns-3 c = put-not _ _ _ _ _ (omega arith) 8 (wire-nothing _ _ (c .before .before .find-wire .ensures ∙ ap foundOf (c .enum-told .given .1))) (omega arith) (omega arith)
+returns-3 c = put-not _ _ _ _ _ (omega arith) 8 (wire-nothing _ _ (c .before .before .indexed-wire .ensures ∙ ap foundOf (c .enum-told .given .1))) (omega arith) (omega arith)
 
 pub wire-bits-spec : {M : Type 1} → statement M
 wire-bits-spec =
     tie.close
     (tie.spec
-    find-wire-requires
+    indexed-wire-requires
     enum-known-number
     cast-width
     returns

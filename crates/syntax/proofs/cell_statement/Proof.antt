@@ -18,17 +18,17 @@ enum-told : tie.Need-enum-told
 enum-told c = search needs
 
 cell-connection-statement-requires : tie.Need-cell-connection-statement-requires
-cell-connection-statement-requires c κs = search needs
+cell-connection-statement-requires c κs = c .before .before .before .before .before .before .before .before .before .before .before .pre
 
 returns : tie.Need-returns
 unfolding cellKindOf
-returns c first attributed = rw (c .before .before .before .before .cell-line-kind .ensures .0 (c .before .before .before .before .before .before .before .before .before .before .args .f .now) first attributed, c .before .before .form .given .1) (c .form-statement .ensures (form-whole _ _ (c .before .before .before .before .before .before .before .before .before .before .pre .rows .closed) (c .before .before .form .given .0 .0) (rw (c .before .before .form .given .1) at (c .before .before .before .before .cell-line-kind .ensures .1))) _ _)
+returns c first attributed = rw (c .before .before .before .before .cell-line-kind .ensures .0 (c .before .before .before .before .before .before .before .before .before .before .before .before .args .f .now) first attributed, c .before .before .form .given .1) (c .form-statement .ensures (form-whole _ _ (c .before .before .before .before .before .before .before .before .before .before .before .before .pre .0 .rows .closed) (c .before .before .form .given .0 .0) (rw (c .before .before .form .given .1) at (c .before .before .before .before .cell-line-kind .ensures .1))) _ _)
 
 same-length : tie.Need-same-length
 same-length c = search needs
 
 returns-2 : tie.Need-returns-2
-returns-2 c first attributed = rw (c .before .before .before .before .before .before .cell-line-kind .ensures .0 (c .before .before .before .before .before .before .before .before .before .before .before .before .args .f .now) first attributed, c .before .before .before .before .enum-told .given .1) (c .before .before .cell-connection-statement .ensures)
+returns-2 c first attributed = rw (c .before .before .before .before .before .before .cell-line-kind .ensures .0 (c .before .before .before .before .before .before .before .before .before .before .before .before .before .before .args .f .now) first attributed, c .before .before .before .before .enum-told .given .1) (c .before .before .cell-connection-statement .ensures)
 
 pub cell-statement-spec : {M : Type 1} → statement M
 cell-statement-spec =

@@ -11,7 +11,7 @@ use Rattle.syntax.proofs.connection_statement.Tie as tie
 use Rattle.syntax.specs.Statements.{no-shape}
 
 signal-requires : tie.Need-signal-requires
-signal-requires c κs = search needs
+signal-requires c κs = (c .before .before .before .before .before .before .before .before .pre .0 .rows, (omega (arith, c .before .before .before .before .before .before .before .before .pre .0 .room), c .before .before .before .before .before .before .before .before .pre .0 .few, c .before .before .before .before .before .before .before .before .pre .1))
 
 enum-known-next : tie.Need-enum-known-next
 enum-known-next c = search needs
@@ -28,7 +28,7 @@ returns c = no-shape (no-left _ _ (rw (c .enum-told .given .1) at (c .before .be
 signal-requires-2 : tie.Need-signal-requires-2
 signal-requires-2 c κs =
     let a = rw (c .before .before .next .given .1) at (c .before .before .before .before .before .before .signal .ensures .read) in
-    (readable-on _ _ _ _ (c .before .before .before .before .before .before .before .before .before .before .before .before .before .pre .rows) (a .1), (omega (arith, c .before .before .before .before .before .before .signal .ensures .kept .long, c .before .before .before .before .before .before .before .before .before .before .before .before .before .pre .room), c .before .before .before .before .before .before .before .before .before .before .before .before .before .pre .few))
+    (readable-on _ _ _ _ (c .before .before .before .before .before .before .before .before .before .before .before .before .before .before .before .pre .0 .rows) (a .1), (omega (arith, c .before .before .before .before .before .before .signal .ensures .kept .long, c .before .before .before .before .before .before .before .before .before .before .before .before .before .before .before .pre .0 .room), c .before .before .before .before .before .before .before .before .before .before .before .before .before .before .before .pre .0 .few, c .before .before .before .before .before .before .before .before .before .before .before .before .before .before .before .pre .1))
 
 enum-known-end : tie.Need-enum-known-end
 enum-known-end c = search needs

@@ -14,20 +14,20 @@ form-statement-requires c κs = search needs
 
 returns : tie.Need-returns
 unfolding scopeOf contextOf
-returns c = rw (c .before .before .if1 .taken, c .before .top-line .ensures .0 (c .before .before .before .before .before .before .before .before .before .args .f .now) (c .before .before .before .before .before .before .before .before .before .args .place .attributed)) (c .form-statement .ensures (form-whole _ _ (c .before .before .before .before .before .before .before .before .before .pre .rows .closed) (c .before .top-line .result) (c .before .top-line .ensures .1)) _ _)
+returns c = rw (c .before .before .if1 .taken, c .before .top-line .ensures .0 (c .before .before .before .before .before .before .before .before .before .before .before .args .f .now) (c .before .before .before .before .before .before .before .before .before .before .before .args .place .attributed)) (c .form-statement .ensures (form-whole _ _ (c .before .before .before .before .before .before .before .before .before .before .before .pre .0 .rows .closed) (c .before .top-line .result) (c .before .top-line .ensures .1)) _ _)
 
 module-statement-requires : tie.Need-module-statement-requires
-module-statement-requires c κs = search needs
+module-statement-requires c κs = c .before .before .before .before .before .before .before .before .before .before .before .before .pre
 
 same-length : tie.Need-same-length
 same-length c = search needs
 
 returns-2 : tie.Need-returns-2
 unfolding scopeOf contextOf
-returns-2 c = rw (c .before .before .before .before .if2 .taken) (c .before .before .module-statement .ensures (c .before .before .before .before .before .before .before .before .before .before .before .before .before .args .place .first))
+returns-2 c = rw (c .before .before .before .before .if2 .taken) (c .before .before .module-statement .ensures (c .before .before .before .before .before .before .before .before .before .before .before .before .before .before .before .args .place .first))
 
 cell-statement-requires : tie.Need-cell-statement-requires
-cell-statement-requires c κs = search needs
+cell-statement-requires c κs = c .before .before .before .before .before .before .before .before .before .before .before .before .pre
 
 same-length-2 : tie.Need-same-length-2
 same-length-2 c = search needs

@@ -30,23 +30,23 @@ enum-told-3 : tie.Need-enum-told-3
 enum-told-3 c = search needs
 
 connection-statement-requires : tie.Need-connection-statement-requires
-connection-statement-requires c κs = search needs
+connection-statement-requires c κs = c .before .before .before .before .before .before .before .before .before .before .before .pre
 
 returns : tie.Need-returns
 unfolding kindOf
-returns c first = rw (c .before .before .before .before .module-line-kind .ensures .0 (c .before .before .before .before .before .before .before .before .before .before .args .f .now) first, c .before .before .form .given .1) (c .form-statement .ensures (form-whole _ _ (c .before .before .before .before .before .before .before .before .before .before .pre .rows .closed) (c .before .before .form .given .0 .0) (rw (c .before .before .form .given .1) at (c .before .before .before .before .module-line-kind .ensures .1))) _ _)
+returns c first = rw (c .before .before .before .before .module-line-kind .ensures .0 (c .before .before .before .before .before .before .before .before .before .before .before .before .args .f .now) first, c .before .before .form .given .1) (c .form-statement .ensures (form-whole _ _ (c .before .before .before .before .before .before .before .before .before .before .before .before .pre .0 .rows .closed) (c .before .before .form .given .0 .0) (rw (c .before .before .form .given .1) at (c .before .before .before .before .module-line-kind .ensures .1))) _ _)
 
 returns-2 : tie.Need-returns-2
-returns-2 c first = rw (c .before .before .before .module-line-kind .ensures .0 (c .before .before .before .before .before .before .before .before .before .args .f .now) first, c .before .enum-told .given .1) (c .wire-statement .ensures _ _)
+returns-2 c first = rw (c .before .before .before .module-line-kind .ensures .0 (c .before .before .before .before .before .before .before .before .before .before .before .args .f .now) first, c .before .enum-told .given .1) (c .wire-statement .ensures _ _)
 
 returns-3 : tie.Need-returns-3
-returns-3 c first = rw (c .before .before .before .module-line-kind .ensures .0 (c .before .before .before .before .before .before .before .before .before .args .f .now) first, c .before .enum-told2 .given .1) (c .memory-statement .ensures _ _)
+returns-3 c first = rw (c .before .before .before .module-line-kind .ensures .0 (c .before .before .before .before .before .before .before .before .before .before .before .args .f .now) first, c .before .enum-told2 .given .1) (c .memory-statement .ensures _ _)
 
 same-length : tie.Need-same-length
 same-length c = search needs
 
 returns-4 : tie.Need-returns-4
-returns-4 c first = rw (c .before .before .before .before .before .before .module-line-kind .ensures .0 (c .before .before .before .before .before .before .before .before .before .before .before .before .args .f .now) first, c .before .before .before .before .enum-told3 .given .1) (c .before .before .connection-statement .ensures)
+returns-4 c first = rw (c .before .before .before .before .before .before .module-line-kind .ensures .0 (c .before .before .before .before .before .before .before .before .before .before .before .before .before .before .args .f .now) first, c .before .before .before .before .enum-told3 .given .1) (c .before .before .connection-statement .ensures)
 
 pub module-statement-spec : {M : Type 1} → statement M
 module-statement-spec =

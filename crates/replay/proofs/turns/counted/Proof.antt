@@ -14,42 +14,42 @@ use Rattle.replay.proofs.turns.counted.Tie as tie
 row-name-requires : tie.Need-row-name-requires
 row-name-requires c κs = tt
 
-name-found-requires : tie.Need-name-found-requires
-name-found-requires c κs = c .before .before .before .pre .0 .bounds
+indexed-found-requires : tie.Need-indexed-found-requires
+indexed-found-requires c κs = (c .before .before .before .before .before .pre .0 .bounds, c .before .before .before .before .before .pre .1 .1)
 
 returns : tie.Need-returns
-returns c = counted-taken _ _ _ _ _ _ _ _ _ _ (c .before .before .row-name .ensures) (c .before .name-found .ensures) (c .if1 .taken)
+returns c = counted-taken _ _ _ _ _ _ _ _ _ _ (c .before .before .row-name .ensures) (c .before .indexed-found .ensures) (c .if1 .taken)
 
 small-parts-requires : tie.Need-small-parts-requires
 small-parts-requires c κs = search needs
 
 returns-2 : tie.Need-returns-2
-returns-2 c = counted-large _ _ _ _ _ _ _ _ _ _ (c .before .before .before .before .row-name .ensures) (c .before .before .before .name-found .ensures) (sym (c .before .small-parts .ensures) ∙ not-true _ (c .if2 .taken))
+returns-2 c = counted-large _ _ _ _ _ _ _ _ _ _ (c .before .before .before .before .row-name .ensures) (c .before .before .before .indexed-found .ensures) (sym (c .before .small-parts .ensures) ∙ not-true _ (c .if2 .taken))
 
 kind-sizes-requires : tie.Need-kind-sizes-requires
 kind-sizes-requires c κs = search needs
 
 plus-requires : tie.Need-plus-requires
-plus-requires c κs = (within-small _ 2147483647 (omega arith) (c .before .before .before .before .before .before .before .before .pre .0 .within), told-small _ _ _ _ _ _ (c .before .before .before .before .before .before .before .before .pre .1) (kind-sizes-are _ _ _ _ _ _ (c .kind-sizes .ensures)) (sym (c .before .before .small-parts .ensures) ∙ not-false _ (c .before .if2 .left)))
+plus-requires c κs = (within-small _ 2147483647 (omega arith) (c .before .before .before .before .before .before .before .before .before .before .pre .0 .within), told-small _ _ _ _ _ _ (c .before .before .before .before .before .before .before .before .before .before .pre .1 .0) (kind-sizes-are _ _ _ _ _ _ (c .kind-sizes .ensures)) (sym (c .before .before .small-parts .ensures) ∙ not-false _ (c .before .if2 .left)))
 
 within-requires : tie.Need-within-requires
 within-requires c κs = search needs
 
 returns-3 : tie.Need-returns-3
-returns-3 c = counted-exceeds _ _ _ _ _ _ _ _ _ _ (c .before .before .before .before .before .before .before .before .row-name .ensures) (c .before .before .before .before .before .before .before .name-found .ensures) _ (kind-sizes-are _ _ _ _ _ _ (c .before .before .before .kind-sizes .ensures)) _ (c .before .before .plus .ensures) (c .before .within .ensures) (not-true _ (c .if3 .taken))
+returns-3 c = counted-exceeds _ _ _ _ _ _ _ _ _ _ (c .before .before .before .before .before .before .before .before .row-name .ensures) (c .before .before .before .before .before .before .before .indexed-found .ensures) _ (kind-sizes-are _ _ _ _ _ _ (c .before .before .before .kind-sizes .ensures)) _ (c .before .before .plus .ensures) (c .before .within .ensures) (not-true _ (c .if3 .taken))
 
 after-requires : tie.Need-after-requires
-after-requires c κs = (omega (arith, c .before .before .before .before .before .before .before .before .before .before .before .pre .0 .few), c .before .before .before .before .before .before .before .before .before .before .before .pre .0 .bounds)
+after-requires c κs = (omega (arith, c .before .before .before .before .before .before .before .before .before .before .before .before .before .pre .0 .few), c .before .before .before .before .before .before .before .before .before .before .before .before .before .pre .0 .bounds)
 
 returns-4 : tie.Need-returns-4
-returns-4 c = counted-next _ _ _ _ _ _ _ _ _ _ (c .before .before .before .before .before .before .before .before .before .row-name .ensures) (c .before .before .before .before .before .before .before .before .name-found .ensures) _ (kind-sizes-are _ _ _ _ _ _ (c .before .before .before .before .kind-sizes .ensures)) _ (c .before .before .before .plus .ensures) (c .before .before .within .ensures) (c .before .before .before .before .before .before .before .if1 .left) (not-false _ (c .before .if3 .left)) _ (after-is _ _ _ (c .after .ensures))
+returns-4 c = counted-next _ _ _ _ _ _ _ _ _ _ (c .before .before .before .before .before .before .before .before .before .row-name .ensures) (c .before .before .before .before .before .before .before .before .indexed-found .ensures) _ (kind-sizes-are _ _ _ _ _ _ (c .before .before .before .before .kind-sizes .ensures)) _ (c .before .before .before .plus .ensures) (c .before .before .within .ensures) (c .before .before .before .before .before .before .before .if1 .left) (not-false _ (c .before .if3 .left)) _ (after-is _ _ _ (c .after .ensures))
 
 pub counted-spec : {M : Type 1} → statement M
 counted-spec =
     tie.close
     (tie.spec
     row-name-requires
-    name-found-requires
+    indexed-found-requires
     returns
     small-parts-requires
     returns-2

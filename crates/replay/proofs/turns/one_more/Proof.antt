@@ -33,16 +33,16 @@ returns-2 : tie.Need-returns-2
 returns-2 c = turn-kind _ _ _ _ _ (c .before .before .get-row .ensures) (sym (c .before .stands-at .ensures) ∙ not-true _ (c .if2 .taken))
 
 used-from-requires : tie.Need-used-from-requires
-used-from-requires c κs = c .before .before .before .before .before .before .before .before .before .before .pre .within
+used-from-requires c κs = c .before .before .before .before .before .before .before .before .before .before .before .before .pre .0 .within
 
 statement-at-requires : tie.Need-statement-at-requires
-statement-at-requires c κs = (small-used (usedOf (c .used-from .result)) (c .before .before .before .before .before .before .before .before .before .before .before .args .p) (c .before .before .before .before .before .before .before .before .before .before .before .args .u) (c .used-from .ensures) (c .before .before .before .before .before .before .before .before .before .before .before .pre .within), wires-fit (usedOf (c .used-from .result)) (c .before .before .before .before .before .before .before .before .before .before .before .args .p) (c .before .before .before .before .before .before .before .before .before .before .before .args .u) (c .used-from .ensures) (c .before .before .before .before .before .before .before .before .before .before .before .pre .bounds))
+statement-at-requires c κs = (small-used (usedOf (c .used-from .result)) (c .before .before .before .before .before .before .before .before .before .before .before .before .before .args .p) (c .before .before .before .before .before .before .before .before .before .before .before .before .before .args .u) (c .used-from .ensures) (c .before .before .before .before .before .before .before .before .before .before .before .before .before .pre .0 .within), wires-fit (usedOf (c .used-from .result)) (c .before .before .before .before .before .before .before .before .before .before .before .before .before .args .p) (c .before .before .before .before .before .before .before .before .before .before .before .before .before .args .u) (c .used-from .ensures) (c .before .before .before .before .before .before .before .before .before .before .before .before .before .pre .0 .bounds))
 
 enum-known-f : tie.Need-enum-known-f
 enum-known-f c = search needs
 
 counted-requires : tie.Need-counted-requires
-counted-requires c κs = (c .before .before .before .before .before .before .before .before .before .before .before .before .before .before .before .pre, turn-told (tabled (now (c .before .before .before .before .before .before .before .before .before .before .before .before .before .before .before .args .names)) (now (c .before .before .before .before .before .before .before .before .before .before .before .before .before .before .before .args .strings)) (now (c .before .before .before .before .before .before .before .before .before .before .before .before .before .before .before .args .bits)) (now (c .before .before .before .before .before .before .before .before .before .before .before .before .before .before .before .args .wires))) (now (c .before .before .before .before .before .before .before .before .before .before .before .before .before .before .before .args .rows)) (c .before .before .before .before .before .before .before .before .before .before .before .before .before .before .before .args .p) (c .before .before .before .before .before .before .before .before .before .before .before .before .before .before .before .args .u) (c .before .before .before .before .before .before .before .get-row .result) (c .before .before .before .before .before .before .before .get-row .ensures) (usedOf (c .before .before .before .before .used-from .result)) (c .before .before .before .before .used-from .ensures) (c .before .before .before .statement-at .result) (c .before .before .before .statement-at .ensures) _ _ _ _ (c .before .f .given .1))
+counted-requires c κs = (c .before .before .before .before .before .before .before .before .before .before .before .before .before .before .before .before .before .pre .0, (turn-told (tabled (now (c .before .before .before .before .before .before .before .before .before .before .before .before .before .before .before .before .before .args .names)) (now (c .before .before .before .before .before .before .before .before .before .before .before .before .before .before .before .before .before .args .strings)) (now (c .before .before .before .before .before .before .before .before .before .before .before .before .before .before .before .before .before .args .bits)) (now (c .before .before .before .before .before .before .before .before .before .before .before .before .before .before .before .before .before .args .wires))) (now (c .before .before .before .before .before .before .before .before .before .before .before .before .before .before .before .before .before .args .rows)) (c .before .before .before .before .before .before .before .before .before .before .before .before .before .before .before .before .before .args .p) (c .before .before .before .before .before .before .before .before .before .before .before .before .before .before .before .before .before .args .u) (c .before .before .before .before .before .before .before .get-row .result) (c .before .before .before .before .before .before .before .get-row .ensures) (usedOf (c .before .before .before .before .used-from .result)) (c .before .before .before .before .used-from .ensures) (c .before .before .before .statement-at .result) (c .before .before .before .statement-at .ensures) _ _ _ _ (c .before .f .given .1), c .before .before .before .before .before .before .before .before .before .before .before .before .before .before .before .before .before .pre .1))
 
 enum-told : tie.Need-enum-told
 enum-told c = search needs

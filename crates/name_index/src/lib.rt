@@ -1,0 +1,186 @@
+// A private index of names: rows by the hash of their names, the youngest first. It is no part of design memory.
+// heads: for each hash one more than the youngest row of that hash, or 0; chain: for each row one more than the next older row of its hash, or 0.
+// Behind these, from places 513 and 4706 on, the same of the rows of wires.
+use netlist::rows::Kinds;
+use netlist::rows::has_name;
+use netlist::rows::row_kind;
+use netlist::rows::row_name;
+use netlist::spaces::space_from;
+use netlist::spaces::space_kinds;
+use numbers::kinds::WireNumber;
+use past::place::Place;
+use scanner::names::same_bytes;
+use wires::Found;
+use wires::bytes_at;
+use wires::column;
+ghost use mathlib.Core.Path.{_≡_};
+ghost use Prim.Native.Nat.{_+_, _<_};
+ghost use mathlib.Core.Bool.{cond};
+ghost use lib.Dec.{eqb};
+ghost use lib.ListN.{length, getD, set};
+ghost use Rattle.rules.specs.Bytes.{same, any};
+ghost use Rattle.netlist.specs.Rows.{namesBetween};
+ghost use Rattle.netlist.specs.Kinds.{isKind, hasName};
+ghost use Rattle.netlist.specs.Found.{foundIn};
+ghost use Rattle.past.specs.Place.{Bounds};
+ghost use Rattle.wires.specs.Found.{FoundIs};
+ghost use Rattle.name_index.specs.Index.{hashOf, keyAt, Named, Indexed, WiresIndexed, LinesIndexed};
+
+// Below 512.
+pub fn hash(name: &[u8]) -> usize
+    ensures { λ r. ⌜ r ≡ hashOf (now (name .entry)) ⌝ }
+{
+    let mut h: usize = 0;
+    let mut i = 0;
+    while i < name.len() {
+        h = (h * 31 + name[i] as usize) % 512;
+        i += 1;
+    }
+    h
+}
+
+// One row more, whose name has this hash: its place in the chain, and one more than its number.
+pub fn put(heads: &mut [u32], chain: &mut [u32], at: u32, h: usize, more: u32)
+    requires { ⌜ (h < length (now heads)) × (at < length (now chain)) ⌝ }
+    ensures { λ _. ⌜ (now (heads .exit) ≡ set (now (heads .entry)) h more) × (now (chain .exit) ≡ set (now (chain .entry)) at (getD (now (heads .entry)) h 0)) ⌝ }
+{
+    chain[at as usize] = heads[h];
+    heads[h] = more;
+}
+
+// The answer of `name_taken`: of the rows with the name's hash only, from the youngest down to `from`.
+pub fn indexed_taken(
+    names: &[u8],
+    rows: &[u32],
+    heads: &[u32],
+    chain: &[u32],
+    from: u32,
+    count: u32,
+    kinds: Kinds,
+    name: &[u8],
+) -> bool
+    requires { ⌜ Indexed (now heads) (now chain) (keyAt (now names) (now rows)) (from + count) ⌝ }
+    requires { ⌜ Named (now rows) (isKind kinds) from count ⌝ }
+    ensures { λ r. ⌜ r ≡ any (same (now (name .entry))) (namesBetween (now (names .entry)) (now (rows .entry)) (isKind kinds) from count) ⌝ }
+{
+    let h = hash(name);
+    let mut at = heads[h];
+    while from < at {
+        let row = (at - 1) as usize;
+        if has_name(names, rows, row, kinds, name) {
+            return true;
+        }
+        at = chain[row];
+    }
+    false
+}
+
+// The answer of `name_found`: whether a statement's name of this kind, at this place, is taken in its name space.
+pub fn indexed_found(
+    names: &[u8],
+    rows: &[u32],
+    heads: &[u32],
+    chain: &[u32],
+    place: Place,
+    kind: u32,
+    name: &[u8],
+) -> bool
+    requires { ⌜ Bounds place ⌝ }
+    requires { ⌜ Indexed (now heads) (now chain) (keyAt (now names) (now rows)) (place .rows) ⌝ }
+    ensures { λ r. ⌜ r ≡ foundIn (now (names .entry)) (now (rows .entry)) place kind (now (name .entry)) ⌝ }
+{
+    let from = space_from(place, kind);
+    indexed_taken(
+        names,
+        rows,
+        heads,
+        chain,
+        from,
+        place.rows - from,
+        space_kinds(kind),
+        name,
+    )
+}
+
+// Kinds with a name.
+fn is_named(kind: u32) -> bool
+    ensures { λ r. ⌜ r ≡ hasName kind ⌝ }
+{
+    if kind == 1 {
+        return false;
+    }
+    if kind == 10 {
+        return false;
+    }
+    kind != 12
+}
+
+fn row_key(names: &[u8], rows: &[u32], row: u32) -> usize
+    ensures { λ r. ⌜ r ≡ keyAt (now (names .entry)) (now (rows .entry)) row ⌝ }
+{
+    if is_named(row_kind(rows, row)) {
+        return hash(row_name(names, rows, row));
+    }
+    512
+}
+
+// The row behind those that are indexed.
+pub fn index_row(names: &[u8], rows: &[u32], heads: &mut [u32], chain: &mut [u32], row: u32)
+    requires { ⌜ Indexed (now heads) (now chain) (keyAt (now names) (now rows)) row ⌝ }
+    requires { ⌜ (row < length (now chain)) × (row < 4294967295) ⌝ }
+    ensures { λ _. ⌜ Indexed (now (heads .exit)) (now (chain .exit)) (keyAt (now (names .entry)) (now (rows .entry))) (row + 1) ⌝ }
+    ensures { λ _. ⌜ length (now (chain .exit)) ≡ length (now (chain .entry)) ⌝ }
+{
+    let h = row_key(names, rows, row);
+    put(heads, chain, row, h, row + 1);
+}
+
+// The line behind those that are indexed, by its kind: its row and, where it is a wire, the wire's.
+pub fn index_line(
+    names: &[u8],
+    wires: &[u32],
+    rows: &[u32],
+    heads: &mut [u32],
+    chain: &mut [u32],
+    row: u32,
+    wire: u32,
+    kind: u32,
+)
+    requires { ⌜ LinesIndexed (now heads) (now chain) (now names) (now wires) (now rows) row wire ⌝ }
+    requires { ⌜ (row < 4706) × (wire < 513) ⌝ }
+    ensures { λ _. ⌜ LinesIndexed (now (heads .exit)) (now (chain .exit)) (now (names .entry)) (now (wires .entry)) (now (rows .entry)) (row + 1) (wire + cond (eqb kind 5) 1 0) ⌝ }
+{
+    let h = row_key(names, rows, row);
+    put(heads, chain, row, h, row + 1);
+    if kind != 5 {
+        return;
+    }
+    let g = hash(bytes_at(names, wires, wire as usize, 1));
+    put(heads, chain, 4706 + wire, 513 + g, wire + 1);
+}
+
+// The answer of `find_wire`, over an index of the wires' rows.
+pub fn indexed_wire(
+    names: &[u8],
+    wires: &[u32],
+    heads: &[u32],
+    chain: &[u32],
+    first: u32,
+    count: u32,
+    name: &[u8],
+) -> Found
+    requires { ⌜ WiresIndexed (now heads) (now chain) (now names) (now wires) (first + count) ⌝ }
+    ensures { λ r. ⌜ FoundIs (now (names .entry)) (now (wires .entry)) first count (now (name .entry)) r ⌝ }
+{
+    let h = hash(name);
+    let mut at = heads[513 + h];
+    while first < at {
+        let last = at - 1;
+        let row = last as usize;
+        if same_bytes(bytes_at(names, wires, row, 1), name) {
+            return Found::At(WireNumber(last - first), column(wires, row, 3));
+        }
+        at = chain[4706 + row];
+    }
+    Found::Nothing
+}
