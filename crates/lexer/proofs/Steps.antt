@@ -3,7 +3,7 @@
 use mathlib.Core.Path.{_≡_, refl, sym, ap, _∙_}
 use mathlib.Core.Bool.{Bool, true, false}
 use mathlib.Core.List.{List, [], _∷_}
-use Prim.Native.Nat.{ℕ, _+_, _-_, _≤_, _<_}
+use Prim.Native.Nat.{ℕ, suc, _+_, _-_, _≤_, _<_}
 use native.Mathlib.Numerals.{add-one}
 use native.Mathlib.Omega.{arith}
 use lib.IntN.{pos, negℤ}
@@ -12,13 +12,15 @@ use lib.Seq.{slice, slice-empty, length-slice, drop-cons}
 use mir.Syntax.{w8}
 use mir.Val.{Fits}
 use borrow.Author.Tests.{lt-ltb, le-ltb, eq-eqb, ne-eqb}
-use Rattle.rules.specs.Bytes.{legal}
+use Rattle.rules.specs.Bytes.{within, run, legal, isNameStart, isNameByte}
 use Rattle.rules.specs.Tokens as rules
 use Rattle.numbers.specs.Signed.{integerOf}
 use Rattle.scanner.specs.Class.{classOf, inClass}
 use Rattle.scanner.specs.Runs.{endOf}
 use Rattle.scanner.specs.Words.{keywordNumber, keywordAt}
-use Rattle.scanner.proofs.ClassLaws.{class-value-digit, class-parting}
+use Rattle.scanner.specs.Laws.{within-yes, within-below, within-above, run-more}
+use Rattle.scanner.proofs.ClassLaws.{class-value-digit, class-parting, class-name-start, class-name-byte}
+use Rattle.scanner.proofs.NameLaws.{legal-run}
 use Rattle.scanner.proofs.RunLaws.{endOf-low, endOf-high, endOf-slice, endOf-rest}
 use Rattle.scanner.proofs.WordLaws.{keyword-number, keyword-back}
 use Rattle.scanner.specs.Parts.{slice-part}
@@ -114,19 +116,31 @@ module _ (s : List ℕ) (at p : ℕ) (e : p ≡ endOf (inClass 3 3) s at) where
 -- ---- each kind of token
 
 module _ (s : List ℕ) (p e : ℕ) where
-  module _ (c : Starts s p 7 7) (q : e ≡ endOf (inClass 4 14) s p) (r : Bool) (l : r ≡ legal (take (e - p) (drop p s))) where
-    name-legal : legal (slice p e s) ≡ r
-    name-legal = ap legal (slice-part p e s) ∙ sym l
+  module _ (c : Starts s p 7 7) (q : e ≡ endOf (inClass 4 14) s p) where
+    name-run : slice p e s ≡ getD s p 0 ∷ run isNameByte (drop (suc p) s)
+    name-run =
+        rw (q, endOf-slice (inClass 4 14) s p, drop-cons s p 0 (c .inside), run-more (inClass 4 14) (getD s p 0) (drop (suc p) s) (started s p 7 7 c 4 14 (omega arith) (omega arith)), class-name-byte)
 
-    pub name-token : r ≡ true → StepIs s p (lexeme.Token (token.Name p e) e)
-    unfolding rules.nameStep stepOf tokenIn front
-    name-token t =
+    name-legal : legal (slice p e s) ≡ within 2 255 (e - p)
+    name-legal =
         let b = ends-past s p 7 7 4 14 e c (omega arith) (omega arith) q in
-        record { is = at-name s p c e q ∙ rw (name-legal, t); lies = (b .0, b .1, (omega (arith, b .0), b .1, name-legal ∙ t)) }
+        let l : isNameStart (getD s p 0) ≡ true = ap (λ (f : ℕ → Bool). f (getD s p 0)) class-name-start ∙ started s p 7 7 c 7 7 (omega arith) (omega arith) in
+        rw (← length-slice p e s (b .1), name-run) (legal-run (getD s p 0) (drop (suc p) s) l)
 
-    pub name-wrong : r ≡ false → StepIs s p (lexeme.Wrong p)
+    pub name-token : 2 ≤ e - p → e - p ≤ 255 → StepIs s p (lexeme.Token (token.Name p e) e)
+    unfolding rules.nameStep stepOf tokenIn front
+    name-token h k =
+        let b = ends-past s p 7 7 4 14 e c (omega arith) (omega arith) q in
+        let t : legal (slice p e s) ≡ true = name-legal ∙ within-yes 2 255 (e - p) h k in
+        record { is = at-name s p c e q ∙ rw t; lies = (b .0, b .1, (omega (arith, b .0), b .1, t)) }
+
+    pub name-few : e - p < 2 → StepIs s p (lexeme.Wrong p)
     unfolding rules.nameStep
-    name-wrong t = wrong-at s p _ (c .inside) (at-name s p c e q ∙ rw (name-legal, t))
+    name-few h = wrong-at s p _ (c .inside) (at-name s p c e q ∙ rw (name-legal, within-below 2 255 (e - p) h))
+
+    pub name-many : 255 < e - p → StepIs s p (lexeme.Wrong p)
+    unfolding rules.nameStep
+    name-many h = wrong-at s p _ (c .inside) (at-name s p c e q ∙ rw (name-legal, within-above 2 255 (e - p) h))
 
   module _ (c : Starts s p 13 14) (q : e ≡ endOf (inClass 13 14) s p) (k : ℕ) (n : k ≡ keywordNumber (take (e - p) (drop p s))) where
     number : keywordNumber (slice p e s) ≡ k

@@ -1,6 +1,6 @@
 // The lexer: what stands where a token could start, and the tokens of a line, put into a table. Positions are the file's.
-use scanner::class::class_of;
-use scanner::names::legal;
+use scanner::class::class_in;
+use scanner::class::classes;
 use scanner::runs::run_end;
 use scanner::words::keyword;
 use strings::Close;
@@ -14,6 +14,7 @@ ghost use Prim.Native.Nat.{_+_, _-_, _*_, _≤_, _<_};
 ghost use lib.ListN.{length, drop};
 ghost use lib.Seq.{slice};
 ghost use Rattle.rules.specs.Tokens.{parted, separate, decimal, valueStep};
+ghost use Rattle.scanner.specs.Class.{classTable};
 ghost use Rattle.tokens.specs.Rows.{tokenIn};
 ghost use Rattle.lexer.specs.Lexemes.{Held, Starts, Steps, StepIs};
 ghost use Rattle.lexer.specs.Lines.{LexedIs};
@@ -32,13 +33,14 @@ pub enum Lexed {
 }
 
 // A blank, a mark, `#` or the end stands there.
-fn parted(s: &[u8], at: usize) -> bool
+fn parted(class: &[u8; 256], s: &[u8], at: usize) -> bool
+    requires { ⌜ now class ≡ classTable ⌝ }
     ensures { λ r. ⌜ r ≡ parted (drop at (now (s .entry))) ⌝ }
 {
     if s.len() <= at {
         return true;
     }
-    let k = class_of(s[at]);
+    let k = class_in(class, s[at]);
     if k < 3 {
         return false;
     }
@@ -46,64 +48,73 @@ fn parted(s: &[u8], at: usize) -> bool
 }
 
 // The token t from p to e, if what follows parts it from the next.
-fn separate(s: &[u8], p: usize, t: Token, e: usize) -> Lexeme
+fn separate(class: &[u8; 256], s: &[u8], p: usize, t: Token, e: usize) -> Lexeme
+    requires { ⌜ now class ≡ classTable ⌝ }
     requires { ⌜ (p < e) × (e ≤ length (now s)) × Held (now s) t ⌝ }
     ensures { λ r. ⌜ Steps (now (s .entry)) p (separate (drop p (now (s .entry))) (tokenIn (now (s .entry)) t) (drop e (now (s .entry)))) r ⌝ }
 {
-    if parted(s, e) {
+    if parted(class, s, e) {
         return Lexeme::Token { token: t, next: e };
     }
     Lexeme::Wrong(p)
 }
 
-// A name: `\` or `$` at p, and the bytes up to the next of 32 or less.
-fn name_step(s: &[u8], p: usize) -> Lexeme
+// A name: `\` or `$` at p, and the bytes up to the next of 32 or less. It is legal by its length.
+fn name_step(class: &[u8; 256], s: &[u8], p: usize) -> Lexeme
+    requires { ⌜ now class ≡ classTable ⌝ }
     requires { ⌜ Starts (now s) p 7 7 ⌝ }
     ensures { λ r. ⌜ StepIs (now (s .entry)) p r ⌝ }
 {
-    let e = run_end(s, p, 4, 14);
-    if legal(&s[p..e]) {
-        return Lexeme::Token {
-            token: Token::Name { start: p, end: e },
-            next: e,
-        };
+    let e = run_end(class, s, p, 4, 14);
+    let size = e - p;
+    if size < 2 {
+        return Lexeme::Wrong(p);
     }
-    Lexeme::Wrong(p)
+    if 255 < size {
+        return Lexeme::Wrong(p);
+    }
+    Lexeme::Token {
+        token: Token::Name { start: p, end: e },
+        next: e,
+    }
 }
 
 // A word: lowercase letters from p on that are a keyword.
-fn word_step(s: &[u8], p: usize) -> Lexeme
+fn word_step(class: &[u8; 256], s: &[u8], p: usize) -> Lexeme
+    requires { ⌜ now class ≡ classTable ⌝ }
     requires { ⌜ Starts (now s) p 13 14 ⌝ }
     ensures { λ r. ⌜ StepIs (now (s .entry)) p r ⌝ }
 {
-    let e = run_end(s, p, 13, 14);
+    let e = run_end(class, s, p, 13, 14);
     let k = keyword(&s[p..e]);
     if k < 32 {
-        return separate(s, p, Token::Word(k), e);
+        return separate(class, s, p, Token::Word(k), e);
     }
     Lexeme::Wrong(p)
 }
 
 // A value whose width's digits are p to q, where its quote mark stands.
-fn value_step(s: &[u8], p: usize, q: usize) -> Lexeme
+fn value_step(class: &[u8; 256], s: &[u8], p: usize, q: usize) -> Lexeme
+    requires { ⌜ now class ≡ classTable ⌝ }
     requires { ⌜ (p ≤ q) × (q < length (now s)) ⌝ }
     ensures { λ r. ⌜ Steps (now (s .entry)) p (valueStep (drop p (now (s .entry))) (decimal (slice p q (now (s .entry)))) (drop (q + 1) (now (s .entry)))) r ⌝ }
 {
-    let e = run_end(s, q + 1, 11, 13);
+    let e = run_end(class, s, q + 1, 11, 13);
     let c = Constant::Value {
         start: p,
         quote: q,
         end: e,
     };
-    separate(s, p, Token::Constant(c), e)
+    separate(class, s, p, Token::Constant(c), e)
 }
 
 // A number that starts with a digit at p: an integer, or a value if a quote mark follows its digits.
-fn number_step(s: &[u8], p: usize) -> Lexeme
+fn number_step(class: &[u8; 256], s: &[u8], p: usize) -> Lexeme
+    requires { ⌜ now class ≡ classTable ⌝ }
     requires { ⌜ Starts (now s) p 9 11 ⌝ }
     ensures { λ r. ⌜ StepIs (now (s .entry)) p r ⌝ }
 {
-    let e = run_end(s, p, 9, 11);
+    let e = run_end(class, s, p, 9, 11);
     let z = Integer {
         negative: false,
         start: p,
@@ -111,21 +122,22 @@ fn number_step(s: &[u8], p: usize) -> Lexeme
     };
     let t = Token::Constant(Constant::Integer(z));
     if s.len() <= e {
-        return separate(s, p, t, e);
+        return separate(class, s, p, t, e);
     }
     if s[e] == b'\'' {
-        return value_step(s, p, e);
+        return value_step(class, s, p, e);
     }
-    separate(s, p, t, e)
+    separate(class, s, p, t, e)
 }
 
 // A number below zero: `-` at p, and its digits.
-fn minus_step(s: &[u8], p: usize) -> Lexeme
+fn minus_step(class: &[u8; 256], s: &[u8], p: usize) -> Lexeme
+    requires { ⌜ now class ≡ classTable ⌝ }
     requires { ⌜ Starts (now s) p 12 12 ⌝ }
     ensures { λ r. ⌜ StepIs (now (s .entry)) p r ⌝ }
 {
     let d = p + 1;
-    let e = run_end(s, d, 9, 11);
+    let e = run_end(class, s, d, 9, 11);
     if e <= d {
         return Lexeme::Wrong(p);
     }
@@ -134,31 +146,33 @@ fn minus_step(s: &[u8], p: usize) -> Lexeme
         start: d,
         end: e,
     };
-    separate(s, p, Token::Constant(Constant::Integer(z)), e)
+    separate(class, s, p, Token::Constant(Constant::Integer(z)), e)
 }
 
 // A string: its opening quote at p. The token has the place behind it.
-fn string_step(s: &[u8], p: usize) -> Lexeme
+fn string_step(class: &[u8; 256], s: &[u8], p: usize) -> Lexeme
+    requires { ⌜ now class ≡ classTable ⌝ }
     requires { ⌜ Starts (now s) p 8 8 ⌝ }
     ensures { λ r. ⌜ StepIs (now (s .entry)) p r ⌝ }
 {
     let d = p + 1;
     match string_end(s, d) {
-        Close::At(e) => separate(s, p, Token::Constant(Constant::Text(d)), e),
+        Close::At(e) => separate(class, s, p, Token::Constant(Constant::Text(d)), e),
         Close::Broken => Lexeme::Wrong(p),
     }
 }
 
 // What stands at `at`, blanks left out.
-fn step(s: &[u8], at: usize) -> Lexeme
+fn step(class: &[u8; 256], s: &[u8], at: usize) -> Lexeme
+    requires { ⌜ now class ≡ classTable ⌝ }
     ensures { λ r. ⌜ StepIs (now (s .entry)) at r ⌝ }
 {
-    let p = run_end(s, at, 3, 3);
+    let p = run_end(class, s, at, 3, 3);
     if s.len() <= p {
         return Lexeme::Done;
     }
     let b = s[p];
-    let k = class_of(b);
+    let k = class_in(class, b);
     if k == 4 {
         return Lexeme::Token {
             token: Token::Mark(b as usize),
@@ -172,18 +186,18 @@ fn step(s: &[u8], at: usize) -> Lexeme
         return Lexeme::Wrong(p);
     }
     if k == 7 {
-        return name_step(s, p);
+        return name_step(class, s, p);
     }
     if k == 8 {
-        return string_step(s, p);
+        return string_step(class, s, p);
     }
     if k < 12 {
-        return number_step(s, p);
+        return number_step(class, s, p);
     }
     if k == 12 {
-        return minus_step(s, p);
+        return minus_step(class, s, p);
     }
-    word_step(s, p)
+    word_step(class, s, p)
 }
 
 // The line from start to end of the file f, each token in a row of the table.
@@ -191,10 +205,11 @@ pub fn lex_line(f: &[u8], start: usize, end: usize, table: &mut [u32]) -> Lexed
     requires { ⌜ (start ≤ end) × (end ≤ length (now f)) × (length (now f) ≤ 32768) × (4 * (end - start) ≤ length (now table)) ⌝ }
     ensures { λ r. ⌜ LexedIs (now (f .entry)) start end (now (table .entry)) (now (table .exit)) r ⌝ }
 {
+    let class = classes();
     let mut i = start;
     let mut n: usize = 0;
     loop {
-        match step(&f[0..end], i) {
+        match step(&class, &f[0..end], i) {
             Lexeme::Token { token, next } => {
                 put_token(table, n, token);
                 n += 1;

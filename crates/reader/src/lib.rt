@@ -15,7 +15,7 @@ use past::place::start;
 use past::sizes::Sizes;
 use past::sizes::none;
 use scanner::lines::Line;
-use scanner::runs::run_end;
+use scanner::runs::blanks_end;
 use syntax::Statement;
 use tables::clear_bytes;
 use tables::clear_words;
@@ -208,7 +208,7 @@ fn refusal(f: &[u8], line: Line, step: Step) -> Answer
             let end = line.end;
             Answer::Refused {
                 number,
-                place: run_end(&f[0..end], line.start, 3, 3) as u32,
+                place: blanks_end(&f[0..end], line.start) as u32,
             }
         }
     }

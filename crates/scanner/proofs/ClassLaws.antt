@@ -1,17 +1,28 @@
 -- Each test of a byte that a scan makes is a range of classes.
 -- Assumes nothing.
-use mathlib.Core.Path.{_≡_, refl, fun-ext}
+use mathlib.Core.Path.{_≡_, refl, sym, ap, fun-ext, _∙_}
 use mathlib.Core.Bool.{Bool, true, false, not, Bool·beq, _&&_, _||_, and-false}
 use mathlib.Core.List.{List, [], _∷_}
-use Prim.Native.Nat.{ℕ, suc, _<_, _≤_}
+use Prim.Native.Nat.{ℕ, zero, suc, _+_, _<_, _≤_}
 use native.Mathlib.Omega.{arith}
 use lib.Dec.{T, eqb, leb, ltb, leb→le}
-use lib.ListN.{replicate, length-replicate}
+use lib.ListN.{getD, replicate, length-replicate}
 use borrow.Author.Tests.{le-leb, lt-leb, eq-eqb, ne-eqb, leb-true, leb-false}
 use Rattle.rules.specs.Bytes.{bytes, byte, within, any, all, bytesOpen, isLineEnd, isBlank, isMark, isNameStart, isNameByte, isLower, isDigit, isValueDigit}
-use Rattle.scanner.specs.Class.{classOf, inClass, classOpen}
+use Rattle.scanner.specs.Class.{classOf, inClass, classesFrom, classTable, classOpen}
 use Rattle.scanner.specs.Laws.{by-test, by-order, within-above}
 use Rattle.scanner.proofs.Table.{both-left, both-right, every, at}
+
+-- what stands in the table of classes
+classes-at : (n b i : ℕ) → i < n → getD (classesFrom n b) i 0 ≡ classOf (b + i)
+unfolding classesFrom
+classes-at zero b i h = absurd (omega arith)
+classes-at (suc n) b zero h = ap classOf (omega arith)
+classes-at (suc n) b (suc i) h = classes-at n (suc b) i (omega arith) ∙ ap classOf (omega arith)
+
+pub class-at : (b : ℕ) → b < 256 → getD classTable b 0 ≡ classOf b
+unfolding classTable
+class-at b h = classes-at 256 0 b h ∙ ap classOf (omega arith)
 
 -- what the class of a byte tells of a range
 module _ (lo hi b c : ℕ) (e : c ≡ classOf b) where
@@ -111,6 +122,9 @@ class-name-byte = range isNameByte 4 14 tt (λ b h. out b h 33 255 tt)
 pub class-in-line : (λ b. not (isLineEnd b)) ≡ inClass 1 14
 unfolding agree classOpen bytesOpen
 class-in-line = range (λ b. not (isLineEnd b)) 1 14 tt (λ b h. rw (off b h 10 tt, off b h 13 tt))
+
+pub in-line : (b : ℕ) (r : Bool) → r ≡ isLineEnd b → inClass 1 14 b ≡ not r
+in-line b r e = ap (λ (f : ℕ → Bool). f b) (sym class-in-line) ∙ ap not (sym e)
 
 -- what may follow a word or a constant
 pub class-parting : (λ b. isBlank b || isMark b || eqb b (byte "#")) ≡ inClass 3 5

@@ -5,3 +5,4 @@ pub mod NumberLaws
 pub mod NameLaws
 pub mod LineLaws
 pub mod WordLaws
+pub mod CodeLaws

@@ -1,6 +1,7 @@
 -- The class of a byte. The classes are numbered so that every set of bytes that a scan needs is a range.
-use Prim.Native.Nat.{ℕ}
+use Prim.Native.Nat.{ℕ, zero, suc}
 use mathlib.Core.Bool.{Bool, cond}
+use mathlib.Core.List.{List, [], _∷_}
 use lib.Dec.{eqb}
 use Rattle.rules.specs.Bytes.{byte, within, isLineEnd, isBlank, isNameStart, isLower, isDigit, isOctal, isValueDigit, isMark}
 
@@ -35,6 +36,14 @@ classOf b =
 unfoldable pub inClass : (lo hi : ℕ) → ℕ → Bool
 inClass lo hi b = within lo hi (classOf b)
 
+-- the classes of n bytes from b on, and of all bytes
+unfoldable pub classesFrom : (n b : ℕ) → List ℕ
+classesFrom zero b = []
+classesFrom (suc n) b = classOf b ∷ classesFrom n (suc b)
+
+unfoldable pub classTable : List ℕ
+classTable = classesFrom 256 0
+
 unfoldable pub classOpen : Unit {0}
-unfolding digitClass letterClass printClass classOf inClass
+unfolding digitClass letterClass printClass classOf inClass classesFrom classTable
 classOpen = tt

@@ -1,6 +1,6 @@
 // The class of each of the 256 byte values (specs/Class.antt says which number means what).
 ghost use mathlib.Core.Path.{_≡_};
-ghost use Rattle.scanner.specs.Class.{classOf};
+ghost use Rattle.scanner.specs.Class.{classOf, classTable};
 
 const CLASS: [u8; 256] = [
     1,
@@ -261,8 +261,16 @@ const CLASS: [u8; 256] = [
     6,
 ];
 
-pub fn class_of(b: u8) -> u8
+// The table of classes: made once, and lent to what asks for the class of a byte.
+pub fn classes() -> [u8; 256]
+    ensures { λ r. ⌜ r ≡ classTable ⌝ }
+{
+    CLASS
+}
+
+pub fn class_in(table: &[u8; 256], b: u8) -> u8
+    requires { ⌜ now table ≡ classTable ⌝ }
     ensures { λ r. ⌜ r ≡ classOf b ⌝ }
 {
-    CLASS[b as usize]
+    table[b as usize]
 }

@@ -1,7 +1,9 @@
 // The line that starts at a position.
-use crate::runs::run_end;
 ghost use mathlib.Core.Path.{_≡_};
+ghost use Rattle.rules.specs.Bytes.{isLineEnd};
+ghost use Rattle.scanner.specs.Class.{inClass};
 ghost use Rattle.scanner.specs.Lines.{lineFrom};
+ghost use Rattle.scanner.specs.Runs.{endOf};
 
 // The line's bytes are start to end; ended tells whether a line end follows, and next is where the next line starts.
 pub struct Line {
@@ -11,10 +13,37 @@ pub struct Line {
     pub ended: bool,
 }
 
+// Most bytes are above both line ends: one test tells.
+fn ends_line(b: u8) -> bool
+    ensures { λ r. ⌜ r ≡ isLineEnd b ⌝ }
+{
+    if 13 < b {
+        return false;
+    }
+    if b == 10 {
+        return true;
+    }
+    b == 13
+}
+
+// The first line end at or after `at`, or the end.
+fn line_end(s: &[u8], at: usize) -> usize
+    ensures { λ r. ⌜ r ≡ endOf (inClass 1 14) (now (s .entry)) at ⌝ }
+{
+    let mut i = at;
+    while i < s.len() {
+        if ends_line(s[i]) {
+            return i;
+        }
+        i += 1;
+    }
+    i
+}
+
 pub fn line_from(s: &[u8], at: usize) -> Line
     ensures { λ r. ⌜ r ≡ lineFrom (now (s .entry)) at ⌝ }
 {
-    let end = run_end(s, at, 1, 14);
+    let end = line_end(s, at);
     if end < s.len() {
         return Line {
             start: at,

@@ -1,8 +1,15 @@
 // Names.
-use crate::class::class_of;
-use crate::runs::run_end;
 ghost use mathlib.Core.Path.{_≡_};
-ghost use Rattle.rules.specs.Bytes.{legal, same};
+ghost use Rattle.rules.specs.Bytes.{legal, same, isNameStart};
+
+fn starts_name(b: u8) -> bool
+    ensures { λ r. ⌜ r ≡ isNameStart b ⌝ }
+{
+    if b == b'\\' {
+        return true;
+    }
+    b == b'$'
+}
 
 // `\` or `$`, then bytes above 32; 2 to 255 bytes in all.
 pub fn legal(n: &[u8]) -> bool
@@ -14,10 +21,17 @@ pub fn legal(n: &[u8]) -> bool
     if 255 < n.len() {
         return false;
     }
-    if class_of(n[0]) != 7 {
+    if !starts_name(n[0]) {
         return false;
     }
-    run_end(n, 1, 4, 14) == n.len()
+    let mut i = 1;
+    while i < n.len() {
+        if n[i] <= 32 {
+            return false;
+        }
+        i += 1;
+    }
+    true
 }
 
 // The one comparison of names in the product. Lengths first, then the last byte, where numbered names differ, then the

@@ -1,3 +1,4 @@
 pub mod Turns
 pub mod StringLaws
 mod Reached
+pub mod Plain

@@ -2,17 +2,23 @@
 -- start.
 -- Assumes nothing.
 use mathlib.Core.Path.{_≡_, refl, sym, ap, subst, _∙_}
-use mathlib.Core.Bool.{true}
-use mathlib.Core.List.{List, [], _++_, append-assoc}
-use Prim.Native.Nat.{ℕ, _+_, _<_, _≤_}
+use mathlib.Core.Bool.{true, _||_}
+use mathlib.Core.List.{List, [], _∷_, _++_, append-assoc}
+use Prim.Native.Nat.{ℕ, _+_, _-_, _<_, _≤_}
 use native.Mathlib.Numerals.{add-one}
 use native.Mathlib.Omega.{arith}
 use lib.ListN.{length, getD, drop, length-append, drop-of-length-le}
-use lib.Seq.{drop-cons}
-use Rattle.rules.specs.Tokens.{Inside, plain, goes, ends, breaks, turn, Quoted, closed, broken, quotedOnto, quotedBy, quoted}
+use lib.Dec.{eqb}
+use lib.Seq.{drop-cons, slice}
+use borrow.Author.Tests.{not-true}
+use Rattle.rules.specs.Bytes.{byte, isStringByte, run, rest}
+use Rattle.rules.specs.Tokens.{Inside, plain, goes, ends, breaks, plainTurn, turn, Quoted, closed, broken, quotedOnto, quotedBy, quoted}
 use Rattle.scanner.specs.Lists.{onto-none}
+use Rattle.scanner.specs.Laws.{by-test, and-true-left, and-true-right, or-false-left, or-false-right}
+use Rattle.scanner.specs.Runs.{endOf}
+use Rattle.scanner.proofs.RunLaws.{endOf-low, endOf-slice, endOf-rest}
 use Rattle.strings.specs.declared.Close.the-variants.{At, Broken}
-use Rattle.strings.specs.Decoded.{bytesOf, isClosed, decodedBy, decoded, closes, closing, CloseIs}
+use Rattle.strings.specs.Decoded.{isPlain, bytesOf, isClosed, decodedBy, decoded, closes, closing, CloseIs}
 use Rattle.strings.proofs.Turns.{held, Fine, turn-fine}
 use Rattle.strings.proofs.StringLaws.{closed-decoded}
 
@@ -34,6 +40,35 @@ pub record Reached (s : List ℕ) (at i : ℕ) (j : Inside) (ds : List ℕ) : Ty
 pub reached-none : (s : List ℕ) (at : ℕ) → Reached s at at plain []
 unfolding held
 reached-none s at = record { same = sym (onto-none (quoted plain (drop at s))); few = omega arith }
+
+-- bytes that stand for themselves, in one step
+plain-goes : (b : ℕ) → isPlain b ≡ true → turn plain b ≡ goes (b ∷ []) plain
+unfolding turn plainTurn isPlain
+plain-goes b e =
+    let q = and-true-left (isStringByte b) _ e in
+    let n = not-true (eqb b (byte "\"") || eqb b (byte "\\")) (and-true-right (isStringByte b) _ e) in
+    rw (or-false-left (eqb b (byte "\"")) _ n, or-false-right (eqb b (byte "\"")) _ n, q)
+
+plain-run : (l : List ℕ) → quoted plain l ≡ quotedOnto (run isPlain l) (quoted plain (rest isPlain l))
+unfolding quoted quotedBy run rest
+plain-run [] = sym (onto-none (quoted plain []))
+plain-run (b ∷ bs) =
+    by-test (isPlain b)
+    (λ e. rw (e, plain-goes b e) (ap (quotedOnto (b ∷ [])) (plain-run bs) ∙ onto-onto (b ∷ []) (run isPlain bs) (quoted plain (rest isPlain bs))))
+    (λ e. rw e (sym (onto-none (quoted plain (b ∷ bs)))))
+
+module _ (s : List ℕ) (at e : ℕ) (q : e ≡ endOf isPlain s at) where
+  pub plain-size : e - at ≡ length (slice at e s)
+  unfolding endOf
+  plain-size = rw (q, endOf-slice isPlain s at) (omega arith)
+
+  pub reached-plain : Reached s at e plain (slice at e s)
+  unfolding held
+  reached-plain =
+      record {
+        same = rw (q, endOf-slice isPlain s at, endOf-rest isPlain s at) (plain-run (drop at s));
+        few = omega (arith, plain-size, endOf-low isPlain s at);
+      }
 
 module _ (s : List ℕ) (at i : ℕ) (j : Inside) (ds : List ℕ) (r : Reached s at i j ds) where
   here : i < length s → quoted j (drop i s) ≡ quotedBy (λ k. quoted k (drop (i + 1) s)) (drop (i + 1) s) (turn j (getD s i 0))

@@ -1,12 +1,18 @@
 -- The decoded bytes of a string, and where it closes. `l` stands right behind the opening quote.
 use mathlib.Core.Path.{_≡_}
-use mathlib.Core.Bool.{Bool, true, false}
+use mathlib.Core.Bool.{Bool, true, false, not, _&&_, _||_}
 use mathlib.Core.List.{List, []}
 use Prim.Native.Nat.{ℕ, _<_, _≤_}
+use lib.Dec.{eqb}
 use lib.ListN.{length, drop}
+use Rattle.rules.specs.Bytes.{byte, isStringByte}
 use Rattle.rules.specs.Tokens.{Inside, plain, Quoted, closed, broken, quoted}
 use Rattle.strings.specs.declared.Close.{Close}
 use Rattle.strings.specs.declared.Close.the-variants.{At, Broken}
+
+-- a byte that stands for itself
+unfoldable pub isPlain : ℕ → Bool
+isPlain b = isStringByte b && not (eqb b (byte "\"") || eqb b (byte "\\"))
 
 -- the bytes of a string that closes; none of one that is broken
 unfoldable pub bytesOf : Quoted → List ℕ

@@ -1,5 +1,7 @@
 // The strings of RTLIL: between double quotes, with escapes. The machine that reads them, byte by byte, where a string ends, how many
 // bytes it stands for, and those bytes.
+use scanner::parts::part;
+use tables::put_bytes;
 ghost use mathlib.Core.Path.{_≡_};
 ghost use mathlib.Core.Bool.{true};
 ghost use mathlib.Core.List.{[]};
@@ -8,7 +10,8 @@ ghost use lib.ListN.{length, drop};
 ghost use Rattle.rules.specs.Bytes.{isOctal, isStringByte};
 ghost use Rattle.rules.specs.Tokens.{plainTurn, escapeTurn, octalByte, octalTurn, goes, plain, turn};
 ghost use Rattle.strings.specs.Machine.{insideOf, givenOf, turnOf};
-ghost use Rattle.strings.specs.Decoded.{decoded, closes, CloseIs};
+ghost use Rattle.strings.specs.Decoded.{decoded, closes, isPlain, CloseIs};
+ghost use Rattle.scanner.specs.Runs.{endOf};
 ghost use Rattle.tables.specs.Store.{store};
 
 // Where the reader stands: in plain text, behind `\`, or behind `\` and one or two octal digits, with their number.
@@ -160,11 +163,38 @@ fn turn_on(inside: Inside, b: u8) -> Turn
     }
 }
 
+// A byte that stands for itself: most are above both the quote and the blanks.
+fn is_plain(b: u8) -> bool
+    ensures { λ r. ⌜ r ≡ isPlain b ⌝ }
+{
+    if b'"' < b {
+        return b != b'\\';
+    }
+    if b == b'"' {
+        return false;
+    }
+    is_string_byte(b)
+}
+
+// The first byte at or after `at` that does not stand for itself, or the end.
+fn plain_end(s: &[u8], at: usize) -> usize
+    ensures { λ r. ⌜ r ≡ endOf isPlain (now (s .entry)) at ⌝ }
+{
+    let mut i = at;
+    while i < s.len() {
+        if !is_plain(s[i]) {
+            return i;
+        }
+        i += 1;
+    }
+    i
+}
+
 // Where the string ends whose first byte stands at `at`, behind the opening quote.
 pub fn string_end(s: &[u8], at: usize) -> Close
     ensures { λ r. ⌜ CloseIs (now (s .entry)) at r ⌝ }
 {
-    let mut i = at;
+    let mut i = plain_end(s, at);
     let mut inside = Inside::Plain;
     while i < s.len() {
         match turn_on(inside, s[i]) {
@@ -197,9 +227,9 @@ fn count(g: Given) -> usize
 pub fn string_size(s: &[u8], at: usize) -> usize
     ensures { λ r. ⌜ r ≡ length (decoded (drop at (now (s .entry)))) ⌝ }
 {
-    let mut i = at;
+    let mut i = plain_end(s, at);
     let mut inside = Inside::Plain;
-    let mut size: usize = 0;
+    let mut size = i - at;
     while i < s.len() {
         match turn_on(inside, s[i]) {
             Turn::Goes(g, next) => {
@@ -245,9 +275,10 @@ pub fn put_string(s: &[u8], at: usize, out: &mut [u8], to: usize) -> usize
     ensures { λ r. ⌜ r ≡ to + length (decoded (drop at (now (s .entry)))) ⌝ }
     ensures { λ _. ⌜ now (out .exit) ≡ store (now (out .entry)) to (decoded (drop at (now (s .entry)))) ⌝ }
 {
-    let mut i = at;
+    let mut i = plain_end(s, at);
+    put_bytes(out, to, part(s, at, i));
     let mut inside = Inside::Plain;
-    let mut end = to;
+    let mut end = to + (i - at);
     while i < s.len() {
         match turn_on(inside, s[i]) {
             Turn::Goes(g, next) => {

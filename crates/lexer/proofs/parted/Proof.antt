@@ -12,19 +12,19 @@ use Rattle.lexer.proofs.parted.Tie as tie
 returns : tie.Need-returns
 returns c = sym (parted-end _ _ (c .if1 .taken))
 
-shared-slice-read-class-of : tie.Need-shared-slice-read-class-of
-shared-slice-read-class-of c = search needs
+shared-slice-read-class-in : tie.Need-shared-slice-read-class-in
+shared-slice-read-class-in c = search needs
 
-class-of-requires : tie.Need-class-of-requires
-class-of-requires c κs = search needs
+class-in-requires : tie.Need-class-in-requires
+class-in-requires c κs = c .before .before .before .pre
 
 returns-2 : tie.Need-returns-2
-returns-2 c = sym (parted-at _ _ (c .before .before .before .if1 .left) ∙ below _ _ _ _ (c .before .class-of .ensures) (c .if2 .taken))
+returns-2 c = sym (parted-at _ _ (c .before .before .before .if1 .left) ∙ below _ _ _ _ (c .before .class-in .ensures) (c .if2 .taken))
 
 returns-3 : tie.Need-returns-3
 unfolding inClass within
-returns-3 c = sym (parted-at _ _ (c .before .before .before .if1 .left) ∙ rw (← c .before .class-of .ensures, le-leb _ _ (c .if2 .left)))
+returns-3 c = sym (parted-at _ _ (c .before .before .before .if1 .left) ∙ rw (← c .before .class-in .ensures, le-leb _ _ (c .if2 .left)))
 
 pub parted-spec : {M : Type 1} → statement M
 parted-spec =
-    tie.close (tie.spec returns shared-slice-read-class-of class-of-requires returns-2 returns-3)
+    tie.close (tie.spec returns shared-slice-read-class-in class-in-requires returns-2 returns-3)

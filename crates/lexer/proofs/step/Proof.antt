@@ -8,7 +8,7 @@ use Rattle.lexer.proofs.step.Statement.{statement}
 use Rattle.lexer.proofs.step.Tie as tie
 
 run-end-requires : tie.Need-run-end-requires
-run-end-requires c κs = search needs
+run-end-requires c κs = c .before .pre
 
 returns : tie.Need-returns
 returns c = step-end _ _ _ (c .before .run-end .ensures) (c .if1 .taken)
@@ -16,50 +16,50 @@ returns c = step-end _ _ _ (c .before .run-end .ensures) (c .if1 .taken)
 shared-slice-read-b : tie.Need-shared-slice-read-b
 shared-slice-read-b c = search needs
 
-class-of-requires : tie.Need-class-of-requires
-class-of-requires c κs = search needs
+class-in-requires : tie.Need-class-in-requires
+class-in-requires c κs = c .before .before .before .before .pre
 
-cast-t10 : tie.Need-cast-t10
-cast-t10 c = omega (arith, c .before .before .before .before .before .shared-slice-known .given (c .before .before .before .before .run-end .result))
+cast-t11 : tie.Need-cast-t11
+cast-t11 c = omega (arith, c .before .before .before .before .before .shared-slice-known .given (c .before .before .before .before .run-end .result))
 
-add-t12 : tie.Need-add-t12
-add-t12 c = search needs
+add-t13 : tie.Need-add-t13
+add-t13 c = search needs
 
 returns-2 : tie.Need-returns-2
-returns-2 c = step-mark _ _ _ (c .before .before .before .before .run-end .ensures) (c .before .before .before .if1 .left) _ (c .before .class-of .ensures) (c .if2 .taken) (byte-small _ (c .before .before .before .before .before .shared-slice-known .given (c .before .before .before .before .run-end .result)))
+returns-2 c = step-mark _ _ _ (c .before .before .before .before .run-end .ensures) (c .before .before .before .if1 .left) _ (c .before .class-in .ensures) (c .if2 .taken) (byte-small _ (c .before .before .before .before .before .shared-slice-known .given (c .before .before .before .before .run-end .result)))
 
 returns-3 : tie.Need-returns-3
-returns-3 c = step-hash _ _ _ (c .before .before .before .before .before .run-end .ensures) (c .before .before .before .before .if1 .left) _ (c .before .before .class-of .ensures) (c .if3 .taken)
+returns-3 c = step-hash _ _ _ (c .before .before .before .before .before .run-end .ensures) (c .before .before .before .before .if1 .left) _ (c .before .before .class-in .ensures) (c .if3 .taken)
 
 returns-4 : tie.Need-returns-4
-returns-4 c = step-other _ _ _ (c .before .before .before .before .before .before .run-end .ensures) (c .before .before .before .before .before .if1 .left) _ (c .before .before .before .class-of .ensures) (c .if4 .taken) (c .before .before .if2 .left) (c .before .if3 .left)
+returns-4 c = step-other _ _ _ (c .before .before .before .before .before .before .run-end .ensures) (c .before .before .before .before .before .if1 .left) _ (c .before .before .before .class-in .ensures) (c .if4 .taken) (c .before .before .if2 .left) (c .before .if3 .left)
 
 name-step-requires : tie.Need-name-step-requires
-name-step-requires c κs = search needs
+name-step-requires c κs = (c .before .before .before .before .before .before .before .before .before .pre, starts _ _ _ (c .before .before .before .before .before .before .before .run-end .ensures) (c .before .before .before .before .before .before .if1 .left) _ (c .before .before .before .before .class-in .ensures) 7 7 (omega arith) (omega arith))
 
 returns-5 : tie.Need-returns-5
 returns-5 c = blanks-then _ _ _ (c .before .before .before .before .before .before .before .before .run-end .ensures) _ (c .name-step .ensures)
 
 string-step-requires : tie.Need-string-step-requires
-string-step-requires c κs = search needs
+string-step-requires c κs = (c .before .before .before .before .before .before .before .before .before .before .pre, starts _ _ _ (c .before .before .before .before .before .before .before .before .run-end .ensures) (c .before .before .before .before .before .before .before .if1 .left) _ (c .before .before .before .before .before .class-in .ensures) 8 8 (omega arith) (omega arith))
 
 returns-6 : tie.Need-returns-6
 returns-6 c = blanks-then _ _ _ (c .before .before .before .before .before .before .before .before .before .run-end .ensures) _ (c .string-step .ensures)
 
 number-step-requires : tie.Need-number-step-requires
-number-step-requires c κs = search needs
+number-step-requires c κs = (c .before .before .before .before .before .before .before .before .before .before .before .pre, starts _ _ _ (c .before .before .before .before .before .before .before .before .before .run-end .ensures) (c .before .before .before .before .before .before .before .before .if1 .left) _ (c .before .before .before .before .before .before .class-in .ensures) 9 11 (omega arith) (omega arith))
 
 returns-7 : tie.Need-returns-7
 returns-7 c = blanks-then _ _ _ (c .before .before .before .before .before .before .before .before .before .before .run-end .ensures) _ (c .number-step .ensures)
 
 minus-step-requires : tie.Need-minus-step-requires
-minus-step-requires c κs = search needs
+minus-step-requires c κs = (c .before .before .before .before .before .before .before .before .before .before .before .before .pre, starts _ _ _ (c .before .before .before .before .before .before .before .before .before .before .run-end .ensures) (c .before .before .before .before .before .before .before .before .before .if1 .left) _ (c .before .before .before .before .before .before .before .class-in .ensures) 12 12 (omega arith) (omega arith))
 
 returns-8 : tie.Need-returns-8
 returns-8 c = blanks-then _ _ _ (c .before .before .before .before .before .before .before .before .before .before .before .run-end .ensures) _ (c .minus-step .ensures)
 
 word-step-requires : tie.Need-word-step-requires
-word-step-requires c κs = let l : c .before .before .before .before .before .before .before .class-of .result ≤ 14 = omega (arith, class-le _ (byte-small _ (c .before .before .before .before .before .before .before .before .before .before .before .shared-slice-known .given (c .before .before .before .before .before .before .before .before .before .before .run-end .result))), c .before .before .before .before .before .before .before .class-of .ensures) in starts _ _ _ (c .before .before .before .before .before .before .before .before .before .before .run-end .ensures) (c .before .before .before .before .before .before .before .before .before .if1 .left) _ (c .before .before .before .before .before .before .before .class-of .ensures) 13 14 (omega arith) l
+word-step-requires c κs = let l : c .before .before .before .before .before .before .before .class-in .result ≤ 14 = omega (arith, class-le _ (byte-small _ (c .before .before .before .before .before .before .before .before .before .before .before .shared-slice-known .given (c .before .before .before .before .before .before .before .before .before .before .run-end .result))), c .before .before .before .before .before .before .before .class-in .ensures) in (c .before .before .before .before .before .before .before .before .before .before .before .before .pre, starts _ _ _ (c .before .before .before .before .before .before .before .before .before .before .run-end .ensures) (c .before .before .before .before .before .before .before .before .before .if1 .left) _ (c .before .before .before .before .before .before .before .class-in .ensures) 13 14 (omega arith) l)
 
 returns-9 : tie.Need-returns-9
 returns-9 c = blanks-then _ _ _ (c .before .before .before .before .before .before .before .before .before .before .before .run-end .ensures) _ (c .word-step .ensures)
@@ -71,9 +71,9 @@ step-spec =
     run-end-requires
     returns
     shared-slice-read-b
-    class-of-requires
-    cast-t10
-    add-t12
+    class-in-requires
+    cast-t11
+    add-t13
     returns-2
     returns-3
     returns-4

@@ -16,16 +16,16 @@ enum-known-e : tie.Need-enum-known-e
 enum-known-e c = search needs
 
 separate-requires : tie.Need-separate-requires
-separate-requires c κs = let b = close-between _ _ _ (c .before .before .before .string-end .ensures) _ (c .before .e .given .1) in (omega (arith, b .0), b .1, (omega (arith, c .before .before .before .before .before .pre .inside), close-closes _ _ _ (c .before .before .before .string-end .ensures) _ (c .before .e .given .1)))
+separate-requires c κs = let b = close-between _ _ _ (c .before .before .before .string-end .ensures) _ (c .before .e .given .1) in (c .before .before .before .before .before .pre .0, (omega (arith, b .0), b .1, (omega (arith, c .before .before .before .before .before .pre .1 .inside), close-closes _ _ _ (c .before .before .before .string-end .ensures) _ (c .before .e .given .1))))
 
 enum-told : tie.Need-enum-told
 enum-told c = search needs
 
 returns : tie.Need-returns
-returns c = steps-by _ _ _ _ _ (string-token _ _ (c .before .before .before .before .before .before .pre) _ (c .before .before .before .before .string-end .ensures) _ (c .before .before .e .given .1)) (c .separate .ensures)
+returns c = steps-by _ _ _ _ _ (string-token _ _ (c .before .before .before .before .before .before .pre .1) _ (c .before .before .before .before .string-end .ensures) _ (c .before .before .e .given .1)) (c .separate .ensures)
 
 returns-2 : tie.Need-returns-2
-returns-2 c = string-wrong _ _ (c .before .before .before .before .pre) _ (c .before .before .string-end .ensures) (c .enum-told .given .1)
+returns-2 c = string-wrong _ _ (c .before .before .before .before .pre .1) _ (c .before .before .string-end .ensures) (c .enum-told .given .1)
 
 pub string-step-spec : {M : Type 1} → statement M
 string-step-spec =

@@ -15,20 +15,20 @@ enum-told c = c .match .keys1
 enum-known-step : tie.Need-enum-known-step
 enum-known-step c = search needs
 
-sub-run-end : tie.Need-sub-run-end
-sub-run-end c = zero-le
+sub-blanks-end : tie.Need-sub-blanks-end
+sub-blanks-end c = zero-le
 
-part-run-end-start : tie.Need-part-run-end-start
-part-run-end-start c = zero-le
+part-blanks-end-start : tie.Need-part-blanks-end-start
+part-blanks-end-start c = zero-le
 
-part-run-end-end : tie.Need-part-run-end-end
-part-run-end-end c = c .before .before .before .before .pre .0
+part-blanks-end-end : tie.Need-part-blanks-end-end
+part-blanks-end-end c = c .before .before .before .before .pre .0
 
-run-end-requires : tie.Need-run-end-requires
-run-end-requires c κs = tt
+blanks-end-requires : tie.Need-blanks-end-requires
+blanks-end-requires c κs = tt
 
 cast-t12 : tie.Need-cast-t12
-cast-t12 c = omega (arith, end-small (now (c .before .before .before .before .before .before .args .f)) (c .before .before .before .before .before .before .args .line) _ _ _ (c .run-end .ensures) (c .before .before .before .before .before .before .pre .2) (c .before .before .before .before .before .before .pre .0) (c .before .before .before .before .before .before .pre .1))
+cast-t12 c = omega (arith, end-small (now (c .before .before .before .before .before .before .args .f)) (c .before .before .before .before .before .before .args .line) _ _ _ (c .blanks-end .ensures) (c .before .before .before .before .before .before .pre .2) (c .before .before .before .before .before .before .pre .0) (c .before .before .before .before .before .before .pre .1))
 
 returns : tie.Need-returns
 unfolding refusalOf
@@ -36,7 +36,7 @@ returns c = sym (ap (refusalOf (now (c .before .before .before .args .f)) (c .be
 
 returns-2 : tie.Need-returns-2
 unfolding refusalOf
-returns-2 c = ap (Refused (c .before .before .before .step .given .0 .0)) (c .run-end .ensures ∙ sym (place-end (now (c .before .before .before .before .before .before .args .f)) (c .before .before .before .before .before .before .args .line))) ∙ sym (ap (refusalOf (now (c .before .before .before .before .before .before .args .f)) (c .before .before .before .before .before .before .args .line)) (c .before .before .before .step .given .1))
+returns-2 c = ap (Refused (c .before .before .before .step .given .0 .0)) (c .blanks-end .ensures ∙ sym (place-end (now (c .before .before .before .before .before .before .args .f)) (c .before .before .before .before .before .before .args .line))) ∙ sym (ap (refusalOf (now (c .before .before .before .before .before .before .args .f)) (c .before .before .before .before .before .before .args .line)) (c .before .before .before .step .given .1))
 
 pub refusal-spec : {M : Type 1} → statement M
 refusal-spec =
@@ -44,10 +44,10 @@ refusal-spec =
     (tie.spec
     enum-told
     enum-known-step
-    sub-run-end
-    part-run-end-start
-    part-run-end-end
-    run-end-requires
+    sub-blanks-end
+    part-blanks-end-start
+    part-blanks-end-end
+    blanks-end-requires
     cast-t12
     returns
     returns-2)

@@ -1,27 +1,50 @@
-use mathlib.Core.List.{List, []}
-use mathlib.Core.Path.{_≡_, refl, sym, ap}
+use mathlib.Core.List.{List}
+use mathlib.Core.Path.{_≡_, refl, ap, _∙_}
 use Prim.Native.Nat.{ℕ, _+_, _-_}
 use native.Mathlib.Omega.{arith}
 use lib.ListN.{length, length-append}
+use lib.Seq.{slice}
+use denote.Ref.{now}
 use borrow.Author.Needs.{needs}
-use Rattle.tables.specs.Store.{store, store-none, store-then}
+use Rattle.scanner.proofs.RunLaws.{endOf-low}
+use Rattle.strings.specs.Decoded.{isPlain}
+use Rattle.tables.specs.Store.{store, store-then, length-store}
 use Rattle.strings.specs.Machine.{insideOf, turnOf}
 use Rattle.strings.proofs.StringLaws.{closed-decoded, never-broken}
-use Rattle.strings.proofs.Reached.{Reached, reached-none, reached-goes, reached-ends, reached-breaks, reached-end, reached-room}
+use Rattle.strings.proofs.Reached.{Reached, plain-size, reached-plain, reached-goes, reached-ends, reached-breaks, reached-end, reached-room}
 use Rattle.strings.proofs.put_string.Statement.{statement}
 use Rattle.strings.proofs.put_string.Tie as tie
 
--- The loop has reached `i`, and the bytes given so far are stored from `to` on, up to `end`.
+-- The loop has reached `i`, and the bytes given so far are stored from `to` on, up to `end`: the plain ones before the loop starts.
 abbrev Inv-loop : tie.InvT-loop
 Inv-loop s at out₀ to i₀ inside₀ end₀ out i inside end =
-    (ds : List ℕ) × Reached s at i (insideOf inside) ds × (end ≡ to + length ds) × (out ≡ store out₀ to ds) × (length out ≡ length out₀)
+    (ds : List ℕ) × Reached s at i (insideOf inside) ds × (end ≡ to + length ds) × ((l : List ℕ) → out₀ ≡ store l to (slice at i₀ s) → out ≡ store l to ds) × (length out ≡ length out₀)
 
 abbrev μ-loop : tie.MeasureT-loop
 μ-loop s at out₀ to i₀ inside₀ end₀ out i inside end = length s - i
 
+plain-end-requires : tie.Need-plain-end-requires Inv-loop μ-loop
+plain-end-requires c κs = tt
+
+part-requires : tie.Need-part-requires Inv-loop μ-loop
+part-requires c κs = tt
+
+put-bytes-requires : tie.Need-put-bytes-requires Inv-loop μ-loop
+put-bytes-requires c κs =
+    let h = reached-room _ _ _ _ _ (reached-plain _ _ _ (c .before .before .plain-end .ensures)) (c .before .before .before .before .before .pre .0) in
+    omega (arith, h, ap length (c .part .ensures), c .before .before .before .before .before .pre .1)
+
+sub-end : tie.Need-sub-end Inv-loop μ-loop
+sub-end c = omega (arith, endOf-low isPlain (now (c .before .before .before .before .before .before .before .before .args .s)) (c .before .before .before .before .before .before .before .before .args .at), c .before .before .before .before .before .plain-end .ensures)
+
+add-end : tie.Need-add-end Inv-loop μ-loop
+add-end c =
+    let h = reached-room _ _ _ _ _ (reached-plain _ _ _ (c .before .before .before .before .before .plain-end .ensures)) (c .before .before .before .before .before .before .before .before .pre .0) in
+    omega (arith, h, plain-size _ _ _ (c .before .before .before .before .before .plain-end .ensures), c .before .before .before .before .before .before .before .before .pre .1)
+
 loop-holds : tie.Need-loop-holds Inv-loop μ-loop
 unfolding insideOf
-loop-holds c = ([], reached-none _ _, omega arith, sym (store-none _ _), refl)
+loop-holds c = (_, reached-plain _ _ _ (c .before .before .before .before .before .plain-end .ensures), omega (arith, plain-size _ _ _ (c .before .before .before .before .before .plain-end .ensures)), (λ l e. e), refl)
 
 shared-slice-read-turn-on : tie.Need-shared-slice-read-turn-on Inv-loop μ-loop
 shared-slice-read-turn-on c = c .before .loop-test .taken
@@ -37,8 +60,8 @@ unfolding turnOf
 put-given-requires c κs =
     let l = c .before .before .before .before .before .before .before .loop in
     let r = reached-goes _ _ _ _ _ (l .inv .1) _ _ (c .before .before .before .before .before .before .loop-test .taken) (rw (c .before .before .g .given .1) at (c .before .before .before .before .turn-on .ensures)) in
-    let h = reached-room _ _ _ _ _ r (c .before .before .before .before .before .before .before .before .before .before .pre .0) in
-    omega (arith, simp length-append at h, l .inv .2, l .inv .4, c .before .before .before .before .before .before .before .before .before .before .pre .1)
+    let h = reached-room _ _ _ _ _ r (c .before .before .before .before .before .before .before .before .before .before .before .before .before .before .before .before .pre .0) in
+    omega (arith, simp length-append at h, l .inv .2, l .inv .4, c .before .before .before .before .before .before .before .before .before .before .before .before .before .before .before .before .pre .1, ap length (c .before .before .before .before .before .before .before .before .before .before .put-bytes .ensures), length-store (now (c .before .before .before .before .before .before .before .before .before .before .before .before .before .before .before .before .args .out)) (c .before .before .before .before .before .before .before .before .before .before .before .before .before .before .before .before .args .to) (now (c .before .before .before .before .before .before .before .before .before .before .before .part .result)))
 
 add-i : tie.Need-add-i Inv-loop μ-loop
 add-i c = omega arith
@@ -52,7 +75,7 @@ loop-again c =
     let l = c .before .before .before .before .before .before .before .before .before .before .loop in
     let r = reached-goes _ _ _ _ _ (l .inv .1) _ _ (c .before .before .before .before .before .before .before .before .before .loop-test .taken) (rw (c .before .before .before .before .before .g .given .1) at (c .before .before .before .before .before .before .before .turn-on .ensures)) in
     let p = c .before .before .put-given .ensures in
-    (_, r, simp length-append (omega (arith, l .inv .2, p .0)), store-then _ _ _ _ _ _ _ (l .inv .3) (l .inv .2) (p .1), search needs)
+    (_, r, simp length-append (omega (arith, l .inv .2, p .0)), (λ x e. store-then _ _ _ _ _ _ _ (l .inv .3 x e) (l .inv .2) (p .1)), search needs)
 
 enum-known-g-2 : tie.Need-enum-known-g-2 Inv-loop μ-loop
 enum-known-g-2 c = search needs
@@ -63,7 +86,7 @@ put-given-requires-2 c κs =
     let l = c .before .before .before .before .before .before .before .loop in
     let q = reached-ends _ _ _ _ _ (l .inv .1) _ (c .before .before .before .before .before .before .loop-test .taken) (rw (c .before .before .g2 .given .1) at (c .before .before .before .before .turn-on .ensures)) in
     let e = closed-decoded _ _ _ q in
-    omega (arith, simp length-append at (ap length e), l .inv .2, l .inv .4, c .before .before .before .before .before .before .before .before .before .before .pre .1)
+    omega (arith, simp length-append at (ap length e), l .inv .2, l .inv .4, c .before .before .before .before .before .before .before .before .before .before .before .before .before .before .before .before .pre .1, ap length (c .before .before .before .before .before .before .before .before .before .before .put-bytes .ensures), length-store (now (c .before .before .before .before .before .before .before .before .before .before .before .before .before .before .before .before .args .out)) (c .before .before .before .before .before .before .before .before .before .before .before .before .before .before .before .before .args .to) (now (c .before .before .before .before .before .before .before .before .before .before .before .part .result)))
 
 same-length : tie.Need-same-length Inv-loop μ-loop
 same-length c = search needs
@@ -75,7 +98,7 @@ returns c =
     let q = reached-ends _ _ _ _ _ (l .inv .1) _ (c .before .before .before .before .before .before .before .before .before .loop-test .taken) (rw (c .before .before .before .before .before .g2 .given .1) at (c .before .before .before .before .before .before .before .turn-on .ensures)) in
     let e = closed-decoded _ _ _ q in
     let p = c .before .before .put-given2 .ensures in
-    rw e (simp length-append (omega (arith, l .inv .2, p .0)), store-then _ _ _ _ _ _ _ (l .inv .3) (l .inv .2) (p .1))
+    rw e (simp length-append (omega (arith, l .inv .2, p .0)), store-then _ _ _ _ _ _ _ (l .inv .3 _ (c .before .before .before .before .before .before .before .before .before .before .before .before .before .put-bytes .ensures ∙ ap (store _ _) (c .before .before .before .before .before .before .before .before .before .before .before .before .before .before .part .ensures))) (l .inv .2) (p .1))
 
 enum-told : tie.Need-enum-told Inv-loop μ-loop
 enum-told c = search needs
@@ -88,7 +111,7 @@ unfolding turnOf
 returns-2 c =
     let l = c .before .before .before .before .before .loop in
     let q = reached-breaks _ _ _ _ _ (l .inv .1) (c .before .before .before .before .loop-test .taken) (rw (c .enum-told .given .1) at (c .before .before .turn-on .ensures)) in
-    absurd (never-broken _ (c .before .before .before .before .before .before .before .before .pre .0) q)
+    absurd (never-broken _ (c .before .before .before .before .before .before .before .before .before .before .before .before .before .before .pre .0) q)
 
 same-length-3 : tie.Need-same-length-3 Inv-loop μ-loop
 same-length-3 c = search needs
@@ -97,7 +120,7 @@ returns-3 : tie.Need-returns-3 Inv-loop μ-loop
 returns-3 c =
     let l = c .before .loop in
     let q = reached-end _ _ _ _ _ (l .inv .1) (c .loop-test .left) in
-    absurd (never-broken _ (c .before .before .before .before .pre .0) q)
+    absurd (never-broken _ (c .before .before .before .before .before .before .before .before .before .before .pre .0) q)
 
 pub put-string-spec : {M : Type 1} → statement M
 put-string-spec =
@@ -105,6 +128,11 @@ put-string-spec =
     (tie.spec
     Inv-loop
     μ-loop
+    plain-end-requires
+    part-requires
+    put-bytes-requires
+    sub-end
+    add-end
     loop-holds
     shared-slice-read-turn-on
     turn-on-requires

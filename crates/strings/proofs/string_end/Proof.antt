@@ -1,10 +1,10 @@
-use mathlib.Core.List.{List, []}
+use mathlib.Core.List.{List}
 use Prim.Native.Nat.{ℕ, _-_}
 use native.Mathlib.Omega.{arith}
 use lib.ListN.{length}
 use borrow.Author.Needs.{needs}
 use Rattle.strings.specs.Machine.{insideOf, turnOf}
-use Rattle.strings.proofs.Reached.{Reached, reached-none, reached-goes, reached-ends, reached-breaks, reached-end, closed-is, broken-is}
+use Rattle.strings.proofs.Reached.{Reached, reached-plain, reached-goes, reached-ends, reached-breaks, reached-end, closed-is, broken-is}
 use Rattle.strings.proofs.string_end.Statement.{statement}
 use Rattle.strings.proofs.string_end.Tie as tie
 
@@ -15,9 +15,12 @@ Inv-loop s at i₀ inside₀ i inside = (ds : List ℕ) × Reached s at i (insid
 abbrev μ-loop : tie.MeasureT-loop
 μ-loop s at i₀ inside₀ i inside = length s - i
 
+plain-end-requires : tie.Need-plain-end-requires Inv-loop μ-loop
+plain-end-requires c κs = tt
+
 loop-holds : tie.Need-loop-holds Inv-loop μ-loop
 unfolding insideOf
-loop-holds c = ([], reached-none _ _)
+loop-holds c = (_, reached-plain _ _ _ (c .plain-end .ensures))
 
 shared-slice-read-turn-on : tie.Need-shared-slice-read-turn-on Inv-loop μ-loop
 shared-slice-read-turn-on c = c .before .loop-test .taken
@@ -76,6 +79,7 @@ string-end-spec =
     (tie.spec
     Inv-loop
     μ-loop
+    plain-end-requires
     loop-holds
     shared-slice-read-turn-on
     turn-on-requires

@@ -1,12 +1,15 @@
-use mathlib.Core.List.{List, []}
-use mathlib.Core.Path.{_≡_, refl}
+use mathlib.Core.List.{List}
+use mathlib.Core.Path.{_≡_}
 use Prim.Native.Nat.{ℕ, _-_}
 use native.Mathlib.Omega.{arith}
 use lib.ListN.{length, length-append}
+use denote.Ref.{now}
 use borrow.Author.Needs.{needs}
+use Rattle.scanner.proofs.RunLaws.{endOf-low}
+use Rattle.strings.specs.Decoded.{isPlain}
 use Rattle.strings.specs.Machine.{insideOf, turnOf}
 use Rattle.strings.proofs.StringLaws.{closed-decoded, broken-decoded}
-use Rattle.strings.proofs.Reached.{Reached, reached-none, reached-goes, reached-ends, ends-few, reached-breaks, reached-end}
+use Rattle.strings.proofs.Reached.{Reached, plain-size, reached-plain, reached-goes, reached-ends, ends-few, reached-breaks, reached-end}
 use Rattle.strings.proofs.string_size.Statement.{statement}
 use Rattle.strings.proofs.string_size.Tie as tie
 
@@ -17,9 +20,15 @@ Inv-loop s at i₀ inside₀ size₀ i inside size = (ds : List ℕ) × Reached 
 abbrev μ-loop : tie.MeasureT-loop
 μ-loop s at i₀ inside₀ size₀ i inside size = length s - i
 
+plain-end-requires : tie.Need-plain-end-requires Inv-loop μ-loop
+plain-end-requires c κs = tt
+
+sub-size : tie.Need-sub-size Inv-loop μ-loop
+sub-size c = omega (arith, endOf-low isPlain (now (c .before .before .args .s)) (c .before .before .args .at), c .plain-end .ensures)
+
 loop-holds : tie.Need-loop-holds Inv-loop μ-loop
 unfolding insideOf
-loop-holds c = ([], reached-none _ _, refl)
+loop-holds c = (_, reached-plain _ _ _ (c .plain-end .ensures), plain-size _ _ _ (c .plain-end .ensures))
 
 shared-slice-read-turn-on : tie.Need-shared-slice-read-turn-on Inv-loop μ-loop
 shared-slice-read-turn-on c = c .before .loop-test .taken
@@ -96,6 +105,8 @@ string-size-spec =
     (tie.spec
     Inv-loop
     μ-loop
+    plain-end-requires
+    sub-size
     loop-holds
     shared-slice-read-turn-on
     turn-on-requires

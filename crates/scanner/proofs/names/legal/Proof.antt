@@ -1,46 +1,74 @@
--- `legal` meets its contract: each answer is the rule with the tests that led there.
+-- `legal` meets its contract. The invariant: from i on the run of name bytes ends where it ends behind the first byte.
 -- Assumes nothing.
-use mathlib.Core.Path.{sym, _∙_}
+use mathlib.Core.Path.{_≡_, refl, sym, _∙_}
+use Prim.Native.Nat.{_-_}
+use native.Mathlib.Omega.{arith}
+use lib.ListN.{length}
 use borrow.Author.Needs.{needs}
-use borrow.Author.Tests.{le-leb, lt-leb, eq-eqb, ne-eqb}
-use Rattle.rules.specs.Bytes.{within}
-use Rattle.scanner.proofs.NameLaws.{legal-is}
+use borrow.Author.Tests.{not-true, not-false}
+use Rattle.rules.specs.Bytes.{isNameByte}
+use Rattle.scanner.specs.Runs.{endOf}
+use Rattle.scanner.proofs.NameLaws.{legal-few, legal-many, legal-start, legal-stop, legal-end, name-on}
 use Rattle.scanner.proofs.names.legal.Statement.{statement}
 use Rattle.scanner.proofs.names.legal.Tie as tie
 
-returns : tie.Need-returns
-unfolding within
-returns c = sym (legal-is _ ∙ rw (lt-leb _ _ (c .if1 .taken)))
+abbrev Inv-loop : tie.InvT-loop
+Inv-loop n i₀ i = endOf isNameByte n 1 ≡ endOf isNameByte n i
 
-returns-2 : tie.Need-returns-2
-unfolding within
-returns-2 c = sym (legal-is _ ∙ rw (le-leb _ _ (c .before .if1 .left), lt-leb _ _ (c .if2 .taken)))
+abbrev μ-loop : tie.MeasureT-loop
+μ-loop n i₀ i = length n - i
 
-shared-slice-read-class-of : tie.Need-shared-slice-read-class-of
-shared-slice-read-class-of c = search needs
+returns : tie.Need-returns Inv-loop μ-loop
+returns c = sym (legal-few _ (c .if1 .taken))
 
-class-of-requires : tie.Need-class-of-requires
-class-of-requires c κs = search needs
+returns-2 : tie.Need-returns-2 Inv-loop μ-loop
+returns-2 c = sym (legal-many _ (c .if2 .taken))
 
-returns-3 : tie.Need-returns-3
-unfolding within
-returns-3 c = sym (legal-is _ ∙ rw (le-leb _ _ (c .before .before .before .before .if1 .left), le-leb _ _ (c .before .before .before .if2 .left), ← c .before .class-of .ensures, ne-eqb _ _ (c .if3 .taken)))
+shared-slice-read-starts-name : tie.Need-shared-slice-read-starts-name Inv-loop μ-loop
+shared-slice-read-starts-name c = search needs
 
-run-end-requires : tie.Need-run-end-requires
-run-end-requires c κs = search needs
+starts-name-requires : tie.Need-starts-name-requires Inv-loop μ-loop
+starts-name-requires c κs = search needs
 
-returns-4 : tie.Need-returns-4
-unfolding within
-returns-4 c = sym (legal-is _ ∙ rw (le-leb _ _ (c .before .before .before .before .before .if1 .left), le-leb _ _ (c .before .before .before .before .if2 .left), ← c .before .before .class-of .ensures, eq-eqb _ _ (c .before .if3 .left), ← c .run-end .ensures))
+returns-3 : tie.Need-returns-3 Inv-loop μ-loop
+returns-3 c = sym (legal-start _ (c .before .before .before .before .if1 .left) (c .before .before .before .if2 .left) (sym (c .before .starts-name .ensures) ∙ not-true _ (c .if3 .taken)))
+
+loop-holds : tie.Need-loop-holds Inv-loop μ-loop
+loop-holds c = refl
+
+shared-slice-read-if4 : tie.Need-shared-slice-read-if4 Inv-loop μ-loop
+shared-slice-read-if4 c = search needs
+
+returns-4 : tie.Need-returns-4 Inv-loop μ-loop
+returns-4 c = sym (legal-stop _ (c .before .before .before .before .before .before .before .before .if1 .left) (c .before .before .before .before .before .before .before .if2 .left) (sym (c .before .before .before .before .before .starts-name .ensures) ∙ not-false _ (c .before .before .before .before .if3 .left)) _ (c .before .before .before .loop .inv) (c .before .before .loop-test .taken) (c .if4 .taken))
+
+add-i : tie.Need-add-i Inv-loop μ-loop
+add-i c = search needs
+
+loop-less : tie.Need-loop-less Inv-loop μ-loop
+loop-less c = search needs
+
+loop-again : tie.Need-loop-again Inv-loop μ-loop
+loop-again c = name-on _ _ (c .before .before .before .loop .inv) (c .before .before .loop-test .taken) (c .if4 .left) (omega (arith, c .before .before .before .before .before .before .before .before .before .shared-slice-known .given (c .before .before .before .loop .i)))
+
+returns-5 : tie.Need-returns-5 Inv-loop μ-loop
+returns-5 c = sym (legal-end _ (c .before .before .before .before .before .before .if1 .left) (c .before .before .before .before .before .if2 .left) (sym (c .before .before .before .starts-name .ensures) ∙ not-false _ (c .before .before .if3 .left)) _ (c .before .loop .inv) (c .loop-test .left))
 
 pub legal-spec : {M : Type 1} → statement M
 legal-spec =
     tie.close
     (tie.spec
+    Inv-loop
+    μ-loop
     returns
     returns-2
-    shared-slice-read-class-of
-    class-of-requires
+    shared-slice-read-starts-name
+    starts-name-requires
     returns-3
-    run-end-requires
-    returns-4)
+    loop-holds
+    shared-slice-read-if4
+    returns-4
+    add-i
+    loop-less
+    loop-again
+    returns-5)

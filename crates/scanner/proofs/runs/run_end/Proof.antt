@@ -12,25 +12,25 @@ use Rattle.scanner.proofs.runs.run_end.Statement.{statement}
 use Rattle.scanner.proofs.runs.run_end.Tie as tie
 
 abbrev Inv-loop : tie.InvT-loop
-Inv-loop s at lo hi i₀ i = endOf (inClass lo hi) s at ≡ endOf (inClass lo hi) s i
+Inv-loop table s at lo hi i₀ i = endOf (inClass lo hi) s at ≡ endOf (inClass lo hi) s i
 
 abbrev μ-loop : tie.MeasureT-loop
-μ-loop s at lo hi i₀ i = length s - i
+μ-loop table s at lo hi i₀ i = length s - i
 
 loop-holds : tie.Need-loop-holds Inv-loop μ-loop
 loop-holds c = refl
 
-shared-slice-read-class-of : tie.Need-shared-slice-read-class-of Inv-loop μ-loop
-shared-slice-read-class-of c = search needs
+shared-slice-read-class-in : tie.Need-shared-slice-read-class-in Inv-loop μ-loop
+shared-slice-read-class-in c = search needs
 
-class-of-requires : tie.Need-class-of-requires Inv-loop μ-loop
-class-of-requires c κs = search needs
+class-in-requires : tie.Need-class-in-requires Inv-loop μ-loop
+class-in-requires c κs = c .before .before .before .before .pre
 
 returns : tie.Need-returns Inv-loop μ-loop
-returns c = sym (c .before .before .before .before .loop .inv ∙ endOf-stop _ _ _ (c .before .before .before .loop-test .taken) (below _ _ _ _ (c .before .class-of .ensures) (c .if1 .taken)))
+returns c = sym (c .before .before .before .before .loop .inv ∙ endOf-stop _ _ _ (c .before .before .before .loop-test .taken) (below _ _ _ _ (c .before .class-in .ensures) (c .if1 .taken)))
 
 returns-2 : tie.Need-returns-2 Inv-loop μ-loop
-returns-2 c = sym (c .before .before .before .before .before .loop .inv ∙ endOf-stop _ _ _ (c .before .before .before .before .loop-test .taken) (above _ _ _ _ (c .before .before .class-of .ensures) (c .if2 .taken)))
+returns-2 c = sym (c .before .before .before .before .before .loop .inv ∙ endOf-stop _ _ _ (c .before .before .before .before .loop-test .taken) (above _ _ _ _ (c .before .before .class-in .ensures) (c .if2 .taken)))
 
 add-i : tie.Need-add-i Inv-loop μ-loop
 add-i c = search needs
@@ -39,7 +39,7 @@ loop-less : tie.Need-loop-less Inv-loop μ-loop
 loop-less c = search needs
 
 loop-again : tie.Need-loop-again Inv-loop μ-loop
-loop-again c = c .before .before .before .before .before .loop .inv ∙ endOf-more _ _ _ (c .before .before .before .before .loop-test .taken) (inside _ _ _ _ (c .before .before .class-of .ensures) (c .before .if1 .left) (c .if2 .left))
+loop-again c = c .before .before .before .before .before .loop .inv ∙ endOf-more _ _ _ (c .before .before .before .before .loop-test .taken) (inside _ _ _ _ (c .before .before .class-in .ensures) (c .before .if1 .left) (c .if2 .left))
 
 returns-3 : tie.Need-returns-3 Inv-loop μ-loop
 returns-3 c = sym (c .before .loop .inv ∙ endOf-end _ _ _ (c .loop-test .left))
@@ -51,8 +51,8 @@ run-end-spec =
     Inv-loop
     μ-loop
     loop-holds
-    shared-slice-read-class-of
-    class-of-requires
+    shared-slice-read-class-in
+    class-in-requires
     returns
     returns-2
     add-i

@@ -1,58 +1,58 @@
--- `keyword` meets its contract. The invariant: the word's number is k and its place in the keywords from k on.
+-- `keyword` meets its contract: a short word by its code, of the longer ones two are keywords.
 -- Assumes nothing.
-use mathlib.Core.Path.{_≡_, sym, _∙_}
-use Prim.Native.Nat.{_+_, _-_, _<_, _≤_}
-use lib.ListN.{drop}
-use borrow.Author.Needs.{needs}
+use mathlib.Core.Path.{sym, ap, _∙_}
 use native.Mathlib.Omega.{arith}
+use borrow.Author.Needs.{needs}
 use Rattle.rules.specs.Tokens.{keywords}
-use Rattle.scanner.specs.Words.{placeIn, keywordNumber}
-use Rattle.scanner.proofs.WordLaws.{keyword-more, keyword-found, keyword-none}
+use Rattle.scanner.specs.Words.{keywordAt, codeNumber}
+use Rattle.scanner.proofs.CodeLaws.{keyword-coded, long-found, long-none}
 use Rattle.scanner.proofs.words.keyword.Statement.{statement}
 use Rattle.scanner.proofs.words.keyword.Tie as tie
 
-abbrev Inv-loop : tie.InvT-loop
-Inv-loop w k₀ k = (k ≤ 32) × (keywordNumber w ≡ k + placeIn w (drop k keywords))
+word-code-requires : tie.Need-word-code-requires
+word-code-requires c κs = search needs
 
-abbrev μ-loop : tie.MeasureT-loop
-μ-loop w k₀ k = 32 - k
+code-number-requires : tie.Need-code-number-requires
+code-number-requires c κs = search needs
 
-loop-holds : tie.Need-loop-holds Inv-loop μ-loop
-unfolding keywordNumber
-loop-holds c = omega arith
+returns : tie.Need-returns
+returns c = c .code-number .ensures ∙ ap codeNumber (c .before .word-code .ensures) ∙ keyword-coded _ (λ k. omega (arith, c .before .before .before .shared-slice-known .given k))
 
-is-keyword-requires : tie.Need-is-keyword-requires Inv-loop μ-loop
-is-keyword-requires c κs = search needs
+slice-aggregate-same-bytes : tie.Need-slice-aggregate-same-bytes
+slice-aggregate-same-bytes c = search needs
 
-returns : tie.Need-returns Inv-loop μ-loop
-returns c =
-    let h : c .before .before .before .loop .k < 32 = omega arith in
-    sym (c .before .before .before .loop .inv .1 ∙ keyword-found _ _ h (sym (c .before .is-keyword .ensures) ∙ c .if1 .taken))
+same-bytes-requires : tie.Need-same-bytes-requires
+same-bytes-requires c κs = search needs
 
-add-k : tie.Need-add-k Inv-loop μ-loop
-add-k c = search needs
+returns-2 : tie.Need-returns-2
+unfolding keywordAt keywords
+returns-2 c = long-found _ 3 (omega arith) (sym (c .before .same-bytes .ensures) ∙ c .if2 .taken)
 
-loop-less : tie.Need-loop-less Inv-loop μ-loop
-loop-less c = search needs
+slice-aggregate-same-bytes-2 : tie.Need-slice-aggregate-same-bytes-2
+slice-aggregate-same-bytes-2 c = search needs
 
-loop-again : tie.Need-loop-again Inv-loop μ-loop
-loop-again c =
-    let h : c .before .before .before .loop .k < 32 = omega arith in
-    (omega arith, c .before .before .before .loop .inv .1 ∙ keyword-more _ _ h (sym (c .before .is-keyword .ensures) ∙ c .if1 .left))
+same-bytes-requires-2 : tie.Need-same-bytes-requires-2
+same-bytes-requires-2 c κs = search needs
 
-returns-2 : tie.Need-returns-2 Inv-loop μ-loop
-returns-2 c = let h : c .before .loop .k ≡ 32 = omega arith in sym (c .before .loop .inv .1 ∙ keyword-none _ _ h)
+returns-3 : tie.Need-returns-3
+unfolding keywordAt keywords
+returns-3 c = long-found _ 4 (omega arith) (sym (c .before .same-bytes2 .ensures) ∙ c .if3 .taken)
+
+returns-4 : tie.Need-returns-4
+unfolding keywordAt keywords
+returns-4 c = long-none _ (c .before .before .before .before .before .before .if1 .left) (sym (c .before .before .before .before .same-bytes .ensures) ∙ c .before .before .before .if2 .left) (sym (c .before .same-bytes2 .ensures) ∙ c .if3 .left)
 
 pub keyword-spec : {M : Type 1} → statement M
 keyword-spec =
     tie.close
     (tie.spec
-    Inv-loop
-    μ-loop
-    loop-holds
-    is-keyword-requires
+    word-code-requires
+    code-number-requires
     returns
-    add-k
-    loop-less
-    loop-again
-    returns-2)
+    slice-aggregate-same-bytes
+    same-bytes-requires
+    returns-2
+    slice-aggregate-same-bytes-2
+    same-bytes-requires-2
+    returns-3
+    returns-4)
