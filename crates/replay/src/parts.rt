@@ -29,18 +29,18 @@ pub fn name_stands(names: &[u8], at: u32, size: u32) -> bool
     legal(part(names, start, start + size as usize))
 }
 
+// Each is looked at, also behind one that is none: so the compiler tests several in one step.
 fn all_digits(bits: &[u32], from: usize, to: usize) -> bool
     requires { ⌜ to ≤ length (now bits) ⌝ }
     ensures { λ r. ⌜ r ≡ all isDigit (slice from to (now (bits .entry))) ⌝ }
 {
+    let mut good = true;
     let mut i = from;
     while i < to {
-        if 6 <= bits[i] {
-            return false;
-        }
+        good = good & (bits[i] < 6);
         i += 1;
     }
-    true
+    good
 }
 
 // The digits of a value, by their codes.
@@ -64,14 +64,13 @@ fn all_given(strings: &[u8], from: usize, to: usize) -> bool
     requires { ⌜ to ≤ length (now strings) ⌝ }
     ensures { λ r. ⌜ r ≡ all (within 1 255) (slice from to (now (strings .entry))) ⌝ }
 {
+    let mut good = true;
     let mut i = from;
     while i < to {
-        if strings[i] == 0 {
-            return false;
-        }
+        good = good & (1 <= strings[i]);
         i += 1;
     }
-    true
+    good
 }
 
 // The bytes of a string, none of which is 0.

@@ -1,12 +1,11 @@
 -- A turn of each kind of loop over a table: one zero stored, one value stored from the end, one value looked at.
 -- Assumes nothing.
 use mathlib.Core.Path.{_≡_, sym, ap, _∙_}
-use mathlib.Core.Bool.{Bool, true, false, _&&_}
+use mathlib.Core.Bool.{Bool, _&&_, and-true, and-assoc}
 use mathlib.Core.List.{List, [], _∷_, _++_, reverse, reverse-cons}
 use Prim.Native.Nat.{ℕ, suc, _+_, _-_, _≤_, _<_}
 use native.Mathlib.Omega.{arith}
 use native.Mathlib.Numerals.{add-one}
-use borrow.Author.Tests.{eq-eqb, ne-eqb}
 use lib.Dec.{eqb}
 use lib.ListN.{length, getD, set, drop, replicate, length-replicate, length-reverse, drop-of-length-le, replicate-append-replicate}
 use lib.Seq.{slice, slice-cons, length-slice, drop-cons}
@@ -28,17 +27,11 @@ reversed d s l at to j e h k n =
     ∙ reverse-cons (getD s (j - 1) 0) (slice (suc (j - 1)) to s)
     ∙ ap (λ (m : ℕ). reverse (slice m to s) ++ getD s (j - 1) 0 ∷ []) ej)
 
--- the values from a place on: what the test says of the first, and of those behind it
-all-from : (f : ℕ → Bool) (l : List ℕ) (i : ℕ) (b : Bool) → i < length l → f (getD l i 0) ≡ b → all f (drop i l) ≡ b && all f (drop (i + 1) l)
+-- the values from a place on: one more looked at, and the end
+pub zero-more : (l : List ℕ) (b : Bool) (i : ℕ) → i < length l → (b && eqb 0 (getD l i 0) && all (eqb 0) (drop (i + 1) l)) ≡ (b && all (eqb 0) (drop i l))
 unfolding all
-all-from f l i b h e = rw (add-one, drop-cons l i 0, e)
+zero-more l b i h = and-assoc b (eqb 0 (getD l i 0)) (all (eqb 0) (drop (i + 1) l)) ∙ ap (λ (t : Bool). b && t) (rw (add-one, drop-cons l i 0))
 
-pub zero-not : (l : List ℕ) (i : ℕ) → i < length l → (getD l i 0 ≡ 0 → ⊥) → all (eqb 0) (drop i l) ≡ false
-zero-not l i h e = all-from (eqb 0) l i false h (ne-eqb 0 (getD l i 0) (λ z. e (sym z)))
-
-pub zero-so-far : (l : List ℕ) (i : ℕ) → i < length l → getD l i 0 ≡ 0 → all (eqb 0) (drop i l) ≡ all (eqb 0) (drop (i + 1) l)
-zero-so-far l i h e = all-from (eqb 0) l i true h (eq-eqb 0 (getD l i 0) (sym e))
-
-pub zero-to-end : (l : List ℕ) (i : ℕ) → length l ≤ i → all (eqb 0) (drop i l) ≡ true
+pub zero-to-end : (l : List ℕ) (b : Bool) (i : ℕ) → length l ≤ i → (b && all (eqb 0) (drop i l)) ≡ b
 unfolding all
-zero-to-end l i h = ap (all (eqb 0)) (drop-of-length-le l {i = i} h)
+zero-to-end l b i h = ap (λ (xs : List ℕ). b && all (eqb 0) xs) (drop-of-length-le l {i = i} h) ∙ and-true b

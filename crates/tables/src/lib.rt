@@ -1,5 +1,6 @@
 // The leaves over one lent table of design memory: bytes or words stored from a place on, a row put or got, zeros put or looked for.
 ghost use mathlib.Core.Path.{_≡_};
+ghost use mathlib.Core.Bool.{_&&_};
 ghost use mathlib.Core.List.{reverse};
 ghost use Prim.Native.Nat.{_+_, _-_, _≤_};
 ghost use lib.Dec.{eqb};
@@ -83,30 +84,49 @@ pub fn clear_words(table: &mut [u32])
     }
 }
 
+// Every byte is looked at, also behind one that is not zero: so the compiler tests many bytes in one step.
 pub fn zero_bytes_from(room: &[u8], at: usize) -> bool
     ensures { λ r. ⌜ r ≡ all (eqb 0) (drop at (now (room .entry))) ⌝ }
 {
+    let mut zero = true;
     let mut i = at;
     while i < room.len() {
-        if room[i] != 0 {
-            return false;
-        }
+        zero = zero & (0 == room[i]);
         i += 1;
     }
-    true
+    zero
 }
 
+// Whether the words from `from` to `to` are zero: it and those from `to` on tell of all from `from` on. Each is looked at, as above.
+fn zero_between(table: &[u32], from: usize, to: usize) -> bool
+    requires { ⌜ (from ≤ to) × (to ≤ length (now table)) ⌝ }
+    ensures { λ r. ⌜ (r && all (eqb 0) (drop to (now (table .entry)))) ≡ all (eqb 0) (drop from (now (table .entry))) ⌝ }
+{
+    let mut zero = true;
+    let mut i = from;
+    while i < to {
+        zero = zero & (0 == table[i]);
+        i += 1;
+    }
+    zero
+}
+
+// 64 words at a time, then those that are left.
 pub fn zero_from(table: &[u32], at: usize) -> bool
     ensures { λ r. ⌜ r ≡ all (eqb 0) (drop at (now (table .entry))) ⌝ }
 {
+    let n = table.len();
+    if n < at {
+        return true;
+    }
     let mut i = at;
-    while i < table.len() {
-        if table[i] != 0 {
+    while 64 <= n - i {
+        if !zero_between(table, i, i + 64) {
             return false;
         }
-        i += 1;
+        i += 64;
     }
-    true
+    zero_between(table, i, n)
 }
 
 pub fn put_row(rows: &mut [u32], at: usize, r: Row)

@@ -5,11 +5,13 @@ ghost use mathlib.Core.Path.{_≡_};
 ghost use mathlib.Core.List.{[], _∷_, map, flatMap, reverse};
 ghost use Prim.Native.Nat.{_≤_};
 ghost use lib.ListN.{length, replicate};
+ghost use Rattle.rules.specs.Bytes.{all};
 ghost use Rattle.rules.specs.Tokens.{value, string};
 ghost use Rattle.rules.specs.Text.{decimalText, integerText, digitByte, escaped, literalText, refusal};
 ghost use Rattle.numbers.specs.Kinds.{digitOf};
 ghost use Rattle.numbers.specs.Signed.{signedOf};
 ghost use Rattle.text.specs.Written.{Written};
+ghost use Rattle.text.specs.Plain.{plain};
 
 pub fn put_byte(out: &mut [u8], at: usize, b: u8) -> usize
     requires { ⌜ at ≤ 32769 ⌝ }
@@ -24,7 +26,8 @@ pub fn put_byte(out: &mut [u8], at: usize, b: u8) -> usize
     at + 1
 }
 
-pub fn put_bytes(out: &mut [u8], at: usize, s: &[u8]) -> usize
+// Byte by byte, for a text that the room ends in or that ends past 32,768.
+fn put_each(out: &mut [u8], at: usize, s: &[u8]) -> usize
     requires { ⌜ at ≤ 32769 ⌝ }
     ensures { λ r. ⌜ Written at (now (s .entry)) (now (out .entry)) (now (out .exit)) r ⌝ }
 {
@@ -35,6 +38,25 @@ pub fn put_bytes(out: &mut [u8], at: usize, s: &[u8]) -> usize
         i += 1;
     }
     end
+}
+
+// Where all of it has a place it is stored by one copy, and where none has, it is only counted.
+pub fn put_bytes(out: &mut [u8], at: usize, s: &[u8]) -> usize
+    requires { ⌜ at ≤ 32769 ⌝ }
+    ensures { λ r. ⌜ Written at (now (s .entry)) (now (out .entry)) (now (out .exit)) r ⌝ }
+{
+    let end = at + s.len();
+    if 32768 < end {
+        return put_each(out, at, s);
+    }
+    if end <= out.len() {
+        tables::put_bytes(out, at, s);
+        return end;
+    }
+    if out.len() <= at {
+        return end;
+    }
+    put_each(out, at, s)
 }
 
 pub fn put_spaces(out: &mut [u8], at: usize, n: usize) -> usize
@@ -98,8 +120,28 @@ fn put_escaped(out: &mut [u8], at: usize, b: u8) -> usize
     put_byte(out, at, b)
 }
 
-// The bytes of a string, without the quotes.
-fn put_inside(out: &mut [u8], at: usize, s: &[u8]) -> usize
+// A byte that stands in a string as it is.
+fn is_plain(b: u8) -> bool
+    ensures { λ r. ⌜ r ≡ plain b ⌝ }
+{
+    (32 <= b) & (b != b'"') & (b != b'\\')
+}
+
+// Each is looked at, also behind one that is not plain: so the compiler tests many bytes in one step.
+fn all_plain(s: &[u8]) -> bool
+    ensures { λ r. ⌜ r ≡ all plain (now (s .entry)) ⌝ }
+{
+    let mut good = true;
+    let mut i = 0;
+    while i < s.len() {
+        good = good & is_plain(s[i]);
+        i += 1;
+    }
+    good
+}
+
+// The bytes of a string byte by byte.
+fn put_mixed(out: &mut [u8], at: usize, s: &[u8]) -> usize
     requires { ⌜ at ≤ 32769 ⌝ }
     ensures { λ r. ⌜ Written at (flatMap escaped (now (s .entry))) (now (out .entry)) (now (out .exit)) r ⌝ }
 {
@@ -110,6 +152,17 @@ fn put_inside(out: &mut [u8], at: usize, s: &[u8]) -> usize
         i += 1;
     }
     end
+}
+
+// The bytes of a string, without the quotes.
+fn put_inside(out: &mut [u8], at: usize, s: &[u8]) -> usize
+    requires { ⌜ at ≤ 32769 ⌝ }
+    ensures { λ r. ⌜ Written at (flatMap escaped (now (s .entry))) (now (out .entry)) (now (out .exit)) r ⌝ }
+{
+    if all_plain(s) {
+        return put_bytes(out, at, s);
+    }
+    put_mixed(out, at, s)
 }
 
 pub fn put_string(out: &mut [u8], at: usize, s: &[u8]) -> usize

@@ -1,32 +1,40 @@
--- The loop's invariant: the answer for the values from i on is the answer for those from `at` on.
+-- The loop's invariant: what the words from i on tell is what those from `at` on tell.
 use mathlib.Core.Path.{_≡_, refl, sym, _∙_}
-use Prim.Native.Nat.{_-_}
+use mathlib.Core.Bool.{true}
+use Prim.Native.Nat.{_-_, _≤_}
 use denote.Ref.{now}
 use lib.Dec.{eqb}
 use lib.ListN.{length, drop}
 use Rattle.rules.specs.Bytes.{all}
-use Rattle.tables.proofs.TurnLaws.{zero-not, zero-so-far, zero-to-end}
+use Rattle.tables.proofs.TurnLaws.{zero-to-end}
+use borrow.Author.Tests.{not-true, not-false}
 use native.Mathlib.Omega.{arith}
 use Rattle.tables.proofs.zero_from.Statement.{statement}
 use Rattle.tables.proofs.zero_from.Tie as tie
 
 abbrev Inv-loop : tie.InvT-loop
-Inv-loop table at i₀ i = all (eqb 0) (drop i table) ≡ all (eqb 0) (drop at table)
+Inv-loop table at n i₀ i = (i ≤ length table) × (all (eqb 0) (drop i table) ≡ all (eqb 0) (drop at table))
 
 abbrev μ-loop : tie.MeasureT-loop
-μ-loop table at i₀ i = length table - i
-
-loop-holds : tie.Need-loop-holds Inv-loop μ-loop
-loop-holds c = refl
-
-mul-if1 : tie.Need-mul-if1 Inv-loop μ-loop
-mul-if1 c = omega arith
-
-shared-slice-read-if1 : tie.Need-shared-slice-read-if1 Inv-loop μ-loop
-shared-slice-read-if1 c = omega arith
+μ-loop table at n i₀ i = length table - i
 
 returns : tie.Need-returns Inv-loop μ-loop
-returns c = sym (zero-not (now (c .before .before .before .before .args .table)) (c .before .before .before .loop .i) (c .before .before .loop-test .taken) (c .if1 .taken)) ∙ c .before .before .before .loop .inv
+returns c = sym (zero-to-end (now (c .before .before .args .table)) true (c .before .before .args .at) (omega arith))
+
+loop-holds : tie.Need-loop-holds Inv-loop μ-loop
+loop-holds c = (omega arith, refl)
+
+sub-loop : tie.Need-sub-loop Inv-loop μ-loop
+sub-loop c = omega arith
+
+add-zero-between : tie.Need-add-zero-between Inv-loop μ-loop
+add-zero-between c = omega arith
+
+zero-between-requires : tie.Need-zero-between-requires Inv-loop μ-loop
+zero-between-requires c κs = (omega arith, omega arith)
+
+returns-2 : tie.Need-returns-2 Inv-loop μ-loop
+returns-2 c = (rw (not-true (c .before .zero-between .result) (c .if2 .taken)) at (c .before .zero-between .ensures)) ∙ c .before .before .before .loop .inv .1
 
 add-i : tie.Need-add-i Inv-loop μ-loop
 add-i c = omega arith
@@ -35,10 +43,13 @@ loop-less : tie.Need-loop-less Inv-loop μ-loop
 loop-less c = omega arith
 
 loop-again : tie.Need-loop-again Inv-loop μ-loop
-loop-again c = sym (zero-so-far (now (c .before .before .before .before .args .table)) (c .before .before .before .loop .i) (c .before .before .loop-test .taken) (c .if1 .left)) ∙ c .before .before .before .loop .inv
+loop-again c = (omega arith, (rw (not-false (c .before .zero-between .result) (c .if2 .left)) at (c .before .zero-between .ensures)) ∙ c .before .before .before .loop .inv .1)
 
-returns-2 : tie.Need-returns-2 Inv-loop μ-loop
-returns-2 c = sym (zero-to-end (now (c .before .before .args .table)) (c .before .loop .i) (c .loop-test .left)) ∙ c .before .loop .inv
+zero-between-requires-2 : tie.Need-zero-between-requires-2 Inv-loop μ-loop
+zero-between-requires-2 c κs = (omega arith, omega arith)
+
+returns-3 : tie.Need-returns-3 Inv-loop μ-loop
+returns-3 c = sym (zero-to-end (now (c .before .before .before .before .before .args .table)) (c .zero-between2 .result) (length (now (c .before .before .before .before .before .args .table))) (omega arith)) ∙ c .zero-between2 .ensures ∙ c .before .before .loop .inv .1
 
 pub zero-from-spec : {M : Type 1} → statement M
 zero-from-spec =
@@ -46,11 +57,14 @@ zero-from-spec =
     (tie.spec
     Inv-loop
     μ-loop
-    loop-holds
-    mul-if1
-    shared-slice-read-if1
     returns
+    loop-holds
+    sub-loop
+    add-zero-between
+    zero-between-requires
+    returns-2
     add-i
     loop-less
     loop-again
-    returns-2)
+    zero-between-requires-2
+    returns-3)

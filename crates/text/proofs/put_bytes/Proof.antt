@@ -1,58 +1,56 @@
--- The loop's invariant: the first i bytes of s are written.
-use mathlib.Core.Path.{_≡_}
-use Prim.Native.Nat.{_-_, _≤_}
+-- Byte by byte, by one copy, or only counted.
+use mathlib.Core.Path.{sym}
 use native.Mathlib.Omega.{arith}
 use denote.Ref.{now}
-use lib.ListN.{length, take}
-use lib.Seq.{take-length}
-use Rattle.text.specs.Written.{Written, written-none, written-most, written-then, written-as}
-use Rattle.text.proofs.TextLaws.{bytes-more}
+use Rattle.text.proofs.TextLaws.{all-bytes, store-past}
 use Rattle.text.proofs.put_bytes.Statement.{statement}
 use Rattle.text.proofs.put_bytes.Tie as tie
 
-abbrev Inv-loop : tie.InvT-loop
-Inv-loop out₀ at s end₀ i₀ out end i = (i ≤ length s) × Written at (take i s) out₀ out end
+add-end : tie.Need-add-end
+add-end c = omega arith
 
-abbrev μ-loop : tie.MeasureT-loop
-μ-loop out₀ at s end₀ i₀ out end i = length s - i
+put-each-requires : tie.Need-put-each-requires
+put-each-requires c κs = c .before .before .before .before .pre
 
-loop-holds : tie.Need-loop-holds Inv-loop μ-loop
-loop-holds c = (omega arith, written-none (c .before .before .args .at) (now (c .before .before .args .out)) (c .before .before .pre))
+same-length : tie.Need-same-length
+same-length c = c .before .before .put-each .ensures .kept
 
-shared-slice-read-put-byte : tie.Need-shared-slice-read-put-byte Inv-loop μ-loop
-shared-slice-read-put-byte c = omega arith
+returns : tie.Need-returns
+returns c = c .before .before .put-each .ensures
 
-put-byte-requires : tie.Need-put-byte-requires Inv-loop μ-loop
-put-byte-requires c κs = written-most (c .before .before .before .loop .inv .1)
+put-bytes-requires : tie.Need-put-bytes-requires
+put-bytes-requires c κs = omega arith
 
-add-i : tie.Need-add-i Inv-loop μ-loop
-add-i c = omega arith
+returns-2 : tie.Need-returns-2
+returns-2 c = all-bytes (now (c .before .before .before .before .before .before .before .before .args .out)) _ (now (c .before .before .before .before .before .before .before .before .args .s)) (c .before .before .before .before .before .before .before .before .args .at) (c .before .before .put-bytes .ensures) (c .before .before .before .before .before .if1 .left)
 
-loop-less : tie.Need-loop-less Inv-loop μ-loop
-loop-less c = omega arith
+same-length-2 : tie.Need-same-length-2
+same-length-2 c = returns-2 c .kept
 
-loop-again : tie.Need-loop-again Inv-loop μ-loop
-loop-again c = (omega arith, written-as (written-then (c .before .before .before .before .before .before .loop .inv .1) (c .before .before .put-byte .ensures)) (bytes-more (now (c .before .before .before .before .before .before .before .before .before .args .s)) (c .before .before .before .before .before .before .loop .i) (omega arith)))
+returns-3 : tie.Need-returns-3
+returns-3 c = all-bytes (now (c .before .before .before .before .before .args .out)) _ (now (c .before .before .before .before .before .args .s)) (c .before .before .before .before .before .args .at) (sym (store-past (now (c .before .before .before .before .before .args .out)) (c .before .before .before .before .before .args .at) (now (c .before .before .before .before .before .args .s)) (c .if3 .taken))) (c .before .before .if1 .left)
 
-same-length : tie.Need-same-length Inv-loop μ-loop
-same-length c = c .before .loop .inv .1 .kept
+put-each-requires-2 : tie.Need-put-each-requires-2
+put-each-requires-2 c κs = c .before .before .before .before .before .before .pre
 
-returns : tie.Need-returns Inv-loop μ-loop
-returns c =
-    let e : c .before .loop .i ≡ length (now (c .before .before .before .before .args .s)) = omega arith in
-    written-as (c .before .loop .inv .1) (rw e (take-length (now (c .before .before .before .before .args .s))))
+same-length-3 : tie.Need-same-length-3
+same-length-3 c = c .before .before .put-each2 .ensures .kept
+
+returns-4 : tie.Need-returns-4
+returns-4 c = c .before .before .put-each2 .ensures
 
 pub put-bytes-spec : {M : Type 1} → statement M
 put-bytes-spec =
     tie.close
     (tie.spec
-    Inv-loop
-    μ-loop
-    loop-holds
-    shared-slice-read-put-byte
-    put-byte-requires
-    add-i
-    loop-less
-    loop-again
+    add-end
+    put-each-requires
     same-length
-    returns)
+    returns
+    put-bytes-requires
+    same-length-2
+    returns-2
+    returns-3
+    put-each-requires-2
+    same-length-3
+    returns-4)

@@ -1,61 +1,40 @@
--- The loop's invariant: the first i bytes of s are written, each as it stands in a string.
-use mathlib.Core.Path.{_≡_, ap}
-use Prim.Native.Nat.{_-_, _≤_}
-use native.Mathlib.Omega.{arith}
+-- Plain bytes stand as they are.
+use mathlib.Core.Path.{sym, _∙_}
 use denote.Ref.{now}
-use mathlib.Core.List.{flatMap}
-use lib.ListN.{length, take}
-use lib.Seq.{take-length}
-use Rattle.rules.specs.Text.{escaped}
-use Rattle.text.specs.Written.{Written, written-none, written-most, written-then, written-as}
-use Rattle.scanner.specs.Lists.{flatMap-more}
+use Rattle.text.specs.Plain.{plain-text}
+use Rattle.text.specs.Written.{written-as}
 use Rattle.text.proofs.put_inside.Statement.{statement}
 use Rattle.text.proofs.put_inside.Tie as tie
 
-abbrev Inv-loop : tie.InvT-loop
-Inv-loop out₀ at s end₀ i₀ out end i = (i ≤ length s) × Written at (flatMap escaped (take i s)) out₀ out end
+all-plain-requires : tie.Need-all-plain-requires
+all-plain-requires c κs = tt
 
-abbrev μ-loop : tie.MeasureT-loop
-μ-loop out₀ at s end₀ i₀ out end i = length s - i
+put-bytes-requires : tie.Need-put-bytes-requires
+put-bytes-requires c κs = c .before .before .before .before .before .pre
 
-loop-holds : tie.Need-loop-holds Inv-loop μ-loop
-unfolding flatMap
-loop-holds c = (omega arith, written-none (c .before .before .args .at) (now (c .before .before .args .out)) (c .before .before .pre))
+same-length : tie.Need-same-length
+same-length c = c .before .before .put-bytes .ensures .kept
 
-shared-slice-read-put-escaped : tie.Need-shared-slice-read-put-escaped Inv-loop μ-loop
-shared-slice-read-put-escaped c = omega arith
+returns : tie.Need-returns
+returns c = written-as (c .before .before .put-bytes .ensures) (sym (plain-text (now (c .before .before .before .before .before .before .before .before .args .s)) (sym (c .before .before .before .before .before .all-plain .ensures) ∙ c .before .before .before .before .if1 .taken)))
 
-put-escaped-requires : tie.Need-put-escaped-requires Inv-loop μ-loop
-put-escaped-requires c κs = written-most (c .before .before .before .loop .inv .1)
+put-mixed-requires : tie.Need-put-mixed-requires
+put-mixed-requires c κs = c .before .before .before .before .before .pre
 
-add-i : tie.Need-add-i Inv-loop μ-loop
-add-i c = omega arith
+same-length-2 : tie.Need-same-length-2
+same-length-2 c = c .before .before .put-mixed .ensures .kept
 
-loop-less : tie.Need-loop-less Inv-loop μ-loop
-loop-less c = omega arith
-
-loop-again : tie.Need-loop-again Inv-loop μ-loop
-loop-again c = (omega arith, written-as (written-then (c .before .before .before .before .before .before .loop .inv .1) (c .before .before .put-escaped .ensures)) (flatMap-more escaped (now (c .before .before .before .before .before .before .before .before .before .args .s)) (c .before .before .before .before .before .before .loop .i) 0 (omega arith)))
-
-same-length : tie.Need-same-length Inv-loop μ-loop
-same-length c = c .before .loop .inv .1 .kept
-
-returns : tie.Need-returns Inv-loop μ-loop
-returns c =
-    let e : c .before .loop .i ≡ length (now (c .before .before .before .before .args .s)) = omega arith in
-    written-as (c .before .loop .inv .1) (ap (flatMap escaped) (rw e (take-length (now (c .before .before .before .before .args .s)))))
+returns-2 : tie.Need-returns-2
+returns-2 c = c .before .before .put-mixed .ensures
 
 pub put-inside-spec : {M : Type 1} → statement M
 put-inside-spec =
     tie.close
     (tie.spec
-    Inv-loop
-    μ-loop
-    loop-holds
-    shared-slice-read-put-escaped
-    put-escaped-requires
-    add-i
-    loop-less
-    loop-again
+    all-plain-requires
+    put-bytes-requires
     same-length
-    returns)
+    returns
+    put-mixed-requires
+    same-length-2
+    returns-2)

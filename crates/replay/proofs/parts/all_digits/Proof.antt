@@ -1,35 +1,31 @@
--- `all_digits` meets its contract. The invariant: the digits from i on are all good just where all of them are.
+-- `all_digits` meets its contract. The invariant: what is found so far and what the digits from i on tell is what all of them tell.
 -- Assumes nothing.
 use denote.Ref.{now}
 use Prim.Native.Nat.{_-_}
 use mathlib.Core.Path.{_≡_, refl, sym, _∙_}
+use mathlib.Core.Bool.{_&&_}
 use native.Mathlib.Omega.{arith}
 use lib.Seq.{slice}
-use borrow.Author.Tests.{lt-ltb, le-ltb}
 use Rattle.rules.specs.Bytes.{all}
 use Rattle.replay.specs.Parts.{isDigit}
-use Rattle.scanner.specs.Parts.{all-more, all-stop, all-end}
+use Rattle.replay.proofs.PartLaws.{all-turn, all-told}
 use Rattle.replay.proofs.parts.all_digits.Statement.{statement}
 use Rattle.replay.proofs.parts.all_digits.Tie as tie
 
 abbrev Inv-loop : tie.InvT-loop
-Inv-loop bits from to i₀ i = all isDigit (slice from to bits) ≡ all isDigit (slice i to bits)
+Inv-loop bits from to good₀ i₀ good i = (good && all isDigit (slice i to bits)) ≡ all isDigit (slice from to bits)
 
 abbrev μ-loop : tie.MeasureT-loop
-μ-loop bits from to i₀ i = to - i
+μ-loop bits from to good₀ i₀ good i = to - i
 
 loop-holds : tie.Need-loop-holds Inv-loop μ-loop
 loop-holds c = refl
 
-mul-if1 : tie.Need-mul-if1 Inv-loop μ-loop
-mul-if1 c = omega arith
+mul-good : tie.Need-mul-good Inv-loop μ-loop
+mul-good c = omega arith
 
-shared-slice-read-if1 : tie.Need-shared-slice-read-if1 Inv-loop μ-loop
-shared-slice-read-if1 c = omega arith
-
-returns : tie.Need-returns Inv-loop μ-loop
-unfolding isDigit
-returns c = sym (c .before .before .before .loop .inv ∙ all-stop isDigit (now (c .before .before .before .before .args .bits)) (c .before .before .before .loop .i) (c .before .before .before .before .args .to) (omega arith) (omega arith) (le-ltb _ 6 (c .if1 .taken)))
+shared-slice-read-good : tie.Need-shared-slice-read-good Inv-loop μ-loop
+shared-slice-read-good c = omega arith
 
 add-i : tie.Need-add-i Inv-loop μ-loop
 add-i c = omega arith
@@ -39,10 +35,10 @@ loop-less c = omega arith
 
 loop-again : tie.Need-loop-again Inv-loop μ-loop
 unfolding isDigit
-loop-again c = c .before .before .before .loop .inv ∙ all-more isDigit (now (c .before .before .before .before .args .bits)) (c .before .before .before .loop .i) (c .before .before .before .before .args .to) (omega arith) (omega arith) (lt-ltb _ 6 (c .if1 .left))
+loop-again c = all-turn isDigit (now (c .before .before .before .args .bits)) (c .before .before .loop .i) (c .before .before .before .args .to) (c .before .before .loop .good) _ (omega arith) (omega arith) refl ∙ c .before .before .loop .inv
 
-returns-2 : tie.Need-returns-2 Inv-loop μ-loop
-returns-2 c = sym (c .before .loop .inv ∙ all-end isDigit (now (c .before .before .args .bits)) (c .before .loop .i) (c .before .before .args .to) (omega arith))
+returns : tie.Need-returns Inv-loop μ-loop
+returns c = sym (all-told isDigit (now (c .before .before .args .bits)) (c .before .loop .i) (c .before .before .args .to) (c .before .loop .good) (omega arith)) ∙ c .before .loop .inv
 
 pub all-digits-spec : {M : Type 1} → statement M
 all-digits-spec =
@@ -51,10 +47,9 @@ all-digits-spec =
     Inv-loop
     μ-loop
     loop-holds
-    mul-if1
-    shared-slice-read-if1
-    returns
+    mul-good
+    shared-slice-read-good
     add-i
     loop-less
     loop-again
-    returns-2)
+    returns)
