@@ -1,10 +1,8 @@
 // The name space of a statement's own name: which rows it is, behind the statements so far.
 use crate::rows::Kinds;
-use crate::rows::name_taken;
 use past::place::Place;
 ghost use mathlib.Core.Path.{_≡_};
-ghost use Rattle.past.specs.Place.{Bounds};
-ghost use Rattle.netlist.specs.Found.{spaceFrom, kindsFrom, foundIn};
+ghost use Rattle.netlist.specs.Found.{spaceFrom, kindsFrom};
 
 // Its first row; of a kind without a name the rows are none.
 pub fn space_from(place: Place, kind: u32) -> u32
@@ -42,20 +40,4 @@ pub fn space_kinds(kind: u32) -> Kinds
         return own;
     }
     if kind < 8 { shared } else { own }
-}
-
-// Whether a statement's name of this kind, at this place, is taken in its name space.
-pub fn name_found(names: &[u8], rows: &[u32], place: Place, kind: u32, name: &[u8]) -> bool
-    requires { ⌜ Bounds place ⌝ }
-    ensures { λ r. ⌜ r ≡ foundIn (now (names .entry)) (now (rows .entry)) place kind (now (name .entry)) ⌝ }
-{
-    let from = space_from(place, kind);
-    name_taken(
-        names,
-        rows,
-        from,
-        place.rows - from,
-        space_kinds(kind),
-        name,
-    )
 }

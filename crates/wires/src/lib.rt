@@ -3,7 +3,6 @@
 use numbers::kinds::WireNumber;
 use numbers::signed::Index;
 use numbers::signed::author_index;
-use scanner::names::same_bytes;
 use scanner::parts::part;
 use tables::word;
 ghost use mathlib.Core.Path.{_≡_};
@@ -11,9 +10,8 @@ ghost use Prim.Native.Nat.{_<_};
 ghost use Rattle.rules.specs.Session.{indexIn};
 ghost use Rattle.numbers.specs.Signed.{verdictOf};
 ghost use Rattle.wires.specs.Rows.{column, spanAt, wireOf, hasPort, TakenIs};
-ghost use Rattle.wires.specs.Found.{FoundIs};
 
-// A wire's number in its module and its width.
+// What the search for a wire by its name answers: its number in its module and its width.
 pub enum Found {
     At(WireNumber, u32),
     Nothing,
@@ -35,22 +33,6 @@ pub fn bytes_at<'a>(bytes: &'a [u8], table: &[u32], row: usize, c: usize) -> &'a
     let start = column(table, row, c) as usize;
     let size = column(table, row, c + 1) as usize;
     part(bytes, start, start + size)
-}
-
-// The last of the wires in count rows from first on that has this name.
-pub fn find_wire(names: &[u8], wires: &[u32], first: u32, count: u32, name: &[u8]) -> Found
-    ensures { λ r. ⌜ FoundIs (now (names .entry)) (now (wires .entry)) first count (now (name .entry)) r ⌝ }
-{
-    let mut k = count;
-    while 0 < k {
-        let last = k - 1;
-        let row = first as usize + last as usize;
-        if same_bytes(bytes_at(names, wires, row, 1), name) {
-            return Found::At(WireNumber(last), column(wires, row, 3));
-        }
-        k = last;
-    }
-    Found::Nothing
 }
 
 fn has_port(wires: &[u32], row: usize, port: u32) -> bool
