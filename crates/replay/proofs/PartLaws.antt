@@ -1,33 +1,22 @@
 -- Whether a part stands in its table, by the tests in the order of the code.
 -- Assumes nothing.
 use Prim.Native.Nat.{ℕ, _+_, _≤_, _<_}
-use mathlib.Core.Path.{_≡_, sym, ap, _∙_}
+use mathlib.Core.Path.{_≡_, sym, _∙_}
 use mathlib.Core.List.{List}
-use mathlib.Core.Bool.{Bool, true, false, _&&_, and-true, and-assoc}
-use native.Mathlib.Numerals.{add-one}
+use mathlib.Core.Bool.{Bool, true, false, _&&_, and-true}
 use native.Mathlib.Omega.{arith}
 use lib.Dec.{leb}
-use lib.ListN.{length, getD}
-use lib.Seq.{slice, slice-cons}
+use lib.ListN.{length}
+use lib.Seq.{slice}
 use borrow.Author.Tests.{le-leb, lt-leb, leb-true, leb-false}
 use Rattle.rules.specs.Bytes.{all, within}
 use Rattle.rules.specs.Signals.{Wires}
 use Rattle.scanner.specs.Laws.{by-test, and-true-left, and-true-right, legal-short}
-use Rattle.scanner.specs.Parts.{all-end}
 use Rattle.replay.specs.Parts.{span, whole, nameStands, partStands, textStands, signalStands}
 use Rattle.replay.proofs.Spans.{whole-none, whole-in, whole-out, whole-long, span-none}
 
 pub positive : (n : ℕ) → (n ≡ 0 → ⊥) → 0 < n
 positive n h = omega arith
-
--- a turn of a loop that looks at one value more of a part, and the loop's end
-module _ (f : ℕ → Bool) (l : List ℕ) (i to : ℕ) (good : Bool) where
-  pub all-turn : (b : Bool) → i < to → to ≤ length l → f (getD l i 0) ≡ b → (good && b && all f (slice (i + 1) to l)) ≡ (good && all f (slice i to l))
-  unfolding all
-  all-turn b h k e = and-assoc good b (all f (slice (i + 1) to l)) ∙ ap (λ (t : Bool). good && t) (rw (add-one, slice-cons i to l 0 h k, e))
-
-  pub all-told : to ≤ i → (good && all f (slice i to l)) ≡ good
-  all-told h = ap (λ (t : Bool). good && t) (all-end f l i to h) ∙ and-true good
 
 pub given-byte : (b : ℕ) → b ≤ 255 → within 1 255 b ≡ leb 1 b
 unfolding within

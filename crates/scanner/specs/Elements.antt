@@ -1,12 +1,14 @@
 -- Tests that all elements of a list pass, or some, and what holds of each.
 -- Assumes nothing.
 use mathlib.Core.Path.{_≡_, refl, sym, ap, ap₂, _∙_}
-use mathlib.Core.Bool.{Bool, true, false, cond, not, _&&_, _||_, or-true, or-false, or-comm, or-assoc, false≢true}
+use mathlib.Core.Bool.{Bool, true, false, cond, not, _&&_, _||_, and-true, and-assoc, or-true, or-false, or-comm, or-assoc, false≢true}
 use mathlib.Core.List.{List, [], _∷_, _++_, map, flatMap, zip, zipWith, reverse, reverseAux, reverse-cons}
 use mathlib.Core.Option.{some}
-use Prim.Native.Nat.{ℕ, zero, suc}
+use Prim.Native.Nat.{ℕ, zero, suc, _+_, _≤_, _<_}
+use native.Mathlib.Numerals.{add-one}
 use lib.Dec.{eqb}
-use lib.ListN.{getElem?, getD, take, drop, take-append-drop}
+use lib.ListN.{length, getElem?, getD, take, drop, take-append-drop, drop-of-length-le}
+use lib.Seq.{drop-cons}
 use borrow.Author.Tests.{eqb-true, not-true}
 use Rattle.rules.specs.Bytes.{all, any}
 use Rattle.rules.specs.Judgement.{until, only}
@@ -91,6 +93,16 @@ module _ {A : Type 0} (f : A → Bool) where
     unfolding all flatMap
     all-flatMap g h [] = refl
     all-flatMap g h (x ∷ xs) = all-append (g x) (flatMap g xs) (h x) (all-flatMap g h xs)
+
+-- a loop that looks at every value, also behind one that fails: what it has found and what those from i on tell, one turn on and at the end
+module _ (f : ℕ → Bool) (l : List ℕ) (i : ℕ) (good : Bool) where
+  pub all-turn : (b : Bool) → i < length l → f (getD l i 0) ≡ b → (good && b && all f (drop (i + 1) l)) ≡ (good && all f (drop i l))
+  unfolding all
+  all-turn b h e = and-assoc good b (all f (drop (i + 1) l)) ∙ ap (λ (t : Bool). good && t) (rw (add-one, drop-cons l i 0, e))
+
+  pub all-told : length l ≤ i → (good && all f (drop i l)) ≡ good
+  unfolding all
+  all-told h = ap (λ (xs : List ℕ). good && all f xs) (drop-of-length-le l {i = i} h) ∙ and-true good
 
 -- of mapped elements, by a test of those that are mapped
 pub all-through : {A B : Type 0} (f : A → Bool) (k : A → B) (g : B → Bool) (xs : List A) → ((x : A) → f x ≡ true → g (k x) ≡ true) → all f xs ≡ true → all g (map k xs) ≡ true

@@ -1,14 +1,15 @@
 -- Parts of lists: cut out, kept, behind one another.
 -- Assumes nothing.
 use mathlib.Core.Path.{_≡_, sym, ap, ap₂, _∙_}
-use mathlib.Core.Bool.{Bool, true, false}
+use mathlib.Core.Bool.{Bool, true, false, _&&_}
 use mathlib.Core.List.{List, [], _∷_, _++_}
 use Prim.Native.Nat.{ℕ, zero, suc, _+_, _-_, _≤_, _<_}
 use native.Mathlib.Numerals.{add-one}
 use native.Mathlib.Omega.{arith}
 use lib.ListN.{length, getD, take, drop, length-take, length-drop, drop-of-length-le, take-append-drop}
-use lib.Seq.{slice, slice-cons, take-all, take-length, take-nil, take-take, take-add, take-append-seam, drop-drop, drop-append-seam, length-take-le}
+use lib.Seq.{slice, slice-cons, getD-take, take-all, take-length, take-nil, take-take, take-add, take-append-seam, drop-drop, drop-append-seam, length-take-le}
 use Rattle.rules.specs.Bytes.{all}
+use Rattle.scanner.specs.Elements.{all-turn, all-told}
 
 module _ {A : Type 0} where
   -- a part, as code cuts it and as `slice` does
@@ -81,3 +82,11 @@ module _ (f : ℕ → Bool) (l : List ℕ) (i to : ℕ) where
   pub all-end : to ≤ i → all f (slice i to l) ≡ true
   unfolding all
   all-end h = rw (slice-none i to l h)
+
+  -- by a loop that looks at every value of it
+  module _ (good : Bool) where
+    pub part-turn : (b : Bool) → i < to → to ≤ length l → f (getD l i 0) ≡ b → (good && b && all f (slice (i + 1) to l)) ≡ (good && all f (slice i to l))
+    part-turn b h k e = all-turn f (take to l) i good b (omega (arith, length-take-le to l k)) (ap f (getD-take to l i 0 h) ∙ e)
+
+    pub part-told : to ≤ i → (good && all f (slice i to l)) ≡ good
+    part-told h = all-told f (take to l) i good (omega (arith, length-take to l))

@@ -1,15 +1,11 @@
--- A turn of each kind of loop over a table: one zero stored, one value stored from the end, one value looked at.
+-- A turn of each kind of loop that stores into a table: one zero, one value from the end.
 -- Assumes nothing.
 use mathlib.Core.Path.{_≡_, sym, ap, _∙_}
-use mathlib.Core.Bool.{Bool, _&&_, and-true, and-assoc}
 use mathlib.Core.List.{List, [], _∷_, _++_, reverse, reverse-cons}
 use Prim.Native.Nat.{ℕ, suc, _+_, _-_, _≤_, _<_}
 use native.Mathlib.Omega.{arith}
-use native.Mathlib.Numerals.{add-one}
-use lib.Dec.{eqb}
-use lib.ListN.{length, getD, set, drop, replicate, length-replicate, length-reverse, drop-of-length-le, replicate-append-replicate}
-use lib.Seq.{slice, slice-cons, length-slice, drop-cons}
-use Rattle.rules.specs.Bytes.{all}
+use lib.ListN.{length, getD, set, replicate, length-replicate, length-reverse, replicate-append-replicate}
+use lib.Seq.{slice, slice-cons, length-slice}
 use Rattle.tables.specs.Store.{store, store-more}
 
 pub zeroed : (d l : List ℕ) (from j k m : ℕ) → l ≡ store d from (replicate k 0) → j ≡ from + k → m ≡ k + 1 → set l j 0 ≡ store d from (replicate m 0)
@@ -26,12 +22,3 @@ reversed d s l at to j e h k n =
     (ap reverse (slice-cons (j - 1) to s 0 (omega arith) n)
     ∙ reverse-cons (getD s (j - 1) 0) (slice (suc (j - 1)) to s)
     ∙ ap (λ (m : ℕ). reverse (slice m to s) ++ getD s (j - 1) 0 ∷ []) ej)
-
--- the values from a place on: one more looked at, and the end
-pub zero-more : (l : List ℕ) (b : Bool) (i : ℕ) → i < length l → (b && eqb 0 (getD l i 0) && all (eqb 0) (drop (i + 1) l)) ≡ (b && all (eqb 0) (drop i l))
-unfolding all
-zero-more l b i h = and-assoc b (eqb 0 (getD l i 0)) (all (eqb 0) (drop (i + 1) l)) ∙ ap (λ (t : Bool). b && t) (rw (add-one, drop-cons l i 0))
-
-pub zero-to-end : (l : List ℕ) (b : Bool) (i : ℕ) → length l ≤ i → (b && all (eqb 0) (drop i l)) ≡ b
-unfolding all
-zero-to-end l b i h = ap (λ (xs : List ℕ). b && all (eqb 0) xs) (drop-of-length-le l {i = i} h) ∙ and-true b

@@ -1,21 +1,19 @@
 -- One piece of text behind another, and the texts of the rules piece by piece.
 -- Assumes nothing.
 use mathlib.Core.Path.{_≡_, refl, sym, ap, _∙_}
-use mathlib.Core.Bool.{Bool, true, false, cond, _&&_, and-true, and-assoc}
+use mathlib.Core.Bool.{Bool, true, false, cond}
 use mathlib.Core.List.{List, [], _∷_, _++_, map, reverse, reverse-cons, map-append}
 use Prim.Native.Nat.{ℕ, zero, suc, _+_, _-_, _/_, _%_, _≤_, _<_}
 use native.Mathlib.Numerals.{add-one}
 use native.Mathlib.Omega.{arith}
 use borrow.Author.Tests.{lt-ltb, le-ltb, ltb-false}
 use lib.Dec.{ltb}
-use lib.ListN.{length, take, drop, getD, set, replicate, length-set, drop-of-length-le, replicate-append-replicate}
+use lib.ListN.{length, take, drop, getD, set, replicate, length-set, replicate-append-replicate}
 use lib.Seq.{take-suc, take-all, drop-cons, set-out}
-use Rattle.rules.specs.Bytes.{all}
 use Rattle.rules.specs.Text.{decimalOnto, decimalText, digitByte}
 use Rattle.rules.specs.Tokens.{Digit}
 use Rattle.numbers.specs.Kinds.{digitOf}
 use Rattle.tables.specs.Store.{store, length-store}
-use Rattle.text.specs.Plain.{plain}
 use Rattle.text.specs.Written.{Written, moved}
 
 -- a byte in its place (past the room's end that changes nothing), and one past byte 32768
@@ -85,15 +83,6 @@ decimal-more n h = first ∙ onto-append n (n / 10) [] ((48 + n % 10) ∷ []) �
 
 pub spaces-more : (n : ℕ) → _++_ {A = ℕ} (replicate n 32) (32 ∷ []) ≡ replicate (n + 1) 32
 spaces-more n = replicate-append-replicate n 1 32
-
--- what the bytes from i on tell: one more looked at, and the end
-pub plain-more : (s : List ℕ) (i : ℕ) (good b : Bool) → i < length s → b ≡ plain (getD s i 0) → (good && b && all plain (drop (i + 1) s)) ≡ (good && all plain (drop i s))
-unfolding all
-plain-more s i good b h e = and-assoc good b (all plain (drop (i + 1) s)) ∙ ap (λ (t : Bool). good && t) (rw (add-one, drop-cons s i 0, e))
-
-pub plain-end : (s : List ℕ) (i : ℕ) (good : Bool) → length s ≤ i → (good && all plain (drop i s)) ≡ good
-unfolding all
-plain-end s i good h = ap (λ (xs : List ℕ). good && all plain xs) (drop-of-length-le s {i = i} h) ∙ and-true good
 
 pub bytes-more : (s : List ℕ) (i : ℕ) → i < length s → take i s ++ getD s i 0 ∷ [] ≡ take (i + 1) s
 bytes-more s i h = sym (rw add-one (take-suc s i 0 h))

@@ -6,7 +6,7 @@ use denote.Ref.{now}
 use lib.Dec.{eqb}
 use lib.ListN.{length, drop}
 use Rattle.rules.specs.Bytes.{all}
-use Rattle.tables.proofs.TurnLaws.{zero-more}
+use Rattle.scanner.specs.Elements.{all-turn}
 use native.Mathlib.Omega.{arith}
 use Rattle.tables.proofs.zero_between.Statement.{statement}
 use Rattle.tables.proofs.zero_between.Tie as tie
@@ -33,7 +33,7 @@ loop-less : tie.Need-loop-less Inv-loop μ-loop
 loop-less c = omega arith
 
 loop-again : tie.Need-loop-again Inv-loop μ-loop
-loop-again c = (omega arith, zero-more (now (c .before .before .before .args .table)) (c .before .before .loop .zero) (c .before .before .loop .i) (omega arith) ∙ c .before .before .loop .inv .1)
+loop-again c = (omega arith, all-turn (eqb 0) (now (c .before .before .before .args .table)) (c .before .before .loop .i) (c .before .before .loop .zero) _ (omega arith) refl ∙ c .before .before .loop .inv .1)
 
 returns : tie.Need-returns Inv-loop μ-loop
 returns c =

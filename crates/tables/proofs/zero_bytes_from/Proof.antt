@@ -6,7 +6,7 @@ use denote.Ref.{now}
 use lib.Dec.{eqb}
 use lib.ListN.{length, drop}
 use Rattle.rules.specs.Bytes.{all}
-use Rattle.tables.proofs.TurnLaws.{zero-more, zero-to-end}
+use Rattle.scanner.specs.Elements.{all-turn, all-told}
 use native.Mathlib.Omega.{arith}
 use Rattle.tables.proofs.zero_bytes_from.Statement.{statement}
 use Rattle.tables.proofs.zero_bytes_from.Tie as tie
@@ -30,10 +30,10 @@ loop-less : tie.Need-loop-less Inv-loop μ-loop
 loop-less c = omega arith
 
 loop-again : tie.Need-loop-again Inv-loop μ-loop
-loop-again c = zero-more (now (c .before .before .before .args .room)) (c .before .before .loop .zero) (c .before .before .loop .i) (c .before .loop-test .taken) ∙ c .before .before .loop .inv
+loop-again c = all-turn (eqb 0) (now (c .before .before .before .args .room)) (c .before .before .loop .i) (c .before .before .loop .zero) _ (c .before .loop-test .taken) refl ∙ c .before .before .loop .inv
 
 returns : tie.Need-returns Inv-loop μ-loop
-returns c = sym (zero-to-end (now (c .before .before .args .room)) (c .before .loop .zero) (c .before .loop .i) (c .loop-test .left)) ∙ c .before .loop .inv
+returns c = sym (all-told (eqb 0) (now (c .before .before .args .room)) (c .before .loop .i) (c .before .loop .zero) (c .loop-test .left)) ∙ c .before .loop .inv
 
 pub zero-bytes-from-spec : {M : Type 1} → statement M
 zero-bytes-from-spec =

@@ -6,7 +6,7 @@ use denote.Ref.{now}
 use lib.Dec.{eqb}
 use lib.ListN.{length, drop}
 use Rattle.rules.specs.Bytes.{all}
-use Rattle.tables.proofs.TurnLaws.{zero-to-end}
+use Rattle.scanner.specs.Elements.{all-told}
 use borrow.Author.Tests.{not-true, not-false}
 use native.Mathlib.Omega.{arith}
 use Rattle.tables.proofs.zero_from.Statement.{statement}
@@ -19,7 +19,7 @@ abbrev μ-loop : tie.MeasureT-loop
 μ-loop table at n i₀ i = length table - i
 
 returns : tie.Need-returns Inv-loop μ-loop
-returns c = sym (zero-to-end (now (c .before .before .args .table)) true (c .before .before .args .at) (omega arith))
+returns c = sym (all-told (eqb 0) (now (c .before .before .args .table)) (c .before .before .args .at) true (omega arith))
 
 loop-holds : tie.Need-loop-holds Inv-loop μ-loop
 loop-holds c = (omega arith, refl)
@@ -49,7 +49,7 @@ zero-between-requires-2 : tie.Need-zero-between-requires-2 Inv-loop μ-loop
 zero-between-requires-2 c κs = (omega arith, omega arith)
 
 returns-3 : tie.Need-returns-3 Inv-loop μ-loop
-returns-3 c = sym (zero-to-end (now (c .before .before .before .before .before .args .table)) (c .zero-between2 .result) (length (now (c .before .before .before .before .before .args .table))) (omega arith)) ∙ c .zero-between2 .ensures ∙ c .before .before .loop .inv .1
+returns-3 c = sym (all-told (eqb 0) (now (c .before .before .before .before .before .args .table)) (length (now (c .before .before .before .before .before .args .table))) (c .zero-between2 .result) (omega arith)) ∙ c .zero-between2 .ensures ∙ c .before .before .loop .inv .1
 
 pub zero-from-spec : {M : Type 1} → statement M
 zero-from-spec =

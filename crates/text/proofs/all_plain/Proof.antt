@@ -7,7 +7,7 @@ use denote.Ref.{now}
 use lib.ListN.{length, drop}
 use Rattle.rules.specs.Bytes.{all}
 use Rattle.text.specs.Plain.{plain}
-use Rattle.text.proofs.TextLaws.{plain-more, plain-end}
+use Rattle.scanner.specs.Elements.{all-turn, all-told}
 use Rattle.text.proofs.all_plain.Statement.{statement}
 use Rattle.text.proofs.all_plain.Tie as tie
 
@@ -33,10 +33,10 @@ loop-less : tie.Need-loop-less Inv-loop μ-loop
 loop-less c = omega arith
 
 loop-again : tie.Need-loop-again Inv-loop μ-loop
-loop-again c = plain-more (now (c .before .before .before .before .before .args .s)) (c .before .before .before .loop .i) (c .before .before .before .loop .good) (c .is-plain .result) (omega arith) (c .is-plain .ensures) ∙ c .before .before .before .loop .inv
+loop-again c = all-turn plain (now (c .before .before .before .before .before .args .s)) (c .before .before .before .loop .i) (c .before .before .before .loop .good) (c .is-plain .result) (omega arith) (sym (c .is-plain .ensures)) ∙ c .before .before .before .loop .inv
 
 returns : tie.Need-returns Inv-loop μ-loop
-returns c = sym (plain-end (now (c .before .before .before .args .s)) (c .before .loop .i) (c .before .loop .good) (omega arith)) ∙ c .before .loop .inv
+returns c = sym (all-told plain (now (c .before .before .before .args .s)) (c .before .loop .i) (c .before .loop .good) (omega arith)) ∙ c .before .loop .inv
 
 pub all-plain-spec : {M : Type 1} → statement M
 all-plain-spec =

@@ -8,7 +8,7 @@ use native.Mathlib.Omega.{arith}
 use lib.Seq.{slice}
 use Rattle.rules.specs.Bytes.{all}
 use Rattle.replay.specs.Parts.{isDigit}
-use Rattle.replay.proofs.PartLaws.{all-turn, all-told}
+use Rattle.scanner.specs.Parts.{part-turn, part-told}
 use Rattle.replay.proofs.parts.all_digits.Statement.{statement}
 use Rattle.replay.proofs.parts.all_digits.Tie as tie
 
@@ -35,10 +35,10 @@ loop-less c = omega arith
 
 loop-again : tie.Need-loop-again Inv-loop μ-loop
 unfolding isDigit
-loop-again c = all-turn isDigit (now (c .before .before .before .args .bits)) (c .before .before .loop .i) (c .before .before .before .args .to) (c .before .before .loop .good) _ (omega arith) (omega arith) refl ∙ c .before .before .loop .inv
+loop-again c = part-turn isDigit (now (c .before .before .before .args .bits)) (c .before .before .loop .i) (c .before .before .before .args .to) (c .before .before .loop .good) _ (omega arith) (omega arith) refl ∙ c .before .before .loop .inv
 
 returns : tie.Need-returns Inv-loop μ-loop
-returns c = sym (all-told isDigit (now (c .before .before .args .bits)) (c .before .loop .i) (c .before .before .args .to) (c .before .loop .good) (omega arith)) ∙ c .before .loop .inv
+returns c = sym (part-told isDigit (now (c .before .before .args .bits)) (c .before .loop .i) (c .before .before .args .to) (c .before .loop .good) (omega arith)) ∙ c .before .loop .inv
 
 pub all-digits-spec : {M : Type 1} → statement M
 all-digits-spec =

@@ -8,7 +8,8 @@ use native.Mathlib.Omega.{arith}
 use lib.ListN.{getD}
 use lib.Seq.{slice}
 use Rattle.rules.specs.Bytes.{all, within}
-use Rattle.replay.proofs.PartLaws.{all-turn, all-told, given-byte}
+use Rattle.scanner.specs.Parts.{part-turn, part-told}
+use Rattle.replay.proofs.PartLaws.{given-byte}
 use Rattle.replay.proofs.parts.all_given.Statement.{statement}
 use Rattle.replay.proofs.parts.all_given.Tie as tie
 
@@ -31,10 +32,10 @@ loop-less : tie.Need-loop-less Inv-loop μ-loop
 loop-less c = omega arith
 
 loop-again : tie.Need-loop-again Inv-loop μ-loop
-loop-again c = all-turn (within 1 255) (now (c .before .before .before .args .strings)) (c .before .before .loop .i) (c .before .before .before .args .to) (c .before .before .loop .good) _ (omega arith) (omega arith) (given-byte (getD (now (c .before .before .before .args .strings)) (c .before .before .loop .i) 0) (omega (arith, c .shared-slice-known .given (c .before .before .loop .i)))) ∙ c .before .before .loop .inv
+loop-again c = part-turn (within 1 255) (now (c .before .before .before .args .strings)) (c .before .before .loop .i) (c .before .before .before .args .to) (c .before .before .loop .good) _ (omega arith) (omega arith) (given-byte (getD (now (c .before .before .before .args .strings)) (c .before .before .loop .i) 0) (omega (arith, c .shared-slice-known .given (c .before .before .loop .i)))) ∙ c .before .before .loop .inv
 
 returns : tie.Need-returns Inv-loop μ-loop
-returns c = sym (all-told (within 1 255) (now (c .before .before .args .strings)) (c .before .loop .i) (c .before .before .args .to) (c .before .loop .good) (omega arith)) ∙ c .before .loop .inv
+returns c = sym (part-told (within 1 255) (now (c .before .before .args .strings)) (c .before .loop .i) (c .before .before .args .to) (c .before .loop .good) (omega arith)) ∙ c .before .loop .inv
 
 pub all-given-spec : {M : Type 1} → statement M
 all-given-spec =
