@@ -10,9 +10,30 @@ use Rattle.wires.specs.Rows.{nameOf}
 use Rattle.netlist.specs.Rows.{kindAt, nameAt}
 use Rattle.netlist.specs.Kinds.{hasName}
 
+-- how many hashes there are, and how many keys: one more, for the rows without a name
+abbrev pub hashCount : ℕ
+hashCount = 512
+
+abbrev pub keyCount : ℕ
+keyCount = 513
+
+-- room for the rows of a file and for its wires, and one more of each
+abbrev pub rowRoom : ℕ
+rowRoom = 4706
+
+abbrev pub wireRoom : ℕ
+wireRoom = 513
+
+-- the lengths of heads and chain with those of the wires behind those of the rows
+abbrev pub allHeads : ℕ
+allHeads = 1026
+
+abbrev pub allChain : ℕ
+allChain = 5219
+
 -- the hash of a name
 unfoldable pub hashStep : ℕ → ℕ → ℕ
-hashStep h b = (h * 31 + b) % 512
+hashStep h b = (h * 31 + b) % hashCount
 
 unfoldable pub hashFrom : ℕ → Name → ℕ
 hashFrom h [] = h
@@ -21,9 +42,9 @@ hashFrom h (b ∷ bs) = hashFrom (hashStep h b) bs
 unfoldable pub hashOf : Name → ℕ
 hashOf n = hashFrom 0 n
 
--- the hash of a row's own name; of a row whose kind has none 512, so that no name has this key
+-- the hash of a row's own name; of a row whose kind has none, a key that no name has
 unfoldable pub keyAt : List ℕ → List ℕ → ℕ → ℕ
-keyAt names rows k = cond (hasName (kindAt rows k)) (hashOf (nameAt names rows k)) 512
+keyAt names rows k = cond (hasName (kindAt rows k)) (hashOf (nameAt names rows k)) hashCount
 
 -- the hash of a wire's name, by its row
 unfoldable pub wireKey : List ℕ → List ℕ → ℕ → ℕ
@@ -40,18 +61,18 @@ youngest key h (suc k) = let r = youngest key h k in cond (eqb (key k) h) (suc k
 
 -- heads and chain index the first n rows: the head of a key is its youngest row, and behind a row stands the next older one of its key
 pub record Indexed (heads chain : List ℕ) (key : ℕ → ℕ) (n : ℕ) : Type 0 where
-  pub keys : 513 ≤ length heads
+  pub keys : keyCount ≤ length heads
   pub room : n ≤ length chain
-  pub head : (h : ℕ) → h < 513 → getD heads h 0 ≡ youngest key h n
+  pub head : (h : ℕ) → h < keyCount → getD heads h 0 ≡ youngest key h n
   pub older : (k : ℕ) → k < n → getD chain k 0 ≡ youngest key (key k) k
 
--- from places 513 and 4706 on they index the first n rows of the wires
+-- behind the rows' heads and chain they index the first n rows of the wires
 pub record WiresIndexed (heads chain names wires : List ℕ) (n : ℕ) : Type 0 where
-  pub indexed : Indexed (drop 513 heads) (drop 4706 chain) (wireKey names wires) n
+  pub indexed : Indexed (drop keyCount heads) (drop rowRoom chain) (wireKey names wires) n
 
 -- both: the first n rows of the statements, and the first m rows of the wires
 pub record LinesIndexed (heads chain names wires rows : List ℕ) (n m : ℕ) : Type 0 where
-  pub heads-long : length heads ≡ 1026
-  pub chain-long : length chain ≡ 5219
+  pub heads-long : length heads ≡ allHeads
+  pub chain-long : length chain ≡ allChain
   pub by-row : Indexed heads chain (keyAt names rows) n
   pub by-wire : WiresIndexed heads chain names wires m

@@ -1,14 +1,14 @@
 -- Laws of the index: rows fall along a chain; a search over all rows is a search over the chain of a key; one row more.
 -- Assumes nothing.
-use Prim.Native.Nat.{ℕ, zero, suc, _+_, _-_, _*_, _%_, _<_, _≤_}
+use Prim.Native.Nat.{ℕ, zero, suc, _+_, _-_, _<_, _≤_}
 use mathlib.Core.Path.{_≡_, refl, sym, ap, _∙_}
-use mathlib.Core.List.{List, [], _∷_}
-use mathlib.Core.Bool.{Bool, true, false, cond, _&&_, _||_, and-false}
+use mathlib.Core.List.{List}
+use mathlib.Core.Bool.{Bool, true, false, _&&_, _||_, and-false}
 use native.Mathlib.Numerals.{add-one}
 use native.Mathlib.Omega.{arith}
 use lib.Dec.{eqb}
-use lib.ListN.{length, getD, set, replicate, length-set, length-replicate, getD-replicate}
-use lib.Seq.{getD-set-same, getD-set-other}
+use lib.ListN.{length, getD, set, drop, replicate, length-set, length-drop, length-replicate, getD-replicate}
+use lib.Seq.{getD-drop, getD-set-same, getD-set-other}
 use borrow.Author.Tests.{eq-eqb, ne-eqb, eqb-true, eqb-false}
 use Rattle.rules.specs.Bytes.{same, any}
 use Rattle.rules.specs.Tokens.{Name}
@@ -17,7 +17,7 @@ use Rattle.scanner.specs.Elements.{any-chosen}
 use Rattle.netlist.specs.Rows.{kindAt, nameAt, namesBetween}
 use Rattle.netlist.specs.Kinds.{hasName}
 use Rattle.name_index.specs.HashLaws.{hash-less}
-use Rattle.name_index.specs.Index.{hashOf, keyAt, Named, youngest, Indexed}
+use Rattle.name_index.specs.Index.{keyCount, hashOf, keyAt, Named, youngest, Indexed}
 
 module _ (key : ℕ → ℕ) (h : ℕ) where
   -- the turns of the definition
@@ -74,20 +74,23 @@ indexed-same heads chain f g n e x =
       older = λ k q. x .older k q ∙ ap (λ (h : ℕ). youngest f h k) (e k q) ∙ youngest-same f g (g k) k (λ j r. e j (omega arith));
     }
 
--- no row yet
-pub indexed-none : (chain : List ℕ) (key : ℕ → ℕ) → Indexed (replicate 513 0) chain key 0
+-- no row yet: heads that are zero from a place on, or all of them
+pub none-from : (a m : ℕ) (chain : List ℕ) (key : ℕ → ℕ) → a + keyCount ≤ m → Indexed (drop a (replicate m 0)) chain key 0
 unfolding youngest
-indexed-none chain key =
+none-from a m chain key e =
     record {
-      keys = omega (arith, length-replicate {A = ℕ} 513 0);
+      keys = omega (arith, length-drop {A = ℕ} a (replicate m 0), length-replicate {A = ℕ} m 0);
       room = omega arith;
-      head = λ h q. getD-replicate 513 h 0 0 q;
+      head = λ h q. getD-drop a (replicate m 0) h 0 ∙ getD-replicate m (a + h) 0 0 (omega arith);
       older = λ k q. absurd (omega arith);
     }
 
+pub indexed-none : (chain : List ℕ) (key : ℕ → ℕ) → Indexed (replicate keyCount 0) chain key 0
+indexed-none chain key = none-from 0 keyCount chain key (omega arith)
+
 -- one row more
 module _ (heads chain : List ℕ) (key : ℕ → ℕ) (n : ℕ) (x : Indexed heads chain key n) where
-  pub indexed-more : key n < 513 → n < length chain → Indexed (set heads (key n) (n + 1)) (set chain n (getD heads (key n) 0)) key (n + 1)
+  pub indexed-more : key n < keyCount → n < length chain → Indexed (set heads (key n) (n + 1)) (set chain n (getD heads (key n) 0)) key (n + 1)
   indexed-more q r =
       record {
         keys = simp length-set (x .keys);
@@ -114,7 +117,7 @@ module _ {A : Type 0} (key : ℕ → ℕ) (h : ℕ) (f : ℕ → A) (n : ℕ) (o
       record { below = omega (arith, youngest-le key h m); own = youngest-again key h m; rest = e ∙ chain-scan key h f m (λ k q. other k (omega arith)) }
 
   module _ (heads chain : List ℕ) (x : Indexed heads chain key n) where
-    pub walk-first : h < 513 → Walk key h f n (getD heads h 0)
+    pub walk-first : h < keyCount → Walk key h f n (getD heads h 0)
     walk-first q = rw (x .head h q) (walk-to n (omega arith) refl)
 
     module _ (at : ℕ) (w : Walk key h f n at) (p : 0 < at) where
@@ -197,9 +200,9 @@ module _ (names rows : List ℕ) (test : ℕ → Bool) (from : ℕ) (n : Name) w
         pub walk-next : a ≡ false → NameWalk count (getD chain (at - 1) 0)
         walk-next e = walk-on _ _ _ _ other heads chain x at w (omega arith) (turn ∙ rw e)
 
-pub key-less : (names rows : List ℕ) (k : ℕ) → keyAt names rows k < 513
+pub key-less : (names rows : List ℕ) (k : ℕ) → keyAt names rows k < keyCount
 unfolding keyAt
-key-less names rows k = by-cond (λ (h : ℕ). h < 513) (hasName (kindAt rows k)) (λ e. omega (arith, hash-less (nameAt names rows k))) (λ e. omega arith)
+key-less names rows k = by-cond (λ (h : ℕ). h < keyCount) (hasName (kindAt rows k)) (λ e. omega (arith, hash-less (nameAt names rows k))) (λ e. omega arith)
 
 -- the row behind those that are indexed, put by its key
 module _ (names rows heads chain : List ℕ) (row h : ℕ) (x : Indexed heads chain (keyAt names rows) row) (eh : h ≡ keyAt names rows row) where

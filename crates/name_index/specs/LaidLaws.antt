@@ -1,9 +1,9 @@
 -- Tables that hold the same statements have the same keys, so that an index of them stays one while tables grow.
 -- Assumes nothing.
-use Prim.Native.Nat.{ℕ, _+_, _<_, _≤_}
+use Prim.Native.Nat.{ℕ, _+_, _<_}
 use mathlib.Core.Path.{_≡_, refl, sym, ap, _∙_}
-use mathlib.Core.List.{List, [], _∷_, map, zip, zipWith, flatMap, append-nil}
-use mathlib.Core.Bool.{true, false, cond}
+use mathlib.Core.List.{List, [], _∷_, zip, zipWith, flatMap, append-nil}
+use mathlib.Core.Bool.{cond}
 use native.Mathlib.Omega.{arith}
 use lib.ListN.{length, take, drop, length-append}
 use Rattle.rules.specs.Tokens.{Name}
@@ -15,19 +15,18 @@ use Rattle.scanner.specs.Lists.{zip-none}
 use Rattle.past.specs.Forms.{by-wire}
 use Rattle.wires.specs.Rows.{nameOf}
 use Rattle.wires.specs.RowLaws.{row-name}
-use Rattle.netlist.specs.Rows.{kindAt, nameAt}
 use Rattle.netlist.specs.Kinds.{hasName}
 use Rattle.netlist.specs.RowLaws.{row-kind, row-own}
 use Rattle.netlist.specs.Spans.{Has, starts-has}
 use Rattle.netlist.specs.Laid.{roomsOf, Laid, Wired}
 use Rattle.netlist.specs.LaidLaws.{laid-names, laid-last, laid-before}
 use Rattle.netlist.specs.WireLaws.{eights-wires, wired-put, wired-row}
-use Rattle.name_index.specs.Index.{hashOf, keyAt, wireKey, Indexed, WiresIndexed, LinesIndexed}
+use Rattle.name_index.specs.Index.{hashCount, hashOf, keyAt, wireKey, Indexed, WiresIndexed, LinesIndexed}
 use Rattle.name_index.specs.IndexLaws.{indexed-same}
 
 -- the key of the last row is that of its statement
 unfoldable pub keyOf : Statement → ℕ
-keyOf s = cond (hasName (code (contents s .kind))) (hashOf (ownName (contents s .names))) 512
+keyOf s = cond (hasName (code (contents s .kind))) (hashOf (ownName (contents s .names))) hashCount
 
 key-last : {names rows : List ℕ} (s : Statement) (ss : Past) (k : ℕ) → k ≡ length ss → Laid (roomsOf (s ∷ ss)) names rows → keyAt names rows k ≡ keyOf s
 unfolding keyAt keyOf roomsOf used
@@ -62,7 +61,7 @@ last-wire {names} {t} w n ss k e l =
     rw e (row-name t (length (R .wires)) (used R) n w (wired-row R w n l (eights-wires ss)) names h)
 
 one-wire : (w : Wire) (n : Name) (ss : Past) → length (roomsOf (wire-stmt w n ∷ ss) .wires) ≡ length (roomsOf ss .wires) + 1
-unfolding roomsOf put wireRows map zip zipWith statementsOpen
+unfolding roomsOf put wireRows zip zipWith statementsOpen
 one-wire w n ss = length-append (roomsOf ss .wires) _
 
 no-wire : (s : Statement) (ss : Past) → contents s .wires ≡ [] → length (roomsOf (s ∷ ss) .wires) ≡ length (roomsOf ss .wires)

@@ -1,48 +1,38 @@
 -- An index of the rows of statements and of those of wires in the same two tables: none yet, one row more, one wire more.
 -- Assumes nothing.
-use Prim.Native.Nat.{ℕ, _+_, _-_, _<_, _≤_}
-use mathlib.Core.Path.{_≡_, refl, sym, ap, subst, _∙_}
+use Prim.Native.Nat.{ℕ, _+_, _<_, _≤_}
+use mathlib.Core.Path.{_≡_, refl, sym, ap, _∙_}
 use mathlib.Core.List.{List}
 use mathlib.Core.Bool.{cond}
 use native.Mathlib.Omega.{arith}
 use lib.Dec.{eqb}
-use lib.ListN.{length, getD, set, drop, replicate, length-set, length-drop, length-replicate, getD-replicate}
+use lib.ListN.{length, getD, set, drop, replicate, length-set, length-drop, length-replicate}
 use lib.Seq.{getD-drop, getD-set-other, drop-set-lt, drop-set-add}
 use borrow.Author.Tests.{eq-eqb, ne-eqb}
 use Rattle.wires.specs.Rows.{nameOf}
 use Rattle.name_index.specs.HashLaws.{hash-less}
-use Rattle.name_index.specs.Index.{hashOf, keyAt, wireKey, youngest, Indexed, WiresIndexed, LinesIndexed}
-use Rattle.name_index.specs.IndexLaws.{key-less, row-put, indexed-more, indexed-upto}
+use Rattle.name_index.specs.Index.{hashCount, keyCount, rowRoom, wireRoom, allHeads, allChain, keyAt, wireKey, Indexed, WiresIndexed, LinesIndexed}
+use Rattle.name_index.specs.IndexLaws.{key-less, none-from, row-put, indexed-more}
 
 -- no row yet
-none-from : (a m : ℕ) (chain : List ℕ) (key : ℕ → ℕ) → a + 513 ≤ m → Indexed (drop a (replicate m 0)) chain key 0
-unfolding youngest
-none-from a m chain key e =
-    record {
-      keys = omega (arith, length-drop {A = ℕ} a (replicate m 0), length-replicate {A = ℕ} m 0);
-      room = omega arith;
-      head = λ h q. getD-drop a (replicate m 0) h 0 ∙ getD-replicate m (a + h) 0 0 (omega arith);
-      older = λ k q. absurd (omega arith);
-    }
-
-pub lines-none : (heads chain names wires rows : List ℕ) → heads ≡ replicate 1026 0 → length chain ≡ 5219 → LinesIndexed heads chain names wires rows 0 0
+pub lines-none : (heads chain names wires rows : List ℕ) → heads ≡ replicate allHeads 0 → length chain ≡ allChain → LinesIndexed heads chain names wires rows 0 0
 lines-none heads chain names wires rows e l =
     record {
-      heads-long = ap length e ∙ length-replicate {A = ℕ} 1026 0;
+      heads-long = ap length e ∙ length-replicate {A = ℕ} allHeads 0;
       chain-long = l;
-      by-row = rw e (none-from 0 1026 chain (keyAt names rows) (omega arith));
-      by-wire = record { indexed = rw e (none-from 513 1026 (drop 4706 chain) (wireKey names wires) (omega arith)) };
+      by-row = rw e (none-from 0 allHeads chain (keyAt names rows) (omega arith));
+      by-wire = record { indexed = rw e (none-from keyCount allHeads (drop rowRoom chain) (wireKey names wires) (omega arith)) };
     }
 
 -- what stands elsewhere may change
 apart :
-    (heads chain heads′ chain′ : List ℕ) (key : ℕ → ℕ) (n : ℕ) → 513 ≤ length heads′ → n ≤ length chain′ →
-    ((h : ℕ) → h < 513 → getD heads′ h 0 ≡ getD heads h 0) → ((k : ℕ) → k < n → getD chain′ k 0 ≡ getD chain k 0) →
+    (heads chain heads′ chain′ : List ℕ) (key : ℕ → ℕ) (n : ℕ) → keyCount ≤ length heads′ → n ≤ length chain′ →
+    ((h : ℕ) → h < keyCount → getD heads′ h 0 ≡ getD heads h 0) → ((k : ℕ) → k < n → getD chain′ k 0 ≡ getD chain k 0) →
     Indexed heads chain key n → Indexed heads′ chain′ key n
 apart heads chain heads′ chain′ key n l m f g x =
     record { keys = l; room = m; head = λ h q. f h q ∙ x .head h q; older = λ k q. g k q ∙ x .older k q }
 
-key-few : (names wires : List ℕ) (k : ℕ) → wireKey names wires k < 512
+key-few : (names wires : List ℕ) (k : ℕ) → wireKey names wires k < hashCount
 unfolding wireKey
 key-few names wires k = hash-less (nameOf names wires k)
 
@@ -52,45 +42,45 @@ module _ (heads chain names wires rows : List ℕ) (n m : ℕ) (x : LinesIndexed
     row-fits = omega (arith, x .heads-long, eh, key-less names rows n)
 
     pub line-row :
-        n < 4706 → (heads′ chain′ : List ℕ) → heads′ ≡ set heads h (n + 1) → chain′ ≡ set chain n (getD heads h 0) →
+        n < rowRoom → (heads′ chain′ : List ℕ) → heads′ ≡ set heads h (n + 1) → chain′ ≡ set chain n (getD heads h 0) →
         LinesIndexed heads′ chain′ names wires rows (n + 1) m
     line-row q heads′ chain′ a b =
-        let l : h < 513 = omega (arith, eh, key-less names rows n) in
+        let l : h < keyCount = omega (arith, eh, key-less names rows n) in
         record {
           heads-long = rw a (length-set heads h (n + 1) ∙ x .heads-long);
           chain-long = rw b (length-set chain n (getD heads h 0) ∙ x .chain-long);
           by-row = row-put names rows heads chain n h (x .by-row) eh (omega (arith, x .chain-long)) heads′ chain′ a b;
           by-wire =
-              record { indexed = rw (a, b, drop-set-lt 513 heads h (n + 1) l, drop-set-lt 4706 chain n (getD heads h 0) q) (x .by-wire .indexed) };
+              record { indexed = rw (a, b, drop-set-lt keyCount heads h (n + 1) l, drop-set-lt rowRoom chain n (getD heads h 0) q) (x .by-wire .indexed) };
         }
 
   module _ (g : ℕ) (eg : g ≡ wireKey names wires m) where
-    pub wire-fits : 513 + g < length heads
+    pub wire-fits : keyCount + g < length heads
     wire-fits = omega (arith, x .heads-long, eg, key-few names wires m)
 
     pub line-wire :
-        n ≤ 4706 → m < 513 → (heads′ chain′ : List ℕ) → heads′ ≡ set heads (513 + g) (m + 1) → chain′ ≡ set chain (4706 + m) (getD heads (513 + g) 0) →
+        n ≤ rowRoom → m < wireRoom → (heads′ chain′ : List ℕ) → heads′ ≡ set heads (keyCount + g) (m + 1) → chain′ ≡ set chain (rowRoom + m) (getD heads (keyCount + g) 0) →
         LinesIndexed heads′ chain′ names wires rows n (m + 1)
     line-wire q r heads′ chain′ a b =
-        let hl : length heads′ ≡ 1026 = rw a (length-set heads (513 + g) (m + 1) ∙ x .heads-long) in
-        let cl : length chain′ ≡ 5219 = rw b (length-set chain (4706 + m) (getD heads (513 + g) 0) ∙ x .chain-long) in
+        let hl : length heads′ ≡ allHeads = rw a (length-set heads (keyCount + g) (m + 1) ∙ x .heads-long) in
+        let cl : length chain′ ≡ allChain = rw b (length-set chain (rowRoom + m) (getD heads (keyCount + g) 0) ∙ x .chain-long) in
         let key : ℕ → ℕ = wireKey names wires in
-        let da : drop 513 heads′ ≡ set (drop 513 heads) g (m + 1) = ap (drop 513) a ∙ drop-set-add 513 heads g (m + 1) in
-        let db : drop 4706 chain′ ≡ set (drop 4706 chain) m (getD (drop 513 heads) g 0) =
-        ap (drop 4706) b ∙ drop-set-add 4706 chain m (getD heads (513 + g) 0) ∙ ap (set (drop 4706 chain) m) (sym (getD-drop 513 heads g 0)) in
+        let da : drop keyCount heads′ ≡ set (drop keyCount heads) g (m + 1) = ap (drop keyCount) a ∙ drop-set-add keyCount heads g (m + 1) in
+        let db : drop rowRoom chain′ ≡ set (drop rowRoom chain) m (getD (drop keyCount heads) g 0) =
+        ap (drop rowRoom) b ∙ drop-set-add rowRoom chain m (getD heads (keyCount + g) 0) ∙ ap (set (drop rowRoom chain) m) (sym (getD-drop keyCount heads g 0)) in
         record {
           heads-long = hl;
           chain-long = cl;
           by-row =
               apart heads chain heads′ chain′ (keyAt names rows) n (omega arith) (omega arith)
-              (λ h p. rw a (getD-set-other heads (513 + g) h (m + 1) 0 (λ e. omega arith)))
-              (λ k p. rw b (getD-set-other chain (4706 + m) k (getD heads (513 + g) 0) 0 (λ e. omega arith)))
+              (λ h p. rw a (getD-set-other heads (keyCount + g) h (m + 1) 0 (λ e. omega arith)))
+              (λ k p. rw b (getD-set-other chain (rowRoom + m) k (getD heads (keyCount + g) 0) 0 (λ e. omega arith)))
               (x .by-row);
           by-wire =
               record {
                 indexed = rw (da, db, eg)
-                    (indexed-more (drop 513 heads) (drop 4706 chain) key m (x .by-wire .indexed) (omega (arith, key-few names wires m))
-                    (omega (arith, length-drop 4706 chain, x .chain-long)));
+                    (indexed-more (drop keyCount heads) (drop rowRoom chain) key m (x .by-wire .indexed) (omega (arith, key-few names wires m))
+                    (omega (arith, length-drop rowRoom chain, x .chain-long)));
               };
         }
 

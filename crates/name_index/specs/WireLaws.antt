@@ -1,12 +1,12 @@
 -- The search for a wire along the chain of its name's hash.
 -- Assumes nothing.
-use Prim.Native.Nat.{ℕ, zero, suc, _+_, _-_, _<_, _≤_}
-use mathlib.Core.Path.{_≡_, refl, sym, ap, subst, _∙_}
-use mathlib.Core.List.{List, [], _∷_}
+use Prim.Native.Nat.{ℕ, suc, _+_, _-_, _<_, _≤_}
+use mathlib.Core.Path.{_≡_, sym, ap, subst, _∙_}
+use mathlib.Core.List.{List}
 use mathlib.Core.Bool.{Bool, true, false, cond}
 use mathlib.Core.Option.{Option, none, some}
 use native.Mathlib.Omega.{arith}
-use lib.ListN.{length, getD, drop}
+use lib.ListN.{getD, drop}
 use lib.Seq.{getD-drop}
 use Rattle.rules.specs.Bytes.{same}
 use Rattle.rules.specs.Tokens.{Name}
@@ -16,7 +16,7 @@ use Rattle.scanner.specs.Laws.{by-test, by-order, same-eq}
 use Rattle.wires.specs.Rows.{nameOf, wireOf, wiresFrom}
 use Rattle.wires.specs.RowLaws.{length-wires}
 use Rattle.name_index.specs.HashLaws.{hash-less}
-use Rattle.name_index.specs.Index.{hashOf, wireKey, WiresIndexed}
+use Rattle.name_index.specs.Index.{keyCount, rowRoom, hashOf, wireKey, WiresIndexed}
 use Rattle.name_index.specs.IndexLaws.{Walk, walk-first, walk-falls, walk-on}
 
 -- the search for a wire below a row
@@ -50,16 +50,16 @@ module _ (names t : List ℕ) (first : ℕ) (n : Name) where
     wire-none at w q = let e : at - first ≡ 0 = omega arith in sym all-wires ∙ w .rest ∙ rw e
 
     module _ (heads chain : List ℕ) (x : WiresIndexed heads chain names t (first + count)) where
-      pub wire-first : (h : ℕ) → h ≡ hashOf n → WireWalk count (getD heads (513 + h) 0)
+      pub wire-first : (h : ℕ) → h ≡ hashOf n → WireWalk count (getD heads (keyCount + h) 0)
       wire-first h e =
-          subst (WireWalk count) (getD-drop 513 heads h 0)
-          (rw e (walk-first _ _ _ _ (λ k q. wire-other k) (drop 513 heads) (drop 4706 chain) (x .indexed) (omega (arith, hash-less n))))
+          subst (WireWalk count) (getD-drop keyCount heads h 0)
+          (rw e (walk-first _ _ _ _ (λ k q. wire-other k) (drop keyCount heads) (drop rowRoom chain) (x .indexed) (omega (arith, hash-less n))))
 
       module _ (at : ℕ) (w : WireWalk count at) (q : first < at) where
-        pub wire-less : getD chain (4706 + (at - 1)) 0 < at
+        pub wire-less : getD chain (rowRoom + (at - 1)) 0 < at
         wire-less =
-            subst (λ (j : ℕ). j < at) (getD-drop 4706 chain (at - 1) 0)
-            (walk-falls _ _ _ _ (λ k q. wire-other k) (drop 513 heads) (drop 4706 chain) (x .indexed) at w (omega arith))
+            subst (λ (j : ℕ). j < at) (getD-drop rowRoom chain (at - 1) 0)
+            (walk-falls _ _ _ _ (λ k q. wire-other k) (drop keyCount heads) (drop rowRoom chain) (x .indexed) at w (omega arith))
 
         -- a turn; b: whether the row's name a is the name
         module _ (a : Name) (b : Bool) (ea : a ≡ nameOf names t (at - 1)) (eb : b ≡ same a n) where
@@ -71,7 +71,7 @@ module _ (names t : List ℕ) (first : ℕ) (n : Name) where
           pub wire-found : b ≡ true → find n (wiresFrom names t first count) ≡ some (at - 1 - first, wireOf t (at - 1))
           wire-found e = sym all-wires ∙ w .rest ∙ turn ∙ rw e
 
-          pub wire-next : b ≡ false → WireWalk count (getD chain (4706 + (at - 1)) 0)
+          pub wire-next : b ≡ false → WireWalk count (getD chain (rowRoom + (at - 1)) 0)
           wire-next e =
-              subst (WireWalk count) (getD-drop 4706 chain (at - 1) 0)
-              (walk-on _ _ _ _ (λ k q. wire-other k) (drop 513 heads) (drop 4706 chain) (x .indexed) at w (omega arith) (turn ∙ rw e))
+              subst (WireWalk count) (getD-drop rowRoom chain (at - 1) 0)
+              (walk-on _ _ _ _ (λ k q. wire-other k) (drop keyCount heads) (drop rowRoom chain) (x .indexed) at w (omega arith) (turn ∙ rw e))

@@ -1,6 +1,7 @@
-// A private index of names: rows by the hash of their names, the youngest first. It is no part of design memory.
-// heads: for each hash one more than the youngest row of that hash, or 0; chain: for each row one more than the next older row of its hash, or 0.
-// Behind these, from places 513 and 4706 on, the same of the rows of wires.
+// A private index of names: rows by the hash of their names, the youngest first. It is made for one call and is no part of design memory.
+// heads: for each key one more than the youngest row of that key, or 0; chain: for each row one more than the next older row of its key, or 0.
+// The hash of a name goes byte by byte: hash × 31 + byte, modulo 512. A row's key is its name's hash, or 512 where its kind has no name.
+// Behind these, in the same two tables, stand the heads and the chain of the rows of wires.
 use netlist::rows::Kinds;
 use netlist::rows::has_name;
 use netlist::rows::row_kind;
@@ -24,31 +25,57 @@ ghost use Rattle.netlist.specs.Kinds.{isKind, hasName};
 ghost use Rattle.netlist.specs.Found.{foundIn};
 ghost use Rattle.past.specs.Place.{Bounds};
 ghost use Rattle.wires.specs.Found.{FoundIs};
-ghost use Rattle.name_index.specs.Index.{hashOf, keyAt, Named, Indexed, WiresIndexed, LinesIndexed};
+ghost use Rattle.name_index.specs.Index.{hashOf, keyAt, rowRoom, wireRoom, Named, Indexed, WiresIndexed, LinesIndexed};
 
-// Below 512.
-pub fn hash(name: &[u8]) -> usize
+const FACTOR: usize = 31;
+
+const HASHES: usize = 512;
+
+// The key of a row whose kind has no name: no name has this hash.
+const NAMELESS: usize = 512;
+
+// The heads of an index of rows alone: one for each hash, and one for the rows without a name.
+pub const ROW_HEADS: usize = 513;
+
+// Its chain: a place for each of a file's rows, and one more.
+pub const ROW_CHAIN: usize = 4706;
+
+// The same of an index with the wires behind the rows: as many heads again, and places for 512 wires and one more.
+pub const ALL_HEADS: usize = 1026;
+
+pub const ALL_CHAIN: usize = 5219;
+
+// The codes of some kinds of statements.
+const AUTOIDX: u32 = 1;
+
+const WIRE: u32 = 5;
+
+const CONNECTION: u32 = 10;
+
+const END: u32 = 12;
+
+fn hash(name: &[u8]) -> usize
     ensures { λ r. ⌜ r ≡ hashOf (now (name .entry)) ⌝ }
 {
     let mut h: usize = 0;
     let mut i = 0;
     while i < name.len() {
-        h = (h * 31 + name[i] as usize) % 512;
+        h = (h * FACTOR + name[i] as usize) % HASHES;
         i += 1;
     }
     h
 }
 
-// One row more, whose name has this hash: its place in the chain, and one more than its number.
-pub fn put(heads: &mut [u32], chain: &mut [u32], at: u32, h: usize, more: u32)
+// One row more of the key h: its place in the chain, and one more than its number.
+fn put(heads: &mut [u32], chain: &mut [u32], at: usize, h: usize, more: u32)
     requires { ⌜ (h < length (now heads)) × (at < length (now chain)) ⌝ }
     ensures { λ _. ⌜ (now (heads .exit) ≡ set (now (heads .entry)) h more) × (now (chain .exit) ≡ set (now (chain .entry)) at (getD (now (heads .entry)) h 0)) ⌝ }
 {
-    chain[at as usize] = heads[h];
+    chain[at] = heads[h];
     heads[h] = more;
 }
 
-// The answer of `name_taken`: of the rows with the name's hash only, from the youngest down to `from`.
+// Whether a statement of these kinds, in count rows from `from` on, has this name: of the rows with its hash only, the youngest first.
 pub fn indexed_taken(
     names: &[u8],
     rows: &[u32],
@@ -75,7 +102,7 @@ pub fn indexed_taken(
     false
 }
 
-// The answer of `name_found`: whether a statement's name of this kind, at this place, is taken in its name space.
+// Whether a statement's name of this kind, at this place, is taken in its name space.
 pub fn indexed_found(
     names: &[u8],
     rows: &[u32],
@@ -102,17 +129,17 @@ pub fn indexed_found(
     )
 }
 
-// Kinds with a name.
+// All kinds have a name but these.
 fn is_named(kind: u32) -> bool
     ensures { λ r. ⌜ r ≡ hasName kind ⌝ }
 {
-    if kind == 1 {
+    if kind == AUTOIDX {
         return false;
     }
-    if kind == 10 {
+    if kind == CONNECTION {
         return false;
     }
-    kind != 12
+    kind != END
 }
 
 fn row_key(names: &[u8], rows: &[u32], row: u32) -> usize
@@ -121,7 +148,7 @@ fn row_key(names: &[u8], rows: &[u32], row: u32) -> usize
     if is_named(row_kind(rows, row)) {
         return hash(row_name(names, rows, row));
     }
-    512
+    NAMELESS
 }
 
 // The row behind those that are indexed.
@@ -132,7 +159,7 @@ pub fn index_row(names: &[u8], rows: &[u32], heads: &mut [u32], chain: &mut [u32
     ensures { λ _. ⌜ length (now (chain .exit)) ≡ length (now (chain .entry)) ⌝ }
 {
     let h = row_key(names, rows, row);
-    put(heads, chain, row, h, row + 1);
+    put(heads, chain, row as usize, h, row + 1);
 }
 
 // The line behind those that are indexed, by its kind: its row and, where it is a wire, the wire's.
@@ -147,19 +174,20 @@ pub fn index_line(
     kind: u32,
 )
     requires { ⌜ LinesIndexed (now heads) (now chain) (now names) (now wires) (now rows) row wire ⌝ }
-    requires { ⌜ (row < 4706) × (wire < 513) ⌝ }
+    requires { ⌜ (row < rowRoom) × (wire < wireRoom) ⌝ }
     ensures { λ _. ⌜ LinesIndexed (now (heads .exit)) (now (chain .exit)) (now (names .entry)) (now (wires .entry)) (now (rows .entry)) (row + 1) (wire + cond (eqb kind 5) 1 0) ⌝ }
 {
-    let h = row_key(names, rows, row);
-    put(heads, chain, row, h, row + 1);
-    if kind != 5 {
+    let key = row_key(names, rows, row);
+    put(heads, chain, row as usize, key, row + 1);
+    if kind != WIRE {
         return;
     }
-    let g = hash(bytes_at(names, wires, wire as usize, 1));
-    put(heads, chain, 4706 + wire, 513 + g, wire + 1);
+    let at = wire as usize;
+    let g = hash(bytes_at(names, wires, at, 1));
+    put(heads, chain, ROW_CHAIN + at, ROW_HEADS + g, wire + 1);
 }
 
-// The answer of `find_wire`, over an index of the wires' rows.
+// The last of the wires in count rows from first on that has this name: of those with its hash only.
 pub fn indexed_wire(
     names: &[u8],
     wires: &[u32],
@@ -173,14 +201,14 @@ pub fn indexed_wire(
     ensures { λ r. ⌜ FoundIs (now (names .entry)) (now (wires .entry)) first count (now (name .entry)) r ⌝ }
 {
     let h = hash(name);
-    let mut at = heads[513 + h];
+    let mut at = heads[ROW_HEADS + h];
     while first < at {
         let last = at - 1;
         let row = last as usize;
         if same_bytes(bytes_at(names, wires, row, 1), name) {
             return Found::At(WireNumber(last - first), column(wires, row, 3));
         }
-        at = chain[4706 + row];
+        at = chain[ROW_CHAIN + row];
     }
     Found::Nothing
 }

@@ -5,6 +5,8 @@ use layout::put_statement;
 use lexer::Lexed;
 use lexer::lex_line;
 use line_reader::line_at;
+use name_index::ALL_CHAIN;
+use name_index::ALL_HEADS;
 use name_index::index_line;
 use netlist::lengths::right_lengths;
 use netlist::used::used_from;
@@ -305,8 +307,8 @@ fn read_file(
 {
     let mut tokens = [0u32; 131072];
     let mut scratch = [0u32; 36864];
-    let mut heads = [0u32; 1026];
-    let mut chain = [0u32; 5219];
+    let mut heads = [0u32; ALL_HEADS];
+    let mut chain = [0u32; ALL_CHAIN];
     read_lines(
         f,
         &mut tokens,

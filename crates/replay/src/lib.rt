@@ -1,5 +1,7 @@
 // Whether tables hold statements that may stand one after another. The statements are replayed from the first row on, whatever the tables hold:
 // each row says where its parts are, and has to be the row of the statement that they make.
+use name_index::ROW_CHAIN;
+use name_index::ROW_HEADS;
 use name_index::index_row;
 use past::place::Place;
 use past::place::is_closed;
@@ -18,7 +20,7 @@ use turns::one_more;
 ghost use mathlib.Core.Path.{_≡_};
 ghost use Prim.Native.Nat.{_≤_};
 ghost use lib.ListN.{length};
-ghost use Rattle.name_index.specs.Index.{keyAt, Indexed};
+ghost use Rattle.name_index.specs.Index.{keyAt, rowRoom, Indexed};
 ghost use Rattle.replay.specs.Reads.{tabled};
 ghost use Rattle.replay.specs.Begins.{isStatement, Replays};
 
@@ -48,7 +50,7 @@ fn replay_indexed(
     chain: &mut [u32],
 ) -> Replayed
     requires { ⌜ Indexed (now heads) (now chain) (keyAt (now names) (now rows)) 0 ⌝ }
-    requires { ⌜ 4706 ≤ length (now chain) ⌝ }
+    requires { ⌜ rowRoom ≤ length (now chain) ⌝ }
     ensures { λ r. ⌜ Replays (tabled (now (names .entry)) (now (strings .entry)) (now (bits .entry)) (now (wires .entry))) (now (rows .entry)) r ⌝ }
 {
     let mut place = start();
@@ -77,7 +79,7 @@ fn replay_indexed(
 pub fn replay(names: &[u8], strings: &[u8], bits: &[u32], wires: &[u32], rows: &[u32]) -> Replayed
     ensures { λ r. ⌜ Replays (tabled (now (names .entry)) (now (strings .entry)) (now (bits .entry)) (now (wires .entry))) (now (rows .entry)) r ⌝ }
 {
-    let mut heads = [0u32; 513];
-    let mut chain = [0u32; 4706];
+    let mut heads = [0u32; ROW_HEADS];
+    let mut chain = [0u32; ROW_CHAIN];
     replay_indexed(names, strings, bits, wires, rows, &mut heads, &mut chain)
 }

@@ -6,13 +6,13 @@ use mathlib.Core.Path.{sym, ap, _∙_}
 use native.Mathlib.Omega.{arith}
 use lib.ListN.{length-drop}
 use borrow.Author.Needs.{needs}
-use Rattle.rules.specs.Signals.{find}
 use Rattle.wires.specs.Rows.{nameOf, wireOf}
 use Rattle.wires.specs.Found.{widthFound, foundOf}
 use Rattle.name_index.specs.HashLaws.{hash-less}
 use Rattle.name_index.specs.WireLaws.{WireWalk, wire-first, wire-none, wire-less, wire-found, wire-next}
 use Rattle.name_index.proofs.indexed_wire.Statement.{statement}
 use Rattle.name_index.proofs.indexed_wire.Tie as tie
+use Rattle.name_index.specs.Index.{keyCount, rowRoom}
 
 abbrev Inv-loop : tie.InvT-loop
 Inv-loop names wires heads chain first count name h at₀ at = WireWalk names wires first name count at
@@ -30,7 +30,7 @@ mul-at : tie.Need-mul-at Inv-loop μ-loop
 mul-at c = omega (arith, c .hash .ensures, hash-less (c .before .before .before .before .before .before .args .name .now))
 
 shared-slice-read-at : tie.Need-shared-slice-read-at Inv-loop μ-loop
-shared-slice-read-at c = omega (arith, c .before .hash .ensures, hash-less (c .before .before .before .before .before .before .before .args .name .now), c .before .before .before .before .before .before .before .pre .indexed .keys, length-drop 513 (c .before .before .before .before .before .before .before .args .heads .now))
+shared-slice-read-at c = omega (arith, c .before .hash .ensures, hash-less (c .before .before .before .before .before .before .before .args .name .now), c .before .before .before .before .before .before .before .pre .indexed .keys, length-drop keyCount (c .before .before .before .before .before .before .before .args .heads .now))
 
 loop-holds : tie.Need-loop-holds Inv-loop μ-loop
 loop-holds c = wire-first _ _ _ _ _ _ _ (c .before .before .before .before .before .before .before .pre) _ (c .before .hash .ensures)
@@ -64,7 +64,7 @@ mul-at-2 : tie.Need-mul-at-2 Inv-loop μ-loop
 mul-at-2 c = omega (arith, c .before .before .before .before .loop .inv .below)
 
 shared-slice-read-at-2 : tie.Need-shared-slice-read-at-2 Inv-loop μ-loop
-shared-slice-read-at-2 c = omega (arith, c .before .before .before .before .before .loop .inv .below, c .before .before .before .before .before .before .before .before .before .before .before .before .before .pre .indexed .room, length-drop 4706 (c .before .before .before .before .before .before .before .before .before .before .before .before .before .args .chain .now))
+shared-slice-read-at-2 c = omega (arith, c .before .before .before .before .before .loop .inv .below, c .before .before .before .before .before .before .before .before .before .before .before .before .before .pre .indexed .room, length-drop rowRoom (c .before .before .before .before .before .before .before .before .before .before .before .before .before .args .chain .now))
 
 loop-less : tie.Need-loop-less Inv-loop μ-loop
 loop-less c = wire-less _ _ _ _ _ _ _ (c .before .before .before .before .before .before .before .before .before .before .before .before .before .pre) _ (c .before .before .before .before .before .loop .inv) (c .before .before .before .before .loop-test .taken)
