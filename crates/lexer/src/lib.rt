@@ -200,7 +200,7 @@ fn step(class: &[u8; 256], s: &[u8], at: usize) -> Lexeme
     word_step(class, s, p)
 }
 
-// The line from start to end of the file f, each token in a row of the table.
+// The line from start to end of the file f, each token in a row of the table. The table of classes is made here, once for the line.
 pub fn lex_line(f: &[u8], start: usize, end: usize, table: &mut [u32]) -> Lexed
     requires { ⌜ (start ≤ end) × (end ≤ length (now f)) × (length (now f) ≤ 32768) × (4 * (end - start) ≤ length (now table)) ⌝ }
     ensures { λ r. ⌜ LexedIs (now (f .entry)) start end (now (table .entry)) (now (table .exit)) r ⌝ }

@@ -261,13 +261,14 @@ const CLASS: [u8; 256] = [
     6,
 ];
 
-// The table of classes: made once, and lent to what asks for the class of a byte.
+// The table of classes. Wherever a `const` array is named it is built on the stack anew, all 256 bytes: so the table is made once a line, here, and lent.
 pub fn classes() -> [u8; 256]
     ensures { λ r. ⌜ r ≡ classTable ⌝ }
 {
     CLASS
 }
 
+// The class of a byte, by the table lent.
 pub fn class_in(table: &[u8; 256], b: u8) -> u8
     requires { ⌜ now table ≡ classTable ⌝ }
     ensures { λ r. ⌜ r ≡ classOf b ⌝ }

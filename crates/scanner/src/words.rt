@@ -20,7 +20,7 @@ fn word_code(w: &[u8]) -> u64
     n
 }
 
-// The number of the keyword with a code, 32 if it is none of the short ones.
+// The number of the keyword with a code, 32 if it is none of the short ones: one number is compared, where a list of words is compared byte by byte.
 fn code_number(n: u64) -> usize
     ensures { λ r. ⌜ r ≡ codeNumber n ⌝ }
 {

@@ -176,7 +176,7 @@ fn is_plain(b: u8) -> bool
     is_string_byte(b)
 }
 
-// The first byte at or after `at` that does not stand for itself, or the end.
+// The first byte at or after `at` that does not stand for itself, or the end. Most strings are plain up to their closing quote: the machine then reads but that.
 fn plain_end(s: &[u8], at: usize) -> usize
     ensures { λ r. ⌜ r ≡ endOf isPlain (now (s .entry)) at ⌝ }
 {
