@@ -60,11 +60,11 @@ end-small f l lo hi r e low high file =
     omega (arith, endOf-high (inClass lo hi) (take (l .end - 0) f) (l .start) (omega arith))
 
 module _ (f : List ℕ) (at : ℕ) (l : Line) (is : l ≡ lineFrom f at) where
-  fits : (tokens scratch : List ℕ) → at ≤ length f → length f ≤ 32768 → length tokens ≡ 131072 → length scratch ≡ 36864 → LineFits f l tokens scratch
+  fits : (scratch : List ℕ) → at ≤ length f → length f ≤ 32768 → length scratch ≡ 36864 → LineFits f l scratch
   unfolding lineFrom
-  fits tokens scratch h file t s =
-      subst (λ (x : Line). LineFits f x tokens scratch) (sym is)
-      (record { low = line-low f at; high = line-high f at h; file = file; tokens-long = t; scratch-long = s })
+  fits scratch h file s =
+      subst (λ (x : Line). LineFits f x scratch) (sym is)
+      (record { low = line-low f at; high = line-high f at h; file = file; scratch-long = s })
 
   -- the next line starts behind, in the file
   next-low : at < length f → at < lineFrom f at .next
@@ -108,7 +108,7 @@ module _ (f : List ℕ) (at : ℕ) (l : Line) (is : l ≡ lineFrom f at) where
 pub record Reached (f tokens scratch : List ℕ) (p : Place) (u : Sizes) (t : Tables) (at : ℕ) : Type 0 where
   pub inside : at ≤ length f
   pub file : length f ≤ 32768
-  pub tokens-long : length tokens ≡ 131072
+  pub tokens-long : length tokens ≡ 8192
   pub scratch-long : length scratch ≡ 36864
   pub past : Past
   pub done : Done past p u t
@@ -134,7 +134,7 @@ less {f} {l = l} b l′ h e = omega (arith, on f (l .start) l (b .is) h, ap (λ 
 
 pub reached-start :
     (f tokens scratch : List ℕ) (p : Place) (u : Sizes) (t : Tables) →
-    (length f ≤ 32768) × (length tokens ≡ 131072) × (length scratch ≡ 36864) × (t ≡ tablesOf (memory empty 0)) →
+    (length f ≤ 32768) × (length tokens ≡ 8192) × (length scratch ≡ 36864) × (t ≡ tablesOf (memory empty 0)) →
     p ≡ placeOf [] → u ≡ sumsOf [] → Reached f tokens scratch p u t 0
 unfolding roomsOf readAny lines admitted
 reached-start f tokens scratch p u t h ep eu =
@@ -149,8 +149,8 @@ reached-start f tokens scratch p u t h ep eu =
     }
 
 module _ {f tokens scratch : List ℕ} {p : Place} {u : Sizes} {t : Tables} {at : ℕ} (r : Reached f tokens scratch p u t at) where
-  pub reached-fits : (l : Line) → l ≡ lineFrom f at → LineFits f l tokens scratch
-  reached-fits l is = fits f at l is tokens scratch (r .inside) (r .file) (r .tokens-long) (r .scratch-long)
+  pub reached-fits : (l : Line) → l ≡ lineFrom f at → LineFits f l scratch
+  reached-fits l is = fits f at l is scratch (r .inside) (r .file) (r .scratch-long)
 
   module _ (l : Line) (is : l ≡ lineFrom f at) (x : Step) (t′ : Tables) (st : StepAs f l p u t t′ x) where
     -- a turn of the loop

@@ -80,7 +80,7 @@ line-some f t n e h q =
 -- ---- the rows are ready for the verdict
 
 module _ (f old new : List ℕ) (l : Line) (x : Lexed) (L : LexedIs f (l .start) (l .end) old new x) (n : ℕ) (e : x ≡ Tokens n)
-    (inside : l .end ≤ length f) (file : length f ≤ 32768) (old-long : length old ≡ 131072) where
+    (inside : l .end ≤ length f) (file : length f ≤ 32768) (old-long : 4 * (l .end - l .start) ≤ length old) where
   among : Among f (l .start) (l .end) new (Tokens n)
   among = subst (Among f (l .start) (l .end) new) e (L .among)
 
@@ -88,7 +88,7 @@ module _ (f old new : List ℕ) (l : Line) (x : Lexed) (L : LexedIs f (l .start)
   rows-few = omega (arith, among .0)
 
   pub rows-fit : 4 * n ≤ length new
-  rows-fit = omega (arith, rows-few, L .kept)
+  rows-fit = omega (arith, among .0, L .kept)
 
   pub rows-ready : (s : List ℕ) (count : ℕ) → length s ≡ 36864 → count ≤ 512 → (n ≡ 0 → ⊥) → Ready f (take (4 * n - 0) (drop 0 new)) s count
   rows-ready s count scratch c first =
@@ -126,7 +126,7 @@ module _ (ss : Past) (f old new : List ℕ) (l : Line) (x : Lexed) (L : LexedIs 
   unfolding lexedOf lexed line rowsFrom
   outcome-none n e z = by-lexed (Tokens 0) (e ∙ ap Tokens z)
 
-  module _ (n : ℕ) (e : x ≡ Tokens n) (inside : l .end ≤ length f) (file : length f ≤ 32768) (old-long : length old ≡ 131072) where
+  module _ (n : ℕ) (e : x ≡ Tokens n) (inside : l .end ≤ length f) (file : length f ≤ 32768) (old-long : 4 * (l .end - l .start) ≤ length old) where
     some-tokens : (n ≡ 0 → ⊥) → (b : Bool) → not (l .ended) ≡ b → outcome ss (lineOf f l) ≡ judged (place (lineOf f l)) (stated ss (not b) (line f (take (4 * n) new) 0))
     unfolding lexedOf lineOf
     some-tokens h b k =

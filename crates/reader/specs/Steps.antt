@@ -39,12 +39,11 @@ use Rattle.reader.specs.declared.Answer.the-variants as answer
 unfoldable pub lineOf : List ℕ → Line → rules.Line
 lineOf f l = record { start = l .start; text = slice (l .start) (l .end) f; ended = l .ended }
 
--- a line lies in the file, and the tables for its tokens and its signals have their lengths
-pub record LineFits (f : List ℕ) (l : Line) (tokens scratch : List ℕ) : Type 0 where
+-- a line lies in the file, and the table for its signals has its length
+pub record LineFits (f : List ℕ) (l : Line) (scratch : List ℕ) : Type 0 where
   pub low : l .start ≤ l .end
   pub high : l .end ≤ length f
   pub file : length f ≤ 32768
-  pub tokens-long : length tokens ≡ 131072
   pub scratch-long : length scratch ≡ 36864
 
 -- what is told of the statements so far is small

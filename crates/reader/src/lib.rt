@@ -22,7 +22,7 @@ use syntax::Statement;
 use tables::clear_bytes;
 use tables::clear_words;
 ghost use mathlib.Core.Path.{_≡_};
-ghost use Prim.Native.Nat.{_≤_};
+ghost use Prim.Native.Nat.{_-_, _*_, _≤_};
 ghost use lib.ListN.{length};
 ghost use Rattle.rules.specs.Statements.{code};
 ghost use Rattle.rules.specs.Reading.{readAny, read};
@@ -71,8 +71,8 @@ fn judged(j: Judged) -> Outcome
     }
 }
 
-// A bad token is 4 on any line; a line without its line end is 5.
-fn line_outcome(
+// A bad token is 4 on any line; a line without its line end is 5. The tokens' table has four words for each byte of the line.
+fn outcome_with(
     f: &[u8],
     line: Line,
     place: Place,
@@ -85,7 +85,7 @@ fn line_outcome(
     heads: &[u32],
     chain: &[u32],
 ) -> Outcome
-    requires { ⌜ LineFits (now f) line (now tokens) (now scratch) ⌝ }
+    requires { ⌜ LineFits (now f) line (now scratch) × (4 * (line .end - line .start) ≤ length (now tokens)) ⌝ }
     requires { ⌜ PlaceFits place sums ⌝ }
     requires { ⌜ LinesIndexed (now heads) (now chain) (now names) (now wires) (now rows) (place .rows) (place .wires) ⌝ }
     ensures { λ r. ⌜ Storable (now (f .entry)) r ⌝ }
@@ -115,6 +115,139 @@ fn line_outcome(
     ))
 }
 
+// A table is cleared whole where it is made, so only a long line makes a long one.
+fn middle_line(
+    f: &[u8],
+    line: Line,
+    place: Place,
+    sums: Sizes,
+    names: &[u8],
+    wires: &[u32],
+    rows: &[u32],
+    scratch: &mut [u32],
+    heads: &[u32],
+    chain: &[u32],
+) -> Outcome
+    requires { ⌜ LineFits (now f) line (now scratch) × (line .end - line .start ≤ 8192) ⌝ }
+    requires { ⌜ PlaceFits place sums ⌝ }
+    requires { ⌜ LinesIndexed (now heads) (now chain) (now names) (now wires) (now rows) (place .rows) (place .wires) ⌝ }
+    ensures { λ r. ⌜ Storable (now (f .entry)) r ⌝ }
+    ensures { λ r. ⌜ OutcomeAs (now (f .entry)) (now (scratch .exit)) line place sums (now (names .entry)) (now (wires .entry)) (now (rows .entry)) r ⌝ }
+{
+    let mut tokens = [0u32; 32768];
+    outcome_with(
+        f,
+        line,
+        place,
+        sums,
+        names,
+        wires,
+        rows,
+        &mut tokens,
+        scratch,
+        heads,
+        chain,
+    )
+}
+
+fn long_line(
+    f: &[u8],
+    line: Line,
+    place: Place,
+    sums: Sizes,
+    names: &[u8],
+    wires: &[u32],
+    rows: &[u32],
+    scratch: &mut [u32],
+    heads: &[u32],
+    chain: &[u32],
+) -> Outcome
+    requires { ⌜ LineFits (now f) line (now scratch) ⌝ }
+    requires { ⌜ PlaceFits place sums ⌝ }
+    requires { ⌜ LinesIndexed (now heads) (now chain) (now names) (now wires) (now rows) (place .rows) (place .wires) ⌝ }
+    ensures { λ r. ⌜ Storable (now (f .entry)) r ⌝ }
+    ensures { λ r. ⌜ OutcomeAs (now (f .entry)) (now (scratch .exit)) line place sums (now (names .entry)) (now (wires .entry)) (now (rows .entry)) r ⌝ }
+{
+    let mut tokens = [0u32; 131072];
+    outcome_with(
+        f,
+        line,
+        place,
+        sums,
+        names,
+        wires,
+        rows,
+        &mut tokens,
+        scratch,
+        heads,
+        chain,
+    )
+}
+
+// With the lent table, if the line's tokens fit into it whatever they are.
+fn line_outcome(
+    f: &[u8],
+    line: Line,
+    place: Place,
+    sums: Sizes,
+    names: &[u8],
+    wires: &[u32],
+    rows: &[u32],
+    tokens: &mut [u32],
+    scratch: &mut [u32],
+    heads: &[u32],
+    chain: &[u32],
+) -> Outcome
+    requires { ⌜ LineFits (now f) line (now scratch) × (length (now tokens) ≡ 8192) ⌝ }
+    requires { ⌜ PlaceFits place sums ⌝ }
+    requires { ⌜ LinesIndexed (now heads) (now chain) (now names) (now wires) (now rows) (place .rows) (place .wires) ⌝ }
+    ensures { λ r. ⌜ Storable (now (f .entry)) r ⌝ }
+    ensures { λ r. ⌜ OutcomeAs (now (f .entry)) (now (scratch .exit)) line place sums (now (names .entry)) (now (wires .entry)) (now (rows .entry)) r ⌝ }
+{
+    let size = line.end - line.start;
+    if size <= 2048 {
+        return outcome_with(
+            f,
+            line,
+            place,
+            sums,
+            names,
+            wires,
+            rows,
+            tokens,
+            scratch,
+            heads,
+            chain,
+        );
+    }
+    if size <= 8192 {
+        return middle_line(
+            f,
+            line,
+            place,
+            sums,
+            names,
+            wires,
+            rows,
+            scratch,
+            heads,
+            chain,
+        );
+    }
+    long_line(
+        f,
+        line,
+        place,
+        sums,
+        names,
+        wires,
+        rows,
+        scratch,
+        heads,
+        chain,
+    )
+}
+
 fn take_line(
     f: &[u8],
     line: Line,
@@ -130,7 +263,7 @@ fn take_line(
     heads: &mut [u32],
     chain: &mut [u32],
 ) -> Step
-    requires { ⌜ LineFits (now f) line (now tokens) (now scratch) ⌝ }
+    requires { ⌜ LineFits (now f) line (now scratch) × (length (now tokens) ≡ 8192) ⌝ }
     requires { ⌜ SomeDone place sums (tabled (now names) (now strings) (now bits) (now wires) (now rows)) ⌝ }
     requires { ⌜ LinesIndexed (now heads) (now chain) (now names) (now wires) (now rows) (place .rows) (place .wires) ⌝ }
     ensures { λ r. ⌜ StepAs (now (f .entry)) line place sums (tabled (now (names .entry)) (now (strings .entry)) (now (bits .entry)) (now (wires .entry)) (now (rows .entry))) (tabled (now (names .exit)) (now (strings .exit)) (now (bits .exit)) (now (wires .exit)) (now (rows .exit))) r ⌝ }
@@ -242,7 +375,7 @@ fn read_lines(
     heads: &mut [u32],
     chain: &mut [u32],
 ) -> Answer
-    requires { ⌜ (length (now f) ≤ 32768) × (length (now tokens) ≡ 131072) × (length (now scratch) ≡ 36864) × (tabled (now names) (now strings) (now bits) (now wires) (now rows) ≡ tablesOf (memory empty 0)) ⌝ }
+    requires { ⌜ (length (now f) ≤ 32768) × (length (now tokens) ≡ 8192) × (length (now scratch) ≡ 36864) × (tabled (now names) (now strings) (now bits) (now wires) (now rows) ≡ tablesOf (memory empty 0)) ⌝ }
     requires { ⌜ LinesIndexed (now heads) (now chain) (now names) (now wires) (now rows) 0 0 ⌝ }
     ensures { λ r. ⌜ Landed (readAny (now (f .entry))) (tabled (now (names .exit)) (now (strings .exit)) (now (bits .exit)) (now (wires .exit)) (now (rows .exit))) r ⌝ }
 {
@@ -305,7 +438,7 @@ fn read_file(
     requires { ⌜ tabled (now names) (now strings) (now bits) (now wires) (now rows) ≡ tablesOf (memory empty 0) ⌝ }
     ensures { λ r. ⌜ Landed (readAny (now (f .entry))) (tabled (now (names .exit)) (now (strings .exit)) (now (bits .exit)) (now (wires .exit)) (now (rows .exit))) r ⌝ }
 {
-    let mut tokens = [0u32; 131072];
+    let mut tokens = [0u32; 8192];
     let mut scratch = [0u32; 36864];
     let mut heads = [0u32; ALL_HEADS];
     let mut chain = [0u32; ALL_CHAIN];

@@ -39,7 +39,7 @@ loop-holds c = (
 )
 
 take-line-requires : tie.Need-take-line-requires Inv-loop μ-loop
-take-line-requires c κs = (reached-fits (c .before .before .before .before .before .before .before .before .before .before .before .loop .inv .0 .reached) _ (c .before .before .before .before .before .before .before .before .before .before .before .loop .inv .0 .is), (record { past = c .before .before .before .before .before .before .before .before .before .before .before .loop .inv .0 .reached .past; done = c .before .before .before .before .before .before .before .before .before .before .before .loop .inv .0 .reached .done }, c .before .before .before .before .before .before .before .before .before .before .before .loop .inv .1))
+take-line-requires c κs = ((reached-fits (c .before .before .before .before .before .before .before .before .before .before .before .loop .inv .0 .reached) _ (c .before .before .before .before .before .before .before .before .before .before .before .loop .inv .0 .is), c .before .before .before .before .before .before .before .before .before .before .before .loop .inv .0 .reached .tokens-long), (record { past = c .before .before .before .before .before .before .before .before .before .before .before .loop .inv .0 .reached .past; done = c .before .before .before .before .before .before .before .before .before .before .before .loop .inv .0 .reached .done }, c .before .before .before .before .before .before .before .before .before .before .before .loop .inv .1))
 
 enum-known-step : tie.Need-enum-known-step Inv-loop μ-loop
 enum-known-step c = c .match .keys1

@@ -26,7 +26,7 @@ used-from-requires : tie.Need-used-from-requires
 used-from-requires c κs = done-fits (c .before .before .before .before .before .before .before .before .before .before .before .before .before .before .before .before .before .before .before .before .before .before .before .before .before .pre .1 .0 .done) .within
 
 put-statement-requires : tie.Need-put-statement-requires
-put-statement-requires c κs = put-storable (c .before .before .before .before .before .before .before .before .before .before .before .before .before .before .before .before .before .before .before .before .before .before .before .before .before .before .before .before .before .before .before .before .pre .1 .0 .done) (lineOf (now (c .before .before .before .before .before .before .before .before .before .before .before .before .before .before .before .before .before .before .before .before .before .before .before .before .before .before .before .before .before .before .before .before .args .f)) (c .before .before .before .before .before .before .before .before .before .before .before .before .before .before .before .before .before .before .before .before .before .before .before .before .before .before .before .before .before .before .before .before .args .line)) _ _ _ _ _ (c .before .before .before .before .before .before .before .before .statement .given .1) (c .before .before .before .before .before .before .before .before .before .before .before .before .before .before .line-outcome .ensures .1 _ (done-stands (c .before .before .before .before .before .before .before .before .before .before .before .before .before .before .before .before .before .before .before .before .before .before .before .before .before .before .before .before .before .before .before .before .pre .1 .0 .done))) (c .before .before .before .before .before .before .before .before .before .before .before .before .before .before .line-outcome .ensures .0) _ (c .before .before .before .before .before .before .used-from .ensures) (c .before .before .before .before .before .before .before .before .before .before .before .before .before .before .line-outcome .kept .1 .1 .1 .1 .1 .1 .1 .1 .0 ∙ c .before .before .before .before .before .before .before .before .before .before .before .before .before .before .before .before .before .before .before .before .before .before .before .before .before .before .before .before .before .before .before .before .pre .0 .scratch-long)
+put-statement-requires c κs = put-storable (c .before .before .before .before .before .before .before .before .before .before .before .before .before .before .before .before .before .before .before .before .before .before .before .before .before .before .before .before .before .before .before .before .pre .1 .0 .done) (lineOf (now (c .before .before .before .before .before .before .before .before .before .before .before .before .before .before .before .before .before .before .before .before .before .before .before .before .before .before .before .before .before .before .before .before .args .f)) (c .before .before .before .before .before .before .before .before .before .before .before .before .before .before .before .before .before .before .before .before .before .before .before .before .before .before .before .before .before .before .before .before .args .line)) _ _ _ _ _ (c .before .before .before .before .before .before .before .before .statement .given .1) (c .before .before .before .before .before .before .before .before .before .before .before .before .before .before .line-outcome .ensures .1 _ (done-stands (c .before .before .before .before .before .before .before .before .before .before .before .before .before .before .before .before .before .before .before .before .before .before .before .before .before .before .before .before .before .before .before .before .pre .1 .0 .done))) (c .before .before .before .before .before .before .before .before .before .before .before .before .before .before .line-outcome .ensures .0) _ (c .before .before .before .before .before .before .used-from .ensures) (c .before .before .before .before .before .before .before .before .before .before .before .before .before .before .line-outcome .kept .1 .1 .1 .1 .1 .1 .1 .1 .0 ∙ c .before .before .before .before .before .before .before .before .before .before .before .before .before .before .before .before .before .before .before .before .before .before .before .before .before .before .before .before .before .before .before .before .pre .0 .0 .scratch-long)
 
 kind-code-requires : tie.Need-kind-code-requires
 kind-code-requires c κs = tt
