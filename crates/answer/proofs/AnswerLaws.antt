@@ -16,9 +16,10 @@ use Rattle.rules.specs.Session.{Rename, now}
 use Rattle.rules.specs.Text.{decimalOnto, decimalText, text, writeText, write, refusal, printed, programBy, program}
 use Rattle.rules.specs.Layout.{Memory}
 use Rattle.scanner.specs.Laws.{by-cond}
-use Rattle.netlist.specs.Lengths.{rightSizes}
+use Rattle.netlist.specs.Lengths.{rightSizes, rightLengths}
 use Rattle.text.specs.Written.{Written, written-end, written-whole}
-use Rattle.reader.specs.Read.{Result, rightLengths, leaves, readInto}
+use Rattle.netlist.specs.Results.{Result}
+use Rattle.reader.specs.Read.{leaves, readInto}
 use Rattle.session.specs.Called.{Called, wrong-lengths, damaged, holding}
 use Rattle.writer.specs.Write.{wrote}
 use Rattle.session.specs.CalledLaws.{called-one, called-turn}

@@ -7,7 +7,8 @@ ghost use mathlib.Core.Bool.{true};
 ghost use Prim.Native.Nat.{_≤_};
 ghost use lib.ListN.{length};
 ghost use Rattle.rules.specs.Text.{program};
-ghost use Rattle.reader.specs.Read.{lent, rightLengths};
+ghost use Rattle.netlist.specs.Results.{lent};
+ghost use Rattle.netlist.specs.Lengths.{rightLengths};
 ghost use Rattle.answer.specs.Printed.{putting, PrintedAs};
 
 // The text of the design that the memory holds, or the number of its refusal with place 0.

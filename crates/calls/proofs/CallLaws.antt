@@ -15,7 +15,8 @@ use Rattle.rules.specs.Design.{design}
 use Rattle.rules.specs.Session.{Rename, Call, call, numberOf, standing, plainSession}
 use Rattle.rules.specs.Layout.{Memory, layout}
 use Rattle.admitted.specs.Holds.{Allowed, Holds}
-use Rattle.reader.specs.Read.{Result, result, rightLengths}
+use Rattle.netlist.specs.Results.{Result, result}
+use Rattle.netlist.specs.Lengths.{rightLengths}
 use Rattle.session.specs.Called.{holding, after, CalledAs}
 use Rattle.session.specs.CalledLaws.{called-one}
 use Rattle.theorems.specs.StandingLaws.{allowed-session}

@@ -13,7 +13,9 @@ use Rattle.rules.specs.Reading.{Answer, accepted, refused, read, readAny}
 use Rattle.rules.specs.Session.{Call}
 use Rattle.rules.specs.Layout.{Memory, layout}
 use Rattle.admitted.specs.Holds.{Holds, no-renames}
-use Rattle.reader.specs.Read.{Result, result, rightLengths, leaves, readInto}
+use Rattle.netlist.specs.Results.{Result, result}
+use Rattle.netlist.specs.Lengths.{rightLengths}
+use Rattle.reader.specs.Read.{leaves, readInto}
 use Rattle.soundness.specs.ReadLaws.{read-admitted, numbered, read-numbered}
 use Rattle.calls.specs.Calls.{sessionOn, session}
 use Rattle.calls.specs.Steps.{Opened, MadeAs}

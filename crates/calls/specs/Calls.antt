@@ -9,7 +9,9 @@ use Rattle.rules.specs.Reading.{Answer, accepted, refused, read}
 use Rattle.rules.specs.Design.{design}
 use Rattle.rules.specs.Session.{Rename, Call, rename, undo, plainSession}
 use Rattle.rules.specs.Layout.{Memory, layout}
-use Rattle.reader.specs.Read.{Result, result, rightLengths, leaves}
+use Rattle.netlist.specs.Results.{Result, result}
+use Rattle.netlist.specs.Lengths.{rightLengths}
+use Rattle.reader.specs.Read.{leaves}
 
 -- five words a call: 1 a rename with module, wire, and where its new name starts in the texts and its length; anything else an undo
 module _ (calls texts : List ℕ) where

@@ -9,7 +9,8 @@ use Rattle.rules.specs.Design.{design}
 use Rattle.rules.specs.Session.{Rename, Call, rename, plainSession}
 use Rattle.rules.specs.Layout.{Memory, layout}
 use Rattle.admitted.specs.Holds.{no-renames}
-use Rattle.reader.specs.Read.{result, rightLengths}
+use Rattle.netlist.specs.Results.{result}
+use Rattle.netlist.specs.Lengths.{rightLengths}
 use Rattle.theorems.specs.StandingLaws.{allowed-session, session-allowed}
 use Rattle.calls.specs.Calls.{sessionOn, session}
 

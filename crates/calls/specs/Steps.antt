@@ -8,7 +8,8 @@ use Rattle.rules.specs.Design.{design}
 use Rattle.rules.specs.Session.{Rename, Call, plainSession}
 use Rattle.rules.specs.Layout.{Memory, layout}
 use Rattle.admitted.specs.Holds.{Holds}
-use Rattle.reader.specs.Read.{Result, result, rightLengths}
+use Rattle.netlist.specs.Results.{Result, result}
+use Rattle.netlist.specs.Lengths.{rightLengths}
 use Rattle.calls.specs.Calls.{answered}
 
 pub record Opened (m : Memory) : Type 0 where

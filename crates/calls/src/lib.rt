@@ -1,7 +1,7 @@
 // A file and a list of calls on it: the file is read, then each call is made on the memory and the counts that the last one left.
+use netlist::results::CallResult;
 use numbers::kinds::ModuleNumber;
 use numbers::kinds::WireNumber;
-use reader::Left;
 use reader::read;
 use scanner::parts::part;
 use session::rename;
@@ -10,7 +10,7 @@ use tables::word;
 ghost use mathlib.Core.Path.{_≡_};
 ghost use Prim.Native.Nat.{_+_, _*_, _≤_};
 ghost use lib.ListN.{length, set};
-ghost use Rattle.reader.specs.Read.{result, lent};
+ghost use Rattle.netlist.specs.Results.{result, lent};
 ghost use Rattle.session.specs.Called.{CalledAs};
 ghost use Rattle.calls.specs.Calls.{callAt, callsIn, session};
 ghost use Rattle.calls.specs.Steps.{Opened, MadeAs};
@@ -36,7 +36,7 @@ fn make_call(
     rows: &mut [u32],
     renames: u32,
     room: u32,
-) -> Left
+) -> CallResult
     requires { ⌜ 5 * i + 5 ≤ length (now calls) ⌝ }
     ensures { λ r. ⌜ CalledAs (lent (now (names .entry)) (now (strings .entry)) (now (bits .entry)) (now (wires .entry)) (now (rows .entry)) renames room) (callAt (now (calls .entry)) (now (texts .entry)) i) (result (r .number) (r .place) (lent (now (names .exit)) (now (strings .entry)) (now (bits .entry)) (now (wires .entry)) (now (rows .exit)) (r .renames) (r .room))) ⌝ }
 {
@@ -61,10 +61,10 @@ fn make_call(
 }
 
 // Number and place 0, with these counts.
-fn accepted(renames: u32, room: u32) -> Left
+fn accepted(renames: u32, room: u32) -> CallResult
     ensures { λ r. ⌜ r ≡ record { number = 0; place = 0; renames = renames; room = room } ⌝ }
 {
-    Left {
+    CallResult {
         number: 0,
         place: 0,
         renames: renames,
@@ -84,7 +84,7 @@ fn make_calls(
     rows: &mut [u32],
     renames: u32,
     room: u32,
-) -> Left
+) -> CallResult
     requires { ⌜ Opened (lent (now names) (now strings) (now bits) (now wires) (now rows) renames room) ⌝ }
     ensures { λ r. ⌜ MadeAs (lent (now (names .entry)) (now (strings .entry)) (now (bits .entry)) (now (wires .entry)) (now (rows .entry)) renames room) (now (answers .entry)) (callsIn (now (calls .entry)) (now (texts .entry))) (result (r .number) (r .place) (lent (now (names .exit)) (now (strings .entry)) (now (bits .entry)) (now (wires .entry)) (now (rows .exit)) (r .renames) (r .room))) (now (answers .exit)) ⌝ }
 {
@@ -125,7 +125,7 @@ pub fn run_calls(
     rows: &mut [u32],
     renames: u32,
     room: u32,
-) -> Left
+) -> CallResult
     ensures { λ r. ⌜ (result (r .number) (r .place) (lent (now (names .exit)) (now (strings .exit)) (now (bits .exit)) (now (wires .exit)) (now (rows .exit)) (r .renames) (r .room)), now (answers .exit)) ≡ session (now (f .entry)) (callsIn (now (calls .entry)) (now (texts .entry))) (lent (now (names .entry)) (now (strings .entry)) (now (bits .entry)) (now (wires .entry)) (now (rows .entry)) renames room) (now (answers .entry)) ⌝ }
 {
     let left = read(f, names, strings, bits, wires, rows, renames, room);

@@ -41,7 +41,7 @@ pub use denote.Signature.{plain}
 pub use Rattle.line_reader.proofs.Locals.{starts, relends, ends, none, cell, past}
 pub use Rattle.line_reader.proofs.Walk.{asks, returned, said, walk-enters}
 pub use Rattle.card.specs.declared.Card.{Card}
-pub use Rattle.reader.specs.declared.Left.{Left}
+pub use Rattle.netlist.specs.declared.results.CallResult.{CallResult}
 pub use Rattle.card.specs.declared.Answer.{Answer}
 use Prim.Native.Nat.{zero, suc}
 use mathlib.Core.Path.{_≡_, ap}
@@ -66,8 +66,8 @@ use Rattle.line_reader.proofs.Locals.{found}
 use Rattle.line_reader.proofs.Walk.{copied}
 use Rattle.card.proofs.Card as T
 use Rattle.card.proofs.Card.Laws as T′
-use Rattle.reader.proofs.Left as O
-use Rattle.reader.proofs.Left.Laws as O′
+use Rattle.netlist.proofs.results.CallResult as O
+use Rattle.netlist.proofs.results.CallResult.Laws as O′
 use Rattle.card.proofs.Answer as N
 use Rattle.card.proofs.Answer.Laws as N′
 
@@ -124,7 +124,7 @@ module _ {M : Type 1} {𝓤 : URA M} {H : Heap 𝓤} {A : Atoms 𝓤} {K : Type 
 
 module _ {M : Type 1} {𝓤 : URA M} {H : Heap 𝓤} {A : Atoms 𝓤} {K : Type 0} {W : Given 𝓤 H A} {Γ : List (Item 𝓤)} {E : Env 𝓤 H} {C : Calls 𝓤 H} {Λ : Loops 𝓤 H} {q : Post 𝓤 H} where
   -- what the callee returned is stored in local n, at entry p, and its four numbers have 32 bits
-  pub left-lands : K → (n p : ℕ) {l : ℕ} {rest : Code} (r : Left) (w : Val) → getD E n (noLocal 𝓤 H) ≡ (O′.mir, l)
+  pub left-lands : K → (n p : ℕ) {l : ℕ} {rest : Code} (r : CallResult) (w : Val) → getD E n (noLocal 𝓤 H) ≡ (O′.mir, l)
       → nth 𝓤 H A p Γ ≡ ‵ (froom O′.mir l zero) → nth 𝓤 H A p (put 𝓤 H A p (‵ (fat fullShare O′.mir l zero w)) Γ) ≡ ‵ (fat fullShare O′.mir l zero w)
       → (r .number < 2 ^ 32 → r .place < 2 ^ 32 → r .renames < 2 ^ 32 → r .room < 2 ^ 32 → Seq K W (put 𝓤 H A p (‵ (fat fullShare O′.mir l zero (only (LL.vals O.the-type O′.the-laws r)))) (put 𝓤 H A p (‵ (fat fullShare O′.mir l zero w)) Γ)) (runs C Λ E rest q))
       → Seq K W (‵ (O.the-row .own r (w ∷ [])) ∷ Γ) (lands C Λ E (place n []) w rest q)

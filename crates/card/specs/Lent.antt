@@ -3,7 +3,7 @@ use mathlib.Core.List.{List}
 use Prim.Native.Nat.{ℕ, _-_, _≤_}
 use mathlib.Core.Path.{_≡_}
 use Rattle.rules.specs.Layout.{Memory}
-use Rattle.reader.specs.Read.{Result, result, lent}
+use Rattle.netlist.specs.Results.{Result, result, lent}
 use Rattle.session.specs.declared.Found.{Found}
 use Rattle.session.specs.declared.Indexed.{Indexed}
 use Rattle.show.specs.Parts.{numberOf, bytesIn, InRange, ShownAs, ShownAt}

@@ -1,7 +1,7 @@
 // The calls for other languages: a struct is laid out as C's, and the session card is lent and changed in place.
+use netlist::results::CallResult;
 use numbers::kinds::ModuleNumber;
 use numbers::kinds::WireNumber;
-use reader::Left;
 use reader::read;
 use session::index;
 use session::look_up;
@@ -13,7 +13,8 @@ use writer::measure;
 use writer::write;
 ghost use mathlib.Core.Path.{_≡_};
 ghost use Rattle.rules.specs.Session.{Call};
-ghost use Rattle.reader.specs.Read.{result, lent, readInto};
+ghost use Rattle.netlist.specs.Results.{result, lent};
+ghost use Rattle.reader.specs.Read.{readInto};
 ghost use Rattle.session.specs.Called.{CalledAs, LookedUp, IndexGiven};
 ghost use Rattle.writer.specs.Write.{MeasuredAs, WrittenAs};
 ghost use Rattle.card.specs.Lent.{lentWith, answered, foundBy, indexedBy, writtenBy, partOf, Ordered, PartGiven};
@@ -101,7 +102,7 @@ fn rename_by_number(
     m: u32,
     w: u32,
     new: &[u8],
-) -> Left
+) -> CallResult
     ensures { λ r. ⌜ CalledAs (lent (now (names .entry)) (now (strings .entry)) (now (bits .entry)) (now (wires .entry)) (now (rows .entry)) renames room) (Call.rename (record { moduleNumber = m; wireNumber = w; newName = now (new .entry) })) (result (r .number) (r .place) (lent (now (names .exit)) (now (strings .entry)) (now (bits .entry)) (now (wires .entry)) (now (rows .exit)) (r .renames) (r .room))) ⌝ }
 {
     let wire = WireNumber(w);

@@ -19,3 +19,4 @@ pub mod Lengths
 pub mod Tables
 pub mod Fronts
 pub mod FrontLaws
+pub mod Results

@@ -34,11 +34,12 @@ use Rattle.admitted.specs.Admitted.{admitted}
 use Rattle.netlist.specs.Laid.{roomsOf}
 use Rattle.netlist.specs.LaidLaws.{rooms-past}
 use Rattle.netlist.specs.UsedLaws.{used-past}
-use Rattle.netlist.specs.Lengths.{sizes-exact, rightSizes}
+use Rattle.netlist.specs.Lengths.{sizes-exact, rightSizes, rightLengths}
 use Rattle.netlist.specs.Tables.{Tables, tabled}
 use Rattle.layout.specs.Put.{tablesOf}
 use Rattle.layout.specs.Stored.{Sized}
-use Rattle.reader.specs.Read.{Result, result, lent, rightLengths, leaves, readInto}
+use Rattle.netlist.specs.Results.{Result, result, lent}
+use Rattle.reader.specs.Read.{leaves, readInto}
 use Rattle.reader.specs.Steps.{lineOf, LineFits, Done, Goes, StepIs, StepAs, refusalOf, finishOf, Landed}
 use Rattle.reader.specs.declared.Step.{Step}
 use Rattle.reader.specs.declared.Step.the-variants.{Next, Stop}

@@ -9,6 +9,7 @@ use name_index::ALL_CHAIN;
 use name_index::ALL_HEADS;
 use name_index::index_line;
 use netlist::lengths::right_lengths;
+use netlist::results::CallResult;
 use netlist::used::used_from;
 use past::place::Place;
 use past::place::after;
@@ -32,16 +33,9 @@ ghost use Rattle.name_index.specs.Index.{LinesIndexed};
 ghost use Rattle.layout.specs.Put.{tablesOf};
 ghost use Rattle.netlist.specs.Tables.{tabled};
 ghost use Rattle.layout.specs.Stored.{Sized};
-ghost use Rattle.reader.specs.Read.{result, lent, leaves, readInto};
+ghost use Rattle.netlist.specs.Results.{result, lent};
+ghost use Rattle.reader.specs.Read.{leaves, readInto};
 ghost use Rattle.reader.specs.Steps.{LineFits, PlaceFits, judgedAs, OutcomeAs, Storable, SomeDone, StepAs, StepIndexed, refusalOf, finishOf, Landed};
-
-// Number 0 is none. The counts of the session card go in and out by value.
-pub struct Left {
-    pub number: u32,
-    pub place: u32,
-    pub renames: u32,
-    pub room: u32,
-}
 
 // What a line gives: nothing, since it has no token; a statement, with the sums of each size; or a refusal's number.
 enum Outcome {
@@ -464,13 +458,13 @@ fn read_sized(
     bits: &mut [u32],
     wires: &mut [u32],
     rows: &mut [u32],
-) -> Left
+) -> CallResult
     requires { ⌜ Sized (tabled (now names) (now strings) (now bits) (now wires) (now rows)) ⌝ }
     ensures { λ r. ⌜ result (r .number) (r .place) (lent (now (names .exit)) (now (strings .exit)) (now (bits .exit)) (now (wires .exit)) (now (rows .exit)) (r .renames) (r .room)) ≡ leaves (read (now (f .entry))) ⌝ }
 {
     clear_tables(names, strings, bits, wires, rows);
     if 32768 < f.len() {
-        return Left {
+        return CallResult {
             number: 2,
             place: 0,
             renames: 0,
@@ -478,7 +472,7 @@ fn read_sized(
         };
     }
     match read_file(f, names, strings, bits, wires, rows) {
-        Answer::Accepted(room) => Left {
+        Answer::Accepted(room) => CallResult {
             number: 0,
             place: 0,
             renames: 0,
@@ -486,7 +480,7 @@ fn read_sized(
         },
         Answer::Refused { number, place } => {
             clear_tables(names, strings, bits, wires, rows);
-            Left {
+            CallResult {
                 number,
                 place,
                 renames: 0,
@@ -505,7 +499,7 @@ pub fn read(
     rows: &mut [u32],
     renames: u32,
     room: u32,
-) -> Left
+) -> CallResult
     ensures { λ r. ⌜ result (r .number) (r .place) (lent (now (names .exit)) (now (strings .exit)) (now (bits .exit)) (now (wires .exit)) (now (rows .exit)) (r .renames) (r .room)) ≡ readInto (now (f .entry)) (lent (now (names .entry)) (now (strings .entry)) (now (bits .entry)) (now (wires .entry)) (now (rows .entry)) renames room) ⌝ }
 {
     if right_lengths(
@@ -517,7 +511,7 @@ pub fn read(
     ) {
         return read_sized(f, names, strings, bits, wires, rows);
     }
-    Left {
+    CallResult {
         number: 1,
         place: 0,
         renames,

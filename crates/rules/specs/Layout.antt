@@ -191,7 +191,7 @@ layout ss rs = memory (rooms ss rs) (length rs)
 
 -- 3: design memory that no text of any length, read under these rules, and no accepted renames after it leave. This is memory that
 -- some of them leave
-pub record Left (m : Memory) : Type 0 where
+pub record Reachable (m : Memory) : Type 0 where
   pub file : List ℕ
   pub statements : List Statement
   pub reads : readAny file ≡ accepted statements

@@ -92,22 +92,25 @@ unfoldable pub call : Design → List Rename → Call → Verdict (List Rename)
 call d rs (rename r) = renameCall d rs r
 call d rs undo = undoCall rs
 
--- A refusal changes nothing. A call answers its number, 0 if it is taken
+-- A call answers number and place, both 0 if it is taken. A refusal has place 0 and changes nothing
 unfoldable pub numberOf : Verdict (List Rename) → ℕ
 numberOf (accepted rs) = 0
 numberOf (refused n) = n
+
+unfoldable pub answerOf : Verdict (List Rename) → ℕ × ℕ
+answerOf v = (numberOf v, 0)
 
 unfoldable pub standing : List Rename → Verdict (List Rename) → List Rename
 standing rs (accepted rs′) = rs′
 standing rs (refused n) = rs
 
 -- The answers of a list of calls, and the renames listed at the end
-unfoldable pub plainSession : Design → List Rename → List Call → List ℕ × List Rename
+unfoldable pub plainSession : Design → List Rename → List Call → List (ℕ × ℕ) × List Rename
 plainSession d rs [] = ([], rs)
 plainSession d rs (c ∷ cs) =
     let v = call d rs c in
     let r = plainSession d (standing rs v) cs in
-    (numberOf v ∷ r .0, r .1)
+    (answerOf v ∷ r .0, r .1)
 
 -- Look-up finds the wire number from a module number and any bytes as current name
 unfoldable pub search : Name → ℕ → List (Object Wire) → Verdict ℕ
@@ -146,5 +149,5 @@ unfoldable pub index : Design → ℕ → ℕ → ℕ → Verdict ℤ
 index d m w i = Option·elim (wireAt d m w) (refused 8) (λ o. indexIn (o .body) i)
 
 unfoldable pub sessionOpen : Unit {0}
-unfolding Option·elim wiresAt wireAt change renameWire renamed now roomUsed names taken isPort renameCall undoCall call numberOf standing plainSession search lookUp hdlname plainName orElse show authorsIndex indexIn index
+unfolding Option·elim wiresAt wireAt change renameWire renamed now roomUsed names taken isPort renameCall undoCall call numberOf answerOf standing plainSession search lookUp hdlname plainName orElse show authorsIndex indexIn index
 sessionOpen = tt

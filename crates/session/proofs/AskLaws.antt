@@ -24,7 +24,7 @@ use Rattle.designs.specs.NowLaws.{wire-now}
 use Rattle.designs.specs.declared.Range.{Range}
 use Rattle.wire_names.specs.Now as table
 use Rattle.wire_names.specs.declared.Module.{Module}
-use Rattle.reader.specs.Read.{lent}
+use Rattle.netlist.specs.Results.{lent}
 use Rattle.standing.specs.Judged.{moduleBy}
 use Rattle.scanner.specs.Lists.{up}
 use Rattle.standing.specs.LiesLaws.{names-are, there, missing}

@@ -15,7 +15,7 @@ use Rattle.wires.specs.Rows.{column}
 use Rattle.past.specs.declared.place.Place.{Place}
 use Rattle.admitted.specs.Holds.{Allowed, no-renames, one-rename}
 use Rattle.netlist.specs.Laid.{Laid}
-use Rattle.reader.specs.Read.{result, lent}
+use Rattle.netlist.specs.Results.{result, lent}
 use Rattle.standing.specs.Judged.{judged}
 use Rattle.standing.specs.JudgedLaws.{judged-is}
 use Rattle.standing.specs.RoomLaws.{room-used}

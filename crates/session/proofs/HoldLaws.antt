@@ -12,7 +12,7 @@ use Rattle.past.specs.declared.place.Place.{Place}
 use Rattle.past.proofs.PlaceLaws.{place-rows}
 use Rattle.admitted.specs.AdmitLaws.{admitted-few}
 use Rattle.netlist.specs.Lengths.{lengths-exact}
-use Rattle.reader.specs.Read.{lent}
+use Rattle.netlist.specs.Results.{lent}
 use Rattle.standing.specs.Judged.{Lies}
 use Rattle.held.specs.HeldLaws.{holds-many, holds-room, holds-laid, holds-wired}
 use Rattle.held.specs.RenameLaws.{length-file}

@@ -6,7 +6,7 @@ use mathlib.Core.Bool.{true}
 use Rattle.rules.specs.Layout.{Memory}
 use Rattle.past.specs.declared.place.Place.{Place}
 use Rattle.past.specs.declared.sizes.Sizes.{Sizes}
-use Rattle.reader.specs.Read.{rightLengths}
+use Rattle.netlist.specs.Lengths.{rightLengths}
 use Rattle.held.specs.Held.{HeldIs}
 use Rattle.held.specs.declared.Held.{Held}
 use Rattle.session.specs.Called.{Damaged}

@@ -14,7 +14,7 @@ use Rattle.rules.specs.Layout.{Rooms, padded, renameRow, putRename, rooms, memo
 use Rattle.tables.specs.Store.{store}
 use Rattle.tables.specs.Padded.{store-padded, padded-unput}
 use Rattle.tables.specs.Flat.{flat, Eights, length-flat, store-row}
-use Rattle.reader.specs.Read.{lent}
+use Rattle.netlist.specs.Results.{lent}
 use Rattle.netlist.specs.RoomLaws.{length-rename-row}
 use Rattle.order.specs.RenamedFine.{accepted-keeps}
 use Rattle.scanner.specs.Laws.{legal-short}

@@ -11,7 +11,8 @@ use Rattle.rules.specs.Design.{design}
 use Rattle.rules.specs.Session.{Rename, Call, call, now, lookUp, index}
 use Rattle.rules.specs.Layout.{Memory, layout}
 use Rattle.admitted.specs.Holds.{Holds}
-use Rattle.reader.specs.Read.{Result, result, rightLengths}
+use Rattle.netlist.specs.Results.{Result, result}
+use Rattle.netlist.specs.Lengths.{rightLengths}
 use Rattle.session.specs.declared.Found.{Found}
 use Rattle.session.specs.declared.Indexed.{Indexed}
 

@@ -8,7 +8,7 @@ use Rattle.rules.specs.Statements.{Statement}
 use Rattle.rules.specs.Session.{Rename}
 use Rattle.rules.specs.Layout.{Memory}
 use Rattle.scanner.specs.Laws.{never}
-use Rattle.reader.specs.Read.{rightLengths}
+use Rattle.netlist.specs.Lengths.{rightLengths}
 use Rattle.held.specs.OneLaws.{holds-one}
 use Rattle.session.specs.Called.{Called, wrong-lengths, damaged, holding}
 

@@ -9,7 +9,7 @@ use Rattle.rules.specs.Layout.{Memory}
 use Rattle.past.specs.Place.{placeOf}
 use Rattle.past.specs.declared.place.Place.{Place}
 use Rattle.admitted.specs.Holds.{Holds}
-use Rattle.reader.specs.Read.{rightLengths}
+use Rattle.netlist.specs.Lengths.{rightLengths}
 use Rattle.session.specs.Called.{Damaged}
 use Rattle.session.specs.declared.Opened.{Opened}
 use Rattle.session.specs.declared.Opened.the-variants.{Open, Refused}

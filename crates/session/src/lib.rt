@@ -4,10 +4,10 @@ use designs::module_wires;
 use held::Held;
 use held::judge_memory;
 use netlist::lengths::right_lengths;
+use netlist::results::CallResult;
 use numbers::kinds::ModuleNumber;
 use numbers::kinds::WireNumber;
 use past::place::Place;
-use reader::Left;
 use standing::Named;
 use standing::find_named;
 use standing::judge_rename;
@@ -26,7 +26,7 @@ ghost use Rattle.rules.specs.Session.{Call, indexIn};
 ghost use Rattle.rules.specs.Layout.{renameRow};
 ghost use Rattle.tables.specs.Store.{store};
 ghost use Rattle.wires.specs.Rows.{column, wireOf};
-ghost use Rattle.reader.specs.Read.{result, lent};
+ghost use Rattle.netlist.specs.Results.{result, lent};
 ghost use Rattle.session.specs.Called.{CalledAs, answer, LookedUp, IndexGiven};
 ghost use Rattle.session.specs.Steps.{Holding, OpenedIs};
 ghost use Rattle.standing.specs.Judged.{moduleBy};
@@ -118,13 +118,13 @@ fn rename_open(
     m: ModuleNumber,
     w: WireNumber,
     new: &[u8],
-) -> Left
+) -> CallResult
     requires { ⌜ Holding (lent (now names) (now strings) (now bits) (now wires) (now rows) renames room) place ⌝ }
     ensures { λ r. ⌜ CalledAs (lent (now (names .entry)) (now (strings .entry)) (now (bits .entry)) (now (wires .entry)) (now (rows .entry)) renames room) (Call.rename (record { moduleNumber = m .0; wireNumber = w .0; newName = now (new .entry) })) (result (r .number) (r .place) (lent (now (names .exit)) (now (strings .entry)) (now (bits .entry)) (now (wires .entry)) (now (rows .exit)) (r .renames) (r .room))) ⌝ }
 {
     let number = judge_rename(names, wires, rows, place, renames, room, m, w, new);
     if number != 0 {
-        return Left {
+        return CallResult {
             number,
             place: 0,
             renames,
@@ -132,7 +132,7 @@ fn rename_open(
         };
     }
     put_rename(names, rows, place.rows + renames, room, m, w, new);
-    Left {
+    CallResult {
         number: 0,
         place: 0,
         renames: renames + 1,
@@ -151,7 +151,7 @@ pub fn rename(
     m: ModuleNumber,
     w: WireNumber,
     new: &[u8],
-) -> Left
+) -> CallResult
     ensures { λ r. ⌜ CalledAs (lent (now (names .entry)) (now (strings .entry)) (now (bits .entry)) (now (wires .entry)) (now (rows .entry)) renames room) (Call.rename (record { moduleNumber = m .0; wireNumber = w .0; newName = now (new .entry) })) (result (r .number) (r .place) (lent (now (names .exit)) (now (strings .entry)) (now (bits .entry)) (now (wires .entry)) (now (rows .exit)) (r .renames) (r .room))) ⌝ }
 {
     match open_memory(names, strings, bits, wires, rows, renames, room) {
@@ -168,7 +168,7 @@ pub fn rename(
             w,
             new,
         ),
-        Opened::Refused(number) => Left {
+        Opened::Refused(number) => CallResult {
             number,
             place: 0,
             renames,
@@ -215,12 +215,12 @@ fn undo_open(
     place: Place,
     renames: u32,
     room: u32,
-) -> Left
+) -> CallResult
     requires { ⌜ Holding (lent (now names) (now strings) (now bits) (now wires) (now rows) renames room) place ⌝ }
     ensures { λ r. ⌜ CalledAs (lent (now (names .entry)) (now (strings .entry)) (now (bits .entry)) (now (wires .entry)) (now (rows .entry)) renames room) Call.undo (result (r .number) (r .place) (lent (now (names .exit)) (now (strings .entry)) (now (bits .entry)) (now (wires .entry)) (now (rows .exit)) (r .renames) (r .room))) ⌝ }
 {
     if renames == 0 {
-        return Left {
+        return CallResult {
             number: 13,
             place: 0,
             renames,
@@ -229,7 +229,7 @@ fn undo_open(
     }
     let left = renames - 1;
     let start = take_rename(names, rows, place.rows + left, room);
-    Left {
+    CallResult {
         number: 0,
         place: 0,
         renames: left,
@@ -245,14 +245,14 @@ pub fn undo(
     rows: &mut [u32],
     renames: u32,
     room: u32,
-) -> Left
+) -> CallResult
     ensures { λ r. ⌜ CalledAs (lent (now (names .entry)) (now (strings .entry)) (now (bits .entry)) (now (wires .entry)) (now (rows .entry)) renames room) Call.undo (result (r .number) (r .place) (lent (now (names .exit)) (now (strings .entry)) (now (bits .entry)) (now (wires .entry)) (now (rows .exit)) (r .renames) (r .room))) ⌝ }
 {
     match open_memory(names, strings, bits, wires, rows, renames, room) {
         Opened::Open(place) => {
             undo_open(names, strings, bits, wires, rows, place, renames, room)
         }
-        Opened::Refused(number) => Left {
+        Opened::Refused(number) => CallResult {
             number,
             place: 0,
             renames,

@@ -31,7 +31,7 @@ use Rattle.designs.specs.NowLaws.{wire-now}
 use Rattle.designs.specs.declared.Range.{Range}
 use Rattle.order.specs.Seen.{seen}
 use Rattle.wire_names.specs.Now as table
-use Rattle.reader.specs.Read.{lent}
+use Rattle.netlist.specs.Results.{lent}
 use Rattle.netlist.specs.Tables.{Tables, tabled}
 use Rattle.netlist.specs.Fronts.{Fronts}
 use Rattle.netlist.specs.FrontLaws.{fronts-before, fronts-behind}

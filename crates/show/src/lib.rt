@@ -14,7 +14,7 @@ ghost use mathlib.Core.Path.{_≡_};
 ghost use Prim.Native.Nat.{_≤_, _<_};
 ghost use lib.ListN.{length};
 ghost use denote.Ref.{ptr};
-ghost use Rattle.reader.specs.Read.{lent};
+ghost use Rattle.netlist.specs.Results.{lent};
 ghost use Rattle.show.specs.Rows.{declares, wireLine, isHdlname, hdlnameRow};
 ghost use Rattle.show.specs.Parts.{cutOf, spanPart, textPart, namePart, plainPart, shownPart, numberOf, bytesIn, InRange, ShownAs, ShownAt, LiesAt};
 

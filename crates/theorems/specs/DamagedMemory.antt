@@ -6,15 +6,15 @@ use mathlib.Core.List.{List, [], map}
 use Rattle.rules.specs.Statements.{Statement}
 use Rattle.rules.specs.Design.{design}
 use Rattle.rules.specs.Session.{Rename, rename, plainSession}
-use Rattle.rules.specs.Layout.{Memory, layout, Left}
+use Rattle.rules.specs.Layout.{Memory, layout, Reachable}
 use Rattle.rules.specs.Text.{textFrom}
 use Rattle.admitted.specs.Holds.{no-renames, Holds}
 use Rattle.soundness.specs.ReadLaws.{read-admitted}
 use Rattle.written.specs.TextLaws.{any-read}
 use Rattle.theorems.specs.StandingLaws.{allowed-session, session-allowed}
 
-pub holds-left : {m : Memory} {ss : List Statement} {rs : List Rename} → Holds m ss rs → Left m
-holds-left {m} {ss} {rs} h =
+pub holds-reachable : {m : Memory} {ss : List Statement} {rs : List Rename} → Holds m ss rs → Reachable m
+holds-reachable {m} {ss} {rs} h =
     record {
       file = textFrom [] ss;
       statements = ss;
@@ -29,8 +29,8 @@ pub record Held (m : Memory) : Type 0 where
   pub renames : List Rename
   pub holds : Holds m statements renames
 
-pub left-holds : {m : Memory} → Left m → Held m
-left-holds {m} l =
+pub reachable-holds : {m : Memory} → Reachable m → Held m
+reachable-holds {m} l =
     let a = read-admitted (l .file) (l .statements) (l .reads) in
     record {
       statements = l .statements;

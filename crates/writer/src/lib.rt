@@ -7,7 +7,7 @@ use session::open_memory;
 ghost use mathlib.Core.Path.{_≡_};
 ghost use Prim.Native.Nat.{_≤_};
 ghost use lib.ListN.{length};
-ghost use Rattle.reader.specs.Read.{lent};
+ghost use Rattle.netlist.specs.Results.{lent};
 ghost use Rattle.session.specs.Called.{answer};
 ghost use Rattle.text.specs.Written.{moved};
 ghost use Rattle.netlist.specs.Tables.{tabled};

@@ -3,7 +3,7 @@
 use mathlib.Core.Path.{ap, _∙_}
 use native.Mathlib.Omega.{arith}
 use denote.Ref.{now}
-use Rattle.reader.specs.Read.{lent}
+use Rattle.netlist.specs.Results.{lent}
 use Rattle.answer.specs.Printed.{putting}
 use Rattle.answer.proofs.AnswerLaws.{refusal-put, refusal-fits, answer-refused, answer-held}
 use borrow.Author.Needs.{needs}

@@ -2,7 +2,7 @@
 -- Assumes nothing.
 use native.Mathlib.Omega.{arith}
 use denote.Ref.{now}
-use Rattle.reader.specs.Read.{lent}
+use Rattle.netlist.specs.Results.{lent}
 use Rattle.answer.proofs.AnswerLaws.{refusal-put, refusal-fits, held-refused, held-written, written-fits}
 use borrow.Author.Needs.{needs}
 use Rattle.answer.proofs.put_held.Statement.{statement}

@@ -3,7 +3,7 @@ use mathlib.Core.Path.{_≡_, refl, _∙_}
 use native.Mathlib.Omega.{arith}
 use denote.Ref.{now}
 use lib.ListN.{length}
-use Rattle.reader.specs.Read.{lent}
+use Rattle.netlist.specs.Results.{lent}
 use Rattle.calls.specs.Calls.{callsFrom, callsIn}
 use Rattle.calls.proofs.CallLaws.{Going, going-start, going-step, going-end, calls-start, calls-next, calls-end}
 use borrow.Author.Needs.{needs}

@@ -1,5 +1,5 @@
 use denote.Ref.{now}
-use Rattle.reader.specs.Read.{lent}
+use Rattle.netlist.specs.Results.{lent}
 use Rattle.calls.specs.Calls.{callsIn}
 use Rattle.calls.proofs.RunLaws.{run-refused, run-open, run-done}
 use borrow.Author.Needs.{needs}

@@ -1,7 +1,7 @@
 use native.Mathlib.Omega.{arith}
 use lib.IntN.{pos}
 use denote.Ref.{now}
-use Rattle.reader.specs.Read.{lent}
+use Rattle.netlist.specs.Results.{lent}
 use Rattle.session.proofs.OpenLaws.{opened, not-opened}
 use Rattle.session.proofs.CallLaws.{not-open}
 use Rattle.session.proofs.AskLaws.{index-fits, index-there, index-missing}

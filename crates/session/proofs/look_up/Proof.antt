@@ -1,5 +1,5 @@
 use denote.Ref.{now}
-use Rattle.reader.specs.Read.{lent}
+use Rattle.netlist.specs.Results.{lent}
 use Rattle.session.proofs.OpenLaws.{opened, not-opened}
 use Rattle.session.proofs.CallLaws.{not-open}
 use Rattle.session.proofs.AskLaws.{looked-up}

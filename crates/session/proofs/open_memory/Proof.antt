@@ -1,7 +1,8 @@
 use mathlib.Core.Path.{refl, sym, _∙_}
 use denote.Ref.{now}
 use borrow.Author.Tests.{not-true, not-false}
-use Rattle.reader.specs.Read.{lent, rightLengths}
+use Rattle.netlist.specs.Results.{lent}
+use Rattle.netlist.specs.Lengths.{rightLengths}
 use Rattle.session.specs.Steps.{wrong-sizes}
 use Rattle.session.proofs.OpenLaws.{held-open, held-none}
 use borrow.Author.Needs.{needs}

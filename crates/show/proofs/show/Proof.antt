@@ -2,7 +2,7 @@
 -- Assumes nothing.
 use mathlib.Core.Path.{subst}
 use denote.Ref.{now, ptr}
-use Rattle.reader.specs.Read.{lent}
+use Rattle.netlist.specs.Results.{lent}
 use Rattle.show.specs.Parts.{InRange}
 use Rattle.show.proofs.ShowLaws.{shown-name, shown-text, shown-none}
 use borrow.Author.Needs.{needs}
