@@ -1,5 +1,7 @@
 pub mod StandingLaws
 pub mod DamagedMemory
+pub mod WireBits
 pub mod ReadingBack
 pub mod OneText
+pub mod LongestRuns
 pub mod OneRename

@@ -2,7 +2,8 @@
 -- ends the youngest that stands. Assumes nothing.
 use Prim.Native.Nat.{ℕ}
 use mathlib.Core.Path.{_≡_, refl, sym, ap, _∙_}
-use mathlib.Core.List.{List, [], _∷_, _++_, map, append-nil}
+use mathlib.Core.Logic.{_⊎_, inl, inr}
+use mathlib.Core.List.{List, [], _∷_, _++_, map, append-assoc, append-nil, dropLast}
 use mathlib.Core.Option.{some, Option·map}
 use mathlib.Core.Bool.{false, _&&_}
 use lib.Dec.{eqb}
@@ -11,11 +12,12 @@ use Rattle.rules.specs.Bytes.{all}
 use Rattle.rules.specs.Statements.{Wire}
 use Rattle.rules.specs.Judgement.{accepted}
 use Rattle.rules.specs.Design.{Object, object, Module, Design}
-use Rattle.rules.specs.Session.{Rename, wireAt, renameWire, renamed, now, rename, renameCall, undoCall, call, standing}
+use Rattle.rules.specs.Session.{Rename, wireAt, renameWire, renamed, now, Call, rename, undo, renameCall, undoCall, call, standing, plainSession}
 use Rattle.order.specs.RenamedFine.{map-change, undo-last, accepted-keeps}
 use Rattle.designs.specs.Now.{renames, wireNow}
 use Rattle.designs.specs.NowLaws.{wire-now, wire-last}
 use Rattle.admitted.specs.JudgeLaws.{by-verdict}
+use Rattle.theorems.specs.StandingLaws.{undone}
 
 -- the design without the names of its wires
 unfoldable pub nameless : Object Wire → Object Wire
@@ -80,12 +82,54 @@ module _ (d : Design) (rs : List Rename) (r : Rename) where
       let k = accepted-keeps d rs qs r e in
       rw (← k .listed) (renames-by (k .there .0) (k .there .1))
 
--- it stands until undone: a rename behind it, accepted or refused, leaves it listed where it is
-pub still-listed : (d : Design) (qs : List Rename) (r : Rename) → (ts : List Rename) × (standing qs (call d qs (rename r)) ≡ qs ++ ts)
+-- AN ACCEPTED UNDO ends the youngest that stands
+pub accepted-undo : (rs : List Rename) (r : Rename) → undoCall (rs ++ r ∷ []) ≡ accepted rs
+accepted-undo rs r = undo-last rs r
+
+-- IT STANDS UNTIL UNDONE. Undone: among the calls, made where qs are listed, is an undo that meets just rs, and so ends the last of them
+pub record Undone (d : Design) (qs rs : List Rename) (cs : List Call) : Type 0 where
+  pub earlier : List Call
+  pub later : List Call
+  pub calls : cs ≡ earlier ++ undo ∷ later
+  pub youngest : plainSession d qs earlier .1 ≡ rs
+
+-- a rename, accepted or refused, leaves those listed where they are
+still-listed : (d : Design) (qs : List Rename) (r : Rename) → (ts : List Rename) × (standing qs (call d qs (rename r)) ≡ qs ++ ts)
 unfolding call renameCall standing all
 still-listed d qs r =
     by-verdict (λ v. (ts : List Rename) × (standing qs v ≡ qs ++ ts)) (qs ++ r ∷ []) _ refl (λ e. (r ∷ [], refl)) (λ n p. ([], sym (append-nil qs)))
 
--- AN ACCEPTED UNDO ends the youngest that stands
-pub accepted-undo : (rs : List Rename) (r : Rename) → undoCall (rs ++ r ∷ []) ≡ accepted rs
-accepted-undo rs r = undo-last rs r
+-- and so does an undo of one behind them
+drop-behind : (rs : List Rename) (t : Rename) (ts : List Rename) → dropLast (rs ++ t ∷ ts) ≡ rs ++ dropLast (t ∷ ts)
+drop-behind [] t ts = refl
+drop-behind (r ∷ []) t ts = refl
+drop-behind (r ∷ q ∷ rs) t ts = ap (λ (l : List Rename). r ∷ l) (drop-behind (q ∷ rs) t ts)
+
+module _ (d : Design) (rs : List Rename) where
+  abbrev Stands : List Rename → List Call → Type 0
+  Stands qs cs = ((ts : List Rename) × (plainSession d qs cs .1 ≡ rs ++ ts)) ⊎ Undone d qs rs cs
+
+  one-call : (c : Call) (cs : List Call) (qs : List Rename) → Stands (standing qs (call d qs c)) cs → Stands qs (c ∷ cs)
+  unfolding plainSession
+  one-call c cs qs (inl (ts, e)) = inl (ts, e)
+  one-call c cs qs (inr u) =
+      inr (record { earlier = c ∷ u .earlier; later = u .later; calls = ap (λ (l : List Call). c ∷ l) (u .calls); youngest = u .youngest })
+
+  stands : (cs : List Call) (qs ts : List Rename) → qs ≡ rs ++ ts → Stands qs cs
+  unfolding plainSession call
+  stands [] qs ts e = inl (ts, e)
+  stands (rename r ∷ cs) qs ts e =
+      let n = still-listed d qs r in
+      one-call (rename r) cs qs (stands cs (standing qs (call d qs (rename r))) (ts ++ n .0) (n .1 ∙ ap (λ (l : List Rename). l ++ n .0) e ∙ append-assoc rs ts (n .0)))
+  stands (undo ∷ cs) qs [] e = inr (record { earlier = []; later = cs; calls = refl; youngest = e ∙ append-nil rs })
+  stands (undo ∷ cs) qs (t ∷ ts) e =
+      one-call undo cs qs (stands cs (standing qs (call d qs undo)) (dropLast (t ∷ ts)) (undone qs ∙ ap dropLast e ∙ drop-behind rs t ts))
+
+module _ (d : Design) (rs : List Rename) (r : Rename) where
+  -- where the rename r was accepted
+  abbrev listed : List Rename
+  listed = rs ++ r ∷ []
+
+  -- after any calls behind it, refused ones and undos of younger ones included, it is listed where it was, or it was undone
+  pub stands-until-undone : (cs : List Call) → ((ts : List Rename) × (plainSession d listed cs .1 ≡ listed ++ ts)) ⊎ Undone d listed listed cs
+  stands-until-undone cs = stands d listed cs listed [] (sym (append-nil listed))

@@ -1,19 +1,24 @@
 -- READING BACK: for every admitted list of statements, reading its printed lines gives that list. Hence for every design that memory holds, with the
--- names it has now, its text, if that is at most 32,768 bytes, is accepted and gives the same design.
+-- names it has now: what writing gives, if it gives a text, reading accepts, and it defines the same design.
 -- Assumes nothing.
-use Prim.Native.Nat.{_≤_}
+use Prim.Native.Nat.{ℕ, _≤_}
 use mathlib.Core.Path.{_≡_}
 use mathlib.Core.Bool.{true}
 use mathlib.Core.List.{List, [], reverse}
+use lib.Dec.{ltb}
 use lib.ListN.{length}
+use borrow.Author.Tests.{ltb-false}
 use Rattle.rules.specs.Statements.{Statement}
+use Rattle.rules.specs.Judgement.{Verdict}
 use Rattle.rules.specs.Reading.{accepted, readAny, read}
 use Rattle.rules.specs.Design.{Design, design, flatten}
 use Rattle.rules.specs.Session.{Rename, now}
 use Rattle.rules.specs.Layout.{Memory}
-use Rattle.rules.specs.Text.{textFrom, text}
+use Rattle.rules.specs.Text.{textFrom, text, writeText, write}
+use Rattle.scanner.specs.Laws.{or-false-left}
 use Rattle.admitted.specs.Admitted.{admitted, closes}
 use Rattle.admitted.specs.Holds.{Holds}
+use Rattle.admitted.specs.JudgeLaws.{no-tests}
 use Rattle.order.specs.DesignLaws.{design-flatten}
 use Rattle.order.specs.Canonical.{Whole, now-whole}
 use Rattle.written.specs.TextLaws.{any-read, text-read}
@@ -21,6 +26,12 @@ use Rattle.written.specs.TextLaws.{any-read, text-read}
 -- a list of statements, in any order that is admitted, and of any length
 pub lines-back : (ss : List Statement) → admitted (reverse ss) ≡ true → closes (reverse ss) ≡ true → readAny (textFrom [] ss) ≡ accepted ss
 lines-back = any-read
+
+-- a file that reading accepts as this design
+pub record ReadsAs (file : List ℕ) (d : Design) : Type 0 where
+  pub statements : List Statement
+  pub reads : read file ≡ accepted statements
+  pub defines : design statements ≡ d
 
 module _ {m : Memory} {ss : List Statement} {rs : List Rename} (h : Holds m ss rs) where
   -- the design that the memory holds, with the names now
@@ -42,3 +53,11 @@ module _ {m : Memory} {ss : List Statement} {rs : List Rename} (h : Holds m ss r
   -- which have that design
   pub same-design : design (flatten held) ≡ held
   same-design = design-flatten held
+
+  -- WRITE, THEN READ: a text that writing gives, whatever the room lent
+  pub write-read : (room : ℕ) (t : List ℕ) → write room held ≡ Verdict.accepted t → ReadsAs t held
+  unfolding write writeText
+  write-read room t e =
+      let w = no-tests (text held) t _ e in
+      let few : length (text held) ≤ 32768 = ltb-false 32768 (length (text held)) (or-false-left (ltb 32768 (length (text held))) _ (w .1 .0)) in
+      record { statements = flatten held; reads = rw (← w .0) (file-back few); defines = same-design }

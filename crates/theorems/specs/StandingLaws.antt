@@ -11,7 +11,7 @@ use Rattle.admitted.specs.JudgeLaws.{by-verdict}
 use Rattle.admitted.specs.Holds.{Allowed, no-renames, one-rename}
 
 -- an undo takes the last one off, if there is one
-undone : (qs : List Rename) → standing qs (undoCall qs) ≡ dropLast qs
+pub undone : (qs : List Rename) → standing qs (undoCall qs) ≡ dropLast qs
 unfolding undoCall standing
 undone [] = refl
 undone (q ∷ qs) = refl
