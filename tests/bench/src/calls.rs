@@ -8,7 +8,8 @@ use std::hint::black_box;
 use std::time::{Duration, Instant};
 
 const HEAD: &str =
-    "design, call                        whole us    rest us  reference us  whole/ref  rest/ref";
+    "\n| Design | Call | whole, us | rest, us | reference, us | whole / reference | rest / reference |
+|---|---|---|---|---|---|---|";
 
 /// Memory and the plain session, 63 renames standing in both, and the wire to rename.
 struct Both {
@@ -157,14 +158,14 @@ fn shortest_two(mut run: impl FnMut() -> [Duration; 2]) -> [Duration; 2] {
     (0..RUNS).map(|_| run()).reduce(least).expect("some runs")
 }
 
+/// Calls with 63 or 64 renames standing. "Rest" is a call without judging, since the plain session holds a design and judges no memory;
+/// beside judging stands tests/library's own decision.
 pub fn print() {
-    println!("\nCalls with 63 or 64 renames standing. A call clears nothing, and first tells that the memory holds a design.");
-    println!("The plain session holds a design and judges no memory: 'rest' is the call without judging. Beside judging stands tests/library's own decision.");
     println!("{HEAD}");
     let designs = [
-        ("1 KB", files::of_size(1_024), 0, 3),
-        ("32 KB", files::of_size(32_768), 29, 3),
-        ("512 wires", files::wires_in_one_module(), 0, 511),
+        ("k01", files::of_size(1_024), 0, 3),
+        ("k32", files::of_size(32_768), 29, 3),
+        ("wires512", files::connected_wires(512), 0, 511),
     ];
     for (name, file, module, wire) in designs {
         let mut both = Both::of(&file, module, wire);
@@ -188,10 +189,6 @@ pub fn print() {
 fn row(design: &str, call: &str, times: [Duration; 2], judging: Duration) {
     let [whole, reference] = times.map(micros);
     let rest = (whole - micros(judging)).max(0.0);
-    println!(
-        "{:<34} {whole:>9.1} {rest:>10.1} {reference:>13.2} {:>10.1} {:>9.1}",
-        format!("{design}, {call}"),
-        whole / reference,
-        rest / reference
-    );
+    let ratios = format!("{:.1} | {:.1}", whole / reference, rest / reference);
+    println!("| {design} | {call} | {whole:.1} | {rest:.1} | {reference:.2} | {ratios} |");
 }

@@ -1,4 +1,24 @@
-//! The files that are read: Yosys's kind of text by size, and full tables.
+//! The files that are read: Yosys's kind of text by size, full tables, and what takes longest to read.
+
+/// A memory of 16 words in flip-flops, as Yosys 0.23 writes it.
+const RAM: &[u8] = include_bytes!("../files/ram.il");
+
+/// What is counted and raced, by name. Figures of two states compare as long as the files stay as they are.
+pub fn named() -> Vec<(String, Vec<u8>)> {
+    let one = |name: &str, file| (name.to_string(), file);
+    let of_kib = |size| (format!("k{size:02}"), of_size(1_024 * size));
+    let mut files = vec![one("empty", Vec::new())];
+    files.extend([1_usize, 2, 4, 8, 16, 32].map(of_kib));
+    files.push(one("ram", RAM.to_vec()));
+    files.extend([64, 512].map(|count| (format!("wires{count}"), connected_wires(count))));
+    files.extend([128, 1_024].map(|count| (format!("attrs{count}"), attributes(count))));
+    files.push(one("uses4096", references()));
+    files.push(one("conns1024", cell_connections()));
+    files.push(one("refs9448", references_to_first(&short_names())));
+    files.push(one("slices4090", slices()));
+    files.push(one("collide512", references_to_first(&names_of_one_hash())));
+    files
+}
 
 /// A counter as Yosys writes one, about 1,000 bytes.
 fn module(number: usize) -> String {
@@ -65,18 +85,19 @@ fn wires(count: usize) -> String {
         .collect()
 }
 
-/// 512 wires in one module, each connected to the last one.
-pub fn wires_in_one_module() -> Vec<u8> {
-    let mut file = wires(512);
-    for number in 0..512 {
-        file += &format!("  connect \\w511 \\w{number:03}\n");
+/// So many wires in one module, each connected to the last one.
+pub fn connected_wires(count: usize) -> Vec<u8> {
+    let mut file = wires(count);
+    let last = count - 1;
+    for number in 0..count {
+        file += &format!("  connect \\w{last:03} \\w{number:03}\n");
     }
     file += "end\n";
     file.into_bytes()
 }
 
 /// 4,096 references to the last of 512 wires.
-pub fn references() -> Vec<u8> {
+fn references() -> Vec<u8> {
     let mut file = wires(512);
     for _ in 0..64 {
         let members = " \\w511".repeat(32);
@@ -86,9 +107,9 @@ pub fn references() -> Vec<u8> {
     file.into_bytes()
 }
 
-/// 1,024 attributes of one wire.
-pub fn attributes() -> Vec<u8> {
-    let attributes = (0..1_024).map(|number| format!("  attribute \\a{number:04} 1\n"));
+/// So many attributes of one wire.
+pub fn attributes(count: usize) -> Vec<u8> {
+    let attributes = (0..count).map(|number| format!("  attribute \\a{number:04} 1\n"));
     let mut file: String = std::iter::once("module \\m\n".to_string())
         .chain(attributes)
         .collect();
@@ -97,7 +118,7 @@ pub fn attributes() -> Vec<u8> {
 }
 
 /// 256 cells of four connections each, to the last of 128 wires.
-pub fn cell_connections() -> Vec<u8> {
+fn cell_connections() -> Vec<u8> {
     let mut file = wires(128);
     for number in 0..256 {
         file += &format!("  cell $c $c{number:03}\n");
@@ -136,27 +157,92 @@ pub fn long_wires(byte: usize) -> Vec<u8> {
     file
 }
 
+/// The longest file that is read.
+const LONGEST: usize = 32_768;
+
+/// A wire of 2,048 bits connected to itself, cut to all its bits as often as the file has room for.
+fn slices() -> Vec<u8> {
+    let mut file = b"module \\m\nwire width 2048 \\a\nconnect \\a \\a ".to_vec();
+    let (slice, end) = (b"[2047:0]", b"\nend\n");
+    let count = (LONGEST - file.len() - end.len()) / slice.len();
+    file.extend(slice.repeat(count));
+    file.extend(end);
+    file
+}
+
+/// A module with a wire of each name, the first without bits, and one connection: as many references to that first wire as stay below the longest file.
+fn references_to_first(names: &[Vec<u8>]) -> Vec<u8> {
+    let mut file = b"module \\m\nwire width 0 ".to_vec();
+    file.extend(names.join(&b"\nwire "[..]));
+    file.extend(b"\nconnect {");
+    let (reference, end) = ([b" ", &names[0][..]].concat(), b" } { }\nend\n");
+    let count = (LONGEST - 1 - file.len() - end.len()) / reference.len();
+    file.extend(reference.repeat(count));
+    file.extend(end);
+    file
+}
+
+/// The shortest 512 names: each byte behind `\`, then behind `\a` and `\b`.
+fn short_names() -> Vec<Vec<u8>> {
+    let starts = [&b"\\"[..], b"\\a", b"\\b"];
+    let names = starts.into_iter().flat_map(|start| extended(start, 255));
+    names.take(512).collect()
+}
+
+/// The shortest 512 names of bytes that can be seen with the hash of `\!`, which is the first.
+fn names_of_one_hash() -> Vec<Vec<u8>> {
+    let mut of_length = vec![b"\\".to_vec()];
+    let mut names = Vec::new();
+    while names.len() < 512 {
+        of_length = of_length
+            .iter()
+            .flat_map(|name| extended(name, 126))
+            .collect();
+        names.extend(
+            of_length
+                .iter()
+                .filter(|name| hash(name) == hash(b"\\!"))
+                .cloned(),
+        );
+    }
+    names.truncate(512);
+    names
+}
+
+/// The name with one byte more, each from `!` up to the last.
+fn extended(name: &[u8], last: u8) -> impl Iterator<Item = Vec<u8>> + '_ {
+    (b'!'..=last).map(move |byte| [name, &[byte]].concat())
+}
+
+/// Names of one hash stand in one chain (crates/name_index).
+fn hash(name: &[u8]) -> usize {
+    name.iter()
+        .fold(0, |hash, byte| (hash * 31 + *byte as usize) % 512)
+}
+
 #[cfg(test)]
 mod tests {
     use super::*;
 
     #[test]
     fn all_are_accepted() {
-        for size in [1, 4, 16, 32] {
-            let file = of_size(1_024 * size);
-            assert_eq!(file.len(), 1_024 * size);
-            assert!(reference::read(&file).is_ok(), "{size} KB");
+        for (name, file) in named() {
+            assert!(reference::read(&file).is_ok(), "{name}");
         }
-        for file in [
-            wires_in_one_module(),
-            references(),
-            attributes(),
-            cell_connections(),
-            long_wires(254),
-            long_wires(253),
-            long_wires(1),
-        ] {
-            assert!(reference::read(&file).is_ok());
+        for size in [1, 2, 4, 8, 16, 32] {
+            assert_eq!(of_size(1_024 * size).len(), 1_024 * size);
         }
+    }
+
+    /// A sum (FNV-1a) over all bytes: where it changes, figures taken before do not compare any more.
+    #[test]
+    fn all_are_as_they_were() {
+        let sum = named()
+            .iter()
+            .flat_map(|(_, file)| file)
+            .fold(0xcbf2_9ce4_8422_2325_u64, |sum, byte| {
+                (sum ^ *byte as u64).wrapping_mul(0x100_0000_01b3)
+            });
+        assert_eq!(sum, 0xa9a1_7a4c_00cd_efd9);
     }
 }

@@ -1,18 +1,20 @@
-//! Times of the exported calls, beside the reference: `cargo run --release`. It prints; it judges nothing.
+//! Times of the exported calls, beside the reference: `cargo run --release`. It prints; it judges nothing. For tools outside,
+//! `files FOLDER` writes the files that are counted and raced, and `call CALL FILE RENAMES TIMES` makes one call so often.
 
 mod calls;
 mod comparing;
 mod files;
+mod one_call;
 
 use library::expected::reading;
 use library::{read, Card, Tables};
+use std::fs;
 use std::hint::black_box;
 use std::time::{Duration, Instant};
 
 const RUNS: usize = 300;
-/// The room for a line's tokens and signals (crates/reader).
-const OWN_WORDS: usize = 131_072 + 36_864;
-const HEAD: &str = "file                     bytes   whole us   lines us  reference us  whole/ref  lines/ref  growth of bytes, lines, reference";
+const HEAD: &str = "| File | Bytes | read, us | reference, us | read / reference |
+|---|---|---|---|---|";
 
 /// The shortest of the runs.
 fn shortest(mut run: impl FnMut()) -> Duration {
@@ -52,52 +54,41 @@ fn micros(time: Duration) -> f64 {
 }
 
 fn main() {
-    let empty = times(b"");
-    let tables = Tables::zeroed();
-    let bytes = tables.names.len() + tables.strings.len();
-    let words = tables.bits.len() + tables.wires.len() + tables.rows.len();
-    println!("A read clears the tables lent, {bytes} bytes and {words} words, and {OWN_WORDS} words of its own.");
-    println!(
-        "With an empty file that is {:.1} us, which the columns 'lines' leave out.",
-        micros(empty.library)
-    );
-    println!("{HEAD}");
-    let mut before = None;
-    for size in [1, 4, 16, 32] {
-        let file = files::of_size(1_024 * size);
-        before = Some(print(&format!("{size} KB"), &file, &empty, before));
+    let arguments: Vec<String> = std::env::args().skip(1).collect();
+    let arguments: Vec<&str> = arguments.iter().map(String::as_str).collect();
+    match arguments[..] {
+        [] => print_times(),
+        ["files", folder] => write_files(folder),
+        ["call", call, file, renames, times] => print_number(call, file, renames, times),
+        _ => panic!("nothing, `files FOLDER` or `call CALL FILE RENAMES TIMES`"),
     }
-    let full = [
-        ("512 wires, 512 connects", files::wires_in_one_module()),
-        ("512 wires, 4,096 uses", files::references()),
-        ("1,024 attributes", files::attributes()),
-        ("1,024 cell connections", files::cell_connections()),
-    ];
-    for (name, file) in full {
-        print(name, &file, &empty, None);
+}
+
+/// Writes NAME.il into the folder for each file, and prints the names.
+fn write_files(folder: &str) {
+    for (name, file) in files::named() {
+        fs::write(format!("{folder}/{name}.il"), file).expect("a folder that can be written to");
+        println!("{name}");
+    }
+}
+
+/// The number that the call answers.
+fn print_number(call: &str, file: &str, renames: &str, times: &str) {
+    let file = fs::read(file).expect("a file");
+    let [renames, times] = [renames, times].map(|count| count.parse().expect("a count"));
+    let number = one_call::run(call, &file, renames, times);
+    println!("{}", number.expect("read, judge, write or rename"));
+}
+
+/// The tables of docs/SPEED.md.
+fn print_times() {
+    println!("{HEAD}");
+    for (name, file) in files::named() {
+        let taken = times(&file);
+        let (read, reference) = (micros(taken.library), micros(taken.reference));
+        let (bytes, ratio) = (file.len(), read / reference);
+        println!("| {name} | {bytes} | {read:.1} | {reference:.1} | {ratio:.2} |");
     }
     calls::print();
     comparing::print();
-}
-
-/// One line of the table; the sizes and times for the next one's growth.
-fn print(name: &str, file: &[u8], empty: &Times, before: Option<[f64; 3]>) -> [f64; 3] {
-    let taken = times(file);
-    let (whole, reference) = (micros(taken.library), micros(taken.reference));
-    let lines = whole - micros(empty.library);
-    print!(
-        "{name:<24}{:>6} {whole:>10.1} {lines:>10.1} {reference:>13.1} {:>10.2} {:>10.2}",
-        file.len(),
-        whole / reference,
-        lines / reference
-    );
-    let now = [file.len() as f64, lines, reference];
-    match before {
-        Some(before) => {
-            let growth = [0, 1, 2].map(|of| format!("{:.1}", now[of] / before[of]));
-            println!("  {}", growth.join(", "));
-        }
-        None => println!(),
-    }
-    now
 }
