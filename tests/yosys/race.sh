@@ -2,8 +2,9 @@
 # CPU time of read and write beside Yosys's read_rtlil and write_rtlil, in one run: a Markdown table over some files of tests/bench, or over
 # the files given. After `rt staticlib card`; not part of the gate, since Yosys need not be installed; tried with 0.23.
 #
-# Each is timed in its own process, a few calls subtracted from many, so that starting up counts for neither. The four take turns, and the
-# shortest of ROUNDS rounds counts (5 if not given): what else the machine does falls on both. Yosys empties its design after each read, and writes to /dev/null.
+# Each is timed in its own process, a few calls subtracted from many, so that starting up counts for neither. They take turns, and the shortest of
+# ROUNDS rounds counts (5 if not given), so that what else the machine does falls on both. Yosys empties its design after each read, and writes
+# to /dev/null.
 set -euo pipefail
 export LC_ALL=C
 if ! command -v yosys > /dev/null; then
@@ -21,8 +22,12 @@ few=20
 
 # The milliseconds of the processor that a command takes, its own and the system's.
 cpu() {
-  local TIMEFORMAT='%3U %3S' user system
-  read -r user system <<< "$({ time "$@" > /dev/null 2>&1; } 2>&1)"
+  local TIMEFORMAT='%3U %3S' taken user system
+  if ! taken=$({ time "$@" > "$room/said" 2>&1; } 2>&1); then
+    echo "$* fails: $(tail -n 1 "$room/said")" >&2
+    return 1
+  fi
+  read -r user system <<< "$taken"
   echo $((10#${user/./} + 10#${system/./}))
 }
 
@@ -45,21 +50,37 @@ once() {
   fi
 }
 
-# race FILE: the row of a file. Tenths of a microsecond are kept in `least`.
+# shortest WHO CALL FILE TIMES: once more, kept in `least` where it is the shortest so far.
+declare -A least
+shortest() {
+  local of="$1 $2 $4" time
+  time=$(once "$@")
+  if [ -z "${least[$of]:-}" ] || [ "$time" -lt "${least[$of]}" ]; then least[$of]=$time; fi
+}
+
+# each WHO CALL: microseconds of one call.
+each() {
+  awk -v few="${least[$1 $2 $few]}" -v many="${least[$1 $2 $many]}" -v calls=$((many - few)) 'BEGIN { print (many - few) * 1000 / calls }'
+}
+
+# race FILE: its row of the table. The smaller the file, the more calls.
 race() {
-  local file=$1 many who call time
-  local -A least=()
-  many=$((300 + 2000000 / ($(stat -c %s "$file") + 500)))
+  if [ "$("$bench" call write "$1" 0 1)" != 0 ]; then
+    echo "$1 is refused" >&2
+    return 1
+  fi
+  least=()
+  many=$((few + 500 + 4000000 / ($(stat -c %s "$1") + 500)))
   for ((round = 0; round < ${ROUNDS:-5}; round++)); do
-    for who in yosys ours; do
+    for times in $few $many; do
       for call in read write; do
-        time=$((($(once $who $call "$file" $((few + many))) - $(once $who $call "$file" $few)) * 10000 / many))
-        if [ -z "${least[$who $call]:-}" ] || [ $time -lt "${least[$who $call]}" ]; then least[$who $call]=$time; fi
+        shortest yosys $call "$1" "$times"
+        shortest ours $call "$1" "$times"
       done
     done
   done
-  awk -v name="$(basename "$file" .il)" -v a="${least[ours read]}" -v b="${least[ours write]}" -v x="${least[yosys read]}" -v y="${least[yosys write]}" 'BEGIN {
-    printf "| %s | %.1f | %.1f | %.1f | %.1f | %.2f | %.2f | **%.2f** |\n", name, a / 10, b / 10, x / 10, y / 10, a / x, b / y, (a + b) / (x + y)
+  awk -v name="$(basename "$1" .il)" -v a="$(each ours read)" -v b="$(each ours write)" -v x="$(each yosys read)" -v y="$(each yosys write)" 'BEGIN {
+    printf "| %s | %.1f | %.1f | %.1f | %.1f | %.2f | %.2f | **%.2f** |\n", name, a, b, x, y, a / x, b / y, (a + b) / (x + y)
   }'
 }
 

@@ -7,9 +7,9 @@ use reference::statements::{ModuleNumber, WireNumber};
 use std::hint::black_box;
 use std::time::{Duration, Instant};
 
-const HEAD: &str =
-    "\n| Design | Call | whole, us | rest, us | reference, us | whole / reference | rest / reference |
-|---|---|---|---|---|---|---|";
+const HEAD: &str = "
+| us; without judging; reference | k01 | k32 | wires512 |
+|---|---|---|---|";
 
 /// Memory and the plain session, 63 renames standing in both, and the wire to rename.
 struct Both {
@@ -138,6 +138,19 @@ impl Both {
         ]
     }
 
+    /// The times of the calls, in their order.
+    fn calls(mut self) -> [[Duration; 2]; CALLS.len()] {
+        let (memory, plain) = (self.rename_undo_memory(), self.rename_undo_plain());
+        [
+            self.judging(),
+            [memory[0], plain[0]],
+            [memory[1], plain[1]],
+            self.look_up(),
+            self.measure(),
+            self.write(),
+        ]
+    }
+
     /// Telling that the memory holds a design: a look-up in no module, and the tests' own decision.
     fn judging(&self) -> [Duration; 2] {
         assert_eq!(self.memory_look_up(32, b"\\none"), Err(8));
@@ -158,37 +171,37 @@ fn shortest_two(mut run: impl FnMut() -> [Duration; 2]) -> [Duration; 2] {
     (0..RUNS).map(|_| run()).reduce(least).expect("some runs")
 }
 
-/// Calls with 63 or 64 renames standing. "Rest" is a call without judging, since the plain session holds a design and judges no memory;
-/// beside judging stands tests/library's own decision.
+const CALLS: [&str; 6] = [
+    "judging",
+    "rename, the 64th",
+    "undo of the 64th",
+    "look-up",
+    "measure",
+    "write",
+];
+
+/// Calls with 63 or 64 renames standing. The plain session holds a design and judges no memory, so that a call without judging stands
+/// beside it; beside judging stands tests/library's own decision.
 pub fn print() {
     println!("{HEAD}");
     let designs = [
-        ("k01", files::of_size(1_024), 0, 3),
-        ("k32", files::of_size(32_768), 29, 3),
-        ("wires512", files::connected_wires(512), 0, 511),
+        (files::of_size(1_024), 0, 3),
+        (files::of_size(32_768), 29, 3),
+        (files::connected_wires(512), 0, 511),
     ];
-    for (name, file, module, wire) in designs {
-        let mut both = Both::of(&file, module, wire);
-        let judging = both.judging();
-        row(name, "judging", judging, Duration::ZERO);
-        let (memory, plain) = (both.rename_undo_memory(), both.rename_undo_plain());
-        let calls = [
-            ("rename, the 64th", [memory[0], plain[0]]),
-            ("undo of the 64th", [memory[1], plain[1]]),
-            ("look-up", both.look_up()),
-            ("measure", both.measure()),
-            ("write", both.write()),
-        ];
-        for (call, times) in calls {
-            row(name, call, times, judging[0]);
-        }
+    let times = designs.map(|(file, module, wire)| Both::of(&file, module, wire).calls());
+    for (call, name) in CALLS.iter().enumerate() {
+        let cells = times.map(|of| cell(of[call], (call > 0).then_some(of[0][0])));
+        println!("| {name} | {} |", cells.join(" | "));
     }
 }
 
-/// One line of the table: through memory and by the reference.
-fn row(design: &str, call: &str, times: [Duration; 2], judging: Duration) {
+/// A call through memory, whole and without the judging, if it is another call, and by the reference.
+fn cell(times: [Duration; 2], judging: Option<Duration>) -> String {
     let [whole, reference] = times.map(micros);
-    let rest = (whole - micros(judging)).max(0.0);
-    let ratios = format!("{:.1} | {:.1}", whole / reference, rest / reference);
-    println!("| {design} | {call} | {whole:.1} | {rest:.1} | {reference:.2} | {ratios} |");
+    let rest = match judging {
+        Some(judging) => format!("{:.1}", (whole - micros(judging)).max(0.0)),
+        None => "–".to_string(),
+    };
+    format!("{whole:.1}; {rest}; {reference:.1}")
 }

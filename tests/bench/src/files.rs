@@ -3,12 +3,12 @@
 /// A memory of 16 words in flip-flops, as Yosys 0.23 writes it.
 const RAM: &[u8] = include_bytes!("../files/ram.il");
 
-/// What is counted and raced, by name. Figures of two states compare as long as the files stay as they are.
+/// What is counted, timed and raced, by name, first the empty file. Figures of two states compare as long as the files stay as they are.
 pub fn named() -> Vec<(String, Vec<u8>)> {
     let one = |name: &str, file| (name.to_string(), file);
     let of_kib = |size| (format!("k{size:02}"), of_size(1_024 * size));
     let mut files = vec![one("empty", Vec::new())];
-    files.extend([1_usize, 2, 4, 8, 16, 32].map(of_kib));
+    files.extend([1_usize, 4, 16, 32].map(of_kib));
     files.push(one("ram", RAM.to_vec()));
     files.extend([64, 512].map(|count| (format!("wires{count}"), connected_wires(count))));
     files.extend([128, 1_024].map(|count| (format!("attrs{count}"), attributes(count))));
@@ -229,7 +229,7 @@ mod tests {
         for (name, file) in named() {
             assert!(reference::read(&file).is_ok(), "{name}");
         }
-        for size in [1, 2, 4, 8, 16, 32] {
+        for size in [1, 4, 16, 32] {
             assert_eq!(of_size(1_024 * size).len(), 1_024 * size);
         }
     }
@@ -243,6 +243,6 @@ mod tests {
             .fold(0xcbf2_9ce4_8422_2325_u64, |sum, byte| {
                 (sum ^ *byte as u64).wrapping_mul(0x100_0000_01b3)
             });
-        assert_eq!(sum, 0xa9a1_7a4c_00cd_efd9);
+        assert_eq!(sum, 0x218d_d162_77bc_8ea4);
     }
 }
