@@ -12,8 +12,6 @@ pub fn named() -> Vec<(String, Vec<u8>)> {
     files.push(one("ram", RAM.to_vec()));
     files.extend([64, 512].map(|count| (format!("wires{count}"), connected_wires(count))));
     files.extend([128, 1_024].map(|count| (format!("attrs{count}"), attributes(count))));
-    files.push(one("uses4096", references()));
-    files.push(one("conns1024", cell_connections()));
     files.push(one("refs9448", references_to_first(&short_names())));
     files.push(one("slices4090", slices()));
     files.push(one("collide512", references_to_first(&names_of_one_hash())));
@@ -96,17 +94,6 @@ pub fn connected_wires(count: usize) -> Vec<u8> {
     file.into_bytes()
 }
 
-/// 4,096 references to the last of 512 wires.
-fn references() -> Vec<u8> {
-    let mut file = wires(512);
-    for _ in 0..64 {
-        let members = " \\w511".repeat(32);
-        file += &format!("  connect {{{members} }} {{{members} }}\n");
-    }
-    file += "end\n";
-    file.into_bytes()
-}
-
 /// So many attributes of one wire.
 pub fn attributes(count: usize) -> Vec<u8> {
     let attributes = (0..count).map(|number| format!("  attribute \\a{number:04} 1\n"));
@@ -114,20 +101,6 @@ pub fn attributes(count: usize) -> Vec<u8> {
         .chain(attributes)
         .collect();
     file += "  wire \\w\nend\n";
-    file.into_bytes()
-}
-
-/// 256 cells of four connections each, to the last of 128 wires.
-fn cell_connections() -> Vec<u8> {
-    let mut file = wires(128);
-    for number in 0..256 {
-        file += &format!("  cell $c $c{number:03}\n");
-        for port in ["\\A", "\\B", "\\C", "\\Y"] {
-            file += &format!("    connect {port} \\w127\n");
-        }
-        file += "  end\n";
-    }
-    file += "end\n";
     file.into_bytes()
 }
 
@@ -243,6 +216,6 @@ mod tests {
             .fold(0xcbf2_9ce4_8422_2325_u64, |sum, byte| {
                 (sum ^ *byte as u64).wrapping_mul(0x100_0000_01b3)
             });
-        assert_eq!(sum, 0x218d_d162_77bc_8ea4);
+        assert_eq!(sum, 0xd1e6_01b7_28f6_4c00);
     }
 }

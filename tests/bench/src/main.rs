@@ -13,9 +13,6 @@ use std::hint::black_box;
 use std::time::{Duration, Instant};
 
 const RUNS: usize = 300;
-const HEAD: &str = "| File | read, us | reference, us | read / reference |
-|---|---|---|---|";
-
 /// The shortest of the runs.
 fn shortest(mut run: impl FnMut()) -> Duration {
     let time = |_| {
@@ -82,13 +79,21 @@ fn print_number(call: &str, file: &str, renames: &str, times: &str) {
 
 /// The tables of times in docs/SPEED.md. The reference takes no time for the empty file.
 fn print_times() {
-    println!("{HEAD}");
-    for (name, file) in files::named().into_iter().skip(1) {
-        let taken = times(&file);
-        let (read, reference) = (micros(taken.library), micros(taken.reference));
-        let ratio = read / reference;
-        println!("| {name} | {read:.1} | {reference:.1} | {ratio:.2} |");
-    }
+    let files = files::named().into_iter().skip(1);
+    let (names, times): (Vec<_>, Vec<_>) = files.map(|(name, file)| (name, times(&file))).unzip();
+    println!("| us | {} |", names.join(" | "));
+    println!("|---|{}", "---|".repeat(names.len()));
+    let row = |what, cell: fn(&Times) -> String| {
+        let cells: Vec<String> = times.iter().map(cell).collect();
+        println!("| {what} | {} |", cells.join(" | "));
+    };
+    row("read", |taken| format!("{:.1}", micros(taken.library)));
+    row("reference", |taken| {
+        format!("{:.1}", micros(taken.reference))
+    });
+    row("ratio", |taken| {
+        format!("{:.2}", taken.library.div_duration_f64(taken.reference))
+    });
     calls::print();
     comparing::print();
 }
