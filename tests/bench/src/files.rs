@@ -10,7 +10,7 @@ pub fn named() -> Vec<(String, Vec<u8>)> {
     let mut files = vec![one("empty", Vec::new())];
     files.extend([1_usize, 4, 16, 32].map(of_kib));
     files.push(one("ram", RAM.to_vec()));
-    files.extend([64, 512].map(|count| (format!("wires{count}"), connected_wires(count))));
+    files.extend([64, WIRES].map(|count| (format!("wires{count}"), connected_wires(count))));
     files.extend([128, 1_024].map(|count| (format!("attrs{count}"), attributes(count))));
     files.push(one("refs9448", references_to_first(&short_names())));
     files.push(one("slices4090", slices()));
@@ -75,17 +75,12 @@ pub fn of_size(size: usize) -> Vec<u8> {
     file.into_bytes()
 }
 
-/// A module that starts with so many wires.
-fn wires(count: usize) -> String {
-    let wires = (0..count).map(|number| format!("  wire \\w{number:03}\n"));
-    std::iter::once("module \\m\n".to_string())
-        .chain(wires)
-        .collect()
-}
-
 /// So many wires in one module, each connected to the last one.
 pub fn connected_wires(count: usize) -> Vec<u8> {
-    let mut file = wires(count);
+    let mut file = "module \\m\n".to_string();
+    for number in 0..count {
+        file += &format!("  wire \\w{number:03}\n");
+    }
     let last = count - 1;
     for number in 0..count {
         file += &format!("  connect \\w{last:03} \\w{number:03}\n");
@@ -95,11 +90,11 @@ pub fn connected_wires(count: usize) -> Vec<u8> {
 }
 
 /// So many attributes of one wire.
-pub fn attributes(count: usize) -> Vec<u8> {
-    let attributes = (0..count).map(|number| format!("  attribute \\a{number:04} 1\n"));
-    let mut file: String = std::iter::once("module \\m\n".to_string())
-        .chain(attributes)
-        .collect();
+fn attributes(count: usize) -> Vec<u8> {
+    let mut file = "module \\m\n".to_string();
+    for number in 0..count {
+        file += &format!("  attribute \\a{number:04} 1\n");
+    }
     file += "  wire \\w\nend\n";
     file.into_bytes()
 }
@@ -130,8 +125,9 @@ pub fn long_wires(byte: usize) -> Vec<u8> {
     file
 }
 
-/// The longest file that is read.
+/// The longest file that is read, and the most wires that a design has.
 const LONGEST: usize = 32_768;
+const WIRES: usize = 512;
 
 /// A wire of 2,048 bits connected to itself, cut to all its bits as often as the file has room for.
 fn slices() -> Vec<u8> {
@@ -143,7 +139,8 @@ fn slices() -> Vec<u8> {
     file
 }
 
-/// A module with a wire of each name, the first without bits, and one connection: as many references to that first wire as stay below the longest file.
+/// A module with a wire of each name, the first without bits, and one connection: as many references to that first wire as stay below the
+/// longest file.
 fn references_to_first(names: &[Vec<u8>]) -> Vec<u8> {
     let mut file = b"module \\m\nwire width 0 ".to_vec();
     file.extend(names.join(&b"\nwire "[..]));
@@ -155,18 +152,18 @@ fn references_to_first(names: &[Vec<u8>]) -> Vec<u8> {
     file
 }
 
-/// The shortest 512 names: each byte behind `\`, then behind `\a` and `\b`.
+/// As many of the shortest names as a design has wires: each byte behind `\`, then behind `\a` and `\b`.
 fn short_names() -> Vec<Vec<u8>> {
     let starts = [&b"\\"[..], b"\\a", b"\\b"];
     let names = starts.into_iter().flat_map(|start| extended(start, 255));
-    names.take(512).collect()
+    names.take(WIRES).collect()
 }
 
-/// The shortest 512 names of bytes that can be seen with the hash of `\!`, which is the first.
+/// As many of bytes that can be seen, with the hash of `\!`, which is the first.
 fn names_of_one_hash() -> Vec<Vec<u8>> {
     let mut of_length = vec![b"\\".to_vec()];
     let mut names = Vec::new();
-    while names.len() < 512 {
+    while names.len() < WIRES {
         of_length = of_length
             .iter()
             .flat_map(|name| extended(name, 126))
@@ -178,7 +175,7 @@ fn names_of_one_hash() -> Vec<Vec<u8>> {
                 .cloned(),
         );
     }
-    names.truncate(512);
+    names.truncate(WIRES);
     names
 }
 
@@ -187,7 +184,7 @@ fn extended(name: &[u8], last: u8) -> impl Iterator<Item = Vec<u8>> + '_ {
     (b'!'..=last).map(move |byte| [name, &[byte]].concat())
 }
 
-/// Names of one hash stand in one chain (crates/name_index).
+/// The hash of crate `name_index`, where names of one hash stand in one chain.
 fn hash(name: &[u8]) -> usize {
     name.iter()
         .fold(0, |hash, byte| (hash * 31 + *byte as usize) % 512)
