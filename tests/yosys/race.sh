@@ -3,8 +3,9 @@
 # the files given. After `rt staticlib card`; not part of the gate, since Yosys need not be installed; tried with 0.23.
 #
 # Each is timed in its own process, a few calls subtracted from many, so that starting up counts for neither. They take turns, and the shortest of
-# ROUNDS rounds counts (5 if not given), so that what else the machine does falls on both. Yosys empties its design after each read, and writes
-# to /dev/null.
+# ROUNDS rounds counts (8 if not given), so that what else the machine does falls on both. Each round runs fresh copies of both programs,
+# since identical copies differed by a third in time, each with its own time again and again. Yosys empties its design after each read, and
+# writes to /dev/null.
 set -euo pipefail
 export LC_ALL=C
 if ! command -v yosys > /dev/null; then
@@ -40,14 +41,23 @@ script() {
 # once WHO CALL FILE TIMES: milliseconds of so many calls, and of starting up.
 once() {
   if [ "$1" = ours ]; then
-    cpu "$bench" call "$2" "$3" 0 "$4"
+    cpu "$room/ours" call "$2" "$3" 0 "$4"
   elif [ "$2" = read ]; then
     script commands "" "read_rtlil $3; design -reset" "$4"
-    cpu yosys -q -s "$room/commands"
+    cpu "$room/yosys" -q -s "$room/commands"
   else
     script commands "read_rtlil $3" "write_rtlil /dev/null" "$4"
-    cpu yosys -q -s "$room/commands"
+    cpu "$room/yosys" -q -s "$room/commands"
   fi
+}
+
+# Fresh copies of both programs, made while the old ones are still there, so that they do not take their place.
+copies() {
+  for who in ours yosys; do
+    if [ -e "$room/$who" ]; then mv "$room/$who" "$room/$who.before"; fi
+  done
+  cp "$bench" "$room/ours"
+  cp "$(command -v yosys)" "$room/yosys"
 }
 
 # shortest WHO CALL FILE TIMES: once more, kept in `least` where it is the shortest so far.
@@ -71,7 +81,8 @@ race() {
   fi
   least=()
   many=$((few + 500 + 4000000 / ($(stat -c %s "$1") + 500)))
-  for ((round = 0; round < ${ROUNDS:-5}; round++)); do
+  for ((round = 0; round < ${ROUNDS:-8}; round++)); do
+    copies
     for times in $few $many; do
       for call in read write; do
         shortest yosys $call "$1" "$times"
