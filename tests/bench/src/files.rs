@@ -199,6 +199,9 @@ mod tests {
         for (name, file) in named() {
             assert!(reference::read(&file).is_ok(), "{name}");
         }
+        for byte in [254, 253, 1] {
+            assert!(reference::read(&long_wires(byte)).is_ok(), "{byte}");
+        }
         for size in [1, 4, 16, 32] {
             assert_eq!(of_size(1_024 * size).len(), 1_024 * size);
         }
