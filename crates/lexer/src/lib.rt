@@ -14,7 +14,8 @@ ghost use Prim.Native.Nat.{_+_, _-_, _*_, _≤_, _<_};
 ghost use lib.ListN.{length, drop};
 ghost use lib.Seq.{slice};
 ghost use Rattle.rules.specs.Tokens.{parted, separate, decimal, valueStep};
-ghost use Rattle.scanner.specs.Class.{classTable};
+ghost use Rattle.scanner.specs.Class.{inClass, classTable};
+ghost use Rattle.scanner.specs.Runs.{endOf};
 ghost use Rattle.tokens.specs.Rows.{tokenIn};
 ghost use Rattle.lexer.specs.Lexemes.{Held, Starts, Steps, StepIs};
 ghost use Rattle.lexer.specs.Lines.{LexedIs};
@@ -59,13 +60,26 @@ fn separate(class: &[u8; 256], s: &[u8], p: usize, t: Token, e: usize) -> Lexeme
     Lexeme::Wrong(p)
 }
 
+// Where a name's bytes end, those above 32: a comparison costs less than the class.
+fn name_end(s: &[u8], p: usize) -> usize
+    ensures { λ r. ⌜ r ≡ endOf (inClass 4 14) (now (s .entry)) p ⌝ }
+{
+    let mut i = p;
+    while i < s.len() {
+        if s[i] <= 32 {
+            return i;
+        }
+        i += 1;
+    }
+    i
+}
+
 // A name: `\` or `$` at p, and the bytes up to the next of 32 or less. It is legal by its length.
-fn name_step(class: &[u8; 256], s: &[u8], p: usize) -> Lexeme
-    requires { ⌜ now class ≡ classTable ⌝ }
+fn name_step(s: &[u8], p: usize) -> Lexeme
     requires { ⌜ Starts (now s) p 7 7 ⌝ }
     ensures { λ r. ⌜ StepIs (now (s .entry)) p r ⌝ }
 {
-    let e = run_end(class, s, p, 4, 14);
+    let e = name_end(s, p);
     let size = e - p;
     if size < 2 {
         return Lexeme::Wrong(p);
@@ -186,7 +200,7 @@ fn step(class: &[u8; 256], s: &[u8], at: usize) -> Lexeme
         return Lexeme::Wrong(p);
     }
     if k == 7 {
-        return name_step(class, s, p);
+        return name_step(s, p);
     }
     if k == 8 {
         return string_step(class, s, p);

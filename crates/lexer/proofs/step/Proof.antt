@@ -35,7 +35,7 @@ returns-4 : tie.Need-returns-4
 returns-4 c = step-other _ _ _ (c .before .before .before .before .before .before .run-end .ensures) (c .before .before .before .before .before .if1 .left) _ (c .before .before .before .class-in .ensures) (c .if4 .taken) (c .before .before .if2 .left) (c .before .if3 .left)
 
 name-step-requires : tie.Need-name-step-requires
-name-step-requires c κs = (c .before .before .before .before .before .before .before .before .before .pre, starts _ _ _ (c .before .before .before .before .before .before .before .run-end .ensures) (c .before .before .before .before .before .before .if1 .left) _ (c .before .before .before .before .class-in .ensures) 7 7 (omega arith) (omega arith))
+name-step-requires c κs = starts _ _ _ (c .before .before .before .before .before .before .before .run-end .ensures) (c .before .before .before .before .before .before .if1 .left) _ (c .before .before .before .before .class-in .ensures) 7 7 (omega arith) (omega arith)
 
 returns-5 : tie.Need-returns-5
 returns-5 c = blanks-then _ _ _ (c .before .before .before .before .before .before .before .before .run-end .ensures) _ (c .name-step .ensures)
