@@ -37,10 +37,6 @@ pub record Reached (s : List ℕ) (at i : ℕ) (j : Inside) (ds : List ℕ) : Ty
   pub same : quoted plain (drop at s) ≡ quotedOnto ds (quoted j (drop i s))
   pub few : at + length ds + held j ≤ i
 
-pub reached-none : (s : List ℕ) (at : ℕ) → Reached s at at plain []
-unfolding held
-reached-none s at = record { same = sym (onto-none (quoted plain (drop at s))); few = omega arith }
-
 -- bytes that stand for themselves, in one step
 plain-goes : (b : ℕ) → isPlain b ≡ true → turn plain b ≡ goes (b ∷ []) plain
 unfolding turn plainTurn isPlain
