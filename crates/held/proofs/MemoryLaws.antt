@@ -16,7 +16,8 @@ use Rattle.past.specs.Sizes.{sumsOf}
 use Rattle.past.specs.declared.place.Place.{Place}
 use Rattle.past.specs.declared.sizes.Sizes.{Sizes}
 use Rattle.admitted.specs.Holds.{Holds}
-use Rattle.replay.specs.Begins.{Stored, Replays}
+use Rattle.replay.specs.Begins.{Stored, Replays, IndexLeft}
+use Rattle.name_index.specs.Index.{LinesIndexed}
 use Rattle.replay.specs.OneLaws.{stored-one}
 use Rattle.replay.specs.declared.Replayed.{Replayed}
 use Rattle.standing.specs.Judged.{Lies}
@@ -30,6 +31,13 @@ use Rattle.held.specs.HeldLaws.{partsOf, holds-many, holds-room, holds-l
 
 pub names-short : (names strings bits wires rows : ℕ) → rightSizes names strings bits wires rows ≡ true → names ≤ 16384
 names-short names strings bits wires rows e = omega (arith, sizes-exact names strings bits wires rows e .0)
+
+-- the index that the replay leaves is of the place's rows and wires
+pub index-kept :
+    {heads chain names wires rows : List ℕ} {p : Place} {u : Sizes} (o : Replayed) → IndexLeft heads chain names wires rows o → o ≡ Replayed.Holding p u →
+    LinesIndexed heads chain names wires rows (p .rows) (p .wires)
+unfolding IndexLeft
+index-kept o x e = rw e at x
 
 module _ (m : Memory) where
   pub other-sizes : rightLengths m ≡ false → HeldIs m Held.Damaged

@@ -1,4 +1,6 @@
 // Whether design memory, whatever it contains, holds a design with its standing renames: refusal 3 otherwise.
+use name_index::ALL_CHAIN;
+use name_index::ALL_HEADS;
 use netlist::lengths::right_lengths;
 use numbers::kinds::ModuleNumber;
 use numbers::kinds::WireNumber;
@@ -7,7 +9,7 @@ use past::sizes::Sizes;
 use replay::Replayed;
 use replay::replay;
 use scanner::parts::part;
-use standing::judge_rename;
+use standing::indexed_rename;
 use tables::Row;
 use tables::get_row;
 use tables::zero_bytes_from;
@@ -16,6 +18,7 @@ ghost use mathlib.Core.Path.{_≡_};
 ghost use Prim.Native.Nat.{_≤_};
 ghost use lib.ListN.{length};
 ghost use Rattle.netlist.specs.Lengths.{rightSizes};
+ghost use Rattle.name_index.specs.Index.{LinesIndexed};
 ghost use Rattle.held.specs.Renamed.{isRename, RenameIs, RenamesAre};
 ghost use Rattle.held.specs.Held.{tabled, restZero, HeldIs};
 
@@ -51,8 +54,18 @@ fn is_rename(x: Row, used: u32) -> bool
 }
 
 // One more rename, behind i of them.
-fn one_rename(names: &[u8], wires: &[u32], rows: &[u32], place: Place, i: u32, used: u32) -> Renamed
+fn one_rename(
+    names: &[u8],
+    wires: &[u32],
+    rows: &[u32],
+    heads: &[u32],
+    chain: &[u32],
+    place: Place,
+    i: u32,
+    used: u32,
+) -> Renamed
     requires { ⌜ length (now names) ≤ 16384 ⌝ }
+    requires { ⌜ LinesIndexed (now heads) (now chain) (now names) (now wires) (now rows) (place .rows) (place .wires) ⌝ }
     ensures { λ r. ⌜ RenameIs (now (names .entry)) (now (wires .entry)) (now (rows .entry)) place i used r ⌝ }
 {
     let at = 8 * (place.rows as usize + i as usize);
@@ -69,10 +82,12 @@ fn one_rename(names: &[u8], wires: &[u32], rows: &[u32], place: Place, i: u32, u
         return Renamed::Nothing;
     }
     let new = part(names, start, end);
-    let number = judge_rename(
+    let number = indexed_rename(
         names,
         wires,
         rows,
+        heads,
+        chain,
         place,
         i,
         used,
@@ -91,17 +106,20 @@ fn all_renames(
     names: &[u8],
     wires: &[u32],
     rows: &[u32],
+    heads: &[u32],
+    chain: &[u32],
     place: Place,
     renames: u32,
     used: u32,
 ) -> Renamed
     requires { ⌜ length (now names) ≤ 16384 ⌝ }
+    requires { ⌜ LinesIndexed (now heads) (now chain) (now names) (now wires) (now rows) (place .rows) (place .wires) ⌝ }
     ensures { λ r. ⌜ RenamesAre (now (names .entry)) (now (wires .entry)) (now (rows .entry)) place renames used r ⌝ }
 {
     let mut room = used;
     let mut i = 0;
     while i < renames {
-        let r = one_rename(names, wires, rows, place, i, room);
+        let r = one_rename(names, wires, rows, heads, chain, place, i, room);
         match r {
             Renamed::Used(n) => {
                 room = n;
@@ -158,26 +176,38 @@ fn right_tables(names: &[u8], strings: &[u8], bits: &[u32], wires: &[u32], rows:
     )
 }
 
-// Damaged is memory that no file read and no renames accepted after it leave: refusal 3.
-pub fn judge_memory(
+// With an index of the names, of no row yet.
+fn judge_indexed(
     names: &[u8],
     strings: &[u8],
     bits: &[u32],
     wires: &[u32],
     rows: &[u32],
+    heads: &mut [u32],
+    chain: &mut [u32],
     renames: u32,
     room: u32,
 ) -> Held
+    requires { ⌜ LinesIndexed (now heads) (now chain) (now names) (now wires) (now rows) 0 0 ⌝ }
     ensures { λ r. ⌜ HeldIs (tabled (now (names .entry)) (now (strings .entry)) (now (bits .entry)) (now (wires .entry)) (now (rows .entry)) renames room) r ⌝ }
 {
     if !right_tables(names, strings, bits, wires, rows) {
         return Held::Damaged;
     }
-    let r = replay(names, strings, bits, wires, rows);
+    let r = replay(names, strings, bits, wires, rows, heads, chain);
     let Replayed::Holding { place, sums } = r else {
         return Held::Damaged;
     };
-    let s = all_renames(names, wires, rows, place, renames, sums.name_bytes);
+    let s = all_renames(
+        names,
+        wires,
+        rows,
+        heads,
+        chain,
+        place,
+        renames,
+        sums.name_bytes,
+    );
     let Renamed::Used(used) = s else {
         return Held::Damaged;
     };
@@ -198,4 +228,31 @@ pub fn judge_memory(
         return Held::Holding { place, sums };
     }
     Held::Damaged
+}
+
+// Damaged is memory that no file read and no renames accepted after it leave: refusal 3.
+pub fn judge_memory(
+    names: &[u8],
+    strings: &[u8],
+    bits: &[u32],
+    wires: &[u32],
+    rows: &[u32],
+    renames: u32,
+    room: u32,
+) -> Held
+    ensures { λ r. ⌜ HeldIs (tabled (now (names .entry)) (now (strings .entry)) (now (bits .entry)) (now (wires .entry)) (now (rows .entry)) renames room) r ⌝ }
+{
+    let mut heads = [0u32; ALL_HEADS];
+    let mut chain = [0u32; ALL_CHAIN];
+    judge_indexed(
+        names,
+        strings,
+        bits,
+        wires,
+        rows,
+        &mut heads,
+        &mut chain,
+        renames,
+        room,
+    )
 }

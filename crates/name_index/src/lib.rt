@@ -34,13 +34,13 @@ const HASHES: usize = 512;
 // The key of a row whose kind has no name: no name has this hash.
 const NAMELESS: usize = 512;
 
-// The heads of an index of rows alone: one for each hash, and one for the rows without a name.
+// The heads of the rows: one for each hash, and one for the rows without a name. Those of the wires stand behind them.
 pub const ROW_HEADS: usize = 513;
 
-// Its chain: a place for each of a file's rows, and one more.
+// The chain of the rows: a place for each of a file's rows, and one more. That of the wires stands behind it.
 pub const ROW_CHAIN: usize = 4706;
 
-// The same of an index with the wires behind the rows: as many heads again, and places for 512 wires and one more.
+// Both together: as many heads again, and places for 512 wires and one more.
 pub const ALL_HEADS: usize = 1026;
 
 pub const ALL_CHAIN: usize = 5219;
@@ -54,7 +54,8 @@ const CONNECTION: u32 = 10;
 
 const END: u32 = 12;
 
-fn hash(name: &[u8]) -> usize
+// Below 512.
+pub fn hash(name: &[u8]) -> usize
     ensures { λ r. ⌜ r ≡ hashOf (now (name .entry)) ⌝ }
 {
     let mut h: usize = 0;
@@ -149,17 +150,6 @@ fn row_key(names: &[u8], rows: &[u32], row: u32) -> usize
         return hash(row_name(names, rows, row));
     }
     NAMELESS
-}
-
-// The row behind those that are indexed.
-pub fn index_row(names: &[u8], rows: &[u32], heads: &mut [u32], chain: &mut [u32], row: u32)
-    requires { ⌜ Indexed (now heads) (now chain) (keyAt (now names) (now rows)) row ⌝ }
-    requires { ⌜ (row < length (now chain)) × (row < 4294967295) ⌝ }
-    ensures { λ _. ⌜ Indexed (now (heads .exit)) (now (chain .exit)) (keyAt (now (names .entry)) (now (rows .entry))) (row + 1) ⌝ }
-    ensures { λ _. ⌜ length (now (chain .exit)) ≡ length (now (chain .entry)) ⌝ }
-{
-    let h = row_key(names, rows, row);
-    put(heads, chain, row as usize, h, row + 1);
 }
 
 // The line behind those that are indexed, by its kind: its row and, where it is a wire, the wire's.

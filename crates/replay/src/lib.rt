@@ -1,8 +1,6 @@
 // Whether tables hold statements that may stand one after another. The statements are replayed from the first row on, whatever the tables hold:
 // each row says where its parts are, and has to be the row of the statement that they make.
-use name_index::ROW_CHAIN;
-use name_index::ROW_HEADS;
-use name_index::index_row;
+use name_index::index_line;
 use past::place::Place;
 use past::place::is_closed;
 use past::place::start;
@@ -18,11 +16,9 @@ mod wiring;
 use turns::Turn;
 use turns::one_more;
 ghost use mathlib.Core.Path.{_≡_};
-ghost use Prim.Native.Nat.{_≤_};
-ghost use lib.ListN.{length};
-ghost use Rattle.name_index.specs.Index.{keyAt, rowRoom, Indexed};
+ghost use Rattle.name_index.specs.Index.{LinesIndexed};
 ghost use Rattle.replay.specs.Reads.{tabled};
-ghost use Rattle.replay.specs.Begins.{isStatement, Replays};
+ghost use Rattle.replay.specs.Begins.{isStatement, Replays, IndexLeft};
 
 // The place and the sums behind the statements that the tables hold.
 pub enum Replayed {
@@ -39,8 +35,8 @@ fn is_statement(kind: u32) -> bool
     kind <= 12
 }
 
-// With an index of the names, of no row yet.
-fn replay_indexed(
+// It leaves an index of the names of its rows and wires, where the tables hold such statements.
+pub fn replay(
     names: &[u8],
     strings: &[u8],
     bits: &[u32],
@@ -49,14 +45,15 @@ fn replay_indexed(
     heads: &mut [u32],
     chain: &mut [u32],
 ) -> Replayed
-    requires { ⌜ Indexed (now heads) (now chain) (keyAt (now names) (now rows)) 0 ⌝ }
-    requires { ⌜ rowRoom ≤ length (now chain) ⌝ }
+    requires { ⌜ LinesIndexed (now heads) (now chain) (now names) (now wires) (now rows) 0 0 ⌝ }
     ensures { λ r. ⌜ Replays (tabled (now (names .entry)) (now (strings .entry)) (now (bits .entry)) (now (wires .entry))) (now (rows .entry)) r ⌝ }
+    ensures { λ r. ⌜ IndexLeft (now (heads .exit)) (now (chain .exit)) (now (names .entry)) (now (wires .entry)) (now (rows .entry)) r ⌝ }
 {
     let mut place = start();
     let mut sums = none();
     loop {
-        if !is_statement(word(rows, 8 * (place.rows as usize))) {
+        let kind = word(rows, 8 * (place.rows as usize));
+        if !is_statement(kind) {
             if is_closed(place) {
                 return Replayed::Holding { place, sums };
             }
@@ -65,7 +62,16 @@ fn replay_indexed(
         let t = one_more(names, strings, bits, wires, rows, heads, chain, place, sums);
         match t {
             Turn::Next { place: p, sums: u } => {
-                index_row(names, rows, heads, chain, place.rows);
+                index_line(
+                    names,
+                    wires,
+                    rows,
+                    heads,
+                    chain,
+                    place.rows,
+                    place.wires,
+                    kind,
+                );
                 place = p;
                 sums = u;
             }
@@ -74,12 +80,4 @@ fn replay_indexed(
             }
         }
     }
-}
-
-pub fn replay(names: &[u8], strings: &[u8], bits: &[u32], wires: &[u32], rows: &[u32]) -> Replayed
-    ensures { λ r. ⌜ Replays (tabled (now (names .entry)) (now (strings .entry)) (now (bits .entry)) (now (wires .entry))) (now (rows .entry)) r ⌝ }
-{
-    let mut heads = [0u32; ROW_HEADS];
-    let mut chain = [0u32; ROW_CHAIN];
-    replay_indexed(names, strings, bits, wires, rows, &mut heads, &mut chain)
 }

@@ -11,6 +11,7 @@ use past::place::Place;
 use standing::Named;
 use standing::find_named;
 use standing::judge_rename;
+use standing::module_of;
 use tables::Row;
 use tables::put_bytes;
 use tables::put_row;
@@ -29,7 +30,6 @@ ghost use Rattle.wires.specs.Rows.{column, wireOf};
 ghost use Rattle.netlist.specs.Results.{result, lent};
 ghost use Rattle.session.specs.Called.{CalledAs, answer, LookedUp, IndexGiven};
 ghost use Rattle.session.specs.Steps.{Holding, OpenedIs};
-ghost use Rattle.standing.specs.Judged.{moduleBy};
 ghost use Rattle.standing.specs.Search.{searchNow};
 
 // Number 0 is none.
@@ -258,20 +258,6 @@ pub fn undo(
             renames,
             room,
         },
-    }
-}
-
-// A module's wires and the renames that stand.
-fn module_of(wires: &[u32], place: Place, renames: u32, m: ModuleNumber) -> Module
-    ensures { λ r. ⌜ r ≡ moduleBy (now (wires .entry)) place renames (m .0) ⌝ }
-{
-    let own = module_wires(wires, place.wires, m);
-    Module {
-        number: m,
-        first: own.first,
-        wires: own.count,
-        from: place.rows,
-        renames,
     }
 }
 

@@ -10,7 +10,7 @@ use borrow.Author.Tests.{eqb-true}
 use Rattle.rules.specs.Bytes.{same}
 use Rattle.rules.specs.Tokens.{Name}
 use Rattle.rules.specs.Judgement.{Verdict, accepted}
-use Rattle.scanner.specs.Laws.{by-test, by-order, never, and-true-left, and-true-right}
+use Rattle.scanner.specs.Laws.{by-test, by-order, never, and-true-left, and-true-right, same-sym}
 use Rattle.wires.specs.Rows.{column, spanAt}
 use Rattle.wire_names.specs.Now.{renames, lastRename, nameNow}
 use Rattle.wire_names.specs.NowLaws.{nameBy, name-by}
@@ -99,6 +99,11 @@ module _ (names wires rows : List ℕ) (m : Module) (n : Name) (k : ℕ) where
         (λ t. never true refl (rw (t, d) at e))
         (λ t. ap (λ (a : Name). same a n) (now-by 0 d) ∙ t)
     by-last (suc j) d = ap (λ (a : Name). same a n) (now-by (suc j) d) ∙ renamed-live x k j q d
+
+  -- where no rename gives the name, a wire has it just where it keeps it
+  pub now-same : Renamed names rows m n (m .renames) (m .wires) → k < m .wires → same n Now ≡ keepsName names wires rows m n k
+  now-same x q =
+      same-sym n Now ∙ by-test (keepsName names wires rows m n k) (λ e. now-kept e ∙ sym e) (λ e. now-other (m .wires) x q e ∙ sym e)
 
   -- a turn of the search for the first wire of this name
   abbrev Search : ℕ → Verdict ℕ

@@ -34,14 +34,14 @@ module _ (names wires rows : List ℕ) (m : Module) (n : Name) where
   search-end l k e = rw e
 
   -- among the first k wires, or found behind them
-  abbrev taken : ℕ → Bool
+  abbrev pub taken : ℕ → Bool
   taken k = any (λ x. same n (x .0)) (wiresNow names wires rows (m .from) (m .renames) (m .number .0) (m .first) k)
 
-  taken-more : (k : ℕ) → taken (k + 1) ≡ same n (nameNow names wires rows (m .from) (m .renames) (m .number .0) k (m .first + k)) || taken k
+  pub taken-more : (k : ℕ) → taken (k + 1) ≡ same n (nameNow names wires rows (m .from) (m .renames) (m .number .0) k (m .first + k)) || taken k
   unfolding any wiresNow
   taken-more k = let e : k + 1 ≡ suc k = omega arith in rw e
 
-  found-on : (l k : ℕ) → taken (k + l) ≡ taken k || isFound (searchNow names wires rows m n l k)
+  pub found-on : (l k : ℕ) → taken (k + l) ≡ taken k || isFound (searchNow names wires rows m n l k)
   unfolding searchNow isFound
   found-on zero k = let e : k + 0 ≡ k = omega arith in rw (e, or-false (taken k))
   found-on (suc l) k =

@@ -1,5 +1,5 @@
 -- A rename's refusal by the tables that hold the design with its standing renames.
-use Prim.Native.Nat.{ℕ, _+_}
+use Prim.Native.Nat.{ℕ, _+_, _≤_}
 use mathlib.Core.Path.{_≡_}
 use mathlib.Core.List.{List, reverse}
 use mathlib.Core.Bool.{Bool, true, not, cond, _||_}
@@ -14,6 +14,7 @@ use Rattle.wires.specs.Rows.{wireOf}
 use Rattle.past.specs.Place.{placeOf}
 use Rattle.past.specs.declared.place.Place.{Place}
 use Rattle.admitted.specs.Admitted.{admitted, closes}
+use Rattle.name_index.specs.Index.{LinesIndexed}
 use Rattle.netlist.specs.Rows.{namesBetween}
 use Rattle.netlist.specs.Kinds.{isKind, threeKinds}
 use Rattle.netlist.specs.Laid.{Laid, Wired}
@@ -45,6 +46,21 @@ moduleBy wires p standing m =
       from = p .rows;
       renames = standing;
     }
+
+-- an index of the names of all statements and wires, those of the module among them
+pub record ModuleIndexed (heads chain names wires rows : List ℕ) (m : Module) : Type 0 where
+  pub total : ℕ
+  pub lines : LinesIndexed heads chain names wires rows (m .from) total
+  pub inside : m .first + m .wires ≤ total
+
+-- the lowest number that applies, 0 if none does, where it is known whether the name is taken
+unfoldable pub numberBy : (wires : List ℕ) → Module → (room w : ℕ) → Name → (taken : Bool) → ℕ
+numberBy wires m room w n taken =
+    cond (not (legal n)) 4
+    (cond (leb (m .wires) w) 8
+    (cond (isPort (wireOf wires (m .first + w))) 6
+    (cond taken 9
+    (cond (exceedsRoom (m .renames) room (length n)) 11 0))))
 
 -- the lowest number that applies, 0 if none does: the rules' number, where statements and renames lie in the tables (JudgedLaws)
 unfoldable pub judged : (names wires rows : List ℕ) → Place → (standing room m w : ℕ) → Name → ℕ

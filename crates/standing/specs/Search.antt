@@ -1,12 +1,12 @@
 -- The search for a wire of a module by its name now.
-use Prim.Native.Nat.{ℕ, zero, suc, _+_, _<_, _≤_}
+use Prim.Native.Nat.{ℕ, zero, suc, _+_, _-_, _<_, _≤_}
 use mathlib.Core.Path.{_≡_}
-use mathlib.Core.Bool.{Bool, true, false, cond, _&&_}
+use mathlib.Core.Bool.{Bool, true, false, not, cond, _&&_}
 use mathlib.Core.List.{List}
 use Rattle.rules.specs.Bytes.{same}
 use Rattle.rules.specs.Tokens.{Name}
 use Rattle.rules.specs.Judgement.{Verdict, accepted, refused}
-use lib.Dec.{eqb}
+use lib.Dec.{eqb, leb}
 use Rattle.wires.specs.Rows.{spanAt}
 use Rattle.wire_names.specs.Now.{lastRename, nameNow}
 use Rattle.wire_names.specs.declared.Module.{Module}
@@ -43,3 +43,7 @@ pub record Renamed (names rows : List ℕ) (m : Module) (n : Name) (i r : ℕ) :
 -- whether wire k has this name from its own line, and no rename
 unfoldable pub keepsName : (names wires rows : List ℕ) → Module → Name → ℕ → Bool
 keepsName names wires rows m n k = same (spanAt names wires (m .first + k) 1) n && eqb (lastOf rows m k) 0
+
+-- the same of the wire in a row from the module's first on, if it is the module's
+unfoldable pub rowKeeps : (names wires rows : List ℕ) → Module → Name → ℕ → Bool
+rowKeeps names wires rows m n row = not (leb (m .wires) (row - m .first)) && keepsName names wires rows m n (row - m .first)

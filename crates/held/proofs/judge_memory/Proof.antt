@@ -1,74 +1,28 @@
--- `judge_memory` meets its contract.
+-- The index is of no row yet.
 -- Assumes nothing.
-use mathlib.Core.Path.{sym, _∙_}
-use native.Mathlib.Omega.{arith}
+use mathlib.Core.Path.{refl}
+use Rattle.name_index.specs.LineLaws.{lines-none}
 use borrow.Author.Needs.{needs}
-use borrow.Author.Tests.{not-true, not-false}
-use Rattle.netlist.specs.Lengths.{rightLengths}
-use Rattle.held.proofs.MemoryLaws.{names-short, other-sizes, no-statements, no-renames-there, other-room, rest-left, memory-holds}
 use Rattle.held.proofs.judge_memory.Statement.{statement}
 use Rattle.held.proofs.judge_memory.Tie as tie
 
-right-tables-requires : tie.Need-right-tables-requires
-right-tables-requires c κs = search needs
+slice-aggregate-judge-indexed : tie.Need-slice-aggregate-judge-indexed
+slice-aggregate-judge-indexed c = refl
+
+slice-aggregate-judge-indexed-2 : tie.Need-slice-aggregate-judge-indexed-2
+slice-aggregate-judge-indexed-2 c = refl
+
+judge-indexed-requires : tie.Need-judge-indexed-requires
+judge-indexed-requires c κs = lines-none _ _ _ _ _ refl refl
 
 returns : tie.Need-returns
-unfolding rightLengths
-returns c = other-sizes _ (sym (c .before .right-tables .ensures) ∙ not-true _ (c .if1 .taken))
-
-replay-requires : tie.Need-replay-requires
-replay-requires c κs = search needs
-
-enum-known-r : tie.Need-enum-known-r
-enum-known-r c = search needs
-
-enum-told : tie.Need-enum-told
-enum-told c = search needs
-
-returns-2 : tie.Need-returns-2
-returns-2 c = no-statements _ _ (c .before .before .replay .ensures) (c .enum-told .given .1)
-
-all-renames-requires : tie.Need-all-renames-requires
-all-renames-requires c κs = names-short _ _ _ _ _ (sym (c .before .before .before .before .before .right-tables .ensures) ∙ not-false _ (c .before .before .before .before .if1 .left))
-
-enum-known-s : tie.Need-enum-known-s
-enum-known-s c = search needs
-
-enum-told-2 : tie.Need-enum-told-2
-enum-told-2 c = search needs
-
-returns-3 : tie.Need-returns-3
-returns-3 c = no-renames-there _ _ (c .before .before .before .before .before .before .replay .ensures) _ _ (c .before .before .before .before .r .given .1) _ (c .before .before .all-renames .ensures) (c .enum-told2 .given .1)
-
-returns-4 : tie.Need-returns-4
-returns-4 c = other-room _ _ (c .before .before .before .before .before .before .before .before .replay .ensures) _ _ (c .before .before .before .before .before .before .r .given .1) _ (c .before .before .before .before .all-renames .ensures) _ (c .before .before .s .given .1) (λ e. omega arith)
-
-rest-is-zero-requires : tie.Need-rest-is-zero-requires
-rest-is-zero-requires c κs = search needs
-
-returns-5 : tie.Need-returns-5
-unfolding rightLengths
-returns-5 c =
-    memory-holds _ _ (c .before .before .before .before .before .before .before .before .before .before .replay .ensures) _ _ (c .before .before .before .before .before .before .before .before .r .given .1) _ (c .before .before .before .before .before .before .all-renames .ensures) _ (c .before .before .before .before .s .given .1) (omega arith) (sym (c .before .before .before .before .before .before .before .before .before .before .before .before .right-tables .ensures) ∙ not-false _ (c .before .before .before .before .before .before .before .before .before .before .before .if1 .left)) (sym (c .before .rest-is-zero .ensures) ∙ c .if3 .taken)
-
-returns-6 : tie.Need-returns-6
-returns-6 c = rest-left _ _ (c .before .before .before .before .before .before .before .before .before .before .replay .ensures) _ _ (c .before .before .before .before .before .before .before .before .r .given .1) (sym (c .before .rest-is-zero .ensures) ∙ c .if3 .left)
+returns c = c .before .before .judge-indexed .ensures
 
 pub judge-memory-spec : {M : Type 1} → statement M
 judge-memory-spec =
     tie.close
     (tie.spec
-    right-tables-requires
-    returns
-    replay-requires
-    enum-known-r
-    enum-told
-    returns-2
-    all-renames-requires
-    enum-known-s
-    enum-told-2
-    returns-3
-    returns-4
-    rest-is-zero-requires
-    returns-5
-    returns-6)
+    slice-aggregate-judge-indexed
+    slice-aggregate-judge-indexed-2
+    judge-indexed-requires
+    returns)

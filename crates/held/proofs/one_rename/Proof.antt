@@ -43,18 +43,18 @@ returns-3 c = no-name _ _ _ _ _ _ _ (c .before .before .before .before .get-row 
 part-requires : tie.Need-part-requires
 part-requires c κs = search needs
 
-judge-rename-requires : tie.Need-judge-rename-requires
-judge-rename-requires c κs = search needs
+indexed-rename-requires : tie.Need-indexed-rename-requires
+indexed-rename-requires c κs = c .before .before .before .before .before .before .before .before .before .before .before .before .before .pre .1
 
 returns-4 : tie.Need-returns-4
-returns-4 c = rename-refused _ _ _ _ _ _ _ (c .before .before .before .before .before .before .before .get-row .ensures) _ (c .before .before .part .ensures) _ (c .before .judge-rename .ensures) (c .if4 .taken)
+returns-4 c = rename-refused _ _ _ _ _ _ _ (c .before .before .before .before .before .before .before .get-row .ensures) _ (c .before .before .part .ensures) _ (c .before .indexed-rename .ensures) (c .if4 .taken)
 
-cast-t20 : tie.Need-cast-t20
-cast-t20 c = search needs
+cast-t22 : tie.Need-cast-t22
+cast-t22 c = search needs
 
 returns-5 : tie.Need-returns-5
 returns-5 c =
-    rename-next _ _ _ _ _ _ _ (c .before .before .before .before .before .before .before .get-row .ensures) _ (c .before .before .part .ensures) _ (c .before .judge-rename .ensures) (c .before .before .before .before .before .before .before .before .if1 .left) (sym (c .before .before .before .before .before .before .is-rename .ensures) ∙ not-false _ (c .before .before .before .before .before .if2 .left)) (c .before .before .before .if3 .left) (c .if4 .left)
+    rename-next _ _ _ _ _ _ _ (c .before .before .before .before .before .before .before .get-row .ensures) _ (c .before .before .part .ensures) _ (c .before .indexed-rename .ensures) (c .before .before .before .before .before .before .before .before .if1 .left) (sym (c .before .before .before .before .before .before .is-rename .ensures) ∙ not-false _ (c .before .before .before .before .before .if2 .left)) (c .before .before .before .if3 .left) (c .if4 .left)
 
 pub one-rename-spec : {M : Type 1} → statement M
 one-rename-spec =
@@ -72,7 +72,7 @@ one-rename-spec =
     add-end
     returns-3
     part-requires
-    judge-rename-requires
+    indexed-rename-requires
     returns-4
-    cast-t20
+    cast-t22
     returns-5)

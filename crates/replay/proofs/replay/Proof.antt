@@ -1,28 +1,138 @@
--- The index is of no row yet.
+-- The invariant: every list of statements that the tables hold begins with those replayed, and their rows and wires are indexed.
 -- Assumes nothing.
+use Prim.Native.Nat.{_-_, _≤_}
+use mathlib.Core.Path.{_≡_, refl, sym, ap, _∙_}
 use native.Mathlib.Omega.{arith}
-use Rattle.name_index.specs.IndexLaws.{indexed-none}
+use lib.ListN.{length}
+use borrow.Author.Tests.{not-true, not-false}
+use Rattle.name_index.specs.Index.{LinesIndexed}
+use Rattle.name_index.specs.LineLaws.{lines-upto}
+use Rattle.rules.specs.Judgement.{sum}
+use Rattle.past.specs.Place.{wiresIn, placeOf}
+use Rattle.past.specs.declared.place.Place.{Place}
+use Rattle.replay.specs.Begins.{IndexLeft}
+use Rattle.replay.specs.Reads.{tabled}
+use Rattle.replay.proofs.LoopLaws.{Done, done-start, done-ready, few-wires, done-closed, done-open, done-stuck, done-next, next-rows, next-wires}
 use borrow.Author.Needs.{needs}
 use Rattle.replay.proofs.replay.Statement.{statement}
 use Rattle.replay.proofs.replay.Tie as tie
 
-slice-aggregate-replay-indexed : tie.Need-slice-aggregate-replay-indexed
-slice-aggregate-replay-indexed c = search needs
+abbrev Inv-loop : tie.InvT-loop
+Inv-loop names strings bits wires rows heads₀ chain₀ place₀ sums₀ heads chain place sums =
+    Done (tabled names strings bits wires) rows place sums × LinesIndexed heads chain names wires rows (place .rows) (place .wires)
+    × (length heads ≡ length heads₀) × (length chain ≡ length chain₀)
 
-slice-aggregate-replay-indexed-2 : tie.Need-slice-aggregate-replay-indexed-2
-slice-aggregate-replay-indexed-2 c = search needs
+abbrev μ-loop : tie.MeasureT-loop
+μ-loop names strings bits wires rows heads₀ chain₀ place₀ sums₀ heads chain place sums = 4706 - place .rows
 
-replay-indexed-requires : tie.Need-replay-indexed-requires
-replay-indexed-requires c κs = (indexed-none _ _, omega arith)
+start-requires : tie.Need-start-requires Inv-loop μ-loop
+start-requires c κs = tt
 
-returns : tie.Need-returns
-returns c = search needs
+none-requires : tie.Need-none-requires Inv-loop μ-loop
+none-requires c κs = tt
+
+loop-holds : tie.Need-loop-holds Inv-loop μ-loop
+unfolding placeOf wiresIn sum
+loop-holds c = (done-start _ _ _ _ (c .before .start .ensures) (c .none .ensures), lines-upto (ap (λ (p : Place). p .rows) (c .before .start .ensures)) (ap (λ (p : Place). p .wires) (c .before .start .ensures)) (c .before .before .before .before .before .before .before .before .before .pre), refl, refl)
+
+cast-word : tie.Need-cast-word Inv-loop μ-loop
+cast-word c = search needs
+
+mul-word : tie.Need-mul-word Inv-loop μ-loop
+mul-word c = omega arith
+
+word-requires : tie.Need-word-requires Inv-loop μ-loop
+word-requires c κs = tt
+
+is-statement-requires : tie.Need-is-statement-requires Inv-loop μ-loop
+is-statement-requires c κs = tt
+
+is-closed-requires : tie.Need-is-closed-requires Inv-loop μ-loop
+is-closed-requires c κs = tt
+
+same-length : tie.Need-same-length Inv-loop μ-loop
+same-length c = c .before .before .before .before .before .before .loop .inv .2
+
+same-length-2 : tie.Need-same-length-2 Inv-loop μ-loop
+same-length-2 c = c .before .before .before .before .before .before .loop .inv .3
+
+returns : tie.Need-returns Inv-loop μ-loop
+unfolding IndexLeft
+returns c = (done-closed _ _ _ _ (c .before .before .before .before .before .before .loop .inv .0) _ (c .before .before .before .before .word .ensures) (sym (c .before .before .before .is-statement .ensures) ∙ not-true _ (c .before .before .if1 .taken)) (sym (c .before .is-closed .ensures) ∙ c .if2 .taken), c .before .before .before .before .before .before .loop .inv .1)
+
+same-length-3 : tie.Need-same-length-3 Inv-loop μ-loop
+same-length-3 c = c .before .before .before .before .before .before .loop .inv .2
+
+same-length-4 : tie.Need-same-length-4 Inv-loop μ-loop
+same-length-4 c = c .before .before .before .before .before .before .loop .inv .3
+
+returns-2 : tie.Need-returns-2 Inv-loop μ-loop
+unfolding IndexLeft
+returns-2 c = (done-open _ _ _ _ (c .before .before .before .before .before .before .loop .inv .0) _ (c .before .before .before .before .word .ensures) (sym (c .before .before .before .is-statement .ensures) ∙ not-true _ (c .before .before .if1 .taken)) (sym (c .before .is-closed .ensures) ∙ c .if2 .left), tt)
+
+one-more-requires : tie.Need-one-more-requires Inv-loop μ-loop
+one-more-requires c κs = (done-ready _ _ _ _ (c .before .before .before .before .before .before .loop .inv .0), c .before .before .before .before .before .before .loop .inv .1 .by-row)
+
+enum-known-t : tie.Need-enum-known-t Inv-loop μ-loop
+enum-known-t c = search needs
+
+index-line-requires : tie.Need-index-line-requires Inv-loop μ-loop
+index-line-requires c κs =
+    (c .before .before .before .before .before .before .before .before .before .before .before .before .loop .inv .1, (omega (arith, done-ready _ _ _ _ (c .before .before .before .before .before .before .before .before .before .before .before .before .loop .inv .0) .few), omega (arith, few-wires _ _ _ _ (c .before .before .before .before .before .before .before .before .before .before .before .before .loop .inv .0))))
+
+loop-less : tie.Need-loop-less Inv-loop μ-loop
+loop-less c = omega (arith, done-ready _ _ _ _ (c .before .before .before .before .before .before .before .before .before .before .before .before .before .before .before .before .before .loop .inv .0) .few, next-rows _ _ _ _ (c .before .before .before .before .before .before .before .before .before .before .before .before .before .before .before .before .before .loop .inv .0) _ (c .before .before .before .before .before .before .before .before .before .before .before .before .before .before .before .word .ensures) (sym (c .before .before .before .before .before .before .before .before .before .before .before .before .before .before .is-statement .ensures) ∙ not-false _ (c .before .before .before .before .before .before .before .before .before .before .before .before .before .if1 .left)) _ _ _ (c .before .before .before .before .before .before .before .before .before .before .one-more .ensures) (c .before .before .before .before .before .before .before .before .t .given .1))
+
+loop-again : tie.Need-loop-again Inv-loop μ-loop
+loop-again c = (
+  done-next _ _ _ _ (c .before .before .before .before .before .before .before .before .before .before .before .before .before .before .before .before .before .loop .inv .0) _ (c .before .before .before .before .before .before .before .before .before .before .before .before .before .before .before .word .ensures) (sym (c .before .before .before .before .before .before .before .before .before .before .before .before .before .before .is-statement .ensures) ∙ not-false _ (c .before .before .before .before .before .before .before .before .before .before .before .before .before .if1 .left)) _ _ _ (c .before .before .before .before .before .before .before .before .before .before .one-more .ensures) (c .before .before .before .before .before .before .before .before .t .given .1),
+  lines-upto
+      (next-rows _ _ _ _ (c .before .before .before .before .before .before .before .before .before .before .before .before .before .before .before .before .before .loop .inv .0) _ (c .before .before .before .before .before .before .before .before .before .before .before .before .before .before .before .word .ensures) (sym (c .before .before .before .before .before .before .before .before .before .before .before .before .before .before .is-statement .ensures) ∙ not-false _ (c .before .before .before .before .before .before .before .before .before .before .before .before .before .if1 .left)) _ _ _ (c .before .before .before .before .before .before .before .before .before .before .one-more .ensures) (c .before .before .before .before .before .before .before .before .t .given .1))
+      (next-wires _ _ _ _ (c .before .before .before .before .before .before .before .before .before .before .before .before .before .before .before .before .before .loop .inv .0) _ (c .before .before .before .before .before .before .before .before .before .before .before .before .before .before .before .word .ensures) (sym (c .before .before .before .before .before .before .before .before .before .before .before .before .before .before .is-statement .ensures) ∙ not-false _ (c .before .before .before .before .before .before .before .before .before .before .before .before .before .if1 .left)) _ _ _ (c .before .before .before .before .before .before .before .before .before .before .one-more .ensures) (c .before .before .before .before .before .before .before .before .t .given .1))
+      (c .before .before .before .before .index-line .ensures),
+  c .before .before .before .before .index-line .kept .1 .1 .1 .0 ∙ c .before .before .before .before .before .before .before .before .before .before .before .before .before .before .before .before .before .loop .inv .2,
+  c .before .before .before .before .index-line .kept .1 .1 .1 .1 .0 ∙ c .before .before .before .before .before .before .before .before .before .before .before .before .before .before .before .before .before .loop .inv .3,
+)
+
+enum-told : tie.Need-enum-told Inv-loop μ-loop
+enum-told c = search needs
+
+same-length-5 : tie.Need-same-length-5 Inv-loop μ-loop
+same-length-5 c = c .before .before .before .before .before .before .before .before .before .loop .inv .2
+
+same-length-6 : tie.Need-same-length-6 Inv-loop μ-loop
+same-length-6 c = c .before .before .before .before .before .before .before .before .before .loop .inv .3
+
+returns-3 : tie.Need-returns-3 Inv-loop μ-loop
+unfolding IndexLeft
+returns-3 c = (done-stuck _ _ _ _ (c .before .before .before .before .before .before .before .before .before .loop .inv .0) _ (c .before .before .before .before .before .before .before .word .ensures) (sym (c .before .before .before .before .before .before .is-statement .ensures) ∙ not-false _ (c .before .before .before .before .before .if1 .left)) _ (c .before .before .one-more .ensures) (c .enum-told .given .1), tt)
 
 pub replay-spec : {M : Type 1} → statement M
 replay-spec =
     tie.close
     (tie.spec
-    slice-aggregate-replay-indexed
-    slice-aggregate-replay-indexed-2
-    replay-indexed-requires
-    returns)
+    Inv-loop
+    μ-loop
+    start-requires
+    none-requires
+    loop-holds
+    cast-word
+    mul-word
+    word-requires
+    is-statement-requires
+    is-closed-requires
+    same-length
+    same-length-2
+    returns
+    same-length-3
+    same-length-4
+    returns-2
+    one-more-requires
+    enum-known-t
+    index-line-requires
+    loop-less
+    loop-again
+    enum-told
+    same-length-5
+    same-length-6
+    returns-3)

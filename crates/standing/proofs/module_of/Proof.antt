@@ -1,6 +1,8 @@
+-- The rows of the module's wires.
+-- Assumes nothing.
 use borrow.Author.Needs.{needs}
-use Rattle.session.proofs.module_of.Statement.{statement}
-use Rattle.session.proofs.module_of.Tie as tie
+use Rattle.standing.proofs.module_of.Statement.{statement}
+use Rattle.standing.proofs.module_of.Tie as tie
 
 module-wires-requires : tie.Need-module-wires-requires
 module-wires-requires c κs = search needs
