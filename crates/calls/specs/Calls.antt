@@ -1,6 +1,6 @@
 -- A file and a list of calls on it: what all of it leaves, and each call's answer.
 use Prim.Native.Nat.{ℕ, zero, suc, _+_, _*_, _/_}
-use mathlib.Core.List.{List, [], _∷_}
+use mathlib.Core.List.{List, [], _∷_, flatMap}
 use mathlib.Core.Bool.{cond}
 use lib.Dec.{eqb}
 use lib.ListN.{length, getD}
@@ -9,6 +9,7 @@ use Rattle.rules.specs.Reading.{Answer, accepted, refused, read}
 use Rattle.rules.specs.Design.{design}
 use Rattle.rules.specs.Session.{Rename, Call, rename, undo, plainSession}
 use Rattle.rules.specs.Layout.{Memory, layout}
+use Rattle.tables.specs.Store.{store}
 use Rattle.netlist.specs.Results.{Result, result}
 use Rattle.netlist.specs.Lengths.{rightLengths}
 use Rattle.reader.specs.Read.{leaves}
@@ -37,11 +38,14 @@ module _ (calls texts : List ℕ) where
   unfoldable pub callsIn : List Call
   callsIn = callsFrom (length calls / 5) 0
 
--- the answers over what stood there, as far as there is room
-unfoldable pub answered : (old answers : List ℕ) → List ℕ
-answered [] ns = []
-answered (a ∷ old) [] = a ∷ old
-answered (a ∷ old) (n ∷ ns) = n ∷ answered old ns
+-- two words an answer: number, then place
+abbrev pub answerWords : ℕ × ℕ → List ℕ
+answerWords a = a .0 ∷ a .1 ∷ []
+
+-- The answers' words over what stood there, as far as there is room. Where it is too short, the words that have room are stored, the last one perhaps a number
+-- without its place; every call is made all the same, and the memory is the same
+unfoldable pub answered : (old : List ℕ) (answers : List (ℕ × ℕ)) → List ℕ
+answered old answers = store old 0 (flatMap answerWords answers)
 
 -- calls are made on a file that is read; on a refused one none is
 unfoldable pub sessionOn : Answer → List Call → List ℕ → Result × List ℕ

@@ -1,7 +1,6 @@
--- Memory that is open to calls, and what a list of them leaves there.
+-- What a list of calls leaves in memory that holds a design.
 use Prim.Native.Nat.{ℕ}
 use mathlib.Core.Path.{_≡_}
-use mathlib.Core.Bool.{true}
 use mathlib.Core.List.{List}
 use Rattle.rules.specs.Statements.{Statement}
 use Rattle.rules.specs.Design.{design}
@@ -9,14 +8,7 @@ use Rattle.rules.specs.Session.{Rename, Call, plainSession}
 use Rattle.rules.specs.Layout.{Memory, layout}
 use Rattle.admitted.specs.Holds.{Holds}
 use Rattle.netlist.specs.Results.{Result, result}
-use Rattle.netlist.specs.Lengths.{rightLengths}
 use Rattle.calls.specs.Calls.{answered}
-
-pub record Opened (m : Memory) : Type 0 where
-  pub statements : List Statement
-  pub renames : List Rename
-  pub lengths : rightLengths m ≡ true
-  pub holds : Holds m statements renames
 
 -- for the statements and renames that the memory holds
 abbrev pub MadeAs : Memory → (old : List ℕ) → List Call → Result → (answers : List ℕ) → Type 0

@@ -8,20 +8,31 @@ use session::rename;
 use session::undo;
 use tables::word;
 ghost use mathlib.Core.Path.{_≡_};
-ghost use Prim.Native.Nat.{_+_, _*_, _≤_};
+ghost use Prim.Native.Nat.{_+_, _*_, _^_, _≤_, _<_};
 ghost use lib.ListN.{length, set};
+ghost use Rattle.tables.specs.Store.{store};
 ghost use Rattle.netlist.specs.Results.{result, lent};
 ghost use Rattle.session.specs.Called.{CalledAs};
-ghost use Rattle.calls.specs.Calls.{callAt, callsIn, session};
-ghost use Rattle.calls.specs.Steps.{Opened, MadeAs};
+ghost use Rattle.theorems.specs.DamagedMemory.{Held};
+ghost use Rattle.calls.specs.Calls.{callAt, callsIn, answerWords, session};
+ghost use Rattle.calls.specs.Steps.{MadeAs};
 
-// A call's answer, if there is a place for it.
-fn put_answer(answers: &mut [u32], i: usize, number: u32)
-    ensures { λ _. ⌜ now (answers .exit) ≡ set (now (answers .entry)) i number ⌝ }
+// A word, if there is a place for it.
+fn put_word(table: &mut [u32], at: usize, w: u32)
+    ensures { λ _. ⌜ now (table .exit) ≡ set (now (table .entry)) at w ⌝ }
 {
-    if i < answers.len() {
-        answers[i] = number;
+    if at < table.len() {
+        table[at] = w;
     }
+}
+
+// A call's answer in two words, number and place, as far as there is room.
+fn put_answer(answers: &mut [u32], i: usize, number: u32, place: u32)
+    requires { ⌜ 2 * i + 1 < 2 ^ 64 ⌝ }
+    ensures { λ _. ⌜ now (answers .exit) ≡ store (now (answers .entry)) (2 * i) (answerWords (number, place)) ⌝ }
+{
+    put_word(answers, 2 * i, number);
+    put_word(answers, 2 * i + 1, place);
 }
 
 // Five words a call: 1 a rename with module, wire, and where its new name starts in `texts` and its length; anything else an undo.
@@ -85,7 +96,7 @@ fn make_calls(
     renames: u32,
     room: u32,
 ) -> CallResult
-    requires { ⌜ Opened (lent (now names) (now strings) (now bits) (now wires) (now rows) renames room) ⌝ }
+    requires { ⌜ Held (lent (now names) (now strings) (now bits) (now wires) (now rows) renames room) ⌝ }
     ensures { λ r. ⌜ MadeAs (lent (now (names .entry)) (now (strings .entry)) (now (bits .entry)) (now (wires .entry)) (now (rows .entry)) renames room) (now (answers .entry)) (callsIn (now (calls .entry)) (now (texts .entry))) (result (r .number) (r .place) (lent (now (names .exit)) (now (strings .entry)) (now (bits .entry)) (now (wires .entry)) (now (rows .exit)) (r .renames) (r .room))) (now (answers .exit)) ⌝ }
 {
     let many = calls.len() / 5;
@@ -105,7 +116,7 @@ fn make_calls(
             standing,
             used,
         );
-        put_answer(answers, i, left.number);
+        put_answer(answers, i, left.number, left.place);
         standing = left.renames;
         used = left.room;
         i = i + 1;
@@ -113,6 +124,8 @@ fn make_calls(
     accepted(standing, used)
 }
 
+// Number and place of each call stand in `answers`, two words a call. Where it is too short, the words that have room are stored, the last one perhaps a number without
+// its place; the calls are made all the same.
 pub fn run_calls(
     f: &[u8],
     calls: &[u32],

@@ -25,7 +25,7 @@ make-call-requires : tie.Need-make-call-requires Inv-loop μ-loop
 make-call-requires c κs = omega (arith, c .before .before .before .loop .inv .4)
 
 put-answer-requires : tie.Need-put-answer-requires Inv-loop μ-loop
-put-answer-requires c κs = tt
+put-answer-requires c κs = omega (arith, c .before .before .before .before .before .before .before .before .before .loop .inv .4)
 
 add-i : tie.Need-add-i Inv-loop μ-loop
 add-i c = omega arith
@@ -40,7 +40,7 @@ loop-again c = (
   c .before .before .before .before .before .before .before .before .make-call .kept .1 .1 .1 .0 ∙ c .before .before .before .before .before .before .before .before .before .before .before .before .loop .inv .2,
   c .before .before .before .before .before .before .before .before .make-call .kept .1 .1 .1 .1 .1 .1 .1 .0 ∙ c .before .before .before .before .before .before .before .before .before .before .before .before .loop .inv .3,
   c .before .before .before .before .before .before .before .before .before .before .before .before .loop .inv .4,
-  going-step (c .before .before .before .before .before .before .before .before .before .before .before .before .loop .inv .5) _ _ (calls-next (now (c .before .before .before .before .before .before .before .before .before .before .before .before .before .before .before .before .before .before .before .before .before .args .calls)) (now (c .before .before .before .before .before .before .before .before .before .before .before .before .before .before .before .before .before .before .before .before .before .args .texts)) _ (c .before .before .before .before .before .before .before .before .before .before .before .before .loop .i) (omega arith)) _ (c .before .before .before .before .before .before .before .before .make-call .ensures) (c .before .before .before .before .before .before .before .before .make-call .kept .1 .1 .1 .0, refl, refl, refl, c .before .before .before .before .before .before .before .before .make-call .kept .1 .1 .1 .1 .1 .1 .1 .0) _ (c .before .before .put-answer .ensures),
+  going-step (c .before .before .before .before .before .before .before .before .before .before .before .before .loop .inv .5) _ _ (calls-next (now (c .before .before .before .before .before .before .before .before .before .before .before .before .before .before .before .before .before .before .before .before .before .args .calls)) (now (c .before .before .before .before .before .before .before .before .before .before .before .before .before .before .before .before .before .before .before .before .before .args .texts)) _ (c .before .before .before .before .before .before .before .before .before .before .before .before .loop .i) (omega arith)) _ (c .before .before .before .before .before .before .before .before .make-call .ensures) _ (c .before .before .put-answer .ensures),
 )
 
 accepted-requires : tie.Need-accepted-requires Inv-loop μ-loop
