@@ -85,12 +85,13 @@ module _ (file : List ℕ) (m : Memory) (x : Result) (e : x ≡ readInto file m)
       let r = number-read file m x e z in
       (r .statements, r .reads, made-plain cs xs (read-holds file (r .reads) (r .is)) k)
 
--- only the standing renames count: made alone, oldest first, they leave the same memory
+-- only the standing renames count: made alone, oldest first, on another read of the file, they leave the same memory
 pub standing-made :
-    (cs : List Call) (xs ys : List Result) {m : Memory} {ss : List Statement} → Holds m ss [] → Made m cs xs →
-    Made m (map rename (plainSession (design ss) [] cs .1)) ys → lastMemory m xs ≡ lastMemory m ys
-standing-made cs xs ys {ss = ss} h k l =
+    (file : List ℕ) (ss : List Statement) → read file ≡ accepted ss → (m n : Memory) → rightLengths m ≡ true → rightLengths n ≡ true →
+    (x y : Result) → x ≡ readInto file m → y ≡ readInto file n → (cs : List Call) (xs ys : List Result) → Made (x .memory) cs xs →
+    Made (y .memory) (map rename (plainSession (design ss) [] cs .1)) ys → lastMemory (x .memory) xs ≡ lastMemory (y .memory) ys
+standing-made file ss a m n lm ln x y ex ey cs xs ys kx ky =
     let d = design ss in
-    made-plain cs xs h k .memory-is
+    read-and-made file m x ex lm ss a cs xs kx .1 .memory-is
     ∙ ap (layout ss) (sym (session-allowed d (allowed-session d cs [] no-renames)))
-    ∙ sym (made-plain (map rename (plainSession d [] cs .1)) ys h l .memory-is)
+    ∙ sym (read-and-made file n y ey ln ss a (map rename (plainSession d [] cs .1)) ys ky .1 .memory-is)
