@@ -40,12 +40,13 @@ use Rattle.layout.specs.Put.{tablesOf}
 use Rattle.layout.specs.Stored.{Sized}
 use Rattle.netlist.specs.Results.{Result, result, lent}
 use Rattle.reader.specs.Read.{leaves, readInto}
-use Rattle.reader.specs.Steps.{lineOf, LineFits, Done, Goes, StepIs, StepAs, refusalOf, finishOf, Landed}
+use Rattle.reader.specs.Steps.{lineOf, LineFits, Reached, Before, Done, Goes, StepIs, StepAs, refusalOf, finishOf, Landed, ReachAs}
 use Rattle.reader.specs.declared.Step.{Step}
 use Rattle.reader.specs.declared.Step.the-variants.{Next, Stop}
 use Rattle.reader.specs.declared.Answer.{Answer}
 use Rattle.reader.specs.declared.Answer.the-variants.{Accepted, Refused}
-use Rattle.reader.proofs.StepLaws.{sized-past}
+use Rattle.reader.specs.declared.Reach.{Reach}
+use Rattle.reader.specs.declared.Reach.the-variants.{Ended, Longer}
 
 -- ---- the lines
 
@@ -106,63 +107,47 @@ module _ (f : List ℕ) (at : ℕ) (l : Line) (is : l ≡ lineFrom f at) where
 
 -- ---- the loop over the lines
 
-pub record Reached (f tokens scratch : List ℕ) (p : Place) (u : Sizes) (t : Tables) (at : ℕ) : Type 0 where
-  pub inside : at ≤ length f
-  pub file : length f ≤ 32768
-  pub tokens-long : length tokens ≡ 8192
-  pub scratch-long : length scratch ≡ 36864
-  pub past : Past
-  pub done : Done past p u t
-  pub rest : readAny f ≡ readLines (length f) (linesFrom at (drop at f)) past
-
--- the lines before this one are read
-pub record Before (f tokens scratch : List ℕ) (p : Place) (u : Sizes) (t : Tables) (l : Line) : Type 0 where
-  pub reached : Reached f tokens scratch p u t (l .start)
-  pub is : l ≡ lineFrom f (l .start)
-
-pub before : {f tokens scratch : List ℕ} {p : Place} {u : Sizes} {t : Tables} (at : ℕ) (l : Line) → Reached f tokens scratch p u t at → l ≡ lineFrom f at → Before f tokens scratch p u t l
+pub before : {f scratch : List ℕ} {p : Place} {u : Sizes} {t : Tables} (at : ℕ) (l : Line) → Reached f scratch p u t at → l ≡ lineFrom f at → Before f scratch p u t l
 unfolding lineFrom
-before {f} {tokens} {scratch} {p} {u} {t} at l r e =
+before {f} {scratch} {p} {u} {t} at l r e =
     let q : at ≡ l .start = sym (ap (λ (x : Line). x .start) e) in
-    record { reached = subst (Reached f tokens scratch p u t) q r; is = subst (λ (k : ℕ). l ≡ lineFrom f k) q e }
+    record { reached = subst (Reached f scratch p u t) q r; is = subst (λ (k : ℕ). l ≡ lineFrom f k) q e }
 
 -- fewer bytes are left behind it
 pub less :
-    {f tokens scratch : List ℕ} {p : Place} {u : Sizes} {t : Tables} {l : Line} → Before f tokens scratch p u t l → (l′ : Line) → l .start < length f → l′ ≡ lineFrom f (l .next) →
+    {f scratch : List ℕ} {p : Place} {u : Sizes} {t : Tables} {l : Line} → Before f scratch p u t l → (l′ : Line) → l .start < length f → l′ ≡ lineFrom f (l .next) →
     length f - l′ .start < length f - l .start
 unfolding lineFrom
 less {f} {l = l} b l′ h e = omega (arith, on f (l .start) l (b .is) h, ap (λ (x : Line). x .start) e)
 
 pub reached-start :
-    (f tokens scratch : List ℕ) (p : Place) (u : Sizes) (t : Tables) →
-    (length f ≤ 32768) × (length tokens ≡ 8192) × (length scratch ≡ 36864) × (t ≡ tablesOf (memory empty 0)) →
-    p ≡ placeOf [] → u ≡ sumsOf [] → Reached f tokens scratch p u t 0
+    (f scratch : List ℕ) (p : Place) (u : Sizes) (t : Tables) →
+    (length f ≤ 32768) × (length scratch ≡ 36864) × (t ≡ tablesOf (memory empty 0)) →
+    p ≡ placeOf [] → u ≡ sumsOf [] → Reached f scratch p u t 0
 unfolding roomsOf readAny lines admitted
-reached-start f tokens scratch p u t h ep eu =
+reached-start f scratch p u t h ep eu =
     record {
       inside = zero-le;
       file = h .0;
-      tokens-long = h .1;
-      scratch-long = h .2;
+      scratch-long = h .1;
       past = [];
-      done = record { admits = refl; place-is = sym ep; sums-are = sym eu; tables-are = h .3 };
+      done = record { admits = refl; place-is = sym ep; sums-are = sym eu; tables-are = h .2 };
       rest = refl;
     }
 
-module _ {f tokens scratch : List ℕ} {p : Place} {u : Sizes} {t : Tables} {at : ℕ} (r : Reached f tokens scratch p u t at) where
+module _ {f scratch : List ℕ} {p : Place} {u : Sizes} {t : Tables} {at : ℕ} (r : Reached f scratch p u t at) where
   pub reached-fits : (l : Line) → l ≡ lineFrom f at → LineFits f l scratch
   reached-fits l is = fits f at l is scratch (r .inside) (r .file) (r .scratch-long)
 
   module _ (l : Line) (is : l ≡ lineFrom f at) (x : Step) (t′ : Tables) (st : StepAs f l p u t t′ x) where
     -- a turn of the loop
-    pub reached-more : (tokens′ scratch′ : List ℕ) (p′ : Place) (u′ : Sizes) → x ≡ Next p′ u′ → length tokens′ ≡ length tokens → length scratch′ ≡ length scratch →
-        Reached f tokens′ scratch′ p′ u′ t′ (l .next)
-    reached-more tokens′ scratch′ p′ u′ e kt ks =
+    pub reached-more : (scratch′ : List ℕ) (p′ : Place) (u′ : Sizes) → x ≡ Next p′ u′ → length scratch′ ≡ length scratch →
+        Reached f scratch′ p′ u′ t′ (l .next)
+    reached-more scratch′ p′ u′ e ks =
         let g : Goes (r .past) (lineOf f l) p′ u′ t′ = subst (StepIs (r .past) (lineOf f l) t′) e (st (r .past) (r .done)) in
         record {
           inside = inside f at l is (r .inside);
           file = r .file;
-          tokens-long = kt ∙ r .tokens-long;
           scratch-long = ks ∙ r .scratch-long;
           past = g .past;
           done = g .done;
@@ -196,6 +181,21 @@ module _ {f tokens scratch : List ℕ} {p : Place} {u : Sizes} {t : Tables} {at 
       r .rest ∙ ap (λ (s : List ℕ). readLines (length f) (linesFrom at s) (r .past)) (drop-of-length-le f {i = at} h) ∙ last-line (length f) at (r .past) in
       rw (q, ea) (finish-landed (length f))
 
+-- ---- a line that is too long
+
+module _ (f tokens scratch heads chain : List ℕ) (t : Tables) (r : Reach) (x : ReachAs f tokens scratch heads chain t r) where
+  pub ended : (a : Answer) → r ≡ Ended a → Landed (readAny f) t a
+  ended a e = subst (ReachAs f tokens scratch heads chain t) e x
+
+  pub longer : (l : Line) (p : Place) (u : Sizes) → r ≡ Longer l p u → ReachAs f tokens scratch heads chain t (Longer l p u)
+  longer l p u e = subst (ReachAs f tokens scratch heads chain t) e x
+
+  -- four words for each byte of a file are enough for any line
+  pub no-longer : (l : Line) (p : Place) (u : Sizes) → r ≡ Longer l p u → length tokens ≡ 131072 → ⊥
+  no-longer l p u e k =
+      let y : ReachAs f tokens scratch heads chain t (Longer l p u) = longer l p u e in
+      let b : LineFits f l scratch = reached-fits (y .0 .reached) l (y .0 .is) in omega (arith, y .2, b .high, b .file)
+
 -- ---- the whole file
 
 pub cleared :
@@ -212,10 +212,6 @@ cleared n₀ s₀ b₀ w₀ r₀ z en es eb ew er =
       wires = (ew ∙ zeros (length w₀) (8 * 512) (z .wires)) i;
       rows = (er ∙ zeros (length r₀) (8 * 4769) (z .rows)) i;
     }
-
-pub zero-sized : (t : Tables) → t ≡ tablesOf (memory empty 0) → Sized t
-unfolding roomsOf admitted
-zero-sized t e = rw e (sized-past [] refl)
 
 -- tables that keep their lengths
 pub still-sized :

@@ -64,7 +64,7 @@ stands-past ss a =
 flat-long : (n k : ℕ) (rs : List (List ℕ)) → Eights rs → length rs ≤ k → n ≡ 8 * k → length (padded n (flat rs)) ≡ n
 flat-long n k rs h l e = length-padded n (flat rs) (omega (arith, length-flat rs h))
 
-pub sized-past : (ss : Past) → admitted ss ≡ true → Sized (tablesOf (memory (roomsOf ss) 0))
+sized-past : (ss : Past) → admitted ss ≡ true → Sized (tablesOf (memory (roomsOf ss) 0))
 unfolding tablesOf memory used placeOf
 sized-past ss a =
     let w : Within (sumsOf ss) = admitted-within ss a in

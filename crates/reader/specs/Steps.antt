@@ -1,18 +1,19 @@
 -- What the parts of reading promise: of one line, and of the lines so far.
-use Prim.Native.Nat.{ℕ, _-_, _≤_}
+use Prim.Native.Nat.{ℕ, _-_, _*_, _≤_, _<_}
 use mathlib.Core.Path.{_≡_}
 use mathlib.Core.Bool.{true, cond}
 use mathlib.Core.Option.{some}
 use mathlib.Core.List.{List, _∷_}
-use lib.ListN.{length}
+use lib.ListN.{length, drop}
 use lib.Seq.{slice}
 use Rattle.rules.specs.Lines as rules
-use Rattle.rules.specs.Lines.{place}
+use Rattle.rules.specs.Lines.{linesFrom, place}
 use Rattle.rules.specs.Statements as statements
 use Rattle.rules.specs.Judgement.{Past}
 use Rattle.rules.specs.Reading as reading
-use Rattle.rules.specs.Reading.{outcome, next}
+use Rattle.rules.specs.Reading.{outcome, next, readLines, readAny}
 use Rattle.rules.specs.Layout.{empty, putAll, memory}
+use Rattle.scanner.specs.Lines.{lineFrom}
 use Rattle.scanner.specs.declared.lines.Line.{Line}
 use Rattle.past.specs.Place.{placeOf, closesAt, Bounds}
 use Rattle.past.specs.Sizes.{sumsOf, Within}
@@ -34,6 +35,8 @@ use Rattle.reader.specs.declared.Step.{Step}
 use Rattle.reader.specs.declared.Step.the-variants.{Next, Stop}
 use Rattle.reader.specs.declared.Answer.{Answer}
 use Rattle.reader.specs.declared.Answer.the-variants as answer
+use Rattle.reader.specs.declared.Reach.{Reach}
+use Rattle.reader.specs.declared.Reach.the-variants.{Ended, Longer}
 
 -- the line of the rules
 unfoldable pub lineOf : List ℕ → Line → rules.Line
@@ -121,3 +124,21 @@ Landed (reading.refused n p) t r = r ≡ answer.Refused n p
 abbrev pub StepIndexed : (heads chain names wires rows : List ℕ) → Step → Type 0
 StepIndexed heads chain names wires rows (Next p u) = LinesIndexed heads chain names wires rows (p .rows) (p .wires)
 StepIndexed heads chain names wires rows (Stop n) = Unit {0}
+
+-- the lines before this place are read
+pub record Reached (f scratch : List ℕ) (p : Place) (u : Sizes) (t : Tables) (at : ℕ) : Type 0 where
+  pub inside : at ≤ length f
+  pub file : length f ≤ 32768
+  pub scratch-long : length scratch ≡ 36864
+  pub past : Past
+  pub done : Done past p u t
+  pub rest : readAny f ≡ readLines (length f) (linesFrom at (drop at f)) past
+
+pub record Before (f scratch : List ℕ) (p : Place) (u : Sizes) (t : Tables) (l : Line) : Type 0 where
+  pub reached : Reached f scratch p u t (l .start)
+  pub is : l ≡ lineFrom f (l .start)
+
+-- the file's answer; or the lines before one that is too long for the table of tokens are read
+abbrev pub ReachAs : (f tokens scratch heads chain : List ℕ) → Tables → Reach → Type 0
+ReachAs f tokens scratch heads chain t (Ended a) = Landed (readAny f) t a
+ReachAs f tokens scratch heads chain t (Longer l p u) = Before f scratch p u t l × LinesIndexed heads chain (t .names) (t .wires) (t .rows) (p .rows) (p .wires) × (length tokens < 4 * (l .end - l .start))

@@ -35,7 +35,19 @@ ghost use Rattle.netlist.specs.Tables.{tabled};
 ghost use Rattle.layout.specs.Stored.{Sized};
 ghost use Rattle.netlist.specs.Results.{result, lent};
 ghost use Rattle.reader.specs.Read.{leaves, readInto};
-ghost use Rattle.reader.specs.Steps.{LineFits, PlaceFits, judgedAs, OutcomeAs, Storable, SomeDone, StepAs, StepIndexed, refusalOf, finishOf, Landed};
+ghost use Rattle.reader.specs.Steps.{LineFits, PlaceFits, judgedAs, OutcomeAs, Storable, SomeDone, StepAs, StepIndexed, refusalOf, finishOf, Landed, Before, ReachAs};
+
+// The words of a table of tokens, four for each byte of a line: of lines up to 2,048 bytes, up to 6,144, and of any line.
+const SHORT_TOKENS: usize = 8192;
+
+const LONGER_LINE: usize = 6144;
+
+const LONGER_TOKENS: usize = 24576;
+
+const ALL_TOKENS: usize = 131072;
+
+// The words of the table in which a line's signals are read.
+const SCRATCH: usize = 36864;
 
 // What a line gives: nothing, since it has no token; a statement, with the sums of each size; or a refusal's number.
 enum Outcome {
@@ -56,6 +68,16 @@ enum Answer {
     Refused { number: u32, place: u32 },
 }
 
+// How far a table of tokens reaches: to the file's end or a refusal; or to a line that is too long for it.
+enum Reach {
+    Ended(Answer),
+    Longer {
+        line: Line,
+        place: Place,
+        sums: Sizes,
+    },
+}
+
 fn judged(j: Judged) -> Outcome
     ensures { λ r. ⌜ r ≡ judgedAs j ⌝ }
 {
@@ -65,8 +87,8 @@ fn judged(j: Judged) -> Outcome
     }
 }
 
-// A bad token is 4 on any line; a line without its line end is 5. The tokens' table has four words for each byte of the line.
-fn outcome_with(
+// A bad token is 4 on any line; a line without its line end is 5.
+fn line_outcome(
     f: &[u8],
     line: Line,
     place: Place,
@@ -109,139 +131,6 @@ fn outcome_with(
     ))
 }
 
-// A table is cleared whole where it is made, so only a long line makes a long one.
-fn middle_line(
-    f: &[u8],
-    line: Line,
-    place: Place,
-    sums: Sizes,
-    names: &[u8],
-    wires: &[u32],
-    rows: &[u32],
-    scratch: &mut [u32],
-    heads: &[u32],
-    chain: &[u32],
-) -> Outcome
-    requires { ⌜ LineFits (now f) line (now scratch) × (line .end - line .start ≤ 8192) ⌝ }
-    requires { ⌜ PlaceFits place sums ⌝ }
-    requires { ⌜ LinesIndexed (now heads) (now chain) (now names) (now wires) (now rows) (place .rows) (place .wires) ⌝ }
-    ensures { λ r. ⌜ Storable (now (f .entry)) r ⌝ }
-    ensures { λ r. ⌜ OutcomeAs (now (f .entry)) (now (scratch .exit)) line place sums (now (names .entry)) (now (wires .entry)) (now (rows .entry)) r ⌝ }
-{
-    let mut tokens = [0u32; 32768];
-    outcome_with(
-        f,
-        line,
-        place,
-        sums,
-        names,
-        wires,
-        rows,
-        &mut tokens,
-        scratch,
-        heads,
-        chain,
-    )
-}
-
-fn long_line(
-    f: &[u8],
-    line: Line,
-    place: Place,
-    sums: Sizes,
-    names: &[u8],
-    wires: &[u32],
-    rows: &[u32],
-    scratch: &mut [u32],
-    heads: &[u32],
-    chain: &[u32],
-) -> Outcome
-    requires { ⌜ LineFits (now f) line (now scratch) ⌝ }
-    requires { ⌜ PlaceFits place sums ⌝ }
-    requires { ⌜ LinesIndexed (now heads) (now chain) (now names) (now wires) (now rows) (place .rows) (place .wires) ⌝ }
-    ensures { λ r. ⌜ Storable (now (f .entry)) r ⌝ }
-    ensures { λ r. ⌜ OutcomeAs (now (f .entry)) (now (scratch .exit)) line place sums (now (names .entry)) (now (wires .entry)) (now (rows .entry)) r ⌝ }
-{
-    let mut tokens = [0u32; 131072];
-    outcome_with(
-        f,
-        line,
-        place,
-        sums,
-        names,
-        wires,
-        rows,
-        &mut tokens,
-        scratch,
-        heads,
-        chain,
-    )
-}
-
-// With the lent table, if the line's tokens fit into it whatever they are.
-fn line_outcome(
-    f: &[u8],
-    line: Line,
-    place: Place,
-    sums: Sizes,
-    names: &[u8],
-    wires: &[u32],
-    rows: &[u32],
-    tokens: &mut [u32],
-    scratch: &mut [u32],
-    heads: &[u32],
-    chain: &[u32],
-) -> Outcome
-    requires { ⌜ LineFits (now f) line (now scratch) × (length (now tokens) ≡ 8192) ⌝ }
-    requires { ⌜ PlaceFits place sums ⌝ }
-    requires { ⌜ LinesIndexed (now heads) (now chain) (now names) (now wires) (now rows) (place .rows) (place .wires) ⌝ }
-    ensures { λ r. ⌜ Storable (now (f .entry)) r ⌝ }
-    ensures { λ r. ⌜ OutcomeAs (now (f .entry)) (now (scratch .exit)) line place sums (now (names .entry)) (now (wires .entry)) (now (rows .entry)) r ⌝ }
-{
-    let size = line.end - line.start;
-    if size <= 2048 {
-        return outcome_with(
-            f,
-            line,
-            place,
-            sums,
-            names,
-            wires,
-            rows,
-            tokens,
-            scratch,
-            heads,
-            chain,
-        );
-    }
-    if size <= 8192 {
-        return middle_line(
-            f,
-            line,
-            place,
-            sums,
-            names,
-            wires,
-            rows,
-            scratch,
-            heads,
-            chain,
-        );
-    }
-    long_line(
-        f,
-        line,
-        place,
-        sums,
-        names,
-        wires,
-        rows,
-        scratch,
-        heads,
-        chain,
-    )
-}
-
 fn take_line(
     f: &[u8],
     line: Line,
@@ -257,7 +146,7 @@ fn take_line(
     heads: &mut [u32],
     chain: &mut [u32],
 ) -> Step
-    requires { ⌜ LineFits (now f) line (now scratch) × (length (now tokens) ≡ 8192) ⌝ }
+    requires { ⌜ LineFits (now f) line (now scratch) × (4 * (line .end - line .start) ≤ length (now tokens)) ⌝ }
     requires { ⌜ SomeDone place sums (tabled (now names) (now strings) (now bits) (now wires) (now rows)) ⌝ }
     requires { ⌜ LinesIndexed (now heads) (now chain) (now names) (now wires) (now rows) (place .rows) (place .wires) ⌝ }
     ensures { λ r. ⌜ StepAs (now (f .entry)) line place sums (tabled (now (names .entry)) (now (strings .entry)) (now (bits .entry)) (now (wires .entry)) (now (rows .entry))) (tabled (now (names .exit)) (now (strings .exit)) (now (bits .exit)) (now (wires .exit)) (now (rows .exit))) r ⌝ }
@@ -357,8 +246,12 @@ fn finish(size: usize, place: Place, sums: Sizes) -> Answer
     }
 }
 
+// The lines from this one on, up to one whose bytes are more than a quarter of the tokens' words.
 fn read_lines(
     f: &[u8],
+    first: Line,
+    behind: Place,
+    summed: Sizes,
     tokens: &mut [u32],
     scratch: &mut [u32],
     names: &mut [u8],
@@ -368,15 +261,18 @@ fn read_lines(
     rows: &mut [u32],
     heads: &mut [u32],
     chain: &mut [u32],
-) -> Answer
-    requires { ⌜ (length (now f) ≤ 32768) × (length (now tokens) ≡ 8192) × (length (now scratch) ≡ 36864) × (tabled (now names) (now strings) (now bits) (now wires) (now rows) ≡ tablesOf (memory empty 0)) ⌝ }
-    requires { ⌜ LinesIndexed (now heads) (now chain) (now names) (now wires) (now rows) 0 0 ⌝ }
-    ensures { λ r. ⌜ Landed (readAny (now (f .entry))) (tabled (now (names .exit)) (now (strings .exit)) (now (bits .exit)) (now (wires .exit)) (now (rows .exit))) r ⌝ }
+) -> Reach
+    requires { ⌜ Before (now f) (now scratch) behind summed (tabled (now names) (now strings) (now bits) (now wires) (now rows)) first ⌝ }
+    requires { ⌜ LinesIndexed (now heads) (now chain) (now names) (now wires) (now rows) (behind .rows) (behind .wires) ⌝ }
+    ensures { λ r. ⌜ ReachAs (now (f .entry)) (now (tokens .entry)) (now (scratch .exit)) (now (heads .exit)) (now (chain .exit)) (tabled (now (names .exit)) (now (strings .exit)) (now (bits .exit)) (now (wires .exit)) (now (rows .exit))) r ⌝ }
 {
-    let mut line = line_at(f, 0);
-    let mut place = start();
-    let mut sums = none();
+    let mut line = first;
+    let mut place = behind;
+    let mut sums = summed;
     while line.start < f.len() {
+        if tokens.len() / 4 < line.end - line.start {
+            return Reach::Longer { line, place, sums };
+        }
         let step = take_line(
             f,
             line,
@@ -393,13 +289,114 @@ fn read_lines(
             chain,
         );
         let Step::Next { place: p, sums: u } = step else {
-            return refusal(f, line, step);
+            return Reach::Ended(refusal(f, line, step));
         };
         place = p;
         sums = u;
         line = line_at(f, line.next);
     }
-    finish(f.len(), place, sums)
+    Reach::Ended(finish(f.len(), place, sums))
+}
+
+// With a table for any line.
+fn read_longest(
+    f: &[u8],
+    line: Line,
+    place: Place,
+    sums: Sizes,
+    scratch: &mut [u32],
+    names: &mut [u8],
+    strings: &mut [u8],
+    bits: &mut [u32],
+    wires: &mut [u32],
+    rows: &mut [u32],
+    heads: &mut [u32],
+    chain: &mut [u32],
+) -> Answer
+    requires { ⌜ Before (now f) (now scratch) place sums (tabled (now names) (now strings) (now bits) (now wires) (now rows)) line ⌝ }
+    requires { ⌜ LinesIndexed (now heads) (now chain) (now names) (now wires) (now rows) (place .rows) (place .wires) ⌝ }
+    ensures { λ r. ⌜ Landed (readAny (now (f .entry))) (tabled (now (names .exit)) (now (strings .exit)) (now (bits .exit)) (now (wires .exit)) (now (rows .exit))) r ⌝ }
+{
+    let mut tokens = [0u32; ALL_TOKENS];
+    match read_lines(
+        f,
+        line,
+        place,
+        sums,
+        &mut tokens,
+        scratch,
+        names,
+        strings,
+        bits,
+        wires,
+        rows,
+        heads,
+        chain,
+    ) {
+        Reach::Ended(a) => a,
+        Reach::Longer {
+            line: _,
+            place: _,
+            sums: _,
+        } => Answer::Accepted(0),
+    }
+}
+
+// With a table for lines up to 6,144 bytes.
+fn read_longer(
+    f: &[u8],
+    line: Line,
+    place: Place,
+    sums: Sizes,
+    scratch: &mut [u32],
+    names: &mut [u8],
+    strings: &mut [u8],
+    bits: &mut [u32],
+    wires: &mut [u32],
+    rows: &mut [u32],
+    heads: &mut [u32],
+    chain: &mut [u32],
+) -> Answer
+    requires { ⌜ Before (now f) (now scratch) place sums (tabled (now names) (now strings) (now bits) (now wires) (now rows)) line ⌝ }
+    requires { ⌜ LinesIndexed (now heads) (now chain) (now names) (now wires) (now rows) (place .rows) (place .wires) ⌝ }
+    ensures { λ r. ⌜ Landed (readAny (now (f .entry))) (tabled (now (names .exit)) (now (strings .exit)) (now (bits .exit)) (now (wires .exit)) (now (rows .exit))) r ⌝ }
+{
+    let mut tokens = [0u32; LONGER_TOKENS];
+    match read_lines(
+        f,
+        line,
+        place,
+        sums,
+        &mut tokens,
+        scratch,
+        names,
+        strings,
+        bits,
+        wires,
+        rows,
+        heads,
+        chain,
+    ) {
+        Reach::Ended(a) => a,
+        Reach::Longer {
+            line: l,
+            place: p,
+            sums: u,
+        } => read_longest(
+            f,
+            l,
+            p,
+            u,
+            scratch,
+            names,
+            strings,
+            bits,
+            wires,
+            rows,
+            heads,
+            chain,
+        ),
+    }
 }
 
 fn clear_tables(
@@ -419,7 +416,7 @@ fn clear_tables(
     clear_words(rows);
 }
 
-// A file of at most 32,768 bytes into zero tables.
+// A file of at most 32,768 bytes into zero tables. A table is cleared whole, so a larger one is made only where a line asks for it.
 fn read_file(
     f: &[u8],
     names: &mut [u8],
@@ -432,12 +429,15 @@ fn read_file(
     requires { ⌜ tabled (now names) (now strings) (now bits) (now wires) (now rows) ≡ tablesOf (memory empty 0) ⌝ }
     ensures { λ r. ⌜ Landed (readAny (now (f .entry))) (tabled (now (names .exit)) (now (strings .exit)) (now (bits .exit)) (now (wires .exit)) (now (rows .exit))) r ⌝ }
 {
-    let mut tokens = [0u32; 8192];
-    let mut scratch = [0u32; 36864];
+    let mut tokens = [0u32; SHORT_TOKENS];
+    let mut scratch = [0u32; SCRATCH];
     let mut heads = [0u32; ALL_HEADS];
     let mut chain = [0u32; ALL_CHAIN];
-    read_lines(
+    match read_lines(
         f,
+        line_at(f, 0),
+        start(),
+        none(),
         &mut tokens,
         &mut scratch,
         names,
@@ -447,7 +447,41 @@ fn read_file(
         rows,
         &mut heads,
         &mut chain,
-    )
+    ) {
+        Reach::Ended(a) => a,
+        Reach::Longer { line, place, sums } => {
+            if LONGER_LINE < line.end - line.start {
+                return read_longest(
+                    f,
+                    line,
+                    place,
+                    sums,
+                    &mut scratch,
+                    names,
+                    strings,
+                    bits,
+                    wires,
+                    rows,
+                    &mut heads,
+                    &mut chain,
+                );
+            }
+            read_longer(
+                f,
+                line,
+                place,
+                sums,
+                &mut scratch,
+                names,
+                strings,
+                bits,
+                wires,
+                rows,
+                &mut heads,
+                &mut chain,
+            )
+        }
+    }
 }
 
 // Into tables of the right lengths.
