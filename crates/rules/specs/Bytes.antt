@@ -1,4 +1,6 @@
 -- Bytes, their classes, and names.
+-- Source: document 01, "Bytes, words and lines", over 004's lexical part. Stricter than 004: a name is at most 255
+-- bytes. Classes end at 255, so that nothing has to say that a list holds bytes.
 use Prim.Native.Nat.{ℕ}
 use Prim.Native.Char.{Char, code}
 use Prim.Native.String.{String}

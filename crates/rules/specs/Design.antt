@@ -1,4 +1,5 @@
--- The design.
+-- The design that statements define, and its statements in the order of writing.
+-- Source: document 01, "Objects", and the order of "The one written text". Order between kinds is no part of a design.
 use mathlib.Core.List.{List, [], _∷_, _++_, map, flatMap, zip, head?, Option·toList}
 use mathlib.Core.Option.{Option}
 use mathlib.Core.Bool.{Bool, cond}

@@ -1,4 +1,6 @@
 -- The number that a line of good shape is refused with, after the statements so far.
+-- Source: document 01, "Numbers given back", with the name spaces of "Objects" and the limits of "Sizes"; 004 has none
+-- of these. On one line the lowest number counts, so the tests stand in that order.
 use Prim.Native.Nat.{ℕ, _+_}
 use mathlib.Core.List.{List, [], _∷_, map, flatMap, zip, Option·toList}
 use mathlib.Core.Option.{Option, none, some}

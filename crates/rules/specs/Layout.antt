@@ -1,4 +1,6 @@
 -- The design memory: where the statements of a file and the standing renames lie in the lent tables.
+-- Source: document 01, "Sizes", for how long the tables are, and refusal 3. How they are laid out is a choice: document
+-- 01 asks that they hold the design and the standing renames, unused room zero.
 use Prim.Native.Nat.{ℕ, _+_, _-_, _*_}
 use mathlib.Core.Path.{_≡_}
 use mathlib.Core.List.{List, [], _∷_, _++_, map, flatMap, zip, foldl}

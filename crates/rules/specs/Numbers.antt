@@ -1,4 +1,6 @@
 -- Number and option rules, and what options mean.
+-- Source: document 01, "Objects", and 004's 32-bit integers. Stricter than 004: an option stands once, a wire is at
+-- most one of input, output and inout, and widths, sizes and port numbers have bounds.
 use Prim.Native.Nat.{ℕ, _-_}
 use Prim.Native.String.{String}
 use mathlib.Core.List.{List, [], _∷_, Option·toList}

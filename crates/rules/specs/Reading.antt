@@ -1,4 +1,6 @@
--- Reading a file.
+-- Reading a file: its statements, or the number and place of its first refused line.
+-- Source: document 01, "Numbers given back". Stricter than 004: a last line with tokens needs its line end, and a file
+-- is at most 32,768 bytes.
 use Prim.Native.Nat.{ℕ}
 use mathlib.Core.List.{List, [], _∷_, reverse}
 use mathlib.Core.Option.{Option, none, some}

@@ -1,4 +1,6 @@
 -- The plain session, and the calls that ask of a design.
+-- Source: document 01, "The plain session", "The name to show", and the author's index of "Signals". All of it is said
+-- of a design and a list of renames, and nothing of memory.
 use Prim.Native.Nat.{ℕ, zero, suc, _+_, _-_}
 use mathlib.Core.List.{List, [], _∷_, _++_, map, dropLast, foldl}
 use mathlib.Core.Option.{Option, Option·elim}

@@ -1,4 +1,6 @@
--- The shape of a line's tokens, by the grammar of 004.
+-- The shape of a line's tokens, by the grammar of 004; its rules stand in <>.
+-- Wider than these rules in one place: 004's module body omits `connect`, which its text and 000 list. Stricter: a
+-- bundle is at most 16 deep, and no line inside a process has a shape.
 use Prim.Native.Nat.{ℕ, zero, suc}
 use Prim.Native.Char.{Char}
 use Prim.Native.String.{String}

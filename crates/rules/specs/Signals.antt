@@ -1,4 +1,7 @@
 -- The bits of a signal.
+-- Source: document 01, "Signals", after 004 and 000, and document 02's request 2 for values with few digits. Stricter
+-- than 004: a wire must be declared before, and a slice lies inside its signal. Indexes count from bit 0, whatever the
+-- offset.
 use Prim.Native.Nat.{ℕ, zero, suc, _+_, _-_, _*_, _/_, _%_}
 use mathlib.Core.List.{List, [], _∷_, _++_, map, reverse, flatMap}
 use mathlib.Core.Option.{Option, none, some, Option·getD, Option·elim}

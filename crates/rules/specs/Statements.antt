@@ -1,4 +1,6 @@
 -- What a line says: a statement as it is written, which is its shape, and as it is meant.
+-- Source: 004's rules that end in -stmt, and document 01, "Objects" and "Signals", for what they mean. Of a process
+-- only the first line is here, so that it can be refused by its own number.
 use Prim.Native.Nat.{ℕ}
 use mathlib.Core.List.{List, [], _∷_, Option·toList}
 use mathlib.Core.Option.{Option, Option·map}

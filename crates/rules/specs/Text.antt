@@ -1,4 +1,5 @@
--- The one written text.
+-- The one written text, and what the program writes.
+-- Source: document 01, "The one written text", and the end of "Sizes" for the program.
 use Prim.Native.Nat.{ℕ, zero, suc, _+_, _-_, _*_, _/_, _%_}
 use Prim.Native.String.{String}
 use mathlib.Core.List.{List, [], _∷_, _++_, map, flatMap, reverse, Option·toList}

@@ -1,4 +1,7 @@
 -- The tokens of a line.
+-- Source: 004's lexical part, which document 01, "Bytes, words and lines", narrows. Stricter than 004: a word is one of
+-- its keywords; bytes 10 and 13 may not stand in a string; an octal is 1 to 255; what follows a word, integer, value or
+-- string must part it from the next token.
 use Prim.Native.Nat.{ℕ, zero, suc, _+_, _-_, _*_}
 use mathlib.Core.List.{List, [], _∷_, _++_, map}
 use mathlib.Core.Bool.{Bool, true, cond, _||_}
@@ -79,12 +82,13 @@ escapeTurn b =
     (cond (eqb b (byte "t")) (goes (9 ∷ []) plain)
     (cond (isStringByte b) (goes (b ∷ []) plain) breaks)))
 
--- an octal of 0 or above 255 is a bad token
+-- a byte in front of those that a turn gives
 unfoldable pub onto : ℕ → Turn → Turn
 onto n (goes bs i) = goes (n ∷ bs) i
 onto n (ends bs) = ends (n ∷ bs)
 onto n breaks = breaks
 
+-- an octal's byte, in front of what else the turn gives; an octal of 0 or above 255 is a bad token
 unfoldable pub octalByte : ℕ → Turn → Turn
 octalByte n t = cond (within 1 255 n) (onto n t) breaks
 
