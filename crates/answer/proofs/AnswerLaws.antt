@@ -20,11 +20,11 @@ use Rattle.netlist.specs.Lengths.{rightSizes, rightLengths}
 use Rattle.text.specs.Written.{Written, written-end, written-whole}
 use Rattle.netlist.specs.Results.{Result}
 use Rattle.reader.specs.Read.{leaves, readInto}
+use Rattle.held.specs.HeldLaws.{holds-sizes}
 use Rattle.session.specs.Called.{Called, wrong-lengths, damaged, holding}
 use Rattle.writer.specs.Write.{wrote}
 use Rattle.session.specs.CalledLaws.{called-one, called-turn}
-use Rattle.calls.proofs.CallLaws.{LengthsKept, lengths-kept}
-use Rattle.calls.proofs.RunLaws.{Accepted, number-read, accepted-holds}
+use Rattle.calls.specs.StepLaws.{read-holds, Accepted, number-read}
 use Rattle.answer.specs.Printed.{putting, PrintedAs}
 
 -- A REFUSAL has at most 22 bytes
@@ -129,7 +129,7 @@ module _ (file : List ℕ) (m : Memory) (x : Result) (e : x ≡ readInto file m)
   unfolding readInto program
   answer-refused l z = refused-by-answer (read file) (rw l at e) z
 
-  module _ (z : x .number ≡ 0) (k : LengthsKept (x .memory) m) (old : List ℕ) (size : length old ≡ 32768) where
+  module _ (z : x .number ≡ 0) (old : List ℕ) (size : length old ≡ 32768) where
     abbrev says : List Statement → List Rename → ℕ × List ℕ
     says ss rs = putting old (printed (write (length old) (now (design ss) rs)))
 
@@ -140,4 +140,5 @@ module _ (file : List ℕ) (m : Memory) (x : Result) (e : x ≡ readInto file m)
     pub answer-held : (new : List ℕ) (r : ℕ) → PrintedAs (x .memory) old new r → _≡_ {A = ℕ × List ℕ} (r, new) (putting old (program file))
     answer-held new r h =
         let a = number-read file m x e z in
-        called-one h (holding (a .statements) [] (lengths-kept (x .memory) m k ∙ a .lengths) (accepted-holds file m x a) refl) ∙ says-program a
+        let held = read-holds file (a .reads) (a .is) in
+        called-one h (holding (a .statements) [] (holds-sizes held) held refl) ∙ says-program a
