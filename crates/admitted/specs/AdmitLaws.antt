@@ -18,9 +18,9 @@ use Rattle.rules.specs.Judgement.{Past, until, ofModule, wires, portNumbers, ta
 use Rattle.scanner.specs.Laws.{by-test, and-true-left, and-true-right}
 use Rattle.scanner.specs.Lists.{keeps-before}
 use Rattle.scanner.specs.Elements.{all-append, all-implied, test-at}
-use Rattle.past.specs.Sizes.{sumsOf, Within}
-use Rattle.past.specs.Offsets.{fitsOffset, Offsets, no-offsets, more-offsets}
-use Rattle.past.proofs.SizeLaws.{within-past, within-none}
+use Rattle.context.specs.Sizes.{sumsOf, Within}
+use Rattle.context.specs.Offsets.{fitsOffset, Offsets, no-offsets, more-offsets}
+use Rattle.context.proofs.SizeLaws.{within-past, within-none}
 use Rattle.admitted.specs.Admitted.{stands, fineConstant, ownWire, newPorts, fineMemory, fineSignal, sameLength, fineAlone, fineParts, admits, admitted}
 use Rattle.admitted.specs.CountLaws.{Standing, none-stand, one-stands, rows-few}
 

@@ -13,12 +13,12 @@ use Rattle.rules.specs.Bytes.{any, all}
 use Rattle.rules.specs.Statements.{Statement, Kind, anAutoidx, anAttribute, aModule, aParameter, aWire, aMemory, aCell, aCellParameter, aCellConnection, aConnection, aProcess, anEnd, code, contents, is}
 use Rattle.rules.specs.Shapes.{Scope, top, inModule, inCell}
 use Rattle.rules.specs.Judgement.{Past, sum, scope, context, among, count}
-use Rattle.past.specs.Place.{scopeCode, scopeAfter}
-use Rattle.past.specs.Sizes.{sizesBy, sumsOf, Within}
+use Rattle.context.specs.Place.{scopeCode, scopeAfter}
+use Rattle.context.specs.Sizes.{sizesBy, sumsOf, Within}
 use Rattle.scanner.specs.Laws.{by-test, and-true-left, and-true-right}
 use Rattle.scanner.specs.Elements.{test-at}
-use Rattle.past.proofs.KindLaws.{count-one, count-two}
-use Rattle.past.proofs.PlaceLaws.{scope-step}
+use Rattle.context.proofs.KindLaws.{count-one, count-two}
+use Rattle.context.proofs.PlaceLaws.{scope-step}
 use Rattle.admitted.specs.Admitted.{kinds, stands}
 
 -- each statement stands after those before it

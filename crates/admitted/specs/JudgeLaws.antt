@@ -11,7 +11,7 @@ use Rattle.rules.specs.Numbers.{wireOf, memoryOf}
 use Rattle.rules.specs.Signals.{Wires, kept, bits}
 use Rattle.rules.specs.Judgement.{Past, wires, among, breaksNumber, lacksWire, takesName, breaksWidth, partTooWide, exceedsSize, lowest, Verdict, verdict, meaning, judgeIn, judge}
 use Rattle.scanner.specs.Elements.{all-first, all-later, Each}
-use Rattle.past.specs.Forms.{translated, contents-translated}
+use Rattle.context.specs.Forms.{translated, contents-translated}
 
 -- what a shape means is of its kind
 pub meaning-kind : (ws : Wires) (sh : Shape) → contents (meaning ws sh) .kind ≡ contents sh .kind

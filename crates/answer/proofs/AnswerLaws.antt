@@ -20,7 +20,7 @@ use Rattle.netlist.specs.Lengths.{rightSizes, rightLengths}
 use Rattle.text.specs.Written.{Written, written-end, written-whole}
 use Rattle.netlist.specs.Results.{Result}
 use Rattle.reader.specs.Read.{leaves, readInto}
-use Rattle.held.specs.HeldLaws.{holds-sizes}
+use Rattle.memory_check.specs.HeldLaws.{holds-sizes}
 use Rattle.session.specs.Called.{Called, wrong-lengths, damaged, holding}
 use Rattle.writer.specs.Write.{wrote}
 use Rattle.session.specs.CalledLaws.{called-one, called-turn}

@@ -15,7 +15,7 @@ use Rattle.scanner.specs.Lists.{flatMap-snoc}
 use Rattle.tables.specs.Store.{store, store-none, store-more, store-then}
 use Rattle.admitted.specs.Holds.{Holds}
 use Rattle.netlist.specs.Results.{Result, result}
-use Rattle.held.specs.OneLaws.{holds-one}
+use Rattle.memory_check.specs.OneLaws.{holds-one}
 use Rattle.session.specs.Called.{CalledAs}
 use Rattle.theorems.specs.DamagedMemory.{Held}
 use Rattle.calls.specs.Calls.{callWord, renameAt, callAt, callsFrom, callsIn, answerWords, answered}

@@ -16,7 +16,7 @@ use Rattle.admitted.specs.Holds.{Holds, no-renames}
 use Rattle.netlist.specs.Results.{Result}
 use Rattle.netlist.specs.Lengths.{rightLengths}
 use Rattle.reader.specs.Read.{readInto}
-use Rattle.standing.specs.RoomLaws.{room-used}
+use Rattle.rename_rules.specs.RoomLaws.{room-used}
 use Rattle.session.specs.Called.{CalledAs}
 use Rattle.theorems.specs.StandingLaws.{allowed-session, session-allowed}
 use Rattle.calls.specs.StepLaws.{answerIn, Stepped, called, read-leaves, read-holds, number-read}

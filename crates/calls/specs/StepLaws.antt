@@ -20,7 +20,7 @@ use Rattle.netlist.specs.Results.{Result, result}
 use Rattle.netlist.specs.Lengths.{rightLengths}
 use Rattle.reader.specs.Read.{leaves, readInto}
 use Rattle.soundness.specs.ReadLaws.{read-admitted, numbered, read-numbered}
-use Rattle.held.specs.HeldLaws.{holds-sizes}
+use Rattle.memory_check.specs.HeldLaws.{holds-sizes}
 use Rattle.session.specs.Called.{holding, after, CalledAs}
 use Rattle.session.specs.CalledLaws.{called-one}
 use Rattle.theorems.specs.StandingLaws.{allowed-session}

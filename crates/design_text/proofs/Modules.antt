@@ -24,7 +24,7 @@ use Rattle.scanner.specs.Elements.{all-snoc}
 use Rattle.scanner.specs.Sums.{sum-behind}
 use Rattle.wires.specs.Rows.{column, nameOf, wireOf}
 use Rattle.wires.specs.RowLaws.{row-wire, row-name}
-use Rattle.past.specs.Place.{wiresIn}
+use Rattle.context.specs.Place.{wiresIn}
 use Rattle.netlist.specs.Rows.{kindAt}
 use Rattle.netlist.specs.Laid.{roomsOf}
 use Rattle.netlist.specs.LaidLaws.{length-rows, eights-rows}
@@ -35,13 +35,13 @@ use Rattle.netlist.specs.Spans.{Has}
 use Rattle.netlist.specs.Tables.{Tables}
 use Rattle.netlist.specs.Fronts.{Fronts}
 use Rattle.netlist.specs.FrontLaws.{fronts-wired, fronts-renames, fronts-stand, fronts-kind, fronts-wire, parts-wire}
-use Rattle.designs.specs.Modules.{statementsOf, wiresOf, moduleCount, upTo}
-use Rattle.designs.specs.Now.{nameNow}
-use Rattle.designs.specs.Ranges.{wireRange}
-use Rattle.designs.specs.PastLaws.{module-counts, other-counts, count-step, module-first, module-more, module-past, none-counts, up-to-all, up-to-back}
-use Rattle.designs.specs.DecodeLaws.{decodes-last}
-use Rattle.designs.specs.HeadLaws.{standing-headed}
-use Rattle.designs.specs.WireLaws.{none-wires, wires-back, wire-range-there, wires-range, Adds, a-wire, no-wire, adds, wires-more}
+use Rattle.modules.specs.Modules.{statementsOf, wiresOf, moduleCount, upTo}
+use Rattle.modules.specs.Now.{nameNow}
+use Rattle.modules.specs.Ranges.{wireRange}
+use Rattle.modules.specs.PastLaws.{module-counts, other-counts, count-step, module-first, module-more, module-past, none-counts, up-to-all, up-to-back}
+use Rattle.modules.specs.DecodeLaws.{decodes-last}
+use Rattle.modules.specs.HeadLaws.{standing-headed}
+use Rattle.modules.specs.WireLaws.{none-wires, wires-back, wire-range-there, wires-range, Adds, a-wire, no-wire, adds, wires-more}
 use Rattle.wire_names.specs.Now as line
 use Rattle.wire_names.specs.declared.Module.{Module}
 use Rattle.line_text.specs.Lines.{statementNow}
@@ -55,7 +55,7 @@ use Rattle.design_text.specs.Rows.{nextRow, rowLine, lineIf, kindRows, b
 use Rattle.design_text.proofs.NowLaws.{fronts-past, name-is, wires-are}
 use Rattle.design_text.proofs.Passes.{waits, passes, Rowed, no-rows, one-row, rowed-more, Kinded, no-kinds, one-kind, next-until, more-behind, row-line, attribute-rows, body-rows}
 use Rattle.design_text.proofs.Named.{named-code, named-other, nowed, length-nowed, body-nowed}
-use Rattle.past.specs.Forms.{by-form, is-other}
+use Rattle.context.specs.Forms.{by-form, is-other}
 
 -- ---- how many wires
 

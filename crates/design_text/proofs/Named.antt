@@ -13,8 +13,8 @@ use Rattle.rules.specs.Signals.{Wires}
 use Rattle.rules.specs.Judgement.{until}
 use Rattle.rules.specs.Session.{Rename}
 use Rattle.scanner.specs.Laws.{by-test}
-use Rattle.past.specs.Forms.{by-form, is-other}
-use Rattle.designs.specs.Now.{nameNow}
+use Rattle.context.specs.Forms.{by-form, is-other}
+use Rattle.modules.specs.Now.{nameNow}
 use Rattle.module_text.specs.Passes.{named, kindLines, Print, objectLines, printWire, printMemory, cellBlock, printToEnd, bodyLines}
 use Rattle.module_text.specs.StandLaws.{Follows, cells-end}
 

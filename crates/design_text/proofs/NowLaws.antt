@@ -18,10 +18,10 @@ use Rattle.netlist.specs.Laid.{roomsOf}
 use Rattle.netlist.specs.Tables.{Tables}
 use Rattle.netlist.specs.Fronts.{Fronts}
 use Rattle.netlist.specs.FrontLaws.{fronts-before, fronts-laid}
-use Rattle.designs.specs.Now as design
+use Rattle.modules.specs.Now as design
 use Rattle.wire_names.specs.Now.{nameNow, wiresNow}
 use Rattle.module_text.specs.Passes.{declaredNow, wiresDown}
-use Rattle.standing.specs.NowLaws.{name-now-laid}
+use Rattle.rename_rules.specs.NowLaws.{name-now-laid}
 
 module _ {t : Tables} where
   pub fronts-past : (qs : List Statement) (ps : Past) → Fronts (roomsOf (reverseAux qs ps)) t → Fronts (roomsOf ps) t

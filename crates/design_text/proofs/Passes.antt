@@ -16,7 +16,7 @@ use Rattle.rules.specs.Judgement.{until}
 use Rattle.rules.specs.Text.{textOpen}
 use Rattle.scanner.specs.Laws.{by-test, and-true-left, and-true-right, eqb-sym}
 use Rattle.scanner.specs.Elements.{all-snoc}
-use Rattle.past.specs.Forms.{is-other}
+use Rattle.context.specs.Forms.{is-other}
 use Rattle.netlist.specs.Rows.{kindAt}
 use Rattle.wire_names.specs.Now.{wiresIn}
 use Rattle.wire_names.specs.declared.Module.{Module}

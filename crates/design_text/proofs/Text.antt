@@ -8,7 +8,7 @@ use Rattle.rules.specs.Design.{design}
 use Rattle.rules.specs.Session.{Rename, now}
 use Rattle.rules.specs.Text.{text}
 use Rattle.rules.specs.Layout.{Memory, putRenames}
-use Rattle.past.specs.Place.{wiresIn}
+use Rattle.context.specs.Place.{wiresIn}
 use Rattle.netlist.specs.Laid.{roomsOf}
 use Rattle.admitted.specs.Holds.{Holds}
 use Rattle.module_text.specs.PassLaws.{text-file}

@@ -6,7 +6,7 @@ use lib.Dec.{eqb}
 use Rattle.rules.specs.Bytes.{bytes}
 use Rattle.netlist.specs.Rows.{kindAt}
 use Rattle.netlist.specs.Tables.{Tables}
-use Rattle.designs.specs.Ranges.{wireRange}
+use Rattle.modules.specs.Ranges.{wireRange}
 use Rattle.wire_names.specs.Now.{wiresIn}
 use Rattle.wire_names.specs.declared.Module.{Module}
 use Rattle.line_text.specs.Lines.{statementNow, lineOf}

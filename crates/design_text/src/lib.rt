@@ -1,7 +1,7 @@
 // The written text of design memory: passes over the rows of its statements, one for each kind of line.
 // All of it is total: a word past a table's end counts as 0, and a row that holds no statement is not written.
-use designs::module_wires;
 use line_text::put_line;
+use modules::module_wires;
 use netlist::rows::row_kind;
 use numbers::kinds::ModuleNumber;
 use text::put_bytes;

@@ -21,14 +21,14 @@ use Rattle.tokens.specs.declared.Constant.the-variants as constant
 use Rattle.tokens.specs.declared.Literal.{Literal}
 use Rattle.tokens.specs.declared.Literal.the-variants as literal
 use Rattle.literals.proofs.CodeLaws.{value-few, value-width}
-use Rattle.forms.specs.Forms.{nameIn, valueIn}
-use Rattle.forms.specs.declared.Span.{Span}
+use Rattle.line_forms.specs.Forms.{nameIn, valueIn}
+use Rattle.line_forms.specs.declared.Span.{Span}
 use Rattle.syntax.specs.Statements.{numberOf, lateOf, statementIn, kindIn, namesIn, Sound, GoodOptional}
 use Rattle.syntax.specs.declared.Statement.{Statement}
 use Rattle.syntax.specs.declared.Statement.the-variants.{Autoidx, Attribute, Module, Parameter, Wire, Memory, Cell, CellParameter, CellConnection, Connection, End, NoShape, Process, BadNumber, MissingWire}
-use Rattle.past.specs.Sizes.{KindSizesAre, sizesOf, AtMost}
-use Rattle.past.specs.declared.sizes.Sizes.{Sizes}
-use Rattle.past.proofs.SizeLaws.{sizes-small}
+use Rattle.context.specs.Sizes.{KindSizesAre, sizesOf, AtMost}
+use Rattle.context.specs.declared.sizes.Sizes.{Sizes}
+use Rattle.context.proofs.SizeLaws.{sizes-small}
 use Rattle.syntax.specs.SignalLaws.{signal-long}
 use Rattle.judgement.specs.Parts.{namedParts, refusalParts, connectionParts, partsOf, constantsIn, digitsIn, bytesIn, SizesAre}
 use Rattle.judgement.specs.declared.Parts.{Parts}

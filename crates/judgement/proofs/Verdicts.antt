@@ -15,15 +15,15 @@ use Rattle.rules.specs.Judgement.{Past, context, wires, Verdict, verdict, lowes
 use Rattle.rules.specs.Reading.{shaped}
 use Rattle.tokens.specs.Rows.{line}
 use Rattle.wires.specs.Rows.{wiresFrom}
-use Rattle.forms.specs.Forms.{nameIn}
+use Rattle.line_forms.specs.Forms.{nameIn}
 use Rattle.syntax.specs.Statements.{numberOf, lateOf, late, Sound, Judged, Says, no-shape, judged, StatementIs}
 use Rattle.syntax.specs.declared.Statement.{Statement}
 use Rattle.syntax.proofs.Verdicts.{behind, judged-early, judged-late, says-judged, says-sound}
-use Rattle.past.specs.Sizes.{sumsOf, plusOf, exceeds}
-use Rattle.past.specs.declared.place.Place.{Place}
-use Rattle.past.specs.declared.sizes.Sizes.{Sizes}
-use Rattle.past.proofs.PlaceLaws.{context-is}
-use Rattle.past.proofs.SizeLaws.{sums-step, exceeds-sums}
+use Rattle.context.specs.Sizes.{sumsOf, plusOf, exceeds}
+use Rattle.context.specs.declared.place.Place.{Place}
+use Rattle.context.specs.declared.sizes.Sizes.{Sizes}
+use Rattle.context.proofs.PlaceLaws.{context-is}
+use Rattle.context.proofs.SizeLaws.{sums-step, exceeds-sums}
 use Rattle.netlist.specs.Found.{foundIn}
 use Rattle.netlist.specs.FoundLaws.{takes-found}
 use Rattle.judgement.specs.Parts.{partsOf, takenIn, SizesAre}

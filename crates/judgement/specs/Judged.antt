@@ -15,10 +15,10 @@ use Rattle.wires.specs.Rows.{wiresFrom}
 use Rattle.netlist.specs.Laid.{roomsOf, Laid}
 use Rattle.syntax.specs.Statements.{lateOf, statementIn, Sound, Says}
 use Rattle.syntax.specs.declared.Statement.{Statement}
-use Rattle.past.specs.Place.{placeOf}
-use Rattle.past.specs.Sizes.{sumsOf, Within}
-use Rattle.past.specs.declared.place.Place.{Place}
-use Rattle.past.specs.declared.sizes.Sizes.{Sizes}
+use Rattle.context.specs.Place.{placeOf}
+use Rattle.context.specs.Sizes.{sumsOf, Within}
+use Rattle.context.specs.declared.place.Place.{Place}
+use Rattle.context.specs.declared.sizes.Sizes.{Sizes}
 use Rattle.judgement.specs.declared.Judged.{Judged}
 use Rattle.judgement.specs.declared.Judged.the-variants.{Stated, Refused}
 

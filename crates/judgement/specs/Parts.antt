@@ -11,14 +11,14 @@ use Rattle.rules.specs.Signals.{kept}
 use Rattle.rules.specs.Judgement.{sum}
 use Rattle.tokens.specs.declared.Literal.{Literal}
 use Rattle.tokens.specs.declared.Literal.the-variants as literal
-use Rattle.forms.specs.Forms.{nameIn, valueIn}
-use Rattle.forms.specs.declared.Span.{Span}
+use Rattle.line_forms.specs.Forms.{nameIn, valueIn}
+use Rattle.line_forms.specs.declared.Span.{Span}
 use Rattle.syntax.specs.Statements.{statementIn}
 use Rattle.syntax.specs.declared.Statement.{Statement}
 use Rattle.syntax.specs.declared.Statement.the-variants.{Autoidx, Attribute, Module, Parameter, Wire, Memory, Cell, CellParameter, CellConnection, Connection, End, NoShape, Process, BadNumber, MissingWire}
-use Rattle.past.specs.Sizes.{sizesOf}
-use Rattle.past.specs.declared.sizes.Sizes.{Sizes}
-use Rattle.past.specs.declared.place.Place.{Place}
+use Rattle.context.specs.Sizes.{sizesOf}
+use Rattle.context.specs.declared.sizes.Sizes.{Sizes}
+use Rattle.context.specs.declared.place.Place.{Place}
 use Rattle.netlist.specs.Found.{foundIn}
 use Rattle.judgement.specs.declared.Parts.{Parts}
 

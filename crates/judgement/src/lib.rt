@@ -1,12 +1,12 @@
 // The verdict on one line after the statements so far: its statement with the sums of each size, or the lowest number that it is refused with.
-use forms::Span;
+use context::place::Place;
+use context::sizes::Sizes;
+use context::sizes::kind_sizes;
+use context::sizes::plus;
+use context::sizes::within;
+use line_forms::Span;
 use literals::literal_width;
 use name_index::indexed_found;
-use past::place::Place;
-use past::sizes::Sizes;
-use past::sizes::kind_sizes;
-use past::sizes::plus;
-use past::sizes::within;
 use scanner::parts::part;
 use signals::Scope;
 use strings::string_size;
@@ -18,11 +18,11 @@ ghost use mathlib.Core.Path.{_≡_};
 ghost use mathlib.Core.Option.{none};
 ghost use Prim.Native.Nat.{_-_, _≤_};
 ghost use lib.ListN.{length};
-ghost use Rattle.forms.specs.Forms.{nameIn};
+ghost use Rattle.line_forms.specs.Forms.{nameIn};
 ghost use Rattle.syntax.specs.Statements.{numberOf, lateOf, Sound, GoodOptional, Ready};
 ghost use Rattle.name_index.specs.Index.{keyAt, Indexed, LinesIndexed};
-ghost use Rattle.past.specs.Place.{Bounds};
-ghost use Rattle.past.specs.Sizes.{Within, AtMost};
+ghost use Rattle.context.specs.Place.{Bounds};
+ghost use Rattle.context.specs.Sizes.{Within, AtMost};
 ghost use Rattle.judgement.specs.Parts.{namedParts, refusalParts, connectionParts, partsOf, digitsIn, bytesIn, SizesAre, takenIn};
 ghost use Rattle.judgement.specs.Judged.{JudgedAs, JudgesAs, Storable};
 

@@ -8,8 +8,8 @@ use lib.ListN.{length}
 use Rattle.rules.specs.Statements.{Statement}
 use Rattle.rules.specs.Judgement.{Past}
 use Rattle.rules.specs.Layout.{Used, used}
-use Rattle.past.specs.Place.{placeOf, wiresIn}
-use Rattle.past.specs.Sizes.{sizesBy, sumsOf, Within}
+use Rattle.context.specs.Place.{placeOf, wiresIn}
+use Rattle.context.specs.Sizes.{sizesBy, sumsOf, Within}
 use Rattle.netlist.specs.Laid.{roomsOf}
 use Rattle.netlist.specs.Used.{usedBy}
 use Rattle.netlist.specs.UsedLaws.{used-past}

@@ -23,8 +23,8 @@ use Rattle.wires.specs.Rows.{wordAt, column, wireOf}
 use Rattle.wires.specs.RowLaws.{flags-back, port-number-back}
 use Rattle.numbers.specs.Kinds.{sortOf}
 use Rattle.numbers.specs.KindLaws.{sort-code}
-use Rattle.forms.specs.Forms.{nameIn, valueIn}
-use Rattle.forms.specs.declared.Span.{Span}
+use Rattle.line_forms.specs.Forms.{nameIn, valueIn}
+use Rattle.line_forms.specs.declared.Span.{Span}
 use Rattle.syntax.specs.Statements.{lateOf, wireFrom, memoryFrom, signalIn, statementIn, GoodConstant, GoodOptional, Sound}
 use Rattle.syntax.specs.declared.Statement.{Statement}
 use Rattle.syntax.specs.declared.Statement.the-variants.{Autoidx, Attribute, Module, Parameter, Wire as WireOf, Memory as MemoryOf, Cell, CellParameter, CellConnection, Connection, End, NoShape, Process, BadNumber, MissingWire}

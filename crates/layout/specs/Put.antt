@@ -22,7 +22,7 @@ use Rattle.tokens.specs.Rows.{literalIn}
 use Rattle.tokens.specs.declared.Constant.{Constant}
 use Rattle.tokens.specs.declared.Literal.{Literal}
 use Rattle.literals.specs.Codes.{Whole}
-use Rattle.forms.specs.Forms.{valueIn, ValueHolds}
+use Rattle.line_forms.specs.Forms.{valueIn, ValueHolds}
 
 -- each table with one statement more
 module _ (u : layout.Used) (s : Statement) (t : List ℕ) where

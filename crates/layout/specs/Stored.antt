@@ -9,8 +9,8 @@ use Rattle.rules.specs.Statements.{contents}
 use Rattle.rules.specs.Layout as rooms
 use Rattle.rules.specs.Layout.{statementRow}
 use Rattle.tokens.specs.declared.Literal.{Literal}
-use Rattle.forms.specs.Forms.{nameIn}
-use Rattle.forms.specs.declared.Span.{Span}
+use Rattle.line_forms.specs.Forms.{nameIn}
+use Rattle.line_forms.specs.declared.Span.{Span}
 use Rattle.syntax.specs.Statements.{lateOf, statementIn, GoodOptional, Sound}
 use Rattle.syntax.specs.declared.Statement.{Statement}
 use Rattle.syntax.specs.declared.Statement.the-variants.{Autoidx, Attribute, Module, Parameter, Wire as WireOf, Memory as MemoryOf, Cell, CellParameter, CellConnection, Connection, End, NoShape, Process, BadNumber, MissingWire}

@@ -1,5 +1,5 @@
 // The parts of a statement in design memory: names, string, bits and a wire's row behind what is used of their tables, and the statement's row of columns.
-use forms::Span;
+use line_forms::Span;
 use literals::literal_width;
 use literals::put_literal;
 use netlist::used::Used;
@@ -28,7 +28,7 @@ ghost use Rattle.rules.specs.Layout.{row, digitCode, constantColumns};
 ghost use Rattle.tables.specs.Store.{store};
 ghost use Rattle.strings.specs.Decoded.{decoded, closes};
 ghost use Rattle.tokens.specs.Rows.{integerIn, literalIn};
-ghost use Rattle.forms.specs.Forms.{nameIn};
+ghost use Rattle.line_forms.specs.Forms.{nameIn};
 ghost use Rattle.syntax.specs.Statements.{signalIn};
 ghost use Rattle.netlist.specs.Used.{usedOf};
 ghost use Rattle.layout.specs.Put.{namesPut, bitsPut, rowsPut, Fits, constantIn, optionalIn, optionalColumns, optionalBytes, optionalDigits, valuedRow, ConstantFits, OptionalFits, WirePut};

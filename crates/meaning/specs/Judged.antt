@@ -20,7 +20,7 @@ use Rattle.rules.specs.Text.{sig, literalOf, wireOptions, memoryOptions, writte
 use Rattle.admitted.specs.Admitted.{stands, fineConstant, ownWire, newPorts, fineMemory, fineSignal, sameLength, admits, admitted}
 use Rattle.scanner.specs.Elements.{all-append, all-first, all-later, all-implied, all-map, all-through, all-both, test-at}
 use Rattle.admitted.specs.AdmitLaws.{FineParts, fine-parts, Admits, admits-all}
-use Rattle.past.specs.Forms.{translated, contents-translated}
+use Rattle.context.specs.Forms.{translated, contents-translated}
 use Rattle.admitted.specs.CountLaws.{never-process}
 use Rattle.meaning.specs.Shapes.{shape-written}
 use Rattle.meaning.specs.Wires.{Sound}

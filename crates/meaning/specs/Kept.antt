@@ -10,7 +10,7 @@ use Rattle.rules.specs.Tokens.{Name}
 use Rattle.rules.specs.Statements.{Constant, Signal, Wire, Memory, Statement, wire-stmt, aWire, aMemory, aCell, contents, ownName, statementsOpen}
 use Rattle.rules.specs.Signals.{Wires, find}
 use Rattle.rules.specs.Judgement.{Past, until, only, ofModule, wires, among, space, namesIn, nameSpaces, takesName}
-use Rattle.past.specs.Forms.{by-form}
+use Rattle.context.specs.Forms.{by-form}
 use Rattle.admitted.specs.Admitted.{ownWire, admitted}
 use Rattle.scanner.specs.Laws.{same-sym, or-false-left, or-false-right}
 use Rattle.scanner.specs.Elements.{all-first}

@@ -11,7 +11,7 @@ use Rattle.rules.specs.Shapes.{Scope, top, inModule, inCell, Context, one, of�
 use Rattle.rules.specs.Signals.{Wires}
 use Rattle.rules.specs.Judgement.{among}
 use Rattle.rules.specs.Text.{sig, literalOf, wireOptions, memoryOptions, written, sigTokens, optionTokens, sortTokens, wordToken, numberToken, shapeTokens}
-use Rattle.past.specs.Forms.{by-form, no}
+use Rattle.context.specs.Forms.{by-form, no}
 use Rattle.admitted.specs.Admitted.{kinds}
 use Rattle.meaning.specs.Options.{options-read, wire-options-read, memory-options-read}
 use Rattle.meaning.specs.Sigs.{slices, sig-reads, sig-no-slice}

@@ -15,8 +15,8 @@ use Rattle.rules.specs.Design.{Setting, Object, Cell, Module, Design, objects, 
 use Rattle.rules.specs.Text.{written, level, indent, lineText, textFrom, text}
 use Rattle.scanner.specs.Laws.{by-test}
 use Rattle.scanner.specs.Lists.{flatMap-one}
-use Rattle.order.specs.Nesting.{settings}
-use Rattle.order.specs.Fine.{wiresIn}
+use Rattle.canonical.specs.Nesting.{settings}
+use Rattle.canonical.specs.Fine.{wiresIn}
 use Rattle.module_text.specs.Blocks.{lineOf, plainLine, attributesText, wireText, memoryText, cellText, bodyText, moduleText, designText}
 
 -- ---- what a line sees of the past is its scope and the wires of its module

@@ -6,7 +6,7 @@ use Rattle.rules.specs.Statements.{Wire, Memory, Statement, autoidx-stmt, attr-
 use Rattle.rules.specs.Signals.{Wires}
 use Rattle.rules.specs.Design.{Setting, Object, Cell, Module, Design}
 use Rattle.rules.specs.Text.{written, shapeTokens, spaced}
-use Rattle.order.specs.Fine.{wiresIn}
+use Rattle.canonical.specs.Fine.{wiresIn}
 
 -- Two spaces a level, single spaces between tokens, line end 10
 unfoldable pub lineOf : (level : ℕ) → Wires → Statement → List ℕ

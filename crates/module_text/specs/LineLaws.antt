@@ -6,7 +6,7 @@ use mathlib.Core.List.{[], cons≢nil}
 use Rattle.rules.specs.Statements.{Statement, contents, statementsOpen}
 use Rattle.rules.specs.Signals.{Wires}
 use Rattle.rules.specs.Text.{written}
-use Rattle.past.specs.Forms.{by-form}
+use Rattle.context.specs.Forms.{by-form}
 use Rattle.module_text.specs.Blocks.{lineOf, plainLine}
 
 pub plain-written : (ws : Wires) (s : Statement) → contents s .signals ≡ [] → written ws s ≡ written [] s

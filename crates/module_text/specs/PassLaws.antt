@@ -15,12 +15,12 @@ use Rattle.rules.specs.Session.{Rename, now}
 use Rattle.rules.specs.Text.{text}
 use Rattle.scanner.specs.Laws.{by-test}
 use Rattle.scanner.specs.Lists.{flatMap-same, flatMap-map}
-use Rattle.past.specs.Forms.{by-form, by-attribute}
-use Rattle.designs.specs.DesignLaws.{only-attribute, items-until, wires-pairs}
-use Rattle.designs.specs.Now.{numbered, nameNow, wireNow, moduleNow, designNow}
-use Rattle.designs.specs.NowLaws.{numbered-same, map-numbered, now-is}
-use Rattle.order.specs.Nesting.{settings}
-use Rattle.order.specs.Fine.{wiresIn}
+use Rattle.context.specs.Forms.{by-form, by-attribute}
+use Rattle.modules.specs.DesignLaws.{only-attribute, items-until, wires-pairs}
+use Rattle.modules.specs.Now.{numbered, nameNow, wireNow, moduleNow, designNow}
+use Rattle.modules.specs.NowLaws.{numbered-same, map-numbered, now-is}
+use Rattle.canonical.specs.Nesting.{settings}
+use Rattle.canonical.specs.Fine.{wiresIn}
 use Rattle.module_text.specs.Blocks.{lineOf, plainLine, attributesText, wireText, memoryText, cellText, bodyText, moduleText, designText}
 use Rattle.module_text.specs.BlockLaws.{text-modules}
 use Rattle.module_text.specs.LineLaws.{plain-line}

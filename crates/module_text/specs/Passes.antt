@@ -8,8 +8,8 @@ use Rattle.rules.specs.Statements.{Wire, Statement, autoidx-stmt, attr-stmt, mo
 use Rattle.rules.specs.Signals.{Wires}
 use Rattle.rules.specs.Judgement.{until}
 use Rattle.rules.specs.Session.{Rename}
-use Rattle.designs.specs.Modules.{wiresOf}
-use Rattle.designs.specs.Now.{numbered, nameNow}
+use Rattle.modules.specs.Modules.{wiresOf}
+use Rattle.modules.specs.Now.{numbered, nameNow}
 use Rattle.module_text.specs.Blocks.{lineOf}
 
 -- wire n of module m by its name now

@@ -9,8 +9,8 @@ use Rattle.rules.specs.Statements.{Constant, Statement, param-stmt, cell-param-
 use Rattle.rules.specs.Judgement.{only}
 use Rattle.rules.specs.Design.{Setting, items, parameterIn, portIn, connectionIn, cellParameterIn, each, designOpen}
 use Rattle.scanner.specs.Lists.{flatMap-same, flatMap-only, map-flatMap}
-use Rattle.designs.specs.DesignLaws.{each-items}
-use Rattle.past.specs.Forms.{by-form, is-other}
+use Rattle.modules.specs.DesignLaws.{each-items}
+use Rattle.context.specs.Forms.{by-form, is-other}
 
 -- WHAT THE STATEMENTS OF A KIND GIVE TO ITEMS is these statements, if each that is given is again the statement that gives it
 module _ {A : Type 0} (k : Kind) (given : Statement → List A) (again : A → Statement) (other : eqb (code k) (code anAttribute) ≡ false) (same : (s : Statement) → map again (given s) ≡ cond (is k s) (s ∷ []) []) where

@@ -9,9 +9,9 @@ use Rattle.rules.specs.Tokens.{Name}
 use Rattle.rules.specs.Statements.{Wire, Statement}
 use Rattle.rules.specs.Signals.{Wires}
 use Rattle.rules.specs.Session.{Rename}
-use Rattle.designs.specs.Modules.{wiresOf}
-use Rattle.designs.specs.Now.{numbered}
-use Rattle.designs.specs.NowLaws.{numbered-same}
+use Rattle.modules.specs.Modules.{wiresOf}
+use Rattle.modules.specs.Now.{numbered}
+use Rattle.modules.specs.NowLaws.{numbered-same}
 use Rattle.module_text.specs.Passes.{declaredNow, wiresNow, wiresDown}
 
 module _ (rs : List Rename) (m : ℕ) where

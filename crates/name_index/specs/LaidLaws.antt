@@ -12,7 +12,7 @@ use Rattle.rules.specs.Judgement.{Past}
 use Rattle.rules.specs.Layout.{used, put, nameBytes, wireRows}
 use Rattle.scanner.specs.Laws.{by-test, by-order}
 use Rattle.scanner.specs.Lists.{zip-none}
-use Rattle.past.specs.Forms.{by-wire}
+use Rattle.context.specs.Forms.{by-wire}
 use Rattle.wires.specs.Rows.{nameOf}
 use Rattle.wires.specs.RowLaws.{row-name}
 use Rattle.netlist.specs.Kinds.{hasName}

@@ -2,6 +2,7 @@
 // heads: for each key one more than the youngest row of that key, or 0; chain: for each row one more than the next older row of its key, or 0.
 // The hash of a name goes byte by byte: hash × 31 + byte, modulo 512. A row's key is its name's hash, or 512 where its kind has no name.
 // Behind these, in the same two tables, stand the heads and the chain of the rows of wires.
+use context::place::Place;
 use netlist::rows::Kinds;
 use netlist::rows::has_name;
 use netlist::rows::row_kind;
@@ -9,7 +10,6 @@ use netlist::rows::row_name;
 use netlist::spaces::space_from;
 use netlist::spaces::space_kinds;
 use numbers::kinds::WireNumber;
-use past::place::Place;
 use scanner::names::same_bytes;
 use wires::Found;
 use wires::bytes_at;
@@ -23,7 +23,7 @@ ghost use Rattle.rules.specs.Bytes.{same, any};
 ghost use Rattle.netlist.specs.Rows.{namesBetween};
 ghost use Rattle.netlist.specs.Kinds.{isKind, hasName};
 ghost use Rattle.netlist.specs.Found.{foundIn};
-ghost use Rattle.past.specs.Place.{Bounds};
+ghost use Rattle.context.specs.Place.{Bounds};
 ghost use Rattle.wires.specs.Found.{FoundIs};
 ghost use Rattle.name_index.specs.Index.{hashOf, keyAt, rowRoom, wireRoom, Named, Indexed, WiresIndexed, LinesIndexed};
 

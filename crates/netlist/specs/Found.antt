@@ -8,7 +8,7 @@ use Rattle.rules.specs.Tokens.{Name}
 use Rattle.netlist.specs.Rows.{namesBetween}
 use Rattle.netlist.specs.Kinds.{isKind}
 use Rattle.netlist.specs.declared.rows.Kinds.{Kinds}
-use Rattle.past.specs.declared.place.Place.{Place}
+use Rattle.context.specs.declared.place.Place.{Place}
 
 -- its first row, by the code of the statement's kind; of a kind without a name the rows are none
 unfoldable pub spaceFrom : Place → ℕ → ℕ

@@ -16,8 +16,8 @@ use Rattle.netlist.specs.Kinds.{isKind, ofKinds}
 use Rattle.netlist.specs.Spaces.{spacesOf, kindsOf}
 use Rattle.netlist.specs.SpaceLaws.{takes-in-rows}
 use Rattle.netlist.specs.Laid.{roomsOf, Laid}
-use Rattle.past.specs.Place.{placeOf, Bounds}
-use Rattle.past.specs.declared.place.Place.{Place}
+use Rattle.context.specs.Place.{placeOf, Bounds}
+use Rattle.context.specs.declared.place.Place.{Place}
 use Rattle.netlist.specs.Found.{spaceFrom, kindsFrom, foundIn}
 use Rattle.scanner.specs.Lists.{until-le}
 

@@ -1,8 +1,8 @@
 -- How much of each table the statements so far use, in the rules' words.
 use Prim.Native.Nat.{_+_}
 use Rattle.rules.specs.Layout as layout
-use Rattle.past.specs.declared.place.Place.{Place}
-use Rattle.past.specs.declared.sizes.Sizes.{Sizes}
+use Rattle.context.specs.declared.place.Place.{Place}
+use Rattle.context.specs.declared.sizes.Sizes.{Sizes}
 use Rattle.netlist.specs.declared.used.Used.{Used}
 
 abbrev pub usedOf : Used → layout.Used

@@ -8,9 +8,9 @@ use lib.ListN.{length, length-append, length-map}
 use Rattle.rules.specs.Statements.{Statement, aModule, aWire, contents, digitsOf, bytesOf}
 use Rattle.rules.specs.Judgement.{Past, sum, count, signalSize, valueSize, stringSize, nameSize}
 use Rattle.rules.specs.Layout.{Used, digitCode, bitCode, nameBytes, stringBytes, bitCodes, wireRow, wireRows, put, used}
-use Rattle.past.specs.Place.{placeOf, wiresIn}
-use Rattle.past.specs.Sizes.{sizesBy, sumsOf}
-use Rattle.past.proofs.PlaceLaws.{wire-count}
+use Rattle.context.specs.Place.{placeOf, wiresIn}
+use Rattle.context.specs.Sizes.{sizesBy, sumsOf}
+use Rattle.context.proofs.PlaceLaws.{wire-count}
 use Rattle.netlist.specs.Laid.{roomsOf}
 use Rattle.netlist.specs.LaidLaws.{length-rows}
 use Rattle.netlist.specs.Used.{usedBy}

@@ -20,11 +20,11 @@ use Rattle.scanner.specs.Lists.{zip-none, flatMap-append}
 use Rattle.scanner.specs.Elements.{each-append, each-mapped}
 use Rattle.wires.specs.Rows.{nameOf, wireOf, wiresFrom}
 use Rattle.wires.specs.RowLaws.{length-wire-row, RowIs, row-wire, row-name}
-use Rattle.past.specs.Forms.{by-wire}
+use Rattle.context.specs.Forms.{by-wire}
 use Rattle.netlist.specs.LaidLaws.{without-renames}
-use Rattle.past.specs.Place.{placeOf}
-use Rattle.past.specs.Offsets.{fitsOffset, Offsets, more-offsets}
-use Rattle.past.proofs.PlaceLaws.{bounds, length-all-wires, wires-last}
+use Rattle.context.specs.Place.{placeOf}
+use Rattle.context.specs.Offsets.{fitsOffset, Offsets, more-offsets}
+use Rattle.context.proofs.PlaceLaws.{bounds, length-all-wires, wires-last}
 use Rattle.netlist.specs.Laid.{roomsOf, Wired}
 use Rattle.netlist.specs.UsedLaws.{used-wires}
 use Rattle.netlist.specs.Spans.{Has, starts-first, starts-has, starts-padded, starts-row}

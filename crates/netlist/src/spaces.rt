@@ -1,6 +1,6 @@
 // The name space of a statement's own name: which rows it is, behind the statements so far.
 use crate::rows::Kinds;
-use past::place::Place;
+use context::place::Place;
 ghost use mathlib.Core.Path.{_≡_};
 ghost use Rattle.netlist.specs.Found.{spaceFrom, kindsFrom};
 

@@ -1,9 +1,9 @@
 // How much of each table the statements so far use.
-use past::place::Place;
-use past::sizes::Sizes;
+use context::place::Place;
+use context::sizes::Sizes;
 ghost use mathlib.Core.Path.{_≡_};
 ghost use Prim.Native.Nat.{_-_};
-ghost use Rattle.past.specs.Sizes.{Within};
+ghost use Rattle.context.specs.Sizes.{Within};
 ghost use Rattle.netlist.specs.Used.{usedOf, usedBy};
 
 // Bytes, bytes, bits, rows, rows; and how many modules the rows open.

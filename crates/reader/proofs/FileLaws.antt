@@ -25,11 +25,11 @@ use Rattle.scanner.specs.declared.lines.Line.{Line}
 use Rattle.scanner.proofs.ClassLaws.{class-blank}
 use Rattle.scanner.proofs.RunLaws.{endOf-low, endOf-high}
 use Rattle.scanner.proofs.LineLaws.{lines-from, line-low, line-high, line-next, last-line}
-use Rattle.past.specs.Place.{placeOf, closesAt}
-use Rattle.past.specs.Sizes.{sumsOf}
-use Rattle.past.specs.declared.place.Place.{Place}
-use Rattle.past.specs.declared.sizes.Sizes.{Sizes}
-use Rattle.past.proofs.PlaceLaws.{closes-place}
+use Rattle.context.specs.Place.{placeOf, closesAt}
+use Rattle.context.specs.Sizes.{sumsOf}
+use Rattle.context.specs.declared.place.Place.{Place}
+use Rattle.context.specs.declared.sizes.Sizes.{Sizes}
+use Rattle.context.proofs.PlaceLaws.{closes-place}
 use Rattle.admitted.specs.Admitted.{admitted}
 use Rattle.netlist.specs.Laid.{roomsOf}
 use Rattle.netlist.specs.LaidLaws.{rooms-past}

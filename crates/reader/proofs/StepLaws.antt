@@ -18,12 +18,12 @@ use Rattle.rules.specs.Layout.{memory, used, padded}
 use Rattle.rules.specs.Layout as rooms
 use Rattle.tables.specs.Padded.{length-padded}
 use Rattle.tables.specs.Flat.{flat, Eights, length-flat}
-use Rattle.past.specs.Place.{placeOf, AfterIs}
-use Rattle.past.specs.Sizes.{sumsOf, Within}
-use Rattle.past.specs.declared.place.Place.{Place}
-use Rattle.past.specs.declared.sizes.Sizes.{Sizes}
-use Rattle.past.proofs.PlaceLaws.{bounds, place-rows}
-use Rattle.past.proofs.SizeLaws.{same-wires}
+use Rattle.context.specs.Place.{placeOf, AfterIs}
+use Rattle.context.specs.Sizes.{sumsOf, Within}
+use Rattle.context.specs.declared.place.Place.{Place}
+use Rattle.context.specs.declared.sizes.Sizes.{Sizes}
+use Rattle.context.proofs.PlaceLaws.{bounds, place-rows}
+use Rattle.context.proofs.SizeLaws.{same-wires}
 use Rattle.admitted.specs.Admitted.{admitted}
 use Rattle.admitted.specs.AdmitLaws.{admitted-offsets, admitted-within, admitted-few}
 use Rattle.netlist.specs.Laid.{roomsOf, Laid, Wired}

@@ -15,10 +15,10 @@ use Rattle.rules.specs.Reading.{outcome, next, readLines, readAny}
 use Rattle.rules.specs.Layout.{empty, putAll, memory}
 use Rattle.scanner.specs.Lines.{lineFrom}
 use Rattle.scanner.specs.declared.lines.Line.{Line}
-use Rattle.past.specs.Place.{placeOf, closesAt, Bounds}
-use Rattle.past.specs.Sizes.{sumsOf, Within}
-use Rattle.past.specs.declared.place.Place.{Place}
-use Rattle.past.specs.declared.sizes.Sizes.{Sizes}
+use Rattle.context.specs.Place.{placeOf, closesAt, Bounds}
+use Rattle.context.specs.Sizes.{sumsOf, Within}
+use Rattle.context.specs.declared.place.Place.{Place}
+use Rattle.context.specs.declared.sizes.Sizes.{Sizes}
 use Rattle.admitted.specs.Admitted.{admitted}
 use Rattle.netlist.specs.Laid.{roomsOf}
 use Rattle.syntax.specs.Statements.{lateOf, statementIn, Sound}

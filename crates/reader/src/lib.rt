@@ -1,4 +1,10 @@
 // Reading a file into lent tables: line by line, each judged after the statements so far and stored behind them.
+use context::place::Place;
+use context::place::after;
+use context::place::is_closed;
+use context::place::start;
+use context::sizes::Sizes;
+use context::sizes::none;
 use judgement::Judged;
 use judgement::judge_line;
 use layout::put_statement;
@@ -11,12 +17,6 @@ use name_index::index_line;
 use netlist::lengths::right_lengths;
 use netlist::results::CallResult;
 use netlist::used::used_from;
-use past::place::Place;
-use past::place::after;
-use past::place::is_closed;
-use past::place::start;
-use past::sizes::Sizes;
-use past::sizes::none;
 use scanner::lines::Line;
 use scanner::runs::blanks_end;
 use syntax::Statement;

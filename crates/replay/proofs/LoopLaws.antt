@@ -19,11 +19,11 @@ use Rattle.netlist.specs.Rows.{kindAt}
 use Rattle.netlist.specs.FrontLaws.{fronts-kind}
 use Rattle.netlist.specs.Laid.{roomsOf}
 use Rattle.netlist.specs.LaidLaws.{length-rows}
-use Rattle.past.specs.Place.{wiresIn, placeOf, placeAfter, closesAt, Bounds}
-use Rattle.past.specs.Sizes.{sizesBy, sumsOf, Within}
-use Rattle.past.specs.declared.place.Place.{Place}
-use Rattle.past.specs.declared.sizes.Sizes.{Sizes}
-use Rattle.past.proofs.PlaceLaws.{bounds, closes-place, place-step, place-rows}
+use Rattle.context.specs.Place.{wiresIn, placeOf, placeAfter, closesAt, Bounds}
+use Rattle.context.specs.Sizes.{sizesBy, sumsOf, Within}
+use Rattle.context.specs.declared.place.Place.{Place}
+use Rattle.context.specs.declared.sizes.Sizes.{Sizes}
+use Rattle.context.proofs.PlaceLaws.{bounds, closes-place, place-step, place-rows}
 use Rattle.replay.specs.Reads.{Tables}
 use Rattle.replay.specs.OneLaws.{next-kind, stored-next}
 use Rattle.replay.specs.Begins.{isStatement, Replays}

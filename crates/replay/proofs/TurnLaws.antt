@@ -30,12 +30,12 @@ use Rattle.netlist.specs.Laid.{roomsOf, Laid}
 use Rattle.netlist.specs.WireLaws.{wires-laid}
 use Rattle.netlist.specs.Found.{spaceFrom, foundIn}
 use Rattle.netlist.specs.FoundLaws.{takes-found}
-use Rattle.past.specs.Place.{placeOf, contextOf, Bounds, AfterIs}
-use Rattle.past.specs.Sizes.{sizesBy, sumsOf, plusOf, exceeds, Within, AtMost, KindSizesAre}
-use Rattle.past.specs.declared.place.Place.{Place}
-use Rattle.past.specs.declared.sizes.Sizes.{Sizes}
-use Rattle.past.proofs.PlaceLaws.{context-is, place-rows}
-use Rattle.past.proofs.SizeLaws.{sums-step, exceeds-sums, within-past, sizes-small}
+use Rattle.context.specs.Place.{placeOf, contextOf, Bounds, AfterIs}
+use Rattle.context.specs.Sizes.{sizesBy, sumsOf, plusOf, exceeds, Within, AtMost, KindSizesAre}
+use Rattle.context.specs.declared.place.Place.{Place}
+use Rattle.context.specs.declared.sizes.Sizes.{Sizes}
+use Rattle.context.proofs.PlaceLaws.{context-is, place-rows}
+use Rattle.context.proofs.SizeLaws.{sums-step, exceeds-sums, within-past, sizes-small}
 use Rattle.netlist.specs.Used.{usedBy}
 use Rattle.netlist.specs.Spans.{Has}
 use Rattle.replay.specs.Reads.{Tables, tabled, Reads, Counts, Tells, statementOf, Small}
@@ -45,7 +45,7 @@ use Rattle.replay.specs.Begins.{withRows}
 use Rattle.replay.specs.Turns.{standsAt, Reached, TurnIs, Told, Rowed, CountsAs, Counted, smallParts}
 use Rattle.replay.specs.declared.statements.Found.{Found}
 use Rattle.replay.specs.declared.turns.Turn.{Turn}
-use Rattle.designs.specs.CodeLaws.{narrow, narrow-past}
+use Rattle.modules.specs.CodeLaws.{narrow, narrow-past}
 use Rattle.admitted.specs.CountLaws.{never-process}
 use Rattle.replay.proofs.UniqueLaws.{read-only}
 use Rattle.netlist.specs.UsedLaws.{used-past}

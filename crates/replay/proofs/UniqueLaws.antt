@@ -18,8 +18,8 @@ use Rattle.netlist.specs.Rows.{kindAt, nameFrom}
 use Rattle.netlist.specs.RowLaws.{row-zero}
 use Rattle.netlist.specs.Statements as netlist
 use Rattle.netlist.specs.Statements.{constantAt, optionalAt, signalAt, memoryAt, sortAt, statementAt}
-use Rattle.designs.specs.CodeLaws.{narrow}
-use Rattle.designs.specs.DecodeLaws.{decodes}
+use Rattle.modules.specs.CodeLaws.{narrow}
+use Rattle.modules.specs.DecodeLaws.{decodes}
 use Rattle.replay.specs.Parts.{span}
 use Rattle.replay.specs.Reads.{Tables, constantOf, optionalOf, memoryOf, statementBy, statementOf, Reads}
 use Rattle.replay.proofs.CodeLaws.{constant-read}

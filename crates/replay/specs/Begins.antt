@@ -10,8 +10,8 @@ use Rattle.rules.specs.Layout.{Rooms}
 use Rattle.admitted.specs.Admitted.{admitted, closes}
 use Rattle.wires.specs.Rows.{wordAt}
 use Rattle.netlist.specs.Laid.{roomsOf}
-use Rattle.past.specs.Place.{placeOf}
-use Rattle.past.specs.Sizes.{sumsOf}
+use Rattle.context.specs.Place.{placeOf}
+use Rattle.context.specs.Sizes.{sumsOf}
 use Rattle.netlist.specs.Tables as netlist
 use Rattle.netlist.specs.Fronts.{Fronts}
 use Rattle.name_index.specs.Index.{LinesIndexed}

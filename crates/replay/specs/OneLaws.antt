@@ -20,7 +20,7 @@ use Rattle.netlist.specs.Laid.{roomsOf}
 use Rattle.netlist.specs.LaidLaws.{length-rows}
 use Rattle.netlist.specs.Fronts.{Fronts}
 use Rattle.netlist.specs.FrontLaws.{fronts-before, fronts-behind, fronts-kind}
-use Rattle.designs.specs.DecodeLaws.{decodes-last}
+use Rattle.modules.specs.DecodeLaws.{decodes-last}
 use Rattle.replay.specs.Reads.{Tables}
 use Rattle.replay.specs.Begins.{withRows, isStatement, Stored}
 

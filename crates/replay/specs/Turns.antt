@@ -12,10 +12,10 @@ use Rattle.admitted.specs.Admitted.{kinds, admits, admitted}
 use Rattle.wires.specs.RowLaws.{RowIs}
 use Rattle.netlist.specs.Kinds.{ofKinds}
 use Rattle.netlist.specs.Laid.{roomsOf}
-use Rattle.past.specs.Place.{placeOf, scopeOf, Bounds}
-use Rattle.past.specs.Sizes.{sumsOf, Within}
-use Rattle.past.specs.declared.place.Place.{Place}
-use Rattle.past.specs.declared.sizes.Sizes.{Sizes}
+use Rattle.context.specs.Place.{placeOf, scopeOf, Bounds}
+use Rattle.context.specs.Sizes.{sumsOf, Within}
+use Rattle.context.specs.declared.place.Place.{Place}
+use Rattle.context.specs.declared.sizes.Sizes.{Sizes}
 use Rattle.netlist.specs.Spans.{Has}
 use Rattle.replay.specs.Reads.{Tables, Counts}
 use Rattle.netlist.specs.Fronts.{Fronts}

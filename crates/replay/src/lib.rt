@@ -1,11 +1,11 @@
 // Whether tables hold statements that may stand one after another. The statements are replayed from the first row on, whatever the tables hold:
 // each row says where its parts are, and has to be the row of the statement that they make.
+use context::place::Place;
+use context::place::is_closed;
+use context::place::start;
+use context::sizes::Sizes;
+use context::sizes::none;
 use name_index::index_line;
-use past::place::Place;
-use past::place::is_closed;
-use past::place::start;
-use past::sizes::Sizes;
-use past::sizes::none;
 use tables::word;
 
 mod parts;

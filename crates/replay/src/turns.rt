@@ -1,15 +1,15 @@
 // One statement more behind those that stand.
 use crate::statements::Found;
 use crate::statements::statement_at;
+use context::place::Place;
+use context::place::after;
+use context::sizes::Sizes;
+use context::sizes::kind_sizes;
+use context::sizes::plus;
+use context::sizes::within;
 use name_index::indexed_found;
 use netlist::rows::row_name;
 use netlist::used::used_from;
-use past::place::Place;
-use past::place::after;
-use past::sizes::Sizes;
-use past::sizes::kind_sizes;
-use past::sizes::plus;
-use past::sizes::within;
 use tables::get_row;
 ghost use mathlib.Core.Path.{_≡_};
 ghost use Rattle.rules.specs.Shapes.{top, inModule};

@@ -15,21 +15,21 @@ use Rattle.rules.specs.Judgement.{Verdict, accepted, refused}
 use Rattle.rules.specs.Design.{Object, design}
 use Rattle.rules.specs.Session.{Rename, wiresAt, wireAt, now, search, lookUp, indexIn, index}
 use Rattle.wires.specs.Rows.{wireOf}
-use Rattle.past.specs.declared.place.Place.{Place}
-use Rattle.past.proofs.PlaceLaws.{bounds}
-use Rattle.designs.specs.Ranges.{wireRange}
-use Rattle.designs.specs.RangeLaws.{where-le, where-next}
-use Rattle.designs.specs.Now.{wireNow}
-use Rattle.designs.specs.NowLaws.{wire-now}
-use Rattle.designs.specs.declared.Range.{Range}
+use Rattle.context.specs.declared.place.Place.{Place}
+use Rattle.context.proofs.PlaceLaws.{bounds}
+use Rattle.modules.specs.Ranges.{wireRange}
+use Rattle.modules.specs.RangeLaws.{where-le, where-next}
+use Rattle.modules.specs.Now.{wireNow}
+use Rattle.modules.specs.NowLaws.{wire-now}
+use Rattle.modules.specs.declared.Range.{Range}
 use Rattle.wire_names.specs.Now as table
 use Rattle.wire_names.specs.declared.Module.{Module}
 use Rattle.netlist.specs.Results.{lent}
-use Rattle.standing.specs.Judged.{moduleBy}
+use Rattle.rename_rules.specs.Judged.{moduleBy}
 use Rattle.scanner.specs.Lists.{up}
-use Rattle.standing.specs.LiesLaws.{names-are, there, missing}
+use Rattle.rename_rules.specs.LiesLaws.{names-are, there, missing}
 use Rattle.session.specs.Called.{Called, holding, answer}
-use Rattle.standing.specs.Search.{searchNow}
+use Rattle.rename_rules.specs.Search.{searchNow}
 use Rattle.session.specs.Steps.{Holding}
 use Rattle.session.proofs.HoldLaws as hold
 

@@ -12,20 +12,20 @@ use Rattle.rules.specs.Session.{Rename, Call, call, roomUsed, renameCall, undoC
 use Rattle.rules.specs.Layout.{Rooms, Memory, padded, row, renameRow, putRename, rooms, memory, layout}
 use Rattle.tables.specs.Store.{store}
 use Rattle.wires.specs.Rows.{column}
-use Rattle.past.specs.declared.place.Place.{Place}
+use Rattle.context.specs.declared.place.Place.{Place}
 use Rattle.admitted.specs.Holds.{Allowed, no-renames, one-rename}
 use Rattle.netlist.specs.Laid.{Laid}
 use Rattle.netlist.specs.Results.{result, lent}
-use Rattle.standing.specs.Judged.{judged}
-use Rattle.standing.specs.JudgedLaws.{judged-is}
-use Rattle.standing.specs.RoomLaws.{room-used}
-use Rattle.standing.specs.NowLaws.{last-rename-row}
-use Rattle.held.specs.HeldLaws.{holds-laid}
-use Rattle.held.specs.RenameLaws.{file-last, eights-file}
-use Rattle.held.proofs.RenameTurns.{room-behind}
+use Rattle.rename_rules.specs.Judged.{judged}
+use Rattle.rename_rules.specs.JudgedLaws.{judged-is}
+use Rattle.rename_rules.specs.RoomLaws.{room-used}
+use Rattle.rename_rules.specs.NowLaws.{last-rename-row}
+use Rattle.memory_check.specs.HeldLaws.{holds-laid}
+use Rattle.memory_check.specs.RenameLaws.{file-last, eights-file}
+use Rattle.memory_check.proofs.RenameTurns.{room-behind}
 use Rattle.session.specs.Called.{Called, holding, wrong-lengths, damaged, after, CalledAs}
 use Rattle.session.specs.Steps.{Holding, NotOpen, wrong-sizes, none-held}
-use Rattle.order.specs.RenamedFine.{undo-last}
+use Rattle.canonical.specs.RenamedFine.{undo-last}
 use Rattle.session.proofs.RenameLaws.{Passes, passes, refused-by, layout-rename, layout-undo}
 use Rattle.session.proofs.HoldLaws.{rooms-rows, long, standing, used, rows-before, few-rows, lies}
 

@@ -8,14 +8,14 @@ use lib.ListN.{length, length-reverse}
 use Rattle.rules.specs.Statements.{Statement}
 use Rattle.rules.specs.Session.{Rename}
 use Rattle.rules.specs.Layout.{rooms}
-use Rattle.past.specs.declared.place.Place.{Place}
-use Rattle.past.proofs.PlaceLaws.{place-rows}
+use Rattle.context.specs.declared.place.Place.{Place}
+use Rattle.context.proofs.PlaceLaws.{place-rows}
 use Rattle.admitted.specs.AdmitLaws.{admitted-few}
 use Rattle.netlist.specs.Lengths.{lengths-exact}
 use Rattle.netlist.specs.Results.{lent}
-use Rattle.standing.specs.Judged.{Lies}
-use Rattle.held.specs.HeldLaws.{holds-many, holds-room, holds-laid, holds-wired}
-use Rattle.held.specs.RenameLaws.{length-file}
+use Rattle.rename_rules.specs.Judged.{Lies}
+use Rattle.memory_check.specs.HeldLaws.{holds-many, holds-room, holds-laid, holds-wired}
+use Rattle.memory_check.specs.RenameLaws.{length-file}
 use Rattle.session.specs.Steps.{Holding}
 
 -- a row for each statement and each rename

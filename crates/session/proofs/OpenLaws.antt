@@ -4,11 +4,11 @@ use Prim.Native.Nat.{ℕ}
 use mathlib.Core.Path.{_≡_, refl, subst}
 use mathlib.Core.Bool.{true}
 use Rattle.rules.specs.Layout.{Memory}
-use Rattle.past.specs.declared.place.Place.{Place}
-use Rattle.past.specs.declared.sizes.Sizes.{Sizes}
+use Rattle.context.specs.declared.place.Place.{Place}
+use Rattle.context.specs.declared.sizes.Sizes.{Sizes}
 use Rattle.netlist.specs.Lengths.{rightLengths}
-use Rattle.held.specs.Held.{HeldIs}
-use Rattle.held.specs.declared.Held.{Held}
+use Rattle.memory_check.specs.Held.{HeldIs}
+use Rattle.memory_check.specs.declared.Held.{Held}
 use Rattle.session.specs.Called.{Damaged}
 use Rattle.session.specs.Steps.{Holding, NotOpen, none-held, OpenedIs}
 use Rattle.session.specs.declared.Opened.{Opened}

@@ -16,11 +16,11 @@ use Rattle.tables.specs.Padded.{store-padded, padded-unput}
 use Rattle.tables.specs.Flat.{flat, Eights, length-flat, store-row}
 use Rattle.netlist.specs.Results.{lent}
 use Rattle.netlist.specs.RoomLaws.{length-rename-row}
-use Rattle.order.specs.RenamedFine.{accepted-keeps}
+use Rattle.canonical.specs.RenamedFine.{accepted-keeps}
 use Rattle.scanner.specs.Laws.{legal-short}
 use Rattle.scanner.specs.Lists.{flatMap-snoc}
-use Rattle.held.specs.AllowedLaws.{number-accepted}
-use Rattle.held.specs.RenameLaws.{file-last}
+use Rattle.memory_check.specs.AllowedLaws.{number-accepted}
+use Rattle.memory_check.specs.RenameLaws.{file-last}
 
 -- WHAT AN ACCEPTED RENAME KEEPS
 pub record Passes (d : Design) (rs : List Rename) (r : Rename) : Type 0 where

@@ -9,7 +9,7 @@ use Rattle.rules.specs.Session.{Rename}
 use Rattle.rules.specs.Layout.{Memory}
 use Rattle.scanner.specs.Laws.{never}
 use Rattle.netlist.specs.Lengths.{rightLengths}
-use Rattle.held.specs.OneLaws.{holds-one}
+use Rattle.memory_check.specs.OneLaws.{holds-one}
 use Rattle.session.specs.Called.{Called, wrong-lengths, damaged, holding}
 
 -- two answers that it allows of the same memory are equal

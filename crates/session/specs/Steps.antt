@@ -6,8 +6,8 @@ use mathlib.Core.List.{List, reverse}
 use Rattle.rules.specs.Statements.{Statement}
 use Rattle.rules.specs.Session.{Rename}
 use Rattle.rules.specs.Layout.{Memory}
-use Rattle.past.specs.Place.{placeOf}
-use Rattle.past.specs.declared.place.Place.{Place}
+use Rattle.context.specs.Place.{placeOf}
+use Rattle.context.specs.declared.place.Place.{Place}
 use Rattle.admitted.specs.Holds.{Holds}
 use Rattle.netlist.specs.Lengths.{rightLengths}
 use Rattle.session.specs.Called.{Damaged}

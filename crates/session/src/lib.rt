@@ -1,17 +1,17 @@
 // The calls on design memory: rename, undo, look-up and the index of a bit. They take the lent tables, and the counts of the session card by value, in any
 // state.
-use designs::module_wires;
-use held::Held;
-use held::judge_memory;
+use context::place::Place;
+use memory_check::Held;
+use memory_check::judge_memory;
+use modules::module_wires;
 use netlist::lengths::right_lengths;
 use netlist::results::CallResult;
 use numbers::kinds::ModuleNumber;
 use numbers::kinds::WireNumber;
-use past::place::Place;
-use standing::Named;
-use standing::find_named;
-use standing::judge_rename;
-use standing::module_of;
+use rename_rules::Named;
+use rename_rules::find_named;
+use rename_rules::judge_rename;
+use rename_rules::module_of;
 use tables::Row;
 use tables::put_bytes;
 use tables::put_row;
@@ -30,7 +30,7 @@ ghost use Rattle.wires.specs.Rows.{column, wireOf};
 ghost use Rattle.netlist.specs.Results.{result, lent};
 ghost use Rattle.session.specs.Called.{CalledAs, answer, LookedUp, IndexGiven};
 ghost use Rattle.session.specs.Steps.{Holding, OpenedIs};
-ghost use Rattle.standing.specs.Search.{searchNow};
+ghost use Rattle.rename_rules.specs.Search.{searchNow};
 
 // Number 0 is none.
 pub struct Found {

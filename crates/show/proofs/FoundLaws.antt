@@ -17,16 +17,16 @@ use Rattle.rules.specs.Layout.{used, padded, row, stringBytes, constantColumns,
 use Rattle.scanner.specs.Laws.{by-test}
 use Rattle.scanner.specs.Lists.{flatMap-back}
 use Rattle.scanner.specs.Parts.{slice-span}
-use Rattle.past.specs.Forms.{by-form}
-use Rattle.past.specs.Place.{wiresIn}
+use Rattle.context.specs.Forms.{by-form}
+use Rattle.context.specs.Place.{wiresIn}
 use Rattle.wires.specs.Rows.{column, spanAt}
 use Rattle.netlist.specs.Rows.{kindAt, nameAt}
 use Rattle.netlist.specs.Kinds.{ofKinds, hasName}
 use Rattle.netlist.specs.RowLaws.{row-own}
 use Rattle.netlist.specs.Laid.{roomsOf}
-use Rattle.designs.specs.AttributeLaws.{settingsBefore}
+use Rattle.modules.specs.AttributeLaws.{settingsBefore}
 use Rattle.netlist.specs.UsedLaws.{used-wires}
-use Rattle.designs.specs.WireLaws.{Adds, a-wire, no-wire, adds}
+use Rattle.modules.specs.WireLaws.{Adds, a-wire, no-wire, adds}
 use Rattle.netlist.specs.Spans.{Has}
 use Rattle.netlist.specs.Tables.{Tables}
 use Rattle.netlist.specs.Fronts.{Fronts}

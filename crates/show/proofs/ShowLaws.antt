@@ -18,30 +18,30 @@ use Rattle.rules.specs.Layout.{Memory}
 use Rattle.wires.specs.Rows.{nameOf, wireOf, wiresFrom}
 use Rattle.wires.specs.RowLaws.{length-wires, wire-numbered}
 use Rattle.scanner.specs.Lists.{at-map}
-use Rattle.past.specs.Place.{wiresIn}
-use Rattle.past.specs.declared.place.Place.{Place}
+use Rattle.context.specs.Place.{wiresIn}
+use Rattle.context.specs.declared.place.Place.{Place}
 use Rattle.netlist.specs.Laid.{roomsOf}
-use Rattle.designs.specs.Modules.{statementsOf, wiresOf}
-use Rattle.designs.specs.Ranges.{wireRange}
-use Rattle.designs.specs.WireLaws.{pairs-range, design-range}
-use Rattle.designs.specs.AttributeLaws.{settingsBefore}
-use Rattle.designs.specs.DeclaredLaws.{Declared, wire-declared, declared-wire, declared-number}
-use Rattle.designs.specs.Now.{nameNow, wireNow}
-use Rattle.designs.specs.NowLaws.{wire-now}
-use Rattle.designs.specs.declared.Range.{Range}
-use Rattle.order.specs.Seen.{seen}
+use Rattle.modules.specs.Modules.{statementsOf, wiresOf}
+use Rattle.modules.specs.Ranges.{wireRange}
+use Rattle.modules.specs.WireLaws.{pairs-range, design-range}
+use Rattle.modules.specs.AttributeLaws.{settingsBefore}
+use Rattle.modules.specs.DeclaredLaws.{Declared, wire-declared, declared-wire, declared-number}
+use Rattle.modules.specs.Now.{nameNow, wireNow}
+use Rattle.modules.specs.NowLaws.{wire-now}
+use Rattle.modules.specs.declared.Range.{Range}
+use Rattle.canonical.specs.Seen.{seen}
 use Rattle.wire_names.specs.Now as table
 use Rattle.netlist.specs.Results.{lent}
 use Rattle.netlist.specs.Tables.{Tables, tabled}
 use Rattle.netlist.specs.Fronts.{Fronts}
 use Rattle.netlist.specs.FrontLaws.{fronts-before, fronts-behind}
-use Rattle.held.specs.HeldLaws.{holds-stored}
+use Rattle.memory_check.specs.HeldLaws.{holds-stored}
 use Rattle.session.specs.Called.{holding, answer}
 use Rattle.session.specs.CalledLaws.{called-turn}
 use Rattle.session.specs.Steps.{Holding, NotOpen}
 use Rattle.session.proofs.CallLaws.{not-open}
 use Rattle.session.proofs.HoldLaws.{rows-before, lies}
-use Rattle.standing.specs.LiesLaws.{headed, offsets, wired, all-wires, name-now-is, missing}
+use Rattle.rename_rules.specs.LiesLaws.{headed, offsets, wired, all-wires, name-now-is, missing}
 use Rattle.show.specs.Rows.{wireLine, hdlnameRow, textAt, shownName}
 use Rattle.show.specs.Parts.{shownPart, shownIn, numberOf, bytesIn, InRange, firstByte, ShownAs, ShownAt, LiesAt}
 use Rattle.show.specs.declared.Shown.{Shown}

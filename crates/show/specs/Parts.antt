@@ -8,10 +8,10 @@ use Rattle.rules.specs.Bytes.{byte}
 use Rattle.rules.specs.Design.{design}
 use Rattle.rules.specs.Session.{now, show}
 use Rattle.rules.specs.Layout.{Memory}
-use Rattle.past.specs.Place.{placeOf}
-use Rattle.past.specs.declared.place.Place.{Place}
+use Rattle.context.specs.Place.{placeOf}
+use Rattle.context.specs.declared.place.Place.{Place}
 use Rattle.wires.specs.Rows.{column}
-use Rattle.designs.specs.Ranges.{wireRange}
+use Rattle.modules.specs.Ranges.{wireRange}
 use Rattle.wire_names.specs.Now.{lastRename}
 use Rattle.session.specs.Called.{Called, answer}
 use Rattle.show.specs.Rows.{wireLine, hdlnameRow}

@@ -1,6 +1,6 @@
 // The name to show of a wire: its attribute `\hdlname` if that is a string that isn't empty, else its name now, without the `\` if public. It is a part of
 // the strings or of the names, not a copy.
-use designs::module_wires;
+use modules::module_wires;
 use netlist::rows::row_kind;
 use netlist::rows::row_name;
 use numbers::kinds::ModuleNumber;

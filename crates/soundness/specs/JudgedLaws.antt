@@ -20,7 +20,7 @@ use Rattle.admitted.specs.Admitted.{kinds, stands, ownWire, newPorts, fineMemor
 use Rattle.admitted.specs.JudgeLaws.{meaning-kind, meaning-among, judge-passed, by-verdict}
 use Rattle.written.specs.TokenLaws.{fineToken}
 use Rattle.soundness.specs.ShapeLaws.{FineShape, FineShaped, no-shape, fine-shape, shape-fine}
-use Rattle.past.specs.Forms.{translated, contents-translated}
+use Rattle.context.specs.Forms.{translated, contents-translated}
 use Rattle.soundness.specs.PartLaws.{both, constants-fine, wire-fine, memory-fine, narrow, signals-fine, equal-lengths}
 use Rattle.scanner.specs.Elements.{all-through, each-test}
 

@@ -16,7 +16,7 @@ use Rattle.rules.specs.Signals.{Wires, kept, valueBits, literalBits, literalWid
 use Rattle.rules.specs.Judgement.{portNumbers, equalWidths}
 use Rattle.scanner.specs.Laws.{and-true-left, within-high}
 use Rattle.scanner.specs.Elements.{all-map, all-both, all-left, all-right, all-cons, all-first, each-test}
-use Rattle.past.specs.Offsets.{good-offset, memory-offset}
+use Rattle.context.specs.Offsets.{good-offset, memory-offset}
 use Rattle.literals.proofs.CodeLaws.{literal-long}
 use Rattle.admitted.specs.Admitted.{fineConstant, ownWire, fineMemory, fineSignal, sameLength}
 use Rattle.written.specs.TokenLaws.{fineLiteral}

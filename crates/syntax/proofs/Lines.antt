@@ -8,9 +8,9 @@ use Rattle.rules.specs.Tokens.{Name}
 use Rattle.rules.specs.Statements.{Sig, conn-stmt, cell-conn-stmt}
 use Rattle.rules.specs.Shapes.{id, signal, sigspec, of₂, of₁, after, give, whole}
 use Rattle.tokens.specs.Rows.{line}
-use Rattle.forms.specs.Forms.{kindOf, cellKindOf, ended}
-use Rattle.forms.specs.declared.Kind.the-variants as kind
-use Rattle.forms.specs.declared.CellKind.the-variants as cellKind
+use Rattle.line_forms.specs.Forms.{kindOf, cellKindOf, ended}
+use Rattle.line_forms.specs.declared.Kind.the-variants as kind
+use Rattle.line_forms.specs.declared.CellKind.the-variants as cellKind
 
 unfoldable connectOpen : Unit {0}
 unfolding kindOf cellKindOf ended of₂ of₁ after give whole sigspec

@@ -14,11 +14,11 @@ use Rattle.rules.specs.Numbers.{int32, goodWire, goodMemory, wireOf, memoryOf}
 use Rattle.rules.specs.Signals.{Wires, twosComplement}
 use Rattle.rules.specs.Judgement.{portNumbers, newPort}
 use Rattle.rules.specs.Layout.{Used, padded, row, directionCode, flags, wireRow}
-use Rattle.past.specs.Offsets.{good-offset, memory-offset}
+use Rattle.context.specs.Offsets.{good-offset, memory-offset}
 use Rattle.wires.specs.Rows.{column, wordAt}
 use Rattle.wires.specs.RowLaws.{row-wire, flags-few}
-use Rattle.forms.specs.Forms.{nameIn}
-use Rattle.forms.specs.declared.Span.{Span}
+use Rattle.line_forms.specs.Forms.{nameIn}
+use Rattle.line_forms.specs.declared.Span.{Span}
 use Rattle.options.specs.Limits.{portNumber, flagBits, WireGood, MemoryGood}
 use Rattle.options.proofs.Ports.{code-range}
 use Rattle.options.proofs.Meaning.{bits-most}

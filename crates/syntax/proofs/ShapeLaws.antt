@@ -10,9 +10,9 @@ use Rattle.rules.specs.Bytes.{all}
 use Rattle.rules.specs.Statements.{Shape, aProcess, is, contents, statementsOpen}
 use Rattle.rules.specs.Signals.{Wires}
 use Rattle.rules.specs.Judgement.{breaksNumber, lowest, meaning, allParts, lacksWire, breaksWidth, equalWidths, partTooWide, judgementOpen}
-use Rattle.forms.specs.Forms.{formOf, valueIn, InRows, FormFrom}
-use Rattle.forms.specs.declared.Form.{Form}
-use Rattle.forms.specs.declared.Form.the-variants as form
+use Rattle.line_forms.specs.Forms.{formOf, valueIn, InRows, FormFrom}
+use Rattle.line_forms.specs.declared.Form.{Form}
+use Rattle.line_forms.specs.declared.Form.the-variants as form
 use Rattle.tokens.specs.declared.Constant.{Constant}
 use Rattle.tokens.specs.declared.Literal.the-variants as literal
 use Rattle.literals.specs.Codes.{Whole}

@@ -16,16 +16,16 @@ use Rattle.rules.specs.Signals.{Wires, kept}
 use Rattle.rules.specs.Judgement.{breaksNumber, lacksWire, breaksWidth, partTooWide, lowest, meaning}
 use Rattle.numbers.specs.Signed.{signedOf}
 use Rattle.numbers.specs.Kinds.{signalOf, sortOf}
-use Rattle.past.specs.Place.{contextOf}
-use Rattle.past.specs.declared.place.Place.{Place}
+use Rattle.context.specs.Place.{contextOf}
+use Rattle.context.specs.declared.place.Place.{Place}
 use Rattle.tokens.specs.Rows.{literalIn, line}
 use Rattle.tokens.specs.declared.Constant.{Constant}
 use Rattle.tokens.specs.declared.Literal.{Literal}
 use Rattle.literals.specs.Codes.{Whole}
 use Rattle.wires.specs.Rows.{wireOf, wiresFrom}
-use Rattle.forms.specs.Forms.{nameIn, valueIn, formOf, kindOf, ValueHolds, FormHolds}
-use Rattle.forms.specs.declared.Form.{Form}
-use Rattle.forms.specs.declared.Kind.the-variants as kind
+use Rattle.line_forms.specs.Forms.{nameIn, valueIn, formOf, kindOf, ValueHolds, FormHolds}
+use Rattle.line_forms.specs.declared.Form.{Form}
+use Rattle.line_forms.specs.declared.Kind.the-variants as kind
 use Rattle.signals.specs.Held.{Held}
 use Rattle.signals.specs.Reads.{Readable}
 use Rattle.signals.specs.declared.Bits.{Bits}

@@ -1,12 +1,13 @@
 // The statement of a line in its context, from the rows of its tokens, and the first refusal of its shape, its numbers and its wires. What comes
 // behind a taken name, the widths, is told with the statement.
-use forms::CellKind;
-use forms::Form;
-use forms::Kind;
-use forms::Span;
-use forms::cell_line_kind;
-use forms::module_line_kind;
-use forms::top_line;
+use context::place::Place;
+use line_forms::CellKind;
+use line_forms::Form;
+use line_forms::Kind;
+use line_forms::Span;
+use line_forms::cell_line_kind;
+use line_forms::module_line_kind;
+use line_forms::top_line;
 use literals::Number;
 use literals::good_literal;
 use literals::integer_of;
@@ -17,7 +18,6 @@ use options::limits::memory_rules;
 use options::limits::wire_rules;
 use options::memory_line;
 use options::wire_line;
-use past::place::Place;
 use signals::Answer;
 use signals::Bits;
 use signals::Scope;
@@ -32,10 +32,10 @@ ghost use mathlib.Core.Path.{_≡_};
 ghost use Prim.Native.Nat.{_+_};
 ghost use Rattle.wires.specs.Rows.{wiresFrom};
 ghost use Rattle.name_index.specs.Index.{WiresIndexed};
-ghost use Rattle.forms.specs.Forms.{kindOf, cellKindOf};
-ghost use Rattle.forms.specs.declared.CellKind.the-variants as cellKind;
-ghost use Rattle.forms.specs.declared.Form.the-variants as form;
-ghost use Rattle.forms.specs.declared.Kind.the-variants as kind;
+ghost use Rattle.line_forms.specs.Forms.{kindOf, cellKindOf};
+ghost use Rattle.line_forms.specs.declared.CellKind.the-variants as cellKind;
+ghost use Rattle.line_forms.specs.declared.Form.the-variants as form;
+ghost use Rattle.line_forms.specs.declared.Kind.the-variants as kind;
 ghost use Rattle.syntax.specs.Statements.{FormIs, PlainIs, WireIs, faulted, ConnectedIs, Says, ModuleIs, CellIs, StatementIs, Ready};
 
 // A line's statement, or its first refusal of 5, 6, 7 and 8. Offsets and the number of `autoidx` are words in two's complement.

@@ -13,9 +13,9 @@ use Rattle.rules.specs.Statements.{Wire}
 use Rattle.rules.specs.Judgement.{accepted}
 use Rattle.rules.specs.Design.{Object, object, Module, Design}
 use Rattle.rules.specs.Session.{Rename, wireAt, renameWire, renamed, now, Call, rename, undo, renameCall, undoCall, call, standing, plainSession}
-use Rattle.order.specs.RenamedFine.{map-change, undo-last, accepted-keeps}
-use Rattle.designs.specs.Now.{renames, wireNow}
-use Rattle.designs.specs.NowLaws.{wire-now, wire-last}
+use Rattle.canonical.specs.RenamedFine.{map-change, undo-last, accepted-keeps}
+use Rattle.modules.specs.Now.{renames, wireNow}
+use Rattle.modules.specs.NowLaws.{wire-now, wire-last}
 use Rattle.admitted.specs.JudgeLaws.{by-verdict}
 use Rattle.theorems.specs.StandingLaws.{undone}
 

@@ -19,8 +19,8 @@ use Rattle.scanner.specs.Laws.{or-false-left}
 use Rattle.admitted.specs.Admitted.{admitted, closes}
 use Rattle.admitted.specs.Holds.{Holds}
 use Rattle.admitted.specs.JudgeLaws.{no-tests}
-use Rattle.order.specs.DesignLaws.{design-flatten}
-use Rattle.order.specs.Canonical.{Whole, now-whole}
+use Rattle.canonical.specs.DesignLaws.{design-flatten}
+use Rattle.canonical.specs.Canonical.{Whole, now-whole}
 use Rattle.written.specs.TextLaws.{any-read, text-read}
 
 -- a list of statements, in any order that is admitted, and of any length

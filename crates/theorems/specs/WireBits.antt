@@ -20,9 +20,9 @@ use Rattle.scanner.specs.Lists.{elim-map}
 use Rattle.scanner.specs.Elements.{all-left, all-right, all-cons, all-first, all-later, all-implied, all-map, all-of, each-map}
 use Rattle.admitted.specs.Admitted.{fineBit, fineSignal}
 use Rattle.admitted.specs.Holds.{Holds}
-use Rattle.order.specs.Fine.{wiresIn, signalsIn, FineModule, FineDesign}
-use Rattle.order.specs.AdmittedFine.{admitted-fine}
-use Rattle.order.specs.Canonical.{now-fine}
+use Rattle.canonical.specs.Fine.{wiresIn, signalsIn, FineModule, FineDesign}
+use Rattle.canonical.specs.AdmittedFine.{admitted-fine}
+use Rattle.canonical.specs.Canonical.{now-fine}
 use Rattle.soundness.specs.ReadLaws.{read-admitted}
 
 -- there is a wire with this number, and it is wide enough; a constant bit is of no wire

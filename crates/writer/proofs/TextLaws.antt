@@ -11,12 +11,12 @@ use Rattle.rules.specs.Design.{design}
 use Rattle.rules.specs.Session.{now}
 use Rattle.rules.specs.Text.{text, writeText, write, measureText, measure}
 use Rattle.rules.specs.Layout.{Memory}
-use Rattle.past.specs.declared.place.Place.{Place}
+use Rattle.context.specs.declared.place.Place.{Place}
 use Rattle.text.specs.Written.{moved, Written, written-end, written-whole}
 use Rattle.netlist.specs.Lengths.{lengths-exact}
 use Rattle.session.specs.Called.{Called, holding, answer}
 use Rattle.session.specs.Steps.{Holding}
-use Rattle.standing.specs.LiesLaws.{all-wires}
+use Rattle.rename_rules.specs.LiesLaws.{all-wires}
 use Rattle.session.proofs.HoldLaws.{rows-before, standing, lies}
 use Rattle.netlist.specs.Tables.{tabled}
 use Rattle.design_text.specs.Rows.{textRows}

@@ -1,7 +1,7 @@
 // Writing a design as its one text, from lent design memory in any state, and measuring that text.
+use context::place::Place;
 use design_text::Counts;
 use design_text::put_text;
-use past::place::Place;
 use session::Opened;
 use session::open_memory;
 ghost use mathlib.Core.Path.{_≡_};

@@ -13,7 +13,7 @@ use Rattle.rules.specs.Shapes.{shape}
 use Rattle.rules.specs.Judgement.{Past, scope, context, wires}
 use Rattle.rules.specs.Text.{written, shapeTokens, indent, lineText, textFrom}
 use Rattle.rules.specs.Reading.{shaped, stated, judged, lexed, outcome}
-use Rattle.past.specs.Forms.{by-form}
+use Rattle.context.specs.Forms.{by-form}
 use Rattle.admitted.specs.Admitted.{fineParts, admitted}
 use Rattle.admitted.specs.AdmitLaws.{admitted-wires}
 use Rattle.scanner.specs.Elements.{all-zip-first}

@@ -3,8 +3,8 @@ use mathlib.Core.Path.{sym, ap, _∙_}
 use native.Mathlib.Omega.{arith}
 use borrow.Author.Tests.{not-true, not-false}
 use Rattle.rules.specs.Judgement.{Verdict}
-use Rattle.past.specs.Sizes.{exceeds}
-use Rattle.past.proofs.SizeLaws.{within-limits, within-small}
+use Rattle.context.specs.Sizes.{exceeds}
+use Rattle.context.proofs.SizeLaws.{within-limits, within-small}
 use Rattle.judgement.specs.declared.Parts.{Parts}
 use Rattle.judgement.proofs.PartLaws.{no-number, no-late}
 use Rattle.judgement.proofs.Verdicts.{number-refused, taken-refused, late-refused, sizes-refused, accepted}

@@ -1,5 +1,5 @@
 -- The own name is looked for in the name space of the statement's kind.
-use Rattle.forms.specs.Forms.{nameIn}
+use Rattle.line_forms.specs.Forms.{nameIn}
 use Rattle.judgement.specs.Parts.{takenIn}
 use borrow.Author.Needs.{needs}
 use Rattle.judgement.proofs.name_is_taken.Statement.{statement}

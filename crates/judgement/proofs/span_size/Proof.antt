@@ -2,7 +2,7 @@
 use mathlib.Core.Path.{ap}
 use native.Mathlib.Omega.{arith}
 use lib.ListN.{length}
-use Rattle.forms.specs.Forms.{nameIn}
+use Rattle.line_forms.specs.Forms.{nameIn}
 use Rattle.judgement.proofs.PartLaws.{name-few}
 use borrow.Author.Needs.{needs}
 use Rattle.judgement.proofs.span_size.Statement.{statement}

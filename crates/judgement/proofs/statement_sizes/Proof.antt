@@ -1,6 +1,6 @@
 -- The signals of a sound statement are narrow, and its other parts are no longer than the file.
 use native.Mathlib.Omega.{arith}
-use Rattle.past.proofs.SizeLaws.{kind-sizes-are}
+use Rattle.context.proofs.SizeLaws.{kind-sizes-are}
 use Rattle.judgement.proofs.PartLaws.{parts-good, parts-narrow, name-few, sizes-are, sizes-few}
 use borrow.Author.Needs.{needs}
 use Rattle.judgement.proofs.statement_sizes.Statement.{statement}

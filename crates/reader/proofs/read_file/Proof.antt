@@ -1,7 +1,7 @@
 use mathlib.Core.Path.{refl, sym, ap, _∙_}
 use Rattle.rules.specs.Judgement.{sum}
-use Rattle.past.specs.Place.{placeOf, wiresIn}
-use Rattle.past.specs.declared.place.Place.{Place}
+use Rattle.context.specs.Place.{placeOf, wiresIn}
+use Rattle.context.specs.declared.place.Place.{Place}
 use Rattle.name_index.specs.LineLaws.{lines-none, lines-upto}
 use Rattle.reader.proofs.FileLaws.{reached-fits, before, reached-start, ended, longer}
 use Rattle.reader.proofs.read_file.Statement.{statement}

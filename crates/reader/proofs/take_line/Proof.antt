@@ -1,9 +1,9 @@
 use mathlib.Core.Path.{refl, ap, _∙_}
 use native.Mathlib.Omega.{arith}
 use denote.Ref.{now}
-use Rattle.past.proofs.PlaceLaws.{after-is}
-use Rattle.past.specs.Place.{placeAfter}
-use Rattle.past.specs.declared.place.Place.{Place}
+use Rattle.context.proofs.PlaceLaws.{after-is}
+use Rattle.context.specs.Place.{placeAfter}
+use Rattle.context.specs.declared.place.Place.{Place}
 use Rattle.name_index.specs.LineLaws.{lines-upto}
 use Rattle.reader.specs.Steps.{lineOf}
 use Rattle.reader.proofs.StepLaws.{done-fits, done-stands, done-rows, put-storable, step-stated, step-skipped, step-refused, step-indexed, done-few, done-wires}

@@ -8,8 +8,8 @@ use borrow.Author.Tests.{not-true, not-false}
 use Rattle.name_index.specs.Index.{LinesIndexed}
 use Rattle.name_index.specs.LineLaws.{lines-upto}
 use Rattle.rules.specs.Judgement.{sum}
-use Rattle.past.specs.Place.{wiresIn, placeOf}
-use Rattle.past.specs.declared.place.Place.{Place}
+use Rattle.context.specs.Place.{wiresIn, placeOf}
+use Rattle.context.specs.declared.place.Place.{Place}
 use Rattle.replay.specs.Begins.{IndexLeft}
 use Rattle.replay.specs.Reads.{tabled}
 use Rattle.replay.proofs.LoopLaws.{Done, done-start, done-ready, few-wires, done-closed, done-open, done-stuck, done-next, next-rows, next-wires}

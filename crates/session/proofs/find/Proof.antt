@@ -2,7 +2,7 @@
 -- Assumes nothing.
 use mathlib.Core.Path.{sym, ap, _∙_}
 use borrow.Author.Needs.{needs}
-use Rattle.standing.specs.Search.{named}
+use Rattle.rename_rules.specs.Search.{named}
 use Rattle.session.specs.Called.{answer}
 use Rattle.session.proofs.find.Statement.{statement}
 use Rattle.session.proofs.find.Tie as tie

@@ -2,8 +2,8 @@
 use mathlib.Core.Path.{_∙_}
 use native.Mathlib.Omega.{arith}
 use Rattle.tokens.specs.Parts.{idGives}
-use Rattle.forms.specs.Forms.{nameIn}
-use Rattle.forms.proofs.LineLaws.{id-below, rows-left, no-rows}
+use Rattle.line_forms.specs.Forms.{nameIn}
+use Rattle.line_forms.proofs.LineLaws.{id-below, rows-left, no-rows}
 use Rattle.syntax.proofs.Connections.{cell-connected}
 use Rattle.signals.proofs.Parses.{readable-on}
 use Rattle.syntax.proofs.Lines.{no-name, no-signal, named-read}

@@ -1,5 +1,5 @@
 -- By the kind of line.
-use Rattle.forms.specs.Forms.{cellKindOf}
+use Rattle.line_forms.specs.Forms.{cellKindOf}
 use Rattle.syntax.proofs.ShapeLaws.{form-whole}
 use borrow.Author.Needs.{needs}
 use Rattle.syntax.proofs.cell_statement.Statement.{statement}

@@ -1,7 +1,7 @@
 -- Both signals, then the end.
 use mathlib.Core.Path.{_∙_}
 use native.Mathlib.Omega.{arith}
-use Rattle.forms.proofs.LineLaws.{rows-left, no-rows}
+use Rattle.line_forms.proofs.LineLaws.{rows-left, no-rows}
 use Rattle.syntax.proofs.Bits.{held-kept}
 use Rattle.signals.proofs.Parses.{readable-on}
 use Rattle.syntax.proofs.Lines.{no-left, no-right, both-read}

@@ -1,6 +1,6 @@
 -- By the scope.
 use borrow.Author.Tests.{ne-eqb}
-use Rattle.past.specs.Place.{scopeOf, contextOf}
+use Rattle.context.specs.Place.{scopeOf, contextOf}
 use Rattle.syntax.proofs.ShapeLaws.{form-whole}
 use borrow.Author.Needs.{needs}
 use Rattle.syntax.proofs.line_statement.Statement.{statement}

@@ -1,5 +1,5 @@
 -- By the options.
-use Rattle.forms.specs.Forms.{kindOf, nameIn}
+use Rattle.line_forms.specs.Forms.{kindOf, nameIn}
 use Rattle.syntax.proofs.Objects.{memory-bad, memory-stated}
 use borrow.Author.Needs.{needs}
 use Rattle.syntax.proofs.memory_statement.Statement.{statement}

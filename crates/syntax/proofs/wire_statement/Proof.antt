@@ -1,6 +1,6 @@
 -- By the options and the port.
 use mathlib.Core.Path.{_∙_}
-use Rattle.forms.specs.Forms.{kindOf, nameIn}
+use Rattle.line_forms.specs.Forms.{kindOf, nameIn}
 use Rattle.syntax.proofs.Objects.{port-free, port-new, wire-bad, port-bad, wire-stated}
 use borrow.Author.Needs.{needs}
 use Rattle.syntax.proofs.wire_statement.Statement.{statement}

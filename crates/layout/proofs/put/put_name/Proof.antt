@@ -3,7 +3,7 @@ use native.Mathlib.Omega.{arith}
 use denote.Ref.{now}
 use lib.ListN.{length}
 use Rattle.tables.specs.Store.{store}
-use Rattle.forms.specs.Forms.{nameIn}
+use Rattle.line_forms.specs.Forms.{nameIn}
 use borrow.Author.Needs.{needs}
 use Rattle.layout.proofs.put.put_name.Statement.{statement}
 use Rattle.layout.proofs.put.put_name.Tie as tie

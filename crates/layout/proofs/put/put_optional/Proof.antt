@@ -1,7 +1,7 @@
 use mathlib.Core.Path.{refl}
 use mathlib.Core.Option.{Option·elim, Option·map}
 use Rattle.tables.specs.Store.{store-none}
-use Rattle.forms.specs.Forms.{valueIn}
+use Rattle.line_forms.specs.Forms.{valueIn}
 use Rattle.layout.specs.Put.{optionalColumns, optionalBytes, optionalDigits}
 use borrow.Author.Needs.{needs}
 use Rattle.layout.proofs.put.put_optional.Statement.{statement}

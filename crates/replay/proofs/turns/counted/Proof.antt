@@ -3,9 +3,9 @@
 use mathlib.Core.Path.{sym, _∙_}
 use native.Mathlib.Omega.{arith}
 use borrow.Author.Tests.{not-true, not-false}
-use Rattle.past.proofs.PlaceLaws.{after-is}
-use Rattle.past.proofs.SizeLaws.{kind-sizes-are}
-use Rattle.past.proofs.SizeLaws.{within-small}
+use Rattle.context.proofs.PlaceLaws.{after-is}
+use Rattle.context.proofs.SizeLaws.{kind-sizes-are}
+use Rattle.context.proofs.SizeLaws.{within-small}
 use Rattle.replay.proofs.TurnLaws.{told-small, counted-taken, counted-large, counted-exceeds, counted-next}
 use borrow.Author.Needs.{needs}
 use Rattle.replay.proofs.turns.counted.Statement.{statement}

@@ -5,7 +5,7 @@ use borrow.Author.Tests.{eq-eqb, ne-eqb}
 use Rattle.rules.specs.Bytes.{any}
 use Rattle.rules.specs.Statements.{code}
 use Rattle.admitted.specs.Admitted.{kinds}
-use Rattle.past.specs.Place.{scopeOf}
+use Rattle.context.specs.Place.{scopeOf}
 use Rattle.netlist.specs.Kinds.{ofKinds}
 use Rattle.replay.specs.Turns.{standsAt}
 use borrow.Author.Needs.{needs}

@@ -1,0 +1,133 @@
+-- The sizes of a statement and of the past, field by field from the rules, and the limit of each.
+use Prim.Native.Nat.{ℕ, _+_, _≤_}
+use mathlib.Core.Path.{_≡_}
+use mathlib.Core.Bool.{Bool, cond, _||_}
+use mathlib.Core.List.{List, [], _∷_}
+use lib.Dec.{eqb, ltb}
+use Rattle.rules.specs.Bytes.{any}
+use Rattle.rules.specs.Statements.{Statement, anAttribute, aModule, aParameter, aWire, aMemory, aCell, aCellParameter, aCellConnection, aConnection, code, contents}
+use Rattle.rules.specs.Judgement.{Past, sum, count, signalSize, valueSize, stringSize, nameSize}
+use Rattle.context.specs.declared.sizes.Sizes.{Sizes}
+
+-- each size of the rules, taken in one way
+unfoldable pub sizesBy : ((Statement → ℕ) → ℕ) → Sizes
+sizesBy f =
+    record {
+      modules = f (count (aModule ∷ []));
+      wires = f (count (aWire ∷ []));
+      memories = f (count (aMemory ∷ []));
+      cells = f (count (aCell ∷ []));
+      parameters = f (count (aParameter ∷ aCellParameter ∷ []));
+      attributes = f (count (anAttribute ∷ []));
+      ports = f (count (aCellConnection ∷ []));
+      connections = f (count (aConnection ∷ []));
+      «signal_bits» = f signalSize;
+      «value_bits» = f valueSize;
+      «string_bytes» = f stringSize;
+      «name_bytes» = f nameSize;
+    }
+
+-- the sizes of one statement; their sums over the past
+unfoldable pub sizesOf : Statement → Sizes
+sizesOf s = sizesBy (λ size. size s)
+
+unfoldable pub sumsOf : Past → Sizes
+sumsOf ss = sizesBy (λ size. sum size ss)
+
+-- the sums u with the sizes d of one statement more
+unfoldable pub plusOf : Sizes → Sizes → Sizes
+plusOf u d =
+    record {
+      modules = d .modules + u .modules;
+      wires = d .wires + u .wires;
+      memories = d .memories + u .memories;
+      cells = d .cells + u .cells;
+      parameters = d .parameters + u .parameters;
+      attributes = d .attributes + u .attributes;
+      ports = d .ports + u .ports;
+      connections = d .connections + u .connections;
+      «signal_bits» = d .«signal_bits» + u .«signal_bits»;
+      «value_bits» = d .«value_bits» + u .«value_bits»;
+      «string_bytes» = d .«string_bytes» + u .«string_bytes»;
+      «name_bytes» = d .«name_bytes» + u .«name_bytes»;
+    }
+
+-- each limit, and what it limits
+unfoldable pub limits : Sizes → List (ℕ × ℕ)
+limits u =
+    (32, u .modules)
+    ∷ (512, u .wires)
+    ∷ (32, u .memories)
+    ∷ (256, u .cells)
+    ∷ (1024, u .parameters)
+    ∷ (1024, u .attributes)
+    ∷ (1024, u .ports)
+    ∷ (512, u .connections)
+    ∷ (8192, u .«signal_bits»)
+    ∷ (8192, u .«value_bits»)
+    ∷ (8192, u .«string_bytes»)
+    ∷ (16384, u .«name_bytes»)
+    ∷ []
+
+-- whether a size is above its limit
+unfoldable pub exceeds : Sizes → Bool
+exceeds u = any (λ z. ltb (z .0) (z .1)) (limits u)
+
+-- each size is at most its limit
+pub record Within (u : Sizes) : Type 0 where
+  pub modules : u .modules ≤ 32
+  pub wires : u .wires ≤ 512
+  pub memories : u .memories ≤ 32
+  pub cells : u .cells ≤ 256
+  pub parameters : u .parameters ≤ 1024
+  pub attributes : u .attributes ≤ 1024
+  pub ports : u .ports ≤ 1024
+  pub connections : u .connections ≤ 512
+  pub signal-bits : u .«signal_bits» ≤ 8192
+  pub value-bits : u .«value_bits» ≤ 8192
+  pub string-bytes : u .«string_bytes» ≤ 8192
+  pub name-bytes : u .«name_bytes» ≤ 16384
+
+-- each size is at most n
+pub record AtMost (n : ℕ) (u : Sizes) : Type 0 where
+  pub modules : u .modules ≤ n
+  pub wires : u .wires ≤ n
+  pub memories : u .memories ≤ n
+  pub cells : u .cells ≤ n
+  pub parameters : u .parameters ≤ n
+  pub attributes : u .attributes ≤ n
+  pub ports : u .ports ≤ n
+  pub connections : u .connections ≤ n
+  pub signal-bits : u .«signal_bits» ≤ n
+  pub value-bits : u .«value_bits» ≤ n
+  pub string-bytes : u .«string_bytes» ≤ n
+  pub name-bytes : u .«name_bytes» ≤ n
+
+-- the sizes of one statement of a kind that holds so many bits and bytes
+unfoldable pub kindSizes : (k g v t n : ℕ) → Sizes
+kindSizes k g v t n =
+    record {
+      modules = cond (eqb k 3) 1 0;
+      wires = cond (eqb k 5) 1 0;
+      memories = cond (eqb k 6) 1 0;
+      cells = cond (eqb k 7) 1 0;
+      parameters = cond (eqb k 4 || eqb k 8) 1 0;
+      attributes = cond (eqb k 2) 1 0;
+      ports = cond (eqb k 9) 1 0;
+      connections = cond (eqb k 10) 1 0;
+      «signal_bits» = g;
+      «value_bits» = v;
+      «string_bytes» = t;
+      «name_bytes» = n;
+    }
+
+-- r is the sizes of each statement of this kind that holds so many bits and bytes
+abbrev pub KindSizesAre : ℕ → ℕ → ℕ → ℕ → ℕ → Sizes → Type 0
+KindSizesAre k g v t n r =
+    (s : Statement)
+    → k ≡ code (contents s .kind)
+    → g ≡ signalSize s
+    → v ≡ valueSize s
+    → t ≡ stringSize s
+    → n ≡ nameSize s
+    → sizesOf s ≡ r

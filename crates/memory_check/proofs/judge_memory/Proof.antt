@@ -1,0 +1,28 @@
+-- The index is of no row yet.
+-- Assumes nothing.
+use mathlib.Core.Path.{refl}
+use Rattle.name_index.specs.LineLaws.{lines-none}
+use borrow.Author.Needs.{needs}
+use Rattle.memory_check.proofs.judge_memory.Statement.{statement}
+use Rattle.memory_check.proofs.judge_memory.Tie as tie
+
+slice-aggregate-judge-indexed : tie.Need-slice-aggregate-judge-indexed
+slice-aggregate-judge-indexed c = refl
+
+slice-aggregate-judge-indexed-2 : tie.Need-slice-aggregate-judge-indexed-2
+slice-aggregate-judge-indexed-2 c = refl
+
+judge-indexed-requires : tie.Need-judge-indexed-requires
+judge-indexed-requires c κs = lines-none _ _ _ _ _ refl refl
+
+returns : tie.Need-returns
+returns c = c .before .before .judge-indexed .ensures
+
+pub judge-memory-spec : {M : Type 1} → statement M
+judge-memory-spec =
+    tie.close
+    (tie.spec
+    slice-aggregate-judge-indexed
+    slice-aggregate-judge-indexed-2
+    judge-indexed-requires
+    returns)
