@@ -6,7 +6,7 @@ use Rattle.reader.proofs.read as core
 use Rattle.reader.proofs.read.Symbol as core-def
 use Rattle.reader.proofs.read.Symbol.{name as #reader·read}
 use Rattle.reader.proofs.read.Met as core-thm
-use Rattle.skytassel_c.proofs.skytassel_read.Key.{name as #card·skytassel-read}
+use Rattle.skytassel_c.proofs.skytassel_read.Key.{name as #skytassel-c·skytassel-read}
 use Rattle.skytassel_c.proofs.skytassel_read as thin
 use Rattle.skytassel_c.proofs.skytassel_read.Statement as stated
 use Rattle.skytassel_c.proofs.skytassel_read.Code as code
@@ -123,7 +123,7 @@ module _ {M : Type 1} (𝓤 : URA M) (H : Heap 𝓤) (A : Atoms 𝓤) (W : Given
 pub skytassel-read-spec : {M : Type 1} → stated.statement M
 unfolding code.routine
 skytassel-read-spec 𝓤 H 𝓜 𝓖 𝓡 =
-    walk-enters 𝓤 H 𝓜 𝓖 𝓡 code.env thin.ended stayed (thin.clauses 𝓤 H (𝓖 .A) (𝓜 .mem) (𝓡 .run)) #card·skytassel-read code.function (code.unfolded 𝓤 H 𝓜 𝓡)
+    walk-enters 𝓤 H 𝓜 𝓖 𝓡 code.env thin.ended stayed (thin.clauses 𝓤 H (𝓖 .A) (𝓜 .mem) (𝓡 .run)) #skytassel-c·skytassel-read code.function (code.unfolded 𝓤 H 𝓜 𝓡)
     (goes-none-slice 𝓤 H (𝓖 .A) (givenOf 𝓤 H 𝓜 𝓖) 7 (0 ∷ []) tt (plain (λ _. u8)) yes, (goes-gave-slice 𝓤 H (𝓖 .A) (givenOf 𝓤 H 𝓜 𝓖) 7 1 tt (plain (λ _. u8)), (goes-gave-slice 𝓤 H (𝓖 .A) (givenOf 𝓤 H 𝓜 𝓖) 7 2 tt (plain (λ _. u8)), (goes-gave-slice 𝓤 H (𝓖 .A) (givenOf 𝓤 H 𝓜 𝓖) 7 3 tt (plain (λ _. u32)), (goes-gave-slice 𝓤 H (𝓖 .A) (givenOf 𝓤 H 𝓜 𝓖) 7 4 tt (plain (λ _. u32)), (goes-gave-slice 𝓤 H (𝓖 .A) (givenOf 𝓤 H 𝓜 𝓖) 7 5 tt (plain (λ _. u32)), (goes-ref 𝓤 H (𝓖 .A) (givenOf 𝓤 H 𝓜 𝓖) 7 6 tt (plain (λ _. R)), tt)))))))
     (λ κs. (slice-vals, (slice-vals, (slice-vals, (slice-vals, (slice-vals, (slice-vals, (ptr-vals, tt))))))))
     (λ κs. (shr-slice-tells (named 0) (κs .0) u8, (mut-slice-tells (named 1) (κs .1 .0) u8, (mut-slice-tells (named 2) (κs .1 .1 .0) u8, (mut-slice-tells (named 3) (κs .1 .1 .1 .0) u32, (mut-slice-tells (named 4) (κs .1 .1 .1 .1 .0) u32, (mut-slice-tells (named 5) (κs .1 .1 .1 .1 .1 .0) u32, (mut-tells (named 6) (κs .1 .1 .1 .1 .1 .1 .0) R, tt))))))))

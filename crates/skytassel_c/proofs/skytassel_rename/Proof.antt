@@ -4,9 +4,9 @@
 use Rattle.skytassel_c.proofs.Walk.{refl, ℕ, _<_, _^_, [], _∷_, List, length, URA, named, w32, Val, vint, vptr, SProp, ent, id⊢, Lft, Share, GName, Fml, flft, fobs, fbor, Memory, Routine, Heap, Calls, Loops, WpFn, Atoms, Fun, givenOf, tables, Lfts, Shares, AllOutlive, Given, Item, ‵, raw, mean, _⊛_, ⋆, _$_, _∵_, !, qed, by, move, drop, use1, use2, split, fsplit, fsplit3, fjoin, fjoin3, feqL, feqI, suffices, frame, done, look, init, stop, hop, fld, from, load, of-opd, and-then, no-more, assigns, returns, enter, agg, whole, sub, look-in, store-in, Body, FmC, RattleType, owns, mem, Is, uint-vals, uint-tells, u8, u32, RefT, MutRef, ptr-vals, mut-tells, MutSlice, ShrSlice, Room, slice-vals, mut-slice-tells, shr-slice-tells, shr-slice-lawful, nothing, alive, onEntry, tripleOf, Contract, Triple, calls-at, ensured, cited, says, Stays, stay-ref, stay-none, stay-none-slice, gave-slice, walkOf, goes-ref, goes-none, goes-none-slice, goes-gave-slice, ends-at, yes, plain, pull, unpull, tokens, owned-by, asks, returned, said, walk-enters, starts, relends, ends, none, cell, past, Card, CallResult, Answer, R, sliced, h, answer, card-opens, card-closes, number, answers, copies, left-lands}
 use Rattle.skytassel_c.proofs.rename_by_number as core
 use Rattle.skytassel_c.proofs.rename_by_number.Symbol as core-def
-use Rattle.skytassel_c.proofs.rename_by_number.Symbol.{name as #card·rename-by-number}
+use Rattle.skytassel_c.proofs.rename_by_number.Symbol.{name as #skytassel-c·rename-by-number}
 use Rattle.skytassel_c.proofs.rename_by_number.Met as core-thm
-use Rattle.skytassel_c.proofs.skytassel_rename.Key.{name as #card·skytassel-rename}
+use Rattle.skytassel_c.proofs.skytassel_rename.Key.{name as #skytassel-c·skytassel-rename}
 use Rattle.skytassel_c.proofs.skytassel_rename as thin
 use Rattle.skytassel_c.proofs.skytassel_rename.Statement as stated
 use Rattle.skytassel_c.proofs.skytassel_rename.Code as code
@@ -106,7 +106,7 @@ module _ {M : Type 1} (𝓤 : URA M) (H : Heap 𝓤) (A : Atoms 𝓤) (W : Given
       qed W (‵ (fobs γ (R .coded .code (newOf r))) ∷ ‵ (fbor κ₅ (Body (mem R) b o γ)) ∷ ‵ (flft κ₅ q₅) ∷ Others ∷ raw (Ensured r) ∷ Kept ∷ []) ∵
       move ! (4 ∷ []) $ said ! core.ended (core.clauses 𝓤 H A at-mem run) κs ca tt r (λ zs. id⊢ 𝓤 _) (λ zs e. fsplit ! $ fsplit ! $ move ! (1 ∷ []) $ feqL ! (λ l₀. move ! (1 ∷ []) $ fsplit ! $ drop ! $ fsplit ! $ drop ! $ fsplit ! $ drop ! $ fsplit ! $ fsplit ! $ move ! (1 ∷ []) $ feqL ! (λ l₄. move ! (1 ∷ []) $ drop ! $ suffices ! _ (ends-at 𝓤 H A thin.ended stayed (thin.clauses 𝓤 H A at-mem run) W here (answer (ansOf r)) (ansOf r) ((zs .0), (tt, (tt, (tt, ((zs .1 .1 .1 .1 .0), (newOf r, (tt, (tt, (tt, tt))))))))) (l₀, (tt, (tt, (tt, (l₄, (tt, (tt, (tt, (tt, tt)))))))))) $ says ! e $ move ! (4 ∷ 5 ∷ []) $ use2 W Tokens (unpull 𝓤 H A 5 (tokens 𝓤 7 lfts shares)) $ frame ! $ move ! (4 ∷ []) $ split ! $ move ! (1 ∷ []) $ split ! $ move ! (1 ∷ []) $ split ! $ move ! (6 ∷ 7 ∷ []) $ feqI ! (List Val) (vptr b o ∷ []) (vptr b o ∷ []) refl $ fjoin3 ! $ nothing ! $ move ! (3 ∷ 0 ∷ []) $ fjoin ! $ number ! x₇ fit₇ $ fjoin ! $ number ! x₆ fit₆ $ fjoin ! $ move ! (1 ∷ 0 ∷ []) $ fjoin ! $ move ! (4 ∷ 0 ∷ []) $ fjoin ! $ move ! (1 ∷ 0 ∷ []) $ fjoin ! $ move ! (1 ∷ 0 ∷ []) $ fjoin ! $ move ! (1 ∷ 0 ∷ []) $ fjoin ! $ move ! (1 ∷ 0 ∷ []) $ fjoin ! $ answers ! (ansOf r) g₀ g₁ $ move ! (1 ∷ 0 ∷ []) $ done !)))
 
-  module _ (C : Calls 𝓤 H) (Λ : Loops 𝓤 H) (fm : FmC 𝓤 H (W .laws) C) (known : Triple 𝓤 (C #card·rename-by-number) (Core 𝓤 H A at-mem run)) where
+  module _ (C : Calls 𝓤 H) (Λ : Loops 𝓤 H) (fm : FmC 𝓤 H (W .laws) C) (known : Triple 𝓤 (C #skytassel-c·rename-by-number) (Core 𝓤 H A at-mem run)) where
     walk : Room u8 (length (x₀ .now)) → Is (ShrSlice (named 1) κ₁ u8) x₁ (sliced x₁ ∷ []) → Is (ShrSlice (named 2) κ₂ u32) x₂ (sliced x₂ ∷ []) → Is (ShrSlice (named 3) κ₃ u32) x₃ (sliced x₃ ∷ []) → Room u32 (length (x₄ .now)) → x₆ < 2 ^ 32 → x₇ < 2 ^ 32 → Is (ShrSlice (named 6) κ₆ u8) x₈ (sliced x₈ ∷ []) → ent 𝓤 (onEntry 𝓤 H A thin.signature lfts shares a vals) (WpFn 𝓤 H C Λ code.function (sliced x₀ ∷ sliced x₁ ∷ sliced x₂ ∷ sliced x₃ ∷ sliced x₄ ∷ vptr b o ∷ vint w32 x₆ ∷ vint w32 x₇ ∷ sliced x₈ ∷ []) (Thin .post here))
     walk room₀ is₁ is₂ is₃ room₄ fit₆ fit₇ is₈ =
         qed W (Tokens ∷ ‵ (owns Params a vals) ∷ []) ∵ use1 W (‵ (flft κ₅ q₅) ⊛ Others) (pull 𝓤 H A 5 (tokens 𝓤 7 lfts shares)) $ split ! $ move ! (2 ∷ []) $
@@ -132,9 +132,9 @@ module _ {M : Type 1} (𝓤 : URA M) (H : Heap 𝓤) (A : Atoms 𝓤) (W : Given
 pub skytassel-rename-spec : {M : Type 1} → stated.statement M
 unfolding code.routine
 skytassel-rename-spec 𝓤 H 𝓜 𝓖 𝓡 =
-    walk-enters 𝓤 H 𝓜 𝓖 𝓡 code.env thin.ended stayed (thin.clauses 𝓤 H (𝓖 .A) (𝓜 .mem) (𝓡 .run)) #card·skytassel-rename code.function (code.unfolded 𝓤 H 𝓜 𝓡)
+    walk-enters 𝓤 H 𝓜 𝓖 𝓡 code.env thin.ended stayed (thin.clauses 𝓤 H (𝓖 .A) (𝓜 .mem) (𝓡 .run)) #skytassel-c·skytassel-rename code.function (code.unfolded 𝓤 H 𝓜 𝓡)
     (goes-gave-slice 𝓤 H (𝓖 .A) (givenOf 𝓤 H 𝓜 𝓖) 7 0 tt (plain (λ _. u8)), (goes-none-slice 𝓤 H (𝓖 .A) (givenOf 𝓤 H 𝓜 𝓖) 7 (1 ∷ []) tt (plain (λ _. u8)) yes, (goes-none-slice 𝓤 H (𝓖 .A) (givenOf 𝓤 H 𝓜 𝓖) 7 (2 ∷ []) tt (plain (λ _. u32)) yes, (goes-none-slice 𝓤 H (𝓖 .A) (givenOf 𝓤 H 𝓜 𝓖) 7 (3 ∷ []) tt (plain (λ _. u32)) yes, (goes-gave-slice 𝓤 H (𝓖 .A) (givenOf 𝓤 H 𝓜 𝓖) 7 4 tt (plain (λ _. u32)), (goes-ref 𝓤 H (𝓖 .A) (givenOf 𝓤 H 𝓜 𝓖) 7 5 tt (plain (λ _. R)), (goes-none 𝓤 H (𝓖 .A) (givenOf 𝓤 H 𝓜 𝓖) 7 (λ _. u32) yes (λ κs x f. refl), (goes-none 𝓤 H (𝓖 .A) (givenOf 𝓤 H 𝓜 𝓖) 7 (λ _. u32) yes (λ κs x f. refl), (goes-none-slice 𝓤 H (𝓖 .A) (givenOf 𝓤 H 𝓜 𝓖) 7 (6 ∷ []) tt (plain (λ _. u8)) yes, tt)))))))))
     (λ κs. (slice-vals, (slice-vals, (slice-vals, (slice-vals, (slice-vals, (ptr-vals, (uint-vals w32, (uint-vals w32, (slice-vals, tt))))))))))
     (λ κs. (mut-slice-tells (named 0) (κs .0) u8, (shr-slice-tells (named 1) (κs .1 .0) u8, (shr-slice-tells (named 2) (κs .1 .1 .0) u32, (shr-slice-tells (named 3) (κs .1 .1 .1 .0) u32, (mut-slice-tells (named 4) (κs .1 .1 .1 .1 .0) u32, (mut-tells (named 5) (κs .1 .1 .1 .1 .1 .0) R, (uint-tells w32, (uint-tells w32, (shr-slice-tells (named 6) (κs .1 .1 .1 .1 .1 .1 .0) u8, tt))))))))))
     (λ fm κs qs bounds a g are. walk 𝓤 H (𝓖 .A) (givenOf 𝓤 H 𝓜 𝓖) (𝓜 .mem) (𝓡 .run) (κs .0) (κs .1 .0) (κs .1 .1 .0) (κs .1 .1 .1 .0) (κs .1 .1 .1 .1 .0) (κs .1 .1 .1 .1 .1 .0) (κs .1 .1 .1 .1 .1 .1 .0) bounds (qs .0) (qs .1 .0) (qs .1 .1 .0) (qs .1 .1 .1 .0) (qs .1 .1 .1 .1 .0) (qs .1 .1 .1 .1 .1 .0) (qs .1 .1 .1 .1 .1 .1 .0) (a .0) (a .1 .0) (a .1 .1 .0) (a .1 .1 .1 .0) (a .1 .1 .1 .1 .0) (a .1 .1 .1 .1 .1 .0 .ptr .0) (a .1 .1 .1 .1 .1 .0 .ptr .1) (a .1 .1 .1 .1 .1 .0 .name) (a .1 .1 .1 .1 .1 .0 .now .renames) (a .1 .1 .1 .1 .1 .0 .now .room) (a .1 .1 .1 .1 .1 .1 .0) (a .1 .1 .1 .1 .1 .1 .1 .0) (a .1 .1 .1 .1 .1 .1 .1 .1 .0) (tables 𝓤 H 𝓜 𝓡 code.env .C) (tables 𝓤 H 𝓜 𝓡 code.env .Λ) fm
-    (cited 𝓤 H (Core 𝓤 H (𝓖 .A) (𝓜 .mem) (𝓡 .run)) 𝓜 𝓡 code.env #card·rename-by-number core-def.routine code.calls-card·rename-by-number (core-thm.met 𝓤 H 𝓜 𝓖 𝓡)) (are .0 .0 .1) (are .1 .0) (are .1 .1 .0) (are .1 .1 .1 .0) (are .1 .1 .1 .1 .0 .0 .1) (are .1 .1 .1 .1 .1 .1 .0 .1) (are .1 .1 .1 .1 .1 .1 .1 .0 .1) (are .1 .1 .1 .1 .1 .1 .1 .1 .0))
+    (cited 𝓤 H (Core 𝓤 H (𝓖 .A) (𝓜 .mem) (𝓡 .run)) 𝓜 𝓡 code.env #skytassel-c·rename-by-number core-def.routine code.calls-skytassel-c·rename-by-number (core-thm.met 𝓤 H 𝓜 𝓖 𝓡)) (are .0 .0 .1) (are .1 .0) (are .1 .1 .0) (are .1 .1 .1 .0) (are .1 .1 .1 .1 .0 .0 .1) (are .1 .1 .1 .1 .1 .1 .0 .1) (are .1 .1 .1 .1 .1 .1 .1 .0 .1) (are .1 .1 .1 .1 .1 .1 .1 .1 .0))

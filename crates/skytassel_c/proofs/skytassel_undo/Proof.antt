@@ -6,7 +6,7 @@ use Rattle.session.proofs.undo as core
 use Rattle.session.proofs.undo.Symbol as core-def
 use Rattle.session.proofs.undo.Symbol.{name as #session·undo}
 use Rattle.session.proofs.undo.Met as core-thm
-use Rattle.skytassel_c.proofs.skytassel_undo.Key.{name as #card·skytassel-undo}
+use Rattle.skytassel_c.proofs.skytassel_undo.Key.{name as #skytassel-c·skytassel-undo}
 use Rattle.skytassel_c.proofs.skytassel_undo as thin
 use Rattle.skytassel_c.proofs.skytassel_undo.Statement as stated
 use Rattle.skytassel_c.proofs.skytassel_undo.Code as code
@@ -129,7 +129,7 @@ module _ {M : Type 1} (𝓤 : URA M) (H : Heap 𝓤) (A : Atoms 𝓤) (W : Given
 pub skytassel-undo-spec : {M : Type 1} → stated.statement M
 unfolding code.routine
 skytassel-undo-spec 𝓤 H 𝓜 𝓖 𝓡 =
-    walk-enters 𝓤 H 𝓜 𝓖 𝓡 code.env thin.ended stayed (thin.clauses 𝓤 H (𝓖 .A) (𝓜 .mem) (𝓡 .run)) #card·skytassel-undo code.function (code.unfolded 𝓤 H 𝓜 𝓡)
+    walk-enters 𝓤 H 𝓜 𝓖 𝓡 code.env thin.ended stayed (thin.clauses 𝓤 H (𝓖 .A) (𝓜 .mem) (𝓡 .run)) #skytassel-c·skytassel-undo code.function (code.unfolded 𝓤 H 𝓜 𝓡)
     (goes-gave-slice 𝓤 H (𝓖 .A) (givenOf 𝓤 H 𝓜 𝓖) 6 0 tt (plain (λ _. u8)), (goes-none-slice 𝓤 H (𝓖 .A) (givenOf 𝓤 H 𝓜 𝓖) 6 (1 ∷ []) tt (plain (λ _. u8)) yes, (goes-none-slice 𝓤 H (𝓖 .A) (givenOf 𝓤 H 𝓜 𝓖) 6 (2 ∷ []) tt (plain (λ _. u32)) yes, (goes-none-slice 𝓤 H (𝓖 .A) (givenOf 𝓤 H 𝓜 𝓖) 6 (3 ∷ []) tt (plain (λ _. u32)) yes, (goes-gave-slice 𝓤 H (𝓖 .A) (givenOf 𝓤 H 𝓜 𝓖) 6 4 tt (plain (λ _. u32)), (goes-ref 𝓤 H (𝓖 .A) (givenOf 𝓤 H 𝓜 𝓖) 6 5 tt (plain (λ _. R)), tt))))))
     (λ κs. (slice-vals, (slice-vals, (slice-vals, (slice-vals, (slice-vals, (ptr-vals, tt)))))))
     (λ κs. (mut-slice-tells (named 0) (κs .0) u8, (shr-slice-tells (named 1) (κs .1 .0) u8, (shr-slice-tells (named 2) (κs .1 .1 .0) u32, (shr-slice-tells (named 3) (κs .1 .1 .1 .0) u32, (mut-slice-tells (named 4) (κs .1 .1 .1 .1 .0) u32, (mut-tells (named 5) (κs .1 .1 .1 .1 .1 .0) R, tt)))))))
