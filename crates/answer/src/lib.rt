@@ -1,5 +1,11 @@
 // The program's whole answer to a file: its one text, or the number and place of its refusal.
+use netlist::lengths::BITS_LENGTH;
+use netlist::lengths::NAMES_LENGTH;
+use netlist::lengths::ROWS_LENGTH;
+use netlist::lengths::STRINGS_LENGTH;
+use netlist::lengths::WIRES_LENGTH;
 use reader::read;
+use text::TEXT_LENGTH;
 use text::put_refusal;
 use writer::write;
 ghost use mathlib.Core.Path.{_≡_};
@@ -64,15 +70,15 @@ fn answer_in(
 }
 
 // What the program writes for a file, at the start of the room lent, and its length.
-pub fn answer(f: &[u8], out: &mut [u8; 32768]) -> usize
+pub fn answer(f: &[u8], out: &mut [u8; TEXT_LENGTH]) -> usize
     ensures { λ r. ⌜ (r, now (out .exit)) ≡ putting (now (out .entry)) (program (now (f .entry))) ⌝ }
     ensures { λ r. ⌜ r ≤ 32768 ⌝ }
 {
-    let mut names = [0u8; 16384];
-    let mut strings = [0u8; 8192];
-    let mut bits = [0u32; 16384];
-    let mut wires = [0u32; 4096];
-    let mut rows = [0u32; 38152];
+    let mut names = [0u8; NAMES_LENGTH];
+    let mut strings = [0u8; STRINGS_LENGTH];
+    let mut bits = [0u32; BITS_LENGTH];
+    let mut wires = [0u32; WIRES_LENGTH];
+    let mut rows = [0u32; ROWS_LENGTH];
     answer_in(
         f,
         &mut names,

@@ -17,6 +17,23 @@ ghost use Rattle.theorems.specs.DamagedMemory.{Held};
 ghost use Rattle.calls.specs.Calls.{callAt, callsIn, answerWords, session};
 ghost use Rattle.calls.specs.Steps.{MadeAs};
 
+// The words of a call: what it is, then a rename's module, wire, and where its new name starts in the texts and its length.
+const CALL_WORDS: usize = 5;
+
+const CALL_MODULE: usize = 1;
+
+const CALL_WIRE: usize = 2;
+
+const CALL_NAME: usize = 3;
+
+const CALL_NAME_LENGTH: usize = 4;
+
+// The first word of a rename.
+const CALL_RENAME: u32 = 1;
+
+// The words of an answer: number and place.
+const ANSWER_WORDS: usize = 2;
+
 // A word, if there is a place for it.
 fn put_word(table: &mut [u32], at: usize, w: u32)
     ensures { λ _. ⌜ now (table .exit) ≡ set (now (table .entry)) at w ⌝ }
@@ -31,8 +48,8 @@ fn put_answer(answers: &mut [u32], i: usize, number: u32, place: u32)
     requires { ⌜ 2 * i + 1 < 2 ^ 64 ⌝ }
     ensures { λ _. ⌜ now (answers .exit) ≡ store (now (answers .entry)) (2 * i) (answerWords (number, place)) ⌝ }
 {
-    put_word(answers, 2 * i, number);
-    put_word(answers, 2 * i + 1, place);
+    put_word(answers, ANSWER_WORDS * i, number);
+    put_word(answers, ANSWER_WORDS * i + 1, place);
 }
 
 // Five words a call: 1 a rename with module, wire, and where its new name starts in `texts` and its length; anything else an undo.
@@ -51,12 +68,12 @@ fn make_call(
     requires { ⌜ 5 * i + 5 ≤ length (now calls) ⌝ }
     ensures { λ r. ⌜ CalledAs (lent (now (names .entry)) (now (strings .entry)) (now (bits .entry)) (now (wires .entry)) (now (rows .entry)) renames room) (callAt (now (calls .entry)) (now (texts .entry)) i) (result (r .number) (r .place) (lent (now (names .exit)) (now (strings .entry)) (now (bits .entry)) (now (wires .entry)) (now (rows .exit)) (r .renames) (r .room))) ⌝ }
 {
-    let at = 5 * i;
-    if word(calls, at) != 1 {
+    let at = CALL_WORDS * i;
+    if word(calls, at) != CALL_RENAME {
         return undo(names, strings, bits, wires, rows, renames, room);
     }
-    let start = word(calls, at + 3) as usize;
-    let size = word(calls, at + 4) as usize;
+    let start = word(calls, at + CALL_NAME) as usize;
+    let size = word(calls, at + CALL_NAME_LENGTH) as usize;
     rename(
         names,
         strings,
@@ -65,8 +82,8 @@ fn make_call(
         rows,
         renames,
         room,
-        ModuleNumber(word(calls, at + 1)),
-        WireNumber(word(calls, at + 2)),
+        ModuleNumber(word(calls, at + CALL_MODULE)),
+        WireNumber(word(calls, at + CALL_WIRE)),
         part(texts, start, start + size),
     )
 }
@@ -99,7 +116,7 @@ fn make_calls(
     requires { ⌜ Held (lent (now names) (now strings) (now bits) (now wires) (now rows) renames room) ⌝ }
     ensures { λ r. ⌜ MadeAs (lent (now (names .entry)) (now (strings .entry)) (now (bits .entry)) (now (wires .entry)) (now (rows .entry)) renames room) (now (answers .entry)) (callsIn (now (calls .entry)) (now (texts .entry))) (result (r .number) (r .place) (lent (now (names .exit)) (now (strings .entry)) (now (bits .entry)) (now (wires .entry)) (now (rows .exit)) (r .renames) (r .room))) (now (answers .exit)) ⌝ }
 {
-    let many = calls.len() / 5;
+    let many = calls.len() / CALL_WORDS;
     let mut i = 0;
     let mut standing = renames;
     let mut used = room;

@@ -1,12 +1,23 @@
 // Where a line stands: in what scope, behind what, and which rows of the table of statements its name spaces are.
+use crate::kinds::ATTRIBUTE;
+use crate::kinds::CELL;
+use crate::kinds::END;
+use crate::kinds::MODULE;
+use crate::kinds::WIRE;
 ghost use mathlib.Core.Path.{_≡_};
 ghost use mathlib.Core.Bool.{cond};
 ghost use mathlib.Core.List.{[]};
 ghost use Prim.Native.Nat.{_<_};
 ghost use Rattle.context.specs.Place.{placeOf, closesAt, scopeAfter, placeAfter, Bounds};
 
+// The scope of a line: outside of modules, in a module, in a cell.
+pub const TOP: u32 = 0;
+
+pub const IN_MODULE: u32 = 1;
+
+pub const IN_CELL: u32 = 2;
+
 pub struct Place {
-    // 0: outside of modules, 1: in a module, 2: in a cell.
     pub scope: u32,
     pub first: bool,
     pub attributed: bool,
@@ -27,7 +38,7 @@ pub fn start() -> Place
     ensures { λ r. ⌜ r ≡ placeOf [] ⌝ }
 {
     Place {
-        scope: 0,
+        scope: TOP,
         first: true,
         attributed: false,
         rows: 0,
@@ -44,7 +55,7 @@ pub fn start() -> Place
 pub fn is_closed(p: Place) -> bool
     ensures { λ r. ⌜ r ≡ closesAt p ⌝ }
 {
-    if p.scope != 0 {
+    if p.scope != TOP {
         return false;
     }
     !p.attributed
@@ -60,17 +71,17 @@ fn pick(test: bool, a: u32, b: u32) -> u32
 fn scope_after(scope: u32, kind: u32) -> u32
     ensures { λ r. ⌜ r ≡ scopeAfter scope kind ⌝ }
 {
-    if kind == 3 {
-        return 1;
+    if kind == MODULE {
+        return IN_MODULE;
     }
-    if kind == 7 {
-        return 2;
+    if kind == CELL {
+        return IN_CELL;
     }
-    if kind != 12 {
+    if kind != END {
         return scope;
     }
-    if scope == 0 {
-        return 0;
+    if scope == TOP {
+        return TOP;
     }
     scope - 1
 }
@@ -82,17 +93,17 @@ pub fn after(p: Place, kind: u32) -> Place
     ensures { λ r. ⌜ r ≡ placeAfter p kind ⌝ }
 {
     let rows = p.rows + 1;
-    let wires = p.wires + pick(kind == 5, 1, 0);
+    let wires = p.wires + pick(kind == WIRE, 1, 0);
     Place {
         scope: scope_after(p.scope, kind),
         first: false,
-        attributed: kind == 2,
+        attributed: kind == ATTRIBUTE,
         rows: rows,
-        module_from: pick(kind == 3, rows, p.module_from),
-        cell_from: pick(kind == 7, rows, p.cell_from),
-        object_from: pick(kind == 2, p.object_from, rows),
+        module_from: pick(kind == MODULE, rows, p.module_from),
+        cell_from: pick(kind == CELL, rows, p.cell_from),
+        object_from: pick(kind == ATTRIBUTE, p.object_from, rows),
         wires: wires,
-        wires_from: pick(kind == 3, wires, p.wires_from),
-        modules: p.modules + pick(kind == 3, 1, 0),
+        wires_from: pick(kind == MODULE, wires, p.wires_from),
+        modules: p.modules + pick(kind == MODULE, 1, 0),
     }
 }

@@ -1,8 +1,44 @@
 // The sums of each size over the statements so far, and the limits of a design.
+use crate::kinds::ATTRIBUTE;
+use crate::kinds::CELL;
+use crate::kinds::CELL_CONNECTION;
+use crate::kinds::CELL_PARAMETER;
+use crate::kinds::CONNECTION;
+use crate::kinds::MEMORY;
+use crate::kinds::MODULE;
+use crate::kinds::PARAMETER;
+use crate::kinds::WIRE;
 ghost use mathlib.Core.Path.{_≡_};
 ghost use mathlib.Core.Bool.{not, cond};
 ghost use mathlib.Core.List.{[]};
 ghost use Rattle.context.specs.Sizes.{sumsOf, plusOf, exceeds, AtMost, kindSizes};
+
+// The most of each that a design has (document 01, "Sizes").
+pub const MOST_MODULES: u32 = 32;
+
+pub const MOST_WIRES: u32 = 512;
+
+pub const MOST_MEMORIES: u32 = 32;
+
+pub const MOST_CELLS: u32 = 256;
+
+pub const MOST_PARAMETERS: u32 = 1024;
+
+pub const MOST_ATTRIBUTES: u32 = 1024;
+
+pub const MOST_CELL_CONNECTIONS: u32 = 1024;
+
+pub const MOST_CONNECTIONS: u32 = 512;
+
+pub const MOST_SIGNAL_BITS: u32 = 8192;
+
+pub const MOST_VALUE_BITS: u32 = 8192;
+
+pub const MOST_STRING_BYTES: u32 = 8192;
+
+pub const NAME_ROOM: u32 = 16384;
+
+pub const MOST_RENAMES: u32 = 64;
 
 // Statements of each kind, and what they hold: bits of signals and of values, bytes of strings and of names.
 pub struct Sizes {
@@ -46,18 +82,18 @@ pub fn none() -> Sizes
 pub fn within(u: Sizes) -> bool
     ensures { λ r. ⌜ r ≡ not (exceeds u) ⌝ }
 {
-    !((32 < u.modules)
-        | (512 < u.wires)
-        | (32 < u.memories)
-        | (256 < u.cells)
-        | (1024 < u.parameters)
-        | (1024 < u.attributes)
-        | (1024 < u.ports)
-        | (512 < u.connections)
-        | (8192 < u.signal_bits)
-        | (8192 < u.value_bits)
-        | (8192 < u.string_bytes)
-        | (16384 < u.name_bytes))
+    !((MOST_MODULES < u.modules)
+        | (MOST_WIRES < u.wires)
+        | (MOST_MEMORIES < u.memories)
+        | (MOST_CELLS < u.cells)
+        | (MOST_PARAMETERS < u.parameters)
+        | (MOST_ATTRIBUTES < u.attributes)
+        | (MOST_CELL_CONNECTIONS < u.ports)
+        | (MOST_CONNECTIONS < u.connections)
+        | (MOST_SIGNAL_BITS < u.signal_bits)
+        | (MOST_VALUE_BITS < u.value_bits)
+        | (MOST_STRING_BYTES < u.string_bytes)
+        | (NAME_ROOM < u.name_bytes))
 }
 
 // The sums so far, and what a statement adds to them.
@@ -99,14 +135,14 @@ pub fn kind_sizes(
     ensures { λ r. ⌜ r ≡ kindSizes kind «signal_bits» «value_bits» «string_bytes» «name_bytes» ⌝ }
 {
     Sizes {
-        modules: one_if(kind == 3),
-        wires: one_if(kind == 5),
-        memories: one_if(kind == 6),
-        cells: one_if(kind == 7),
-        parameters: one_if((kind == 4) | (kind == 8)),
-        attributes: one_if(kind == 2),
-        ports: one_if(kind == 9),
-        connections: one_if(kind == 10),
+        modules: one_if(kind == MODULE),
+        wires: one_if(kind == WIRE),
+        memories: one_if(kind == MEMORY),
+        cells: one_if(kind == CELL),
+        parameters: one_if((kind == PARAMETER) | (kind == CELL_PARAMETER)),
+        attributes: one_if(kind == ATTRIBUTE),
+        ports: one_if(kind == CELL_CONNECTION),
+        connections: one_if(kind == CONNECTION),
         signal_bits: signal_bits,
         value_bits: value_bits,
         string_bytes: string_bytes,

@@ -1,5 +1,15 @@
 // The written text of design memory: passes over the rows of its statements, one for each kind of line.
 // All of it is total: a word past a table's end counts as 0, and a row that holds no statement is not written.
+use context::kinds::ATTRIBUTE;
+use context::kinds::AUTOIDX;
+use context::kinds::CELL;
+use context::kinds::CELL_CONNECTION;
+use context::kinds::CELL_PARAMETER;
+use context::kinds::CONNECTION;
+use context::kinds::END;
+use context::kinds::MEMORY;
+use context::kinds::PARAMETER;
+use context::kinds::WIRE;
 use line_text::put_line;
 use modules::module_wires;
 use netlist::rows::row_kind;
@@ -14,6 +24,9 @@ ghost use lib.ListN.{length};
 ghost use Rattle.text.specs.Written.{Written};
 ghost use Rattle.netlist.specs.Tables.{tabled};
 ghost use Rattle.design_text.specs.Rows.{nextRow, waitingFrom, lineIf, kindRows, cellRows, objectIf, objectRows, bodyRows, moduleAt, moduleIf, moduleRows, textRows};
+
+// The kind of a module line (context, kinds): beside the type `Module` it has another name here.
+const KIND_MODULE: u32 = 3;
 
 // How many rows of each: statements, wires, standing renames.
 pub struct Counts {
@@ -54,7 +67,7 @@ fn waiting_from(kind: u32, first: u32, k: u32) -> u32
     requires { ⌜ k < 4294967295 ⌝ }
     ensures { λ r. ⌜ r ≡ waitingFrom kind first k ⌝ }
 {
-    if kind == 2 {
+    if kind == ATTRIBUTE {
         return first;
     }
     k + 1
@@ -138,14 +151,38 @@ fn put_cell(
     ensures { λ r. ⌜ Written at (cellRows (tabled (now (names .entry)) (now (strings .entry)) (now (bits .entry)) (now (wires .entry)) (now (rows .entry))) m k (to - (k + 1))) (now (out .entry)) (now (out .exit)) r ⌝ }
 {
     let from = k + 1;
-    let end = next_row(rows, 12, from, to);
+    let end = next_row(rows, END, from, to);
     let span = Span {
         from: from,
         to: end,
     };
     let line = put_line(names, strings, bits, wires, rows, m, k, 1, out, at);
-    let set = put_kind(names, strings, bits, wires, rows, m, 8, 2, span, out, line);
-    let tied = put_kind(names, strings, bits, wires, rows, m, 9, 2, span, out, set);
+    let set = put_kind(
+        names,
+        strings,
+        bits,
+        wires,
+        rows,
+        m,
+        CELL_PARAMETER,
+        2,
+        span,
+        out,
+        line,
+    );
+    let tied = put_kind(
+        names,
+        strings,
+        bits,
+        wires,
+        rows,
+        m,
+        CELL_CONNECTION,
+        2,
+        span,
+        out,
+        set,
+    );
     put_bytes(out, tied, b"  end\n")
 }
 
@@ -173,8 +210,20 @@ fn put_object(
         from: object.first,
         to: k,
     };
-    let line = put_kind(names, strings, bits, wires, rows, m, 2, 1, span, out, at);
-    if kind == 7 {
+    let line = put_kind(
+        names,
+        strings,
+        bits,
+        wires,
+        rows,
+        m,
+        ATTRIBUTE,
+        1,
+        span,
+        out,
+        at,
+    );
+    if kind == CELL {
         let to = object.to;
         return put_cell(names, strings, bits, wires, rows, m, k, to, out, line);
     }
@@ -238,10 +287,44 @@ fn put_body(
     requires { ⌜ (at ≤ 32769) × (length (now bits) ≤ 16384) ⌝ }
     ensures { λ r. ⌜ Written at (bodyRows (tabled (now (names .entry)) (now (strings .entry)) (now (bits .entry)) (now (wires .entry)) (now (rows .entry))) m (span .from) (span .to - span .from)) (now (out .entry)) (now (out .exit)) r ⌝ }
 {
-    let set = put_kind(names, strings, bits, wires, rows, m, 4, 1, span, out, at);
-    let declared = put_objects(names, strings, bits, wires, rows, m, 5, span, out, set);
-    let memories = put_objects(names, strings, bits, wires, rows, m, 6, span, out, declared);
-    let cells = put_objects(names, strings, bits, wires, rows, m, 7, span, out, memories);
+    let set = put_kind(
+        names,
+        strings,
+        bits,
+        wires,
+        rows,
+        m,
+        PARAMETER,
+        1,
+        span,
+        out,
+        at,
+    );
+    let declared = put_objects(names, strings, bits, wires, rows, m, WIRE, span, out, set);
+    let memories = put_objects(
+        names,
+        strings,
+        bits,
+        wires,
+        rows,
+        m,
+        MEMORY,
+        span,
+        out,
+        declared,
+    );
+    let cells = put_objects(
+        names,
+        strings,
+        bits,
+        wires,
+        rows,
+        m,
+        CELL,
+        span,
+        out,
+        memories,
+    );
     put_kind(
         names,
         strings,
@@ -249,7 +332,7 @@ fn put_body(
         wires,
         rows,
         m,
-        10,
+        CONNECTION,
         1,
         span,
         out,
@@ -288,15 +371,27 @@ fn put_module(
     requires { ⌜ (at ≤ 32769) × (length (now bits) ≤ 16384) × (k < counts .statements) ⌝ }
     ensures { λ r. ⌜ Written at (moduleIf (tabled (now (names .entry)) (now (strings .entry)) (now (bits .entry)) (now (wires .entry)) (now (rows .entry))) counts number first k (counts .statements - (k + 1))) (now (out .entry)) (now (out .exit)) r ⌝ }
 {
-    if row_kind(rows, k) != 3 {
+    if row_kind(rows, k) != KIND_MODULE {
         return at;
     }
     let m = module_of(wires, counts, number);
     let from = k + 1;
-    let to = next_row(rows, 3, from, counts.statements);
+    let to = next_row(rows, KIND_MODULE, from, counts.statements);
     let before = Span { from: first, to: k };
     let inside = Span { from: from, to: to };
-    let set = put_kind(names, strings, bits, wires, rows, m, 2, 0, before, out, at);
+    let set = put_kind(
+        names,
+        strings,
+        bits,
+        wires,
+        rows,
+        m,
+        ATTRIBUTE,
+        0,
+        before,
+        out,
+        at,
+    );
     let line = put_line(names, strings, bits, wires, rows, m, k, 0, out, set);
     let body = put_body(names, strings, bits, wires, rows, m, inside, out, line);
     put_bytes(out, body, b"end\n")
@@ -305,7 +400,7 @@ fn put_module(
 fn one_if_module(kind: u32) -> u32
     ensures { λ r. ⌜ r ≡ cond (eqb kind 3) 1 0 ⌝ }
 {
-    if kind == 3 {
+    if kind == KIND_MODULE {
         return 1;
     }
     0
@@ -378,6 +473,18 @@ pub fn put_text(
         from: 0,
         to: at_most_one(counts.statements),
     };
-    let end = put_kind(names, strings, bits, wires, rows, m, 1, 0, span, out, 0);
+    let end = put_kind(
+        names,
+        strings,
+        bits,
+        wires,
+        rows,
+        m,
+        AUTOIDX,
+        0,
+        span,
+        out,
+        0,
+    );
     put_modules(names, strings, bits, wires, rows, counts, out, end)
 }

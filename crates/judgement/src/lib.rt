@@ -1,4 +1,16 @@
 // The verdict on one line after the statements so far: its statement with the sums of each size, or the lowest number that it is refused with.
+use context::kinds::ATTRIBUTE;
+use context::kinds::AUTOIDX;
+use context::kinds::CELL;
+use context::kinds::CELL_CONNECTION;
+use context::kinds::CELL_PARAMETER;
+use context::kinds::CONNECTION;
+use context::kinds::END;
+use context::kinds::MEMORY;
+use context::kinds::MODULE;
+use context::kinds::PARAMETER;
+use context::kinds::PROCESS;
+use context::kinds::WIRE;
 use context::place::Place;
 use context::sizes::Sizes;
 use context::sizes::kind_sizes;
@@ -7,6 +19,12 @@ use context::sizes::within;
 use line_forms::Span;
 use literals::literal_width;
 use name_index::indexed_found;
+use netlist::results::BAD_NUMBER;
+use netlist::results::NAME_TAKEN;
+use netlist::results::NO_SHAPE;
+use netlist::results::NOT_THERE;
+use netlist::results::PORT_OR_PROCESS;
+use netlist::results::TOO_MANY;
 use scanner::parts::part;
 use signals::Scope;
 use strings::string_size;
@@ -74,7 +92,7 @@ fn refusing(number: u32) -> Parts
     let name = no_name();
     Parts {
         number,
-        kind: 11,
+        kind: PROCESS,
         first: name,
         name,
         value: Literal::Nothing,
@@ -105,21 +123,38 @@ fn parts_of(statement: Statement) -> Parts
 {
     let empty = no_name();
     match statement {
-        Statement::Autoidx(_) => named(1, empty, empty, Literal::Nothing),
-        Statement::Attribute { name, value } => named(2, empty, name, Literal::Read(value)),
-        Statement::Module(name) => named(3, empty, name, Literal::Nothing),
-        Statement::Parameter { name, value } => named(4, empty, name, value),
-        Statement::Wire { name, .. } => named(5, empty, name, Literal::Nothing),
-        Statement::Memory { name, .. } => named(6, empty, name, Literal::Nothing),
-        Statement::Cell { kind, name } => named(7, kind, name, Literal::Nothing),
-        Statement::CellParameter { name, value, .. } => named(8, empty, name, Literal::Read(value)),
-        Statement::CellConnection { name, width, late } => connecting(9, name, width, 0, late),
-        Statement::Connection { left, right, late } => connecting(10, empty, left, right, late),
-        Statement::End => named(12, empty, empty, Literal::Nothing),
-        Statement::NoShape => refusing(5),
-        Statement::Process => refusing(6),
-        Statement::BadNumber => refusing(7),
-        Statement::MissingWire => refusing(8),
+        Statement::Autoidx(_) => named(AUTOIDX, empty, empty, Literal::Nothing),
+        Statement::Attribute { name, value } => named(ATTRIBUTE, empty, name, Literal::Read(value)),
+        Statement::Module(name) => named(MODULE, empty, name, Literal::Nothing),
+        Statement::Parameter { name, value } => named(PARAMETER, empty, name, value),
+        Statement::Wire { name, .. } => named(WIRE, empty, name, Literal::Nothing),
+        Statement::Memory { name, .. } => named(MEMORY, empty, name, Literal::Nothing),
+        Statement::Cell { kind, name } => named(CELL, kind, name, Literal::Nothing),
+        Statement::CellParameter { name, value, .. } => named(
+            CELL_PARAMETER,
+            empty,
+            name,
+            Literal::Read(value),
+        ),
+        Statement::CellConnection { name, width, late } => connecting(
+            CELL_CONNECTION,
+            name,
+            width,
+            0,
+            late,
+        ),
+        Statement::Connection { left, right, late } => connecting(
+            CONNECTION,
+            empty,
+            left,
+            right,
+            late,
+        ),
+        Statement::End => named(END, empty, empty, Literal::Nothing),
+        Statement::NoShape => refusing(NO_SHAPE),
+        Statement::Process => refusing(PORT_OR_PROCESS),
+        Statement::BadNumber => refusing(BAD_NUMBER),
+        Statement::MissingWire => refusing(NOT_THERE),
     }
 }
 
@@ -233,7 +268,7 @@ fn judge_statement(
         return Judged::Refused(parts.number);
     }
     if name_is_taken(f, names, rows, place, statement, heads, chain) {
-        return Judged::Refused(9);
+        return Judged::Refused(NAME_TAKEN);
     }
     if parts.late != 0 {
         return Judged::Refused(parts.late);
@@ -242,7 +277,7 @@ fn judge_statement(
     if within(sums) {
         return Judged::Stated { statement, sums };
     }
-    Judged::Refused(11)
+    Judged::Refused(TOO_MANY)
 }
 
 // The verdict on a line that has a token.

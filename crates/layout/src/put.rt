@@ -1,13 +1,29 @@
 // The parts of a statement in design memory: names, string, bits and a wire's row behind what is used of their tables, and the statement's row of columns.
+use context::kinds::ATTRIBUTE;
+use context::kinds::AUTOIDX;
+use context::kinds::CELL;
+use context::kinds::CELL_CONNECTION;
+use context::kinds::CELL_PARAMETER;
+use context::kinds::CONNECTION;
+use context::kinds::END;
+use context::kinds::MEMORY;
+use context::kinds::MODULE;
+use context::kinds::PARAMETER;
+use context::kinds::WIRE;
 use line_forms::Span;
 use literals::literal_width;
 use literals::put_literal;
+use netlist::rows::INTEGER_CONSTANT;
+use netlist::rows::ROW_SIZE;
+use netlist::rows::STRING_CONSTANT;
+use netlist::rows::VALUE_CONSTANT;
 use netlist::used::Used;
 use netlist::used::last_module;
 use numbers::signed::word_of;
 use scanner::decimals::decimal;
 use scanner::parts::part;
 use strings::put_string;
+use syntax::RIGHT_SIGNAL;
 use syntax::Statement;
 use tables::Row;
 use tables::put_bytes;
@@ -33,29 +49,6 @@ ghost use Rattle.syntax.specs.Statements.{signalIn};
 ghost use Rattle.netlist.specs.Used.{usedOf};
 ghost use Rattle.layout.specs.Put.{namesPut, bitsPut, rowsPut, Fits, constantIn, optionalIn, optionalColumns, optionalBytes, optionalDigits, valuedRow, ConstantFits, OptionalFits, WirePut};
 ghost use Rattle.layout.specs.Stored.{ValuedIs, PlainStorable, PlainPut};
-
-// The kinds of statement, by the code in the first column of a row.
-const AUTOIDX: u32 = 1;
-
-const ATTRIBUTE: u32 = 2;
-
-const MODULE: u32 = 3;
-
-const PARAMETER: u32 = 4;
-
-const WIRE: u32 = 5;
-
-const MEMORY: u32 = 6;
-
-const CELL: u32 = 7;
-
-const CELL_PARAMETER: u32 = 8;
-
-const CELL_CONNECTION: u32 = 9;
-
-const CONNECTION: u32 = 10;
-
-const END: u32 = 12;
 
 // The columns of a constant: its kind, where it starts and its length; or its kind and the integer.
 pub struct Columns {
@@ -122,7 +115,7 @@ fn put_columns(table: &mut [u32], k: u32, kind: u32, a: u32, b: u32, c: u32, d: 
         f: g,
         g: 0,
     };
-    put_row(table, 8 * (k as usize), r);
+    put_row(table, ROW_SIZE * (k as usize), r);
 }
 
 // Stores a name, and answers its length.
@@ -220,17 +213,17 @@ fn put_constant(
 {
     match c {
         Constant::Integer(z) => Columns {
-            kind: 2,
+            kind: INTEGER_CONSTANT,
             a: integer_word(f, z),
             b: 0,
         },
         Constant::Value { start, quote, end } => Columns {
-            kind: 1,
+            kind: VALUE_CONSTANT,
             a: u.bits,
             b: put_value(f, start, quote, end, scratch, bits, u.bits),
         },
         Constant::Text(start) => Columns {
-            kind: 3,
+            kind: STRING_CONSTANT,
             a: u.strings,
             b: put_text(f, start, strings, u.strings),
         },
@@ -414,7 +407,7 @@ fn put_connection(
 {
     let at = u.bits as usize;
     reverse_words(scratch, 0, left, bits, at);
-    reverse_words(scratch, 2048, 2048 + right, bits, at + left);
+    reverse_words(scratch, RIGHT_SIGNAL, RIGHT_SIGNAL + right, bits, at + left);
     put_columns(
         rows,
         u.rows,

@@ -1,7 +1,20 @@
 // The lexer: what stands where a token could start, and the tokens of a line, put into a table. Positions are the file's.
+use scanner::class::BLANK;
+use scanner::class::COMMENT;
+use scanner::class::HIGH_DIGIT;
+use scanner::class::LETTER;
+use scanner::class::MARK;
+use scanner::class::MINUS;
+use scanner::class::NAME_START;
+use scanner::class::QUOTE;
+use scanner::class::VALUE_DIGIT;
+use scanner::class::VALUE_LETTER;
 use scanner::class::class_in;
 use scanner::class::classes;
+use scanner::names::LONGEST_NAME;
+use scanner::names::SHORTEST_NAME;
 use scanner::runs::run_end;
+use scanner::words::NO_KEYWORD;
 use scanner::words::keyword;
 use strings::Close;
 use strings::string_end;
@@ -42,10 +55,10 @@ fn parted(class: &[u8; 256], s: &[u8], at: usize) -> bool
         return true;
     }
     let k = class_in(class, s[at]);
-    if k < 3 {
+    if k < BLANK {
         return false;
     }
-    k <= 5
+    k <= COMMENT
 }
 
 // The token t from p to e, if what follows parts it from the next.
@@ -66,7 +79,7 @@ fn name_end(s: &[u8], p: usize) -> usize
 {
     let mut i = p;
     while i < s.len() {
-        if s[i] <= 32 {
+        if s[i] <= b' ' {
             return i;
         }
         i += 1;
@@ -81,10 +94,10 @@ fn name_step(s: &[u8], p: usize) -> Lexeme
 {
     let e = name_end(s, p);
     let size = e - p;
-    if size < 2 {
+    if size < SHORTEST_NAME {
         return Lexeme::Wrong(p);
     }
-    if 255 < size {
+    if LONGEST_NAME < size {
         return Lexeme::Wrong(p);
     }
     Lexeme::Token {
@@ -99,9 +112,9 @@ fn word_step(class: &[u8; 256], s: &[u8], p: usize) -> Lexeme
     requires { ⌜ Starts (now s) p 13 14 ⌝ }
     ensures { λ r. ⌜ StepIs (now (s .entry)) p r ⌝ }
 {
-    let e = run_end(class, s, p, 13, 14);
+    let e = run_end(class, s, p, VALUE_LETTER, LETTER);
     let k = keyword(&s[p..e]);
-    if k < 32 {
+    if k < NO_KEYWORD {
         return separate(class, s, p, Token::Word(k), e);
     }
     Lexeme::Wrong(p)
@@ -113,7 +126,7 @@ fn value_step(class: &[u8; 256], s: &[u8], p: usize, q: usize) -> Lexeme
     requires { ⌜ (p ≤ q) × (q < length (now s)) ⌝ }
     ensures { λ r. ⌜ Steps (now (s .entry)) p (valueStep (drop p (now (s .entry))) (decimal (slice p q (now (s .entry)))) (drop (q + 1) (now (s .entry)))) r ⌝ }
 {
-    let e = run_end(class, s, q + 1, 11, 13);
+    let e = run_end(class, s, q + 1, VALUE_DIGIT, VALUE_LETTER);
     let c = Constant::Value {
         start: p,
         quote: q,
@@ -128,7 +141,7 @@ fn number_step(class: &[u8; 256], s: &[u8], p: usize) -> Lexeme
     requires { ⌜ Starts (now s) p 9 11 ⌝ }
     ensures { λ r. ⌜ StepIs (now (s .entry)) p r ⌝ }
 {
-    let e = run_end(class, s, p, 9, 11);
+    let e = run_end(class, s, p, HIGH_DIGIT, VALUE_DIGIT);
     let z = Integer {
         negative: false,
         start: p,
@@ -151,7 +164,7 @@ fn minus_step(class: &[u8; 256], s: &[u8], p: usize) -> Lexeme
     ensures { λ r. ⌜ StepIs (now (s .entry)) p r ⌝ }
 {
     let d = p + 1;
-    let e = run_end(class, s, d, 9, 11);
+    let e = run_end(class, s, d, HIGH_DIGIT, VALUE_DIGIT);
     if e <= d {
         return Lexeme::Wrong(p);
     }
@@ -181,34 +194,34 @@ fn step(class: &[u8; 256], s: &[u8], at: usize) -> Lexeme
     requires { ⌜ now class ≡ classTable ⌝ }
     ensures { λ r. ⌜ StepIs (now (s .entry)) at r ⌝ }
 {
-    let p = run_end(class, s, at, 3, 3);
+    let p = run_end(class, s, at, BLANK, BLANK);
     if s.len() <= p {
         return Lexeme::Done;
     }
     let b = s[p];
     let k = class_in(class, b);
-    if k == 4 {
+    if k == MARK {
         return Lexeme::Token {
             token: Token::Mark(b as usize),
             next: p + 1,
         };
     }
-    if k == 5 {
+    if k == COMMENT {
         return Lexeme::Done;
     }
-    if k < 7 {
+    if k < NAME_START {
         return Lexeme::Wrong(p);
     }
-    if k == 7 {
+    if k == NAME_START {
         return name_step(s, p);
     }
-    if k == 8 {
+    if k == QUOTE {
         return string_step(class, s, p);
     }
-    if k < 12 {
+    if k < MINUS {
         return number_step(class, s, p);
     }
-    if k == 12 {
+    if k == MINUS {
         return minus_step(class, s, p);
     }
     word_step(class, s, p)

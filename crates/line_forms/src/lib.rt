@@ -1,8 +1,22 @@
 // Lines of fixed shape, and which shape a line's first word announces, from the rows of the line's tokens.
+use scanner::words::ATTRIBUTE;
+use scanner::words::AUTOIDX;
+use scanner::words::CELL;
+use scanner::words::CONNECT;
+use scanner::words::END;
+use scanner::words::MEMORY;
+use scanner::words::MODULE;
+use scanner::words::NO_KEYWORD;
+use scanner::words::PARAMETER;
+use scanner::words::PROCESS;
+use scanner::words::REAL;
+use scanner::words::SIGNED;
+use scanner::words::WIRE;
 use tokens::Constant;
 use tokens::Id;
 use tokens::Integer;
 use tokens::Literal;
+use tokens::ROW_WORDS;
 use tokens::Slot;
 use tokens::Token;
 use tokens::id_at;
@@ -15,6 +29,13 @@ ghost use Rattle.rules.specs.Shapes.{of₁, of₂, of₃, id, int, const, orEnd
 ghost use Rattle.line_forms.specs.Words.{WordIs};
 ghost use Rattle.numbers.specs.Kinds.{sortOf};
 ghost use Rattle.line_forms.specs.Forms.{FinishedIs, LineIs, SortedIs, TopIs, AnnouncedIs, ModuleIs, CellIs};
+
+// The sorts of a cell parameter; an attribute is plain.
+const PLAIN_SORT: u32 = 0;
+
+const SIGNED_SORT: u32 = 1;
+
+const REAL_SORT: u32 = 2;
 
 // A name's place in the file.
 pub struct Span {
@@ -66,7 +87,7 @@ pub enum CellKind {
 fn finished(tokens: &[u32], i: usize, form: Form) -> Form
     ensures { λ r. ⌜ FinishedIs (now (tokens .entry)) i form r ⌝ }
 {
-    if i < tokens.len() / 4 {
+    if i < tokens.len() / ROW_WORDS {
         return Form::NoShape;
     }
     form
@@ -125,7 +146,7 @@ fn parameter_line(tokens: &[u32], i: usize) -> Form
     };
     let j = i + 1;
     let name = Span { start, end };
-    if tokens.len() / 4 <= j {
+    if tokens.len() / ROW_WORDS <= j {
         let value = Literal::Nothing;
         return Form::Parameter { name, value };
     }
@@ -163,11 +184,11 @@ fn word_at(tokens: &[u32], i: usize) -> usize
     ensures { λ r. ⌜ WordIs (now (tokens .entry)) i r ⌝ }
 {
     match token_at(tokens, i) {
-        Token::Name { start: _, end: _ } => 32,
+        Token::Name { start: _, end: _ } => NO_KEYWORD,
         Token::Word(c) => c,
-        Token::Constant(_) => 32,
-        Token::Mark(_) => 32,
-        Token::End => 32,
+        Token::Constant(_) => NO_KEYWORD,
+        Token::Mark(_) => NO_KEYWORD,
+        Token::End => NO_KEYWORD,
     }
 }
 
@@ -175,13 +196,13 @@ fn cell_parameter_line(tokens: &[u32], i: usize) -> Form
     ensures { λ r. ⌜ LineIs (of₃ cell-param-stmt sort id const) (now (tokens .entry)) i r ⌝ }
 {
     let c = word_at(tokens, i);
-    if c == 13 {
-        return valued_line(tokens, i + 1, false, 1);
+    if c == SIGNED {
+        return valued_line(tokens, i + 1, false, SIGNED_SORT);
     }
-    if c == 17 {
-        return valued_line(tokens, i + 1, false, 2);
+    if c == REAL {
+        return valued_line(tokens, i + 1, false, REAL_SORT);
     }
-    valued_line(tokens, i, false, 0)
+    valued_line(tokens, i, false, PLAIN_SORT)
 }
 
 // A line outside of modules; first: no statement stands before it.
@@ -189,16 +210,16 @@ pub fn top_line(tokens: &[u32], first: bool) -> Form
     ensures { λ r. ⌜ TopIs (now (tokens .entry)) first r ⌝ }
 {
     let c = word_at(tokens, 0);
-    if c == 0 {
+    if c == AUTOIDX {
         if first {
             return autoidx_line(tokens, 1);
         }
         return Form::NoShape;
     }
-    if c == 4 {
-        return valued_line(tokens, 1, true, 0);
+    if c == ATTRIBUTE {
+        return valued_line(tokens, 1, true, PLAIN_SORT);
     }
-    if c == 1 {
+    if c == MODULE {
         return named_line(tokens, 1, false);
     }
     Form::NoShape
@@ -208,19 +229,19 @@ pub fn top_line(tokens: &[u32], first: bool) -> Form
 fn object_line(tokens: &[u32], c: usize) -> Kind
     ensures { λ r. ⌜ AnnouncedIs objectForms (now (tokens .entry)) c r ⌝ }
 {
-    if c == 4 {
-        return Kind::Form(valued_line(tokens, 1, true, 0));
+    if c == ATTRIBUTE {
+        return Kind::Form(valued_line(tokens, 1, true, PLAIN_SORT));
     }
-    if c == 6 {
+    if c == WIRE {
         return Kind::Wire;
     }
-    if c == 14 {
+    if c == MEMORY {
         return Kind::Memory;
     }
-    if c == 16 {
+    if c == CELL {
         return Kind::Form(cell_line(tokens, 1));
     }
-    if c == 18 {
+    if c == PROCESS {
         return Kind::Form(named_line(tokens, 1, true));
     }
     Kind::Form(Form::NoShape)
@@ -234,13 +255,13 @@ pub fn module_line_kind(tokens: &[u32], attributed: bool) -> Kind
     if attributed {
         return object_line(tokens, c);
     }
-    if c == 3 {
+    if c == PARAMETER {
         return Kind::Form(parameter_line(tokens, 1));
     }
-    if c == 5 {
+    if c == CONNECT {
         return Kind::Connect;
     }
-    if c == 2 {
+    if c == END {
         return Kind::Form(finished(tokens, 1, Form::End));
     }
     object_line(tokens, c)
@@ -251,13 +272,13 @@ pub fn cell_line_kind(tokens: &[u32]) -> CellKind
     ensures { λ r. ⌜ CellIs (now (tokens .entry)) r ⌝ }
 {
     let c = word_at(tokens, 0);
-    if c == 3 {
+    if c == PARAMETER {
         return CellKind::Form(cell_parameter_line(tokens, 1));
     }
-    if c == 5 {
+    if c == CONNECT {
         return CellKind::Connect;
     }
-    if c == 2 {
+    if c == END {
         return CellKind::Form(finished(tokens, 1, Form::End));
     }
     CellKind::Form(Form::NoShape)

@@ -1,5 +1,17 @@
 // The written line of the statement in a row, with the wires' names as they are now.
 // All of it is total: a word past a table's end counts as 0, and a span past its end is cut.
+use context::kinds::ATTRIBUTE;
+use context::kinds::AUTOIDX;
+use context::kinds::CELL;
+use context::kinds::CELL_CONNECTION;
+use context::kinds::CELL_PARAMETER;
+use context::kinds::CONNECTION;
+use context::kinds::END;
+use context::kinds::MEMORY;
+use context::kinds::PARAMETER;
+use context::kinds::WIRE;
+use numbers::kinds::DIGIT_CODES;
+use numbers::kinds::WIRE_CODES;
 use numbers::kinds::WireNumber;
 use text::put_byte;
 use text::put_bytes;
@@ -10,6 +22,10 @@ use text::put_string;
 use text::put_value;
 use wire_names::Module;
 use wire_names::name_now;
+use wires::WIRE_FLAGS;
+use wires::WIRE_OFFSET;
+use wires::WIRE_PORT;
+use wires::WIRE_WIDTH;
 use wires::bytes_at;
 use wires::column;
 ghost use mathlib.Core.Path.{_≡_};
@@ -35,6 +51,61 @@ ghost use Rattle.text.specs.Written.{Written};
 ghost use Rattle.line_text.specs.Pieces.{spread};
 ghost use Rattle.line_text.specs.Runs.{joint, firstRun, runsText, Apart, Lowest};
 ghost use Rattle.line_text.specs.Lines.{statementNow, bodyText, lineOf, PlainIs};
+
+// The kind of a module line (context, kinds): beside the type `Module` it has another name here.
+const KIND_MODULE: u32 = 3;
+
+// The columns of a statement's row. A name, a string, a value or a signal has its start in a column and its length behind it.
+const ROW_KIND: usize = 0;
+
+const ROW_NAME: usize = 1;
+
+const AUTOIDX_NUMBER: usize = 1;
+
+// Of attributes and parameters: the kind of the constant, then where it is.
+const ROW_CONSTANT: usize = 3;
+
+const ROW_SORT: usize = 6;
+
+const MEMORY_WIDTH: usize = 3;
+
+const MEMORY_SIZE: usize = 4;
+
+const MEMORY_OFFSET: usize = 5;
+
+// A cell's type stands before its name.
+const CELL_TYPE: usize = 1;
+
+const CELL_NAME: usize = 3;
+
+// The wire's row in the table of wires.
+const ROW_WIRE: usize = 3;
+
+// What a connection connects: a cell's has a name for the first.
+const FIRST_SIGNAL: usize = 1;
+
+const LAST_SIGNAL: usize = 3;
+
+// The kinds of constants, but for strings.
+const CONSTANT_VALUE: u32 = 1;
+
+const CONSTANT_INTEGER: u32 = 2;
+
+// The sort of a cell's parameter: 0 is none, the last is `real`.
+const SORT_SIGNED: u32 = 1;
+
+// The directions of ports.
+const PORT_INPUT: u32 = 1;
+
+const PORT_OUTPUT: u32 = 2;
+
+const PORT_INOUT: u32 = 3;
+
+// What a direction counts in the flags of a wire, above `upto` and `signed`.
+const DIRECTION_FLAG: u32 = 4;
+
+// Spaces a level.
+const LEVEL_SPACES: usize = 2;
 
 // The words from start up to end, cut to those that are there.
 fn words<'a>(t: &'a [u32], start: usize, end: usize) -> &'a [u32]
@@ -95,10 +166,10 @@ fn put_constant(
 {
     let space = put_byte(out, at, b' ');
     let kind = column(rows, row, c);
-    if kind == 1 {
+    if kind == CONSTANT_VALUE {
         return put_value(out, space, words_at(bits, rows, row, c + 1));
     }
-    if kind == 2 {
+    if kind == CONSTANT_INTEGER {
         return put_integer(out, space, column(rows, row, c + 1));
     }
     put_string(out, space, bytes_at(strings, rows, row, c + 1))
@@ -108,16 +179,16 @@ fn put_constant(
 fn joins(low: u32, high: u32) -> bool
     ensures { λ r. ⌜ r ≡ joint low high ⌝ }
 {
-    if low < 6 {
-        return high < 6;
+    if low < DIGIT_CODES {
+        return high < DIGIT_CODES;
     }
-    if high < 6 {
+    if high < DIGIT_CODES {
         return false;
     }
-    if (low - 6) / 2048 != (high - 6) / 2048 {
+    if (low - DIGIT_CODES) / WIRE_CODES != (high - DIGIT_CODES) / WIRE_CODES {
         return false;
     }
-    (low - 6) % 2048 + 1 == (high - 6) % 2048
+    (low - DIGIT_CODES) % WIRE_CODES + 1 == (high - DIGIT_CODES) % WIRE_CODES
 }
 
 // Where the run starts whose highest bit is the one below i.
@@ -173,7 +244,7 @@ fn put_cut(
     let n = if wire < many { wire } else { many - 1 };
     let row = m.first as usize + n as usize;
     let end = put_token(out, at, name_now(names, wires, rows, m, WireNumber(n), row));
-    if count == column(wires, row, 3) {
+    if count == column(wires, row, WIRE_WIDTH) {
         return end;
     }
     put_bounds(out, end, low, count)
@@ -195,18 +266,18 @@ fn put_run(
     ensures { λ r. ⌜ Written at (spread (sigTokens (runSig (wiresIn (now (names .entry)) (now (wires .entry)) (now (rows .entry)) m) (firstRun (drop j (now (s .entry))) (i - j))))) (now (out .entry)) (now (out .exit)) r ⌝ }
 {
     let code = s[j];
-    if code < 6 {
+    if code < DIGIT_CODES {
         let space = put_byte(out, at, b' ');
         return put_value(out, space, &s[j..i]);
     }
-    let c = code - 6;
+    let c = code - DIGIT_CODES;
     put_cut(
         names,
         wires,
         rows,
         m,
-        c / 2048,
-        c % 2048,
+        c / WIRE_CODES,
+        c % WIRE_CODES,
         (i - j) as u32,
         out,
         at,
@@ -299,15 +370,15 @@ fn put_port(out: &mut [u8], at: usize, direction: u32, n: u32) -> usize
     requires { ⌜ at ≤ 32769 ⌝ }
     ensures { λ r. ⌜ Written at (spread (optionTokens (portOptions (portOf direction n)))) (now (out .entry)) (now (out .exit)) r ⌝ }
 {
-    if direction == 1 {
+    if direction == PORT_INPUT {
         let end = put_bytes(out, at, b" input");
         return put_number(out, end, n);
     }
-    if direction == 2 {
+    if direction == PORT_OUTPUT {
         let end = put_bytes(out, at, b" output");
         return put_number(out, end, n);
     }
-    if direction == 3 {
+    if direction == PORT_INOUT {
         let end = put_bytes(out, at, b" inout");
         return put_number(out, end, n);
     }
@@ -318,11 +389,16 @@ fn put_wire_options(wires: &[u32], row: usize, out: &mut [u8], at: usize) -> usi
     requires { ⌜ (at ≤ 32769) × (row < 8589934592) ⌝ }
     ensures { λ r. ⌜ Written at (spread (optionTokens (wireOptions (wireOf (now (wires .entry)) row)))) (now (out .entry)) (now (out .exit)) r ⌝ }
 {
-    let flags = column(wires, row, 5);
-    let width = put_setting(out, at, b"width", column(wires, row, 3), 1);
-    let offset = put_offset(out, width, column(wires, row, 4));
+    let flags = column(wires, row, WIRE_FLAGS);
+    let width = put_setting(out, at, b"width", column(wires, row, WIRE_WIDTH), 1);
+    let offset = put_offset(out, width, column(wires, row, WIRE_OFFSET));
     let upto = put_flag(out, offset, flags % 2 == 1, b"upto");
-    let port = put_port(out, upto, flags / 4, column(wires, row, 6));
+    let port = put_port(
+        out,
+        upto,
+        flags / DIRECTION_FLAG,
+        column(wires, row, WIRE_PORT),
+    );
     put_flag(out, port, flags / 2 % 2 == 1, b"signed")
 }
 
@@ -330,9 +406,9 @@ fn put_memory_options(rows: &[u32], row: usize, out: &mut [u8], at: usize) -> us
     requires { ⌜ (at ≤ 32769) × (row < 8589934592) ⌝ }
     ensures { λ r. ⌜ Written at (spread (optionTokens (memoryOptions (memoryAt (now (rows .entry)) row)))) (now (out .entry)) (now (out .exit)) r ⌝ }
 {
-    let width = put_setting(out, at, b"width", column(rows, row, 3), 1);
-    let size = put_setting(out, width, b"size", column(rows, row, 4), 0);
-    put_offset(out, size, column(rows, row, 5))
+    let width = put_setting(out, at, b"width", column(rows, row, MEMORY_WIDTH), 1);
+    let size = put_setting(out, width, b"size", column(rows, row, MEMORY_SIZE), 0);
+    put_offset(out, size, column(rows, row, MEMORY_OFFSET))
 }
 
 fn put_sort(rows: &[u32], row: usize, c: usize, out: &mut [u8], at: usize) -> usize
@@ -343,7 +419,7 @@ fn put_sort(rows: &[u32], row: usize, c: usize, out: &mut [u8], at: usize) -> us
     if sort == 0 {
         return at;
     }
-    if sort == 1 {
+    if sort == SORT_SIGNED {
         return put_bytes(out, at, b" signed");
     }
     put_bytes(out, at, b" real")
@@ -354,7 +430,7 @@ fn put_autoidx(rows: &[u32], row: usize, out: &mut [u8], at: usize) -> usize
     ensures { λ r. ⌜ Written at (spaced (shapeTokens (autoidx-stmt (signedOf (column (now (rows .entry)) row 1))))) (now (out .entry)) (now (out .exit)) r ⌝ }
 {
     let end = put_bytes(out, at, b"autoidx");
-    put_signed(out, end, column(rows, row, 1))
+    put_signed(out, end, column(rows, row, AUTOIDX_NUMBER))
 }
 
 fn put_attribute(
@@ -370,8 +446,8 @@ fn put_attribute(
     ensures { λ r. ⌜ Written at (spaced (shapeTokens (attr-stmt (nameFrom (now (names .entry)) (now (rows .entry)) row 1) (literalOf (constantAt (now (strings .entry)) (now (bits .entry)) (now (rows .entry)) row 3))))) (now (out .entry)) (now (out .exit)) r ⌝ }
 {
     let first = put_bytes(out, at, b"attribute");
-    let end = put_token(out, first, bytes_at(names, rows, row, 1));
-    put_constant(strings, bits, rows, row, 3, out, end)
+    let end = put_token(out, first, bytes_at(names, rows, row, ROW_NAME));
+    put_constant(strings, bits, rows, row, ROW_CONSTANT, out, end)
 }
 
 fn put_module(names: &[u8], rows: &[u32], row: usize, out: &mut [u8], at: usize) -> usize
@@ -379,7 +455,7 @@ fn put_module(names: &[u8], rows: &[u32], row: usize, out: &mut [u8], at: usize)
     ensures { λ r. ⌜ Written at (spaced (shapeTokens (module-stmt (nameFrom (now (names .entry)) (now (rows .entry)) row 1)))) (now (out .entry)) (now (out .exit)) r ⌝ }
 {
     let first = put_bytes(out, at, b"module");
-    put_token(out, first, bytes_at(names, rows, row, 1))
+    put_token(out, first, bytes_at(names, rows, row, ROW_NAME))
 }
 
 fn put_parameter(
@@ -395,11 +471,11 @@ fn put_parameter(
     ensures { λ r. ⌜ Written at (spaced (shapeTokens (param-stmt (nameFrom (now (names .entry)) (now (rows .entry)) row 1) (Option·map literalOf (optionalAt (now (strings .entry)) (now (bits .entry)) (now (rows .entry)) row 3))))) (now (out .entry)) (now (out .exit)) r ⌝ }
 {
     let first = put_bytes(out, at, b"parameter");
-    let end = put_token(out, first, bytes_at(names, rows, row, 1));
-    if column(rows, row, 3) == 0 {
+    let end = put_token(out, first, bytes_at(names, rows, row, ROW_NAME));
+    if column(rows, row, ROW_CONSTANT) == 0 {
         return end;
     }
-    put_constant(strings, bits, rows, row, 3, out, end)
+    put_constant(strings, bits, rows, row, ROW_CONSTANT, out, end)
 }
 
 fn put_memory(names: &[u8], rows: &[u32], row: usize, out: &mut [u8], at: usize) -> usize
@@ -408,7 +484,7 @@ fn put_memory(names: &[u8], rows: &[u32], row: usize, out: &mut [u8], at: usize)
 {
     let first = put_bytes(out, at, b"memory");
     let end = put_memory_options(rows, row, out, first);
-    put_token(out, end, bytes_at(names, rows, row, 1))
+    put_token(out, end, bytes_at(names, rows, row, ROW_NAME))
 }
 
 fn put_cell(names: &[u8], rows: &[u32], row: usize, out: &mut [u8], at: usize) -> usize
@@ -416,8 +492,8 @@ fn put_cell(names: &[u8], rows: &[u32], row: usize, out: &mut [u8], at: usize) -
     ensures { λ r. ⌜ Written at (spaced (shapeTokens (cell-stmt (nameFrom (now (names .entry)) (now (rows .entry)) row 1) (nameFrom (now (names .entry)) (now (rows .entry)) row 3)))) (now (out .entry)) (now (out .exit)) r ⌝ }
 {
     let first = put_bytes(out, at, b"cell");
-    let end = put_token(out, first, bytes_at(names, rows, row, 1));
-    put_token(out, end, bytes_at(names, rows, row, 3))
+    let end = put_token(out, first, bytes_at(names, rows, row, CELL_TYPE));
+    put_token(out, end, bytes_at(names, rows, row, CELL_NAME))
 }
 
 fn put_cell_parameter(
@@ -433,9 +509,9 @@ fn put_cell_parameter(
     ensures { λ r. ⌜ Written at (spaced (shapeTokens (cell-param-stmt (sortAt (now (rows .entry)) row 6) (nameFrom (now (names .entry)) (now (rows .entry)) row 1) (literalOf (constantAt (now (strings .entry)) (now (bits .entry)) (now (rows .entry)) row 3))))) (now (out .entry)) (now (out .exit)) r ⌝ }
 {
     let first = put_bytes(out, at, b"parameter");
-    let sort = put_sort(rows, row, 6, out, first);
-    let end = put_token(out, sort, bytes_at(names, rows, row, 1));
-    put_constant(strings, bits, rows, row, 3, out, end)
+    let sort = put_sort(rows, row, ROW_SORT, out, first);
+    let end = put_token(out, sort, bytes_at(names, rows, row, ROW_NAME));
+    put_constant(strings, bits, rows, row, ROW_CONSTANT, out, end)
 }
 
 // Where the wire's own row is gives its number in the module.
@@ -451,7 +527,7 @@ fn put_wire(
     requires { ⌜ (at ≤ 32769) × (row < 8589934592) ⌝ }
     ensures { λ r. ⌜ Written at (spaced (shapeTokens (wire-stmt (wireOptions (wireOf (now (wires .entry)) (column (now (rows .entry)) row 3))) (ownNow (now (names .entry)) (now (wires .entry)) (now (rows .entry)) m (column (now (rows .entry)) row 3))))) (now (out .entry)) (now (out .exit)) r ⌝ }
 {
-    let k = column(rows, row, 3);
+    let k = column(rows, row, ROW_WIRE);
     let n = if m.first < k { k - m.first } else { 0 };
     let first = put_bytes(out, at, b"wire");
     let end = put_wire_options(wires, k as usize, out, first);
@@ -476,13 +552,13 @@ fn put_cell_connection(
     ensures { λ r. ⌜ Written at (spaced (shapeTokens (cell-conn-stmt (nameFrom (now (names .entry)) (now (rows .entry)) row 1) (sig (wiresIn (now (names .entry)) (now (wires .entry)) (now (rows .entry)) m) (signalAt (now (bits .entry)) (now (rows .entry)) row 3))))) (now (out .entry)) (now (out .exit)) r ⌝ }
 {
     let first = put_bytes(out, at, b"connect");
-    let end = put_token(out, first, bytes_at(names, rows, row, 1));
+    let end = put_token(out, first, bytes_at(names, rows, row, ROW_NAME));
     put_signal(
         names,
         wires,
         rows,
         m,
-        words_at(bits, rows, row, 3),
+        words_at(bits, rows, row, LAST_SIGNAL),
         out,
         end,
     )
@@ -507,7 +583,7 @@ fn put_connection(
         wires,
         rows,
         m,
-        words_at(bits, rows, row, 1),
+        words_at(bits, rows, row, FIRST_SIGNAL),
         out,
         first,
     );
@@ -516,7 +592,7 @@ fn put_connection(
         wires,
         rows,
         m,
-        words_at(bits, rows, row, 3),
+        words_at(bits, rows, row, LAST_SIGNAL),
         out,
         end,
     )
@@ -536,28 +612,28 @@ fn put_plain(
     requires { ⌜ (at ≤ 32769) × (row < 8589934592) × (length (now bits) ≤ 16384) ⌝ }
     ensures { λ r. ⌜ PlainIs (now (names .entry)) (now (strings .entry)) (now (bits .entry)) (now (rows .entry)) row kind at (now (out .entry)) (now (out .exit)) r ⌝ }
 {
-    if kind == 1 {
+    if kind == AUTOIDX {
         return put_autoidx(rows, row, out, at);
     }
-    if kind == 2 {
+    if kind == ATTRIBUTE {
         return put_attribute(names, strings, bits, rows, row, out, at);
     }
-    if kind == 3 {
+    if kind == KIND_MODULE {
         return put_module(names, rows, row, out, at);
     }
-    if kind == 4 {
+    if kind == PARAMETER {
         return put_parameter(names, strings, bits, rows, row, out, at);
     }
-    if kind == 6 {
+    if kind == MEMORY {
         return put_memory(names, rows, row, out, at);
     }
-    if kind == 7 {
+    if kind == CELL {
         return put_cell(names, rows, row, out, at);
     }
-    if kind == 8 {
+    if kind == CELL_PARAMETER {
         return put_cell_parameter(names, strings, bits, rows, row, out, at);
     }
-    if kind == 12 {
+    if kind == END {
         return put_bytes(out, at, b"end");
     }
     at
@@ -577,14 +653,14 @@ fn put_statement(
     requires { ⌜ (at ≤ 32769) × (row < 8589934592) × (length (now bits) ≤ 16384) ⌝ }
     ensures { λ r. ⌜ Written at (bodyText (wiresIn (now (names .entry)) (now (wires .entry)) (now (rows .entry)) m) (statementNow (now (names .entry)) (now (strings .entry)) (now (bits .entry)) (now (wires .entry)) (now (rows .entry)) m row)) (now (out .entry)) (now (out .exit)) r ⌝ }
 {
-    let kind = column(rows, row, 0);
-    if kind == 5 {
+    let kind = column(rows, row, ROW_KIND);
+    if kind == WIRE {
         return put_wire(names, wires, rows, m, row, out, at);
     }
-    if kind == 9 {
+    if kind == CELL_CONNECTION {
         return put_cell_connection(names, bits, wires, rows, m, row, out, at);
     }
-    if kind == 10 {
+    if kind == CONNECTION {
         return put_connection(names, bits, wires, rows, m, row, out, at);
     }
     put_plain(names, strings, bits, rows, row, kind, out, at)
@@ -606,7 +682,7 @@ pub fn put_line(
     requires { ⌜ (at ≤ 32769) × (level ≤ 2) × (length (now bits) ≤ 16384) ⌝ }
     ensures { λ r. ⌜ Written at (lineOf level (wiresIn (now (names .entry)) (now (wires .entry)) (now (rows .entry)) m) (statementNow (now (names .entry)) (now (strings .entry)) (now (bits .entry)) (now (wires .entry)) (now (rows .entry)) m k)) (now (out .entry)) (now (out .exit)) r ⌝ }
 {
-    let body = put_spaces(out, at, 2 * level);
+    let body = put_spaces(out, at, LEVEL_SPACES * level);
     let end = put_statement(names, strings, bits, wires, rows, m, k as usize, out, body);
-    put_byte(out, end, 10)
+    put_byte(out, end, b'\n')
 }

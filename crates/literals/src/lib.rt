@@ -24,6 +24,28 @@ ghost use Rattle.strings.specs.Decoded.{decoded, closes};
 ghost use Rattle.tokens.specs.Rows.{integerIn, literalIn};
 ghost use Rattle.literals.specs.Codes.{NumberIs, Whole, codes, wordCodes, filledCodes, fillerCode};
 
+// The codes of the digits x, z, m and `-`; those of 0 and 1 are these numbers.
+const X_CODE: u32 = 2;
+
+const Z_CODE: u32 = 3;
+
+const M_CODE: u32 = 4;
+
+const MINUS_CODE: u32 = 5;
+
+// The most bits of a value.
+const MOST_WIDTH: u32 = 2048;
+
+// The bits of an integer, and of a byte of a string.
+const INTEGER_BITS: usize = 32;
+
+const BYTE_BITS: usize = 8;
+
+// The width that stands for every higher one, and the most bytes whose bits are below it.
+const CAP: usize = 2147483649;
+
+const MOST_BYTES: usize = 268435456;
+
 // An integer's word of 32 bits in two's complement; or it lies outside of them.
 pub enum Number {
     Fits(u32),
@@ -41,15 +63,15 @@ fn digit_code(b: u8) -> u32
         return 1;
     }
     if b == b'x' {
-        return 2;
+        return X_CODE;
     }
     if b == b'z' {
-        return 3;
+        return Z_CODE;
     }
     if b == b'm' {
-        return 4;
+        return M_CODE;
     }
-    5
+    MINUS_CODE
 }
 
 // The word of an integer.
@@ -78,7 +100,7 @@ fn good_value(f: &[u8], start: usize, quote: usize, end: usize) -> bool
     ensures { λ r. ⌜ r ≡ goodLiteral (literalIn (now (f .entry)) (Constant.Value start quote end)) ⌝ }
 {
     let width = decimal(part(f, start, quote));
-    if 2048 < width {
+    if MOST_WIDTH < width {
         return false;
     }
     value_digits(f, quote, end).len() <= width as usize
@@ -100,10 +122,10 @@ fn text_width(f: &[u8], start: usize) -> usize
     ensures { λ r. ⌜ r ≡ capped (8 * length (decoded (drop start (now (f .entry))))) ⌝ }
 {
     let size = string_size(f, start);
-    if 268435456 < size {
-        return 2147483649;
+    if MOST_BYTES < size {
+        return CAP;
     }
-    8 * size
+    BYTE_BITS * size
 }
 
 // How many bits a constant has; 2147483649 where there are more, so that the widths of a line add up.
@@ -111,7 +133,7 @@ pub fn literal_width(f: &[u8], c: Constant) -> usize
     ensures { λ r. ⌜ (r ≡ capped (literalWidth (literalIn (now (f .entry)) c))) × (r ≤ 2147483649) ⌝ }
 {
     match c {
-        Constant::Integer(_) => 32,
+        Constant::Integer(_) => INTEGER_BITS,
         Constant::Value {
             start,
             quote,
@@ -140,7 +162,7 @@ fn put_integer(f: &[u8], z: Integer, out: &mut [u32], at: usize)
     ensures { λ _. ⌜ now (out .exit) ≡ store (now (out .entry)) at (codes (integer (integerIn (now (f .entry)) z))) ⌝ }
 {
     let size = decimal(part(f, z.start, z.end));
-    put_bits(word_of(z.negative, size), 32, out, at);
+    put_bits(word_of(z.negative, size), INTEGER_BITS, out, at);
 }
 
 // The code that fills a value with these digits up to its width: 0 and 1 fill with 0, any other with itself; without digits x.
@@ -199,7 +221,7 @@ fn put_bytes_bits(bytes: &[u8], out: &mut [u32], at: usize)
 {
     let mut j = 0;
     while j < bytes.len() {
-        put_bits(bytes[j] as u32, 8, out, at + 8 * j);
+        put_bits(bytes[j] as u32, BYTE_BITS, out, at + BYTE_BITS * j);
         j += 1;
     }
 }

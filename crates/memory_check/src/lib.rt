@@ -1,4 +1,5 @@
 // Whether design memory, whatever it contains, holds a design with its standing renames: refusal 3 otherwise.
+use context::kinds::RENAME;
 use context::place::Place;
 use context::sizes::Sizes;
 use name_index::ALL_CHAIN;
@@ -10,6 +11,7 @@ use rename_rules::indexed_rename;
 use replay::Replayed;
 use replay::replay;
 use scanner::parts::part;
+use tables::ROW_WORDS;
 use tables::Row;
 use tables::get_row;
 use tables::zero_bytes_from;
@@ -38,7 +40,7 @@ enum Renamed {
 fn is_rename(x: Row, used: u32) -> bool
     ensures { λ r. ⌜ r ≡ isRename x used ⌝ }
 {
-    if x.kind != 13 {
+    if x.kind != RENAME {
         return false;
     }
     if x.a != used {
@@ -68,8 +70,8 @@ fn one_rename(
     requires { ⌜ LinesIndexed (now heads) (now chain) (now names) (now wires) (now rows) (place .rows) (place .wires) ⌝ }
     ensures { λ r. ⌜ RenameIs (now (names .entry)) (now (wires .entry)) (now (rows .entry)) place i used r ⌝ }
 {
-    let at = 8 * (place.rows as usize + i as usize);
-    if rows.len() < at + 8 {
+    let at = ROW_WORDS * (place.rows as usize + i as usize);
+    if rows.len() < at + ROW_WORDS {
         return Renamed::Nothing;
     }
     let x = get_row(rows, at);
@@ -147,7 +149,7 @@ fn rest_is_zero(
 ) -> bool
     ensures { λ r. ⌜ r ≡ restZero (tabled (now (names .entry)) (now (strings .entry)) (now (bits .entry)) (now (wires .entry)) (now (rows .entry)) renames room) place sums ⌝ }
 {
-    let behind = 8 * (place.rows as usize + renames as usize);
+    let behind = ROW_WORDS * (place.rows as usize + renames as usize);
     if !zero_bytes_from(names, room as usize) {
         return false;
     }
@@ -157,7 +159,7 @@ fn rest_is_zero(
     if !zero_from(bits, sums.value_bits as usize + sums.signal_bits as usize) {
         return false;
     }
-    if !zero_from(wires, 8 * place.wires as usize) {
+    if !zero_from(wires, ROW_WORDS * place.wires as usize) {
         return false;
     }
     zero_from(rows, behind)

@@ -2,6 +2,10 @@
 // heads: for each key one more than the youngest row of that key, or 0; chain: for each row one more than the next older row of its key, or 0.
 // The hash of a name goes byte by byte: hash × 31 + byte, modulo 512. A row's key is its name's hash, or 512 where its kind has no name.
 // Behind these, in the same two tables, stand the heads and the chain of the rows of wires.
+use context::kinds::AUTOIDX;
+use context::kinds::CONNECTION;
+use context::kinds::END;
+use context::kinds::WIRE;
 use context::place::Place;
 use netlist::rows::Kinds;
 use netlist::rows::has_name;
@@ -12,6 +16,8 @@ use netlist::spaces::space_kinds;
 use numbers::kinds::WireNumber;
 use scanner::names::same_bytes;
 use wires::Found;
+use wires::WIRE_NAME;
+use wires::WIRE_WIDTH;
 use wires::bytes_at;
 use wires::column;
 ghost use mathlib.Core.Path.{_≡_};
@@ -44,15 +50,6 @@ pub const ROW_CHAIN: usize = 4706;
 pub const ALL_HEADS: usize = 1026;
 
 pub const ALL_CHAIN: usize = 5219;
-
-// The codes of some kinds of statements.
-const AUTOIDX: u32 = 1;
-
-const WIRE: u32 = 5;
-
-const CONNECTION: u32 = 10;
-
-const END: u32 = 12;
 
 // Below 512.
 pub fn hash(name: &[u8]) -> usize
@@ -173,7 +170,7 @@ pub fn index_line(
         return;
     }
     let at = wire as usize;
-    let g = hash(bytes_at(names, wires, at, 1));
+    let g = hash(bytes_at(names, wires, at, WIRE_NAME));
     put(heads, chain, ROW_CHAIN + at, ROW_HEADS + g, wire + 1);
 }
 
@@ -195,8 +192,8 @@ pub fn indexed_wire(
     while first < at {
         let last = at - 1;
         let row = last as usize;
-        if same_bytes(bytes_at(names, wires, row, 1), name) {
-            return Found::At(WireNumber(last - first), column(wires, row, 3));
+        if same_bytes(bytes_at(names, wires, row, WIRE_NAME), name) {
+            return Found::At(WireNumber(last - first), column(wires, row, WIRE_WIDTH));
         }
         at = chain[ROW_CHAIN + row];
     }

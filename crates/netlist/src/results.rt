@@ -5,3 +5,30 @@ pub struct CallResult {
     pub renames: u32,
     pub room: u32,
 }
+
+// The numbers of refusals (document 01, "Numbers given back").
+pub const WRONG_LENGTH: u32 = 1;
+
+pub const FILE_TOO_LONG: u32 = 2;
+
+pub const DAMAGED: u32 = 3;
+
+pub const BAD_TOKEN: u32 = 4;
+
+pub const NO_SHAPE: u32 = 5;
+
+pub const PORT_OR_PROCESS: u32 = 6;
+
+pub const BAD_NUMBER: u32 = 7;
+
+pub const NOT_THERE: u32 = 8;
+
+pub const NAME_TAKEN: u32 = 9;
+
+pub const BAD_WIDTH: u32 = 10;
+
+pub const TOO_MANY: u32 = 11;
+
+pub const TEXT_TOO_LONG: u32 = 12;
+
+pub const NOTHING_TO_UNDO: u32 = 13;

@@ -1,5 +1,6 @@
 // A row of eight words for each statement: its kind, then where its parts start and their lengths.
 // All of it is total: a word past the table's end counts as 0, and a span past the names' end is cut.
+use context::kinds::CELL;
 use scanner::names::same_bytes;
 use wires::bytes_at;
 use wires::column;
@@ -9,6 +10,23 @@ ghost use Prim.Native.Nat.{_<_};
 ghost use Rattle.rules.specs.Bytes.{same, any};
 ghost use Rattle.netlist.specs.Rows.{nameColumn, kindAt, nameAt, namesBetween};
 ghost use Rattle.netlist.specs.Kinds.{isKind};
+
+// The words of a row.
+pub const ROW_SIZE: usize = 8;
+
+// The columns of a row: its kind, and where its name starts, which in the row of a cell stands behind its type.
+const KIND: usize = 0;
+
+const NAME: usize = 1;
+
+const CELL_NAME: usize = 3;
+
+// The kinds of a constant in a row: a value, an integer, a string.
+pub const VALUE_CONSTANT: u32 = 1;
+
+pub const INTEGER_CONSTANT: u32 = 2;
+
+pub const STRING_CONSTANT: u32 = 3;
 
 // One to three kinds of statement by their codes: of fewer than three, one is repeated.
 pub struct Kinds {
@@ -21,17 +39,17 @@ fn kind_at(rows: &[u32], row: usize) -> u32
     requires { ⌜ row < 8589934592 ⌝ }
     ensures { λ r. ⌜ r ≡ kindAt (now (rows .entry)) row ⌝ }
 {
-    column(rows, row, 0)
+    column(rows, row, KIND)
 }
 
 // A cell's type stands before its name.
 fn name_column(kind: u32) -> usize
     ensures { λ r. ⌜ r ≡ nameColumn kind ⌝ }
 {
-    if kind == 7 {
-        return 3;
+    if kind == CELL {
+        return CELL_NAME;
     }
-    1
+    NAME
 }
 
 fn name_at<'a>(names: &'a [u8], rows: &[u32], row: usize) -> &'a [u8]

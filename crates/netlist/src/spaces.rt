@@ -1,5 +1,13 @@
 // The name space of a statement's own name: which rows it is, behind the statements so far.
 use crate::rows::Kinds;
+use context::kinds::ATTRIBUTE;
+use context::kinds::CELL;
+use context::kinds::CELL_PARAMETER;
+use context::kinds::CONNECTION;
+use context::kinds::MEMORY;
+use context::kinds::MODULE;
+use context::kinds::PARAMETER;
+use context::kinds::WIRE;
 use context::place::Place;
 ghost use mathlib.Core.Path.{_≡_};
 ghost use Rattle.netlist.specs.Found.{spaceFrom, kindsFrom};
@@ -8,19 +16,19 @@ ghost use Rattle.netlist.specs.Found.{spaceFrom, kindsFrom};
 pub fn space_from(place: Place, kind: u32) -> u32
     ensures { λ r. ⌜ r ≡ spaceFrom place kind ⌝ }
 {
-    if kind == 2 {
+    if kind == ATTRIBUTE {
         return place.object_from;
     }
-    if kind == 3 {
+    if kind == MODULE {
         return 0;
     }
-    if kind < 4 {
+    if kind < PARAMETER {
         return place.rows;
     }
-    if kind < 8 {
+    if kind < CELL_PARAMETER {
         return place.module_from;
     }
-    if kind < 10 {
+    if kind < CONNECTION {
         return place.cell_from;
     }
     place.rows
@@ -30,14 +38,18 @@ pub fn space_from(place: Place, kind: u32) -> u32
 pub fn space_kinds(kind: u32) -> Kinds
     ensures { λ r. ⌜ r ≡ kindsFrom kind ⌝ }
 {
-    let shared = Kinds { a: 5, b: 6, c: 7 };
+    let shared = Kinds {
+        a: WIRE,
+        b: MEMORY,
+        c: CELL,
+    };
     let own = Kinds {
         a: kind,
         b: kind,
         c: kind,
     };
-    if kind < 5 {
+    if kind < WIRE {
         return own;
     }
-    if kind < 8 { shared } else { own }
+    if kind < CELL_PARAMETER { shared } else { own }
 }

@@ -3,6 +3,12 @@ ghost use mathlib.Core.Path.{_≡_};
 ghost use Rattle.rules.specs.Layout.{bitCode};
 ghost use Rattle.numbers.specs.Kinds.{bitOf, bitAt, Valid};
 
+// The codes of constant bits: the digits have those from 0.
+pub const DIGIT_CODES: u32 = 6;
+
+// The codes of each wire: one for each bit that a wire may have.
+pub const WIRE_CODES: u32 = 2048;
+
 pub struct ModuleNumber(pub u32);
 
 pub struct WireNumber(pub u32);
@@ -26,7 +32,7 @@ pub fn encode(b: SignalBit) -> u32
         SignalBit::Digit(d) => d as u32,
         SignalBit::Wire(w, i) => {
             let n = w.0;
-            6 + 2048 * n + i
+            DIGIT_CODES + WIRE_CODES * n + i
         }
     }
 }
@@ -35,10 +41,10 @@ pub fn encode(b: SignalBit) -> u32
 pub fn decode(c: u32) -> SignalBit
     ensures { λ r. ⌜ r ≡ bitAt c ⌝ }
 {
-    if c < 6 {
+    if c < DIGIT_CODES {
         SignalBit::Digit(c as u8)
     } else {
-        let d = c - 6;
-        SignalBit::Wire(WireNumber(d / 2048), d % 2048)
+        let d = c - DIGIT_CODES;
+        SignalBit::Wire(WireNumber(d / WIRE_CODES), d % WIRE_CODES)
     }
 }

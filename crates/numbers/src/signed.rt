@@ -8,6 +8,18 @@ ghost use Rattle.rules.specs.Numbers.{int32};
 ghost use Rattle.rules.specs.Signals.{twosComplement};
 ghost use Rattle.numbers.specs.Signed.{signedOf, integerOf, IndexIs};
 
+// The first word that stands for a negative integer.
+pub const FIRST_NEGATIVE: u32 = 2147483648;
+
+// The last word: it stands for -1.
+pub const LAST_WORD: u32 = 4294967295;
+
+// How many words there are.
+const ALL_WORDS: i64 = 4294967296;
+
+// The first integer past those that have a word.
+const PAST_WORDS: i64 = 2147483648;
+
 // An author's index, which may be negative; or the bit is past the wire.
 pub enum Index {
     At(i64),
@@ -18,10 +30,10 @@ pub enum Index {
 fn signed_of(w: u32) -> i64
     ensures { λ r. ⌜ r ≡ signedOf w ⌝ }
 {
-    if w < 2147483648 {
+    if w < FIRST_NEGATIVE {
         w as i64
     } else {
-        (w as i64) - 4294967296
+        (w as i64) - ALL_WORDS
     }
 }
 
@@ -30,9 +42,9 @@ pub fn fits(negative: bool, size: u32) -> bool
     ensures { λ r. ⌜ r ≡ int32 (integerOf negative size) ⌝ }
 {
     if negative {
-        size <= 2147483648
+        size <= FIRST_NEGATIVE
     } else {
-        size < 2147483648
+        size < FIRST_NEGATIVE
     }
 }
 
@@ -44,7 +56,7 @@ pub fn word_of(negative: bool, size: u32) -> u32
         return 0;
     }
     if negative {
-        4294967295 - (size - 1)
+        LAST_WORD - (size - 1)
     } else {
         size
     }
@@ -58,7 +70,7 @@ pub fn offset_fits(offset: u32, width: u32) -> bool
         return true;
     }
     let last = signed_of(offset) + ((width - 1) as i64);
-    last < 2147483648
+    last < PAST_WORDS
 }
 
 // The index that the author of a wire gave its bit: offset + bit, or with `upto` offset + width - 1 - bit.

@@ -1,7 +1,17 @@
 // The options of a `wire` line and of a `memory` line: what was written, what it means, and whether the number and option rules allow it.
 pub mod limits;
 
+use scanner::words::INOUT;
+use scanner::words::INPUT;
+use scanner::words::MEMORY;
+use scanner::words::OFFSET;
+use scanner::words::OUTPUT;
+use scanner::words::SIGNED;
+use scanner::words::SIZE;
+use scanner::words::UPTO;
+use scanner::words::WIDTH;
 use tokens::Integer;
+use tokens::ROW_WORDS;
 use tokens::Slot;
 use tokens::Token;
 use tokens::integer_at;
@@ -82,22 +92,22 @@ fn is_given(s: Slot) -> bool
 fn slot_at(o: Options, c: usize) -> Slot
     ensures { λ r. ⌜ r ≡ slotAt o c ⌝ }
 {
-    if c == 7 {
+    if c == WIDTH {
         return o.width;
     }
-    if c == 8 {
+    if c == OFFSET {
         return o.offset;
     }
-    if c == 9 {
+    if c == INPUT {
         return o.input;
     }
-    if c == 10 {
+    if c == OUTPUT {
         return o.output;
     }
-    if c == 11 {
+    if c == INOUT {
         return o.inout;
     }
-    if c == 15 {
+    if c == SIZE {
         return o.size;
     }
     Slot::Absent
@@ -107,10 +117,10 @@ fn slot_at(o: Options, c: usize) -> Slot
 fn given(o: Options, c: usize) -> bool
     ensures { λ r. ⌜ r ≡ given o c ⌝ }
 {
-    if c == 12 {
+    if c == UPTO {
         return o.upto;
     }
-    if c == 13 {
+    if c == SIGNED {
         return o.signed;
     }
     let s = slot_at(o, c);
@@ -135,12 +145,12 @@ fn with_number(o: Options, c: usize, z: Integer) -> Options
     let a = o.input;
     let b = o.output;
     let d = o.inout;
-    let width = pick(c, 7, z, w);
-    let offset = pick(c, 8, z, f);
-    let size = pick(c, 15, z, s);
-    let input = pick(c, 9, z, a);
-    let output = pick(c, 10, z, b);
-    let inout = pick(c, 11, z, d);
+    let width = pick(c, WIDTH, z, w);
+    let offset = pick(c, OFFSET, z, f);
+    let size = pick(c, SIZE, z, s);
+    let input = pick(c, INPUT, z, a);
+    let output = pick(c, OUTPUT, z, b);
+    let inout = pick(c, INOUT, z, d);
     Options {
         width,
         offset,
@@ -162,8 +172,8 @@ fn with_flag(o: Options, c: usize) -> Options
     let again = given(o, c);
     let mut r = o;
     r.twice = or(o.twice, again);
-    r.upto = or(o.upto, c == 12);
-    r.signed = or(o.signed, c == 13);
+    r.upto = or(o.upto, c == UPTO);
+    r.signed = or(o.signed, c == SIGNED);
     r
 }
 
@@ -172,24 +182,24 @@ fn offered(memory: bool, c: usize) -> bool
     ensures { λ r. ⌜ r ≡ accepted memory c ⌝ }
 {
     if memory {
-        if c == 7 {
+        if c == WIDTH {
             return true;
         }
-        if c == 15 {
+        if c == SIZE {
             return true;
         }
-        return c == 8;
+        return c == OFFSET;
     }
-    if c < 7 {
+    if c < WIDTH {
         return false;
     }
-    c < 14
+    c < MEMORY
 }
 
 fn flag(c: usize) -> bool
     ensures { λ r. ⌜ r ≡ isFlag c ⌝ }
 {
-    if c == 12 { true } else { c == 13 }
+    if c == UPTO { true } else { c == SIGNED }
 }
 
 // The option that starts at row i, or the name at the end.
@@ -198,7 +208,7 @@ fn option(tokens: &[u32], memory: bool, i: usize) -> Turn
 {
     match token_at(tokens, i) {
         Token::Name { start, end } => {
-            if tokens.len() / 4 <= i + 1 {
+            if tokens.len() / ROW_WORDS <= i + 1 {
                 Turn::Done { start, end }
             } else {
                 Turn::NoShape

@@ -10,6 +10,27 @@ ghost use Rattle.rules.specs.Bytes.{within};
 ghost use Rattle.options.specs.Numbers.{WordIs, slotFits, optionsGood};
 ghost use Rattle.options.specs.Limits.{portsIn, JoinedIs, PortIs, flagBits, WireIs, MemoryIs};
 
+// The most bits of a wire or a memory's word, the highest number of a port, the most words of a memory.
+const MOST_WIDTH: u32 = 2048;
+
+const MOST_PORT: u32 = 1023;
+
+const MOST_SIZE: u32 = 2147483647;
+
+// A port's direction in the column of flags; 0 is no port.
+const INPUT_CODE: u32 = 4;
+
+const OUTPUT_CODE: u32 = 8;
+
+const INOUT_CODE: u32 = 12;
+
+// The flags in the same column; 0 is none.
+const UPTO_FLAG: u32 = 1;
+
+const SIGNED_FLAG: u32 = 2;
+
+const BOTH_FLAGS: u32 = 3;
+
 // A wire's columns in the table of wires, where its options are good.
 pub enum WireRules {
     Good {
@@ -114,7 +135,7 @@ fn joined(f: &[u8], s: Slot, code: u32, behind: Port) -> Port
     let Number::Fits(n) = integer_of(f, z) else {
         return Port::Bad;
     };
-    if between(1, 1023, n) {
+    if between(1, MOST_PORT, n) {
         Port::Good { code, number: n }
     } else {
         Port::Bad
@@ -128,18 +149,18 @@ fn port_of(f: &[u8], o: Options) -> Port
     let output = o.output;
     let inout = o.inout;
     let none = Port::Good { code: 0, number: 0 };
-    let last = joined(f, inout, 12, none);
-    let behind = joined(f, output, 8, last);
-    joined(f, input, 4, behind)
+    let last = joined(f, inout, INOUT_CODE, none);
+    let behind = joined(f, output, OUTPUT_CODE, last);
+    joined(f, input, INPUT_CODE, behind)
 }
 
 fn flag_bits(upto: bool, signed: bool) -> u32
     ensures { λ r. ⌜ r ≡ flagBits upto signed ⌝ }
 {
     if upto {
-        if signed { 3 } else { 1 }
+        if signed { BOTH_FLAGS } else { UPTO_FLAG }
     } else {
-        if signed { 2 } else { 0 }
+        if signed { SIGNED_FLAG } else { 0 }
     }
 }
 
@@ -151,7 +172,7 @@ pub fn wire_rules(f: &[u8], o: Options) -> WireRules
     }
     let w = o.width;
     let width = word_or(f, w, 1);
-    if !between(0, 2048, width) {
+    if !between(0, MOST_WIDTH, width) {
         return WireRules::Bad;
     }
     let Port::Good { code, number } = port_of(f, o) else {
@@ -178,12 +199,12 @@ pub fn memory_rules(f: &[u8], o: Options) -> MemoryRules
     }
     let w = o.width;
     let width = word_or(f, w, 1);
-    if !between(1, 2048, width) {
+    if !between(1, MOST_WIDTH, width) {
         return MemoryRules::Bad;
     }
     let s = o.size;
     let size = word_or(f, s, 0);
-    if !between(0, 2147483647, size) {
+    if !between(0, MOST_SIZE, size) {
         return MemoryRules::Bad;
     }
     let t = o.offset;

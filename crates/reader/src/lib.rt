@@ -1,4 +1,16 @@
 // Reading a file into lent tables: line by line, each judged after the statements so far and stored behind them.
+use context::kinds::ATTRIBUTE;
+use context::kinds::AUTOIDX;
+use context::kinds::CELL;
+use context::kinds::CELL_CONNECTION;
+use context::kinds::CELL_PARAMETER;
+use context::kinds::CONNECTION;
+use context::kinds::END;
+use context::kinds::MEMORY;
+use context::kinds::MODULE;
+use context::kinds::PARAMETER;
+use context::kinds::PROCESS;
+use context::kinds::WIRE;
 use context::place::Place;
 use context::place::after;
 use context::place::is_closed;
@@ -15,7 +27,11 @@ use name_index::ALL_CHAIN;
 use name_index::ALL_HEADS;
 use name_index::index_line;
 use netlist::lengths::right_lengths;
+use netlist::results::BAD_TOKEN;
 use netlist::results::CallResult;
+use netlist::results::FILE_TOO_LONG;
+use netlist::results::NO_SHAPE;
+use netlist::results::WRONG_LENGTH;
 use netlist::used::used_from;
 use scanner::lines::Line;
 use scanner::runs::blanks_end;
@@ -36,6 +52,12 @@ ghost use Rattle.layout.specs.Stored.{Sized};
 ghost use Rattle.netlist.specs.Results.{result, lent};
 ghost use Rattle.reader.specs.Read.{leaves, readInto};
 ghost use Rattle.reader.specs.Steps.{LineFits, PlaceFits, judgedAs, OutcomeAs, Storable, SomeDone, StepAs, StepIndexed, refusalOf, finishOf, Landed, Before, ReachAs};
+
+// The most bytes of a file that is read.
+const MOST_FILE_BYTES: usize = 32768;
+
+// The words of a token's row.
+const TOKEN_SIZE: usize = 4;
 
 // The words of a table of tokens, four for each byte of a line: of lines up to 2,048 bytes, up to 6,144, and of any line.
 const SHORT_TOKENS: usize = 8192;
@@ -108,15 +130,15 @@ fn line_outcome(
     ensures { λ r. ⌜ OutcomeAs (now (f .entry)) (now (scratch .exit)) line place sums (now (names .entry)) (now (wires .entry)) (now (rows .entry)) r ⌝ }
 {
     let Lexed::Tokens(n) = lex_line(f, line.start, line.end, tokens) else {
-        return Outcome::Refused(4);
+        return Outcome::Refused(BAD_TOKEN);
     };
     if n == 0 {
         return Outcome::Skipped;
     }
     if !line.ended {
-        return Outcome::Refused(5);
+        return Outcome::Refused(NO_SHAPE);
     }
-    let stop = 4 * n;
+    let stop = TOKEN_SIZE * n;
     judged(judge_line(
         f,
         &tokens[0..stop],
@@ -197,21 +219,21 @@ fn kind_code(statement: Statement) -> u32
     ensures { λ r. ⌜ r ≡ code (kindIn statement) ⌝ }
 {
     match statement {
-        Statement::Autoidx(_) => 1,
-        Statement::Attribute { .. } => 2,
-        Statement::Module(_) => 3,
-        Statement::Parameter { .. } => 4,
-        Statement::Wire { .. } => 5,
-        Statement::Memory { .. } => 6,
-        Statement::Cell { .. } => 7,
-        Statement::CellParameter { .. } => 8,
-        Statement::CellConnection { .. } => 9,
-        Statement::Connection { .. } => 10,
-        Statement::End => 12,
-        Statement::NoShape => 11,
-        Statement::Process => 11,
-        Statement::BadNumber => 11,
-        Statement::MissingWire => 11,
+        Statement::Autoidx(_) => AUTOIDX,
+        Statement::Attribute { .. } => ATTRIBUTE,
+        Statement::Module(_) => MODULE,
+        Statement::Parameter { .. } => PARAMETER,
+        Statement::Wire { .. } => WIRE,
+        Statement::Memory { .. } => MEMORY,
+        Statement::Cell { .. } => CELL,
+        Statement::CellParameter { .. } => CELL_PARAMETER,
+        Statement::CellConnection { .. } => CELL_CONNECTION,
+        Statement::Connection { .. } => CONNECTION,
+        Statement::End => END,
+        Statement::NoShape => PROCESS,
+        Statement::Process => PROCESS,
+        Statement::BadNumber => PROCESS,
+        Statement::MissingWire => PROCESS,
     }
 }
 
@@ -241,7 +263,7 @@ fn finish(size: usize, place: Place, sums: Sizes) -> Answer
         return Answer::Accepted(sums.name_bytes);
     }
     Answer::Refused {
-        number: 5,
+        number: NO_SHAPE,
         place: size as u32,
     }
 }
@@ -270,7 +292,7 @@ fn read_lines(
     let mut place = behind;
     let mut sums = summed;
     while line.start < f.len() {
-        if tokens.len() / 4 < line.end - line.start {
+        if tokens.len() / TOKEN_SIZE < line.end - line.start {
             return Reach::Longer { line, place, sums };
         }
         let step = take_line(
@@ -497,9 +519,9 @@ fn read_sized(
     ensures { λ r. ⌜ result (r .number) (r .place) (lent (now (names .exit)) (now (strings .exit)) (now (bits .exit)) (now (wires .exit)) (now (rows .exit)) (r .renames) (r .room)) ≡ leaves (read (now (f .entry))) ⌝ }
 {
     clear_tables(names, strings, bits, wires, rows);
-    if 32768 < f.len() {
+    if MOST_FILE_BYTES < f.len() {
         return CallResult {
-            number: 2,
+            number: FILE_TOO_LONG,
             place: 0,
             renames: 0,
             room: 0,
@@ -546,7 +568,7 @@ pub fn read(
         return read_sized(f, names, strings, bits, wires, rows);
     }
     CallResult {
-        number: 1,
+        number: WRONG_LENGTH,
         place: 0,
         renames,
         room,

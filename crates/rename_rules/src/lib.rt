@@ -1,21 +1,32 @@
 // Whether a rename may stand behind the renames that stand already, by the tables that hold the design with them.
 // All of it is total: a word past a table's end counts as 0, and a span past its end is cut.
+use context::kinds::CELL;
+use context::kinds::MEMORY;
 use context::place::Place;
+use context::sizes::MOST_RENAMES;
 use modules::module_rows;
 use modules::module_wires;
 use name_index::ROW_CHAIN;
 use name_index::ROW_HEADS;
 use name_index::hash;
 use name_index::indexed_taken;
+use netlist::lengths::NAMES_LENGTH;
+use netlist::results::BAD_TOKEN;
+use netlist::results::NOT_THERE;
+use netlist::results::PORT_OR_PROCESS;
+use netlist::results::TOO_MANY;
 use netlist::rows::Kinds;
 use netlist::rows::name_taken;
 use numbers::kinds::ModuleNumber;
 use numbers::kinds::WireNumber;
 use scanner::names::legal;
 use scanner::names::same_bytes;
+use tables::ROW_WORDS;
 use tables::word;
 use wire_names::Module;
 use wire_names::last_rename;
+use wires::WIRE_FLAGS;
+use wires::WIRE_NAME;
 use wires::bytes_at;
 use wires::column;
 ghost use mathlib.Core.Path.{_≡_};
@@ -28,6 +39,20 @@ ghost use Rattle.name_index.specs.Index.{keyAt, Indexed, LinesIndexed};
 ghost use Rattle.rename_rules.specs.Search.{searchNow, named, Renamed, keepsName, rowKeeps};
 ghost use Rattle.rename_rules.specs.Judged.{objectTaken, nameTaken, exceedsRoom, moduleBy, ModuleIndexed, numberBy, judged};
 
+// The columns of a rename's row: its new name, whose length stands behind its start, and its wire.
+const RENAME_NAME: usize = 1;
+
+const RENAME_WIRE: usize = 4;
+
+// What a direction counts in the flags of a wire, above `upto` and `signed`.
+const DIRECTION_FLAG: u32 = 4;
+
+// The last direction of a port, `inout`.
+const LAST_DIRECTION: u32 = 3;
+
+// The number of a refusal for a name that is taken (netlist, results): beside the search `name_taken` it has another name here.
+const NUMBER_TAKEN: u32 = 9;
+
 pub enum Named {
     At(WireNumber),
     Nothing,
@@ -38,11 +63,11 @@ fn is_port(wires: &[u32], row: usize) -> bool
     requires { ⌜ row < 8589934592 ⌝ }
     ensures { λ r. ⌜ r ≡ isPort (wireOf (now (wires .entry)) row) ⌝ }
 {
-    let direction = word(wires, 8 * row + 5) / 4;
+    let direction = word(wires, ROW_WORDS * row + WIRE_FLAGS) / DIRECTION_FLAG;
     if direction == 0 {
         return false;
     }
-    direction <= 3
+    direction <= LAST_DIRECTION
 }
 
 // The least wire so far; or the wire of rename row i, where it is less, has its name by that rename, and the name is this one.
@@ -52,11 +77,11 @@ fn renamed_by(names: &[u8], rows: &[u32], m: Module, name: &[u8], i: u32, least:
     ensures { λ r. ⌜ Renamed (now (names .entry)) (now (rows .entry)) m (now (name .entry)) (i + 1) r ⌝ }
 {
     let row = m.from as usize + i as usize;
-    let wire = column(rows, row, 4);
+    let wire = column(rows, row, RENAME_WIRE);
     if least <= wire {
         return least;
     }
-    if !same_bytes(bytes_at(names, rows, row, 1), name) {
+    if !same_bytes(bytes_at(names, rows, row, RENAME_NAME), name) {
         return least;
     }
     if last_rename(rows, m.from, m.renames, m.number, WireNumber(wire)) != i + 1 {
@@ -82,7 +107,7 @@ fn renamed_to(names: &[u8], rows: &[u32], m: Module, name: &[u8]) -> u32
 fn keeps_name(names: &[u8], wires: &[u32], rows: &[u32], m: Module, k: u32, name: &[u8]) -> bool
     ensures { λ r. ⌜ r ≡ keepsName (now (names .entry)) (now (wires .entry)) (now (rows .entry)) m (now (name .entry)) k ⌝ }
 {
-    let own = bytes_at(names, wires, m.first as usize + k as usize, 1);
+    let own = bytes_at(names, wires, m.first as usize + k as usize, WIRE_NAME);
     if !same_bytes(own, name) {
         return false;
     }
@@ -118,7 +143,7 @@ fn wire_name_taken(names: &[u8], wires: &[u32], rows: &[u32], m: Module, name: &
     }
 }
 
-// Whether a memory or a cell of the module has this name; their kinds are 6 and 7.
+// Whether a memory or a cell of the module has this name.
 fn object_name_taken(names: &[u8], rows: &[u32], total: u32, m: ModuleNumber, name: &[u8]) -> bool
     ensures { λ r. ⌜ r ≡ objectTaken (now (names .entry)) (now (rows .entry)) total (m .0) (now (name .entry)) ⌝ }
 {
@@ -128,7 +153,11 @@ fn object_name_taken(names: &[u8], rows: &[u32], total: u32, m: ModuleNumber, na
         rows,
         r.first,
         r.count,
-        Kinds { a: 6, b: 7, c: 7 },
+        Kinds {
+            a: MEMORY,
+            b: CELL,
+            c: CELL,
+        },
         name,
     )
 }
@@ -209,7 +238,11 @@ fn indexed_object(
         chain,
         0,
         total,
-        Kinds { a: 6, b: 7, c: 7 },
+        Kinds {
+            a: MEMORY,
+            b: CELL,
+            c: CELL,
+        },
         name,
     ) {
         return false;
@@ -245,10 +278,10 @@ fn exceeds_room(standing: u32, room: u32, size: usize) -> bool
     requires { ⌜ size ≤ 255 ⌝ }
     ensures { λ r. ⌜ r ≡ exceedsRoom standing room size ⌝ }
 {
-    if 64 <= standing {
+    if MOST_RENAMES <= standing {
         return true;
     }
-    16384 < room as usize + size
+    NAMES_LENGTH < room as usize + size
 }
 
 // The module of this number, with the renames that stand.
@@ -270,20 +303,20 @@ fn rename_number(wires: &[u32], m: Module, room: u32, w: WireNumber, new: &[u8],
     ensures { λ r. ⌜ r ≡ numberBy (now (wires .entry)) m room (w .0) (now (new .entry)) taken ⌝ }
 {
     if !legal(new) {
-        return 4;
+        return BAD_TOKEN;
     }
     let wire = w.0;
     if m.wires <= wire {
-        return 8;
+        return NOT_THERE;
     }
     if is_port(wires, m.first as usize + wire as usize) {
-        return 6;
+        return PORT_OR_PROCESS;
     }
     if taken {
-        return 9;
+        return NUMBER_TAKEN;
     }
     if exceeds_room(m.renames, room, new.len()) {
-        return 11;
+        return TOO_MANY;
     }
     0
 }

@@ -1,11 +1,13 @@
 // Whether tables hold statements that may stand one after another. The statements are replayed from the first row on, whatever the tables hold:
 // each row says where its parts are, and has to be the row of the statement that they make.
+use context::kinds::END;
 use context::place::Place;
 use context::place::is_closed;
 use context::place::start;
 use context::sizes::Sizes;
 use context::sizes::none;
 use name_index::index_line;
+use netlist::rows::ROW_SIZE;
 use tables::word;
 
 mod parts;
@@ -32,7 +34,7 @@ fn is_statement(kind: u32) -> bool
     if kind == 0 {
         return false;
     }
-    kind <= 12
+    kind <= END
 }
 
 // It leaves an index of the names of its rows and wires, where the tables hold such statements.
@@ -52,7 +54,7 @@ pub fn replay(
     let mut place = start();
     let mut sums = none();
     loop {
-        let kind = word(rows, 8 * (place.rows as usize));
+        let kind = word(rows, ROW_SIZE * (place.rows as usize));
         if !is_statement(kind) {
             if is_closed(place) {
                 return Replayed::Holding { place, sums };

@@ -9,6 +9,12 @@ ghost use lib.Seq.{slice};
 ghost use Rattle.rules.specs.Bytes.{all, within};
 ghost use Rattle.replay.specs.Parts.{WholeIs, nameStands, isDigit, digitsStand, textStands};
 
+// The digits of a value have the codes below this.
+const DIGITS: u32 = 6;
+
+// The most bits of a value, a signal, a wire and a word of a memory.
+pub const MOST_WIDTH: u32 = 2048;
+
 // Whether size values from a place on are inside a table of this length.
 pub fn is_whole(long: usize, at: u32, size: u32) -> bool
     ensures { λ r. ⌜ WholeIs long at size r ⌝ }
@@ -37,7 +43,7 @@ fn all_digits(bits: &[u32], from: usize, to: usize) -> bool
     let mut good = true;
     let mut i = from;
     while i < to {
-        good = good & (bits[i] < 6);
+        good = good & (bits[i] < DIGITS);
         i += 1;
     }
     good
@@ -50,7 +56,7 @@ pub fn digits_stand(bits: &[u32], at: u32, size: u32) -> bool
     if !is_whole(bits.len(), at, size) {
         return false;
     }
-    if 2048 < size {
+    if MOST_WIDTH < size {
         return false;
     }
     if size == 0 {

@@ -1,9 +1,26 @@
 // A statement that stands in the tables behind what is used of them: its row, and the parts that the row tells of.
+use crate::parts::MOST_WIDTH;
 use crate::parts::digits_stand;
 use crate::parts::name_stands;
 use crate::parts::text_stands;
 use crate::wiring::signal_stands;
 use crate::wiring::wire_fits;
+use context::kinds::ATTRIBUTE;
+use context::kinds::AUTOIDX;
+use context::kinds::CELL;
+use context::kinds::CELL_CONNECTION;
+use context::kinds::CELL_PARAMETER;
+use context::kinds::CONNECTION;
+use context::kinds::END;
+use context::kinds::MEMORY;
+use context::kinds::MODULE;
+use context::kinds::PARAMETER;
+use context::kinds::PROCESS;
+use context::kinds::WIRE;
+use netlist::rows::INTEGER_CONSTANT;
+use netlist::rows::ROW_SIZE;
+use netlist::rows::STRING_CONSTANT;
+use netlist::rows::VALUE_CONSTANT;
 use netlist::used::Used;
 use netlist::used::last_module;
 use tables::Row;
@@ -17,6 +34,17 @@ ghost use Rattle.tables.specs.Row.{words};
 ghost use Rattle.wires.specs.Rows.{wiresFrom};
 ghost use Rattle.netlist.specs.Used.{usedOf};
 ghost use Rattle.replay.specs.Reads.{tabled, constantOf, statementOf, TellsConstant, Tells, TellsNamed, TellsValued, TellsAutoidx, TellsEnd, TellsMemory, TellsCell, TellsParameter, TellsCellParameter, TellsWire, TellsCellConnection, TellsConnection, WireRowStands, Small};
+
+// The highest size of a memory.
+const MOST_MEMORY_SIZE: u32 = 2147483647;
+
+// The last of the sorts of a cell's parameter.
+const LAST_SORT: u32 = 2;
+
+// The flags of a port are this or more, and the flags of any wire at most those.
+const PORT_FLAG: u32 = 4;
+
+const MOST_FLAGS: u32 = 15;
 
 // What a statement holds: bits of signals and of values, bytes of strings and of names.
 pub enum Found {
@@ -111,13 +139,13 @@ fn text_at(strings: &[u8], bits: &[u32], u: Used, a: u32, b: u32) -> Held
 fn constant_at(strings: &[u8], bits: &[u32], u: Used, kind: u32, a: u32, b: u32) -> Held
     ensures { λ r. ⌜ TellsConstant (now (strings .entry)) (now (bits .entry)) (usedOf u) kind a b (constantOf (now (strings .entry)) (now (bits .entry)) (usedOf u) kind a b) r ⌝ }
 {
-    if kind == 1 {
+    if kind == VALUE_CONSTANT {
         return value_at(strings, bits, u, a, b);
     }
-    if kind == 3 {
+    if kind == STRING_CONSTANT {
         return text_at(strings, bits, u, a, b);
     }
-    if kind != 2 {
+    if kind != INTEGER_CONSTANT {
         return Held::Nothing;
     }
     if b != 0 {
@@ -191,16 +219,16 @@ fn parameter_at(names: &[u8], strings: &[u8], bits: &[u32], u: Used, r: Row) -> 
     ensures { λ f. ⌜ TellsParameter (now (names .entry)) (now (strings .entry)) (now (bits .entry)) (usedOf u) r f ⌝ }
 {
     if r.c == 0 {
-        return named(names, u, r, 4);
+        return named(names, u, r, PARAMETER);
     }
-    valued(names, strings, bits, u, r, 4, 0)
+    valued(names, strings, bits, u, r, PARAMETER, 0)
 }
 
 fn autoidx_at(u: Used, r: Row) -> Found
     ensures { λ f. ⌜ TellsAutoidx (usedOf u) r f ⌝ }
 {
     let x = Row {
-        kind: 1,
+        kind: AUTOIDX,
         a: r.a,
         b: 0,
         c: 0,
@@ -216,7 +244,7 @@ fn end_at(u: Used, r: Row) -> Found
     ensures { λ f. ⌜ TellsEnd (usedOf u) r f ⌝ }
 {
     let x = Row {
-        kind: 12,
+        kind: END,
         a: 0,
         b: 0,
         c: 0,
@@ -237,14 +265,14 @@ fn memory_at(names: &[u8], u: Used, r: Row) -> Found
     if r.c == 0 {
         return Found::Nothing;
     }
-    if 2048 < r.c {
+    if MOST_WIDTH < r.c {
         return Found::Nothing;
     }
-    if 2147483647 < r.d {
+    if MOST_MEMORY_SIZE < r.d {
         return Found::Nothing;
     }
     let x = Row {
-        kind: 6,
+        kind: MEMORY,
         a: u.names,
         b: r.b,
         c: r.c,
@@ -269,7 +297,7 @@ fn cell_at(names: &[u8], u: Used, r: Row) -> Found
         return Found::Nothing;
     }
     let x = Row {
-        kind: 7,
+        kind: CELL,
         a: u.names,
         b: r.b,
         c: second,
@@ -284,10 +312,10 @@ fn cell_at(names: &[u8], u: Used, r: Row) -> Found
 fn cell_parameter_at(names: &[u8], strings: &[u8], bits: &[u32], u: Used, r: Row) -> Found
     ensures { λ f. ⌜ TellsCellParameter (now (names .entry)) (now (strings .entry)) (now (bits .entry)) (usedOf u) r f ⌝ }
 {
-    if 2 < r.f {
+    if LAST_SORT < r.f {
         return Found::Nothing;
     }
-    valued(names, strings, bits, u, r, 8, r.f)
+    valued(names, strings, bits, u, r, CELL_PARAMETER, r.f)
 }
 
 // The module's wires before this one are those from row first on.
@@ -309,7 +337,7 @@ fn cell_connection_at(
         return Found::Nothing;
     }
     let x = Row {
-        kind: 9,
+        kind: CELL_CONNECTION,
         a: u.names,
         b: r.b,
         c: u.bits,
@@ -338,7 +366,7 @@ fn connection_at(bits: &[u32], wires: &[u32], u: Used, first: u32, r: Row) -> Fo
         return Found::Nothing;
     }
     let x = Row {
-        kind: 10,
+        kind: CONNECTION,
         a: u.bits,
         b: r.b,
         c: second,
@@ -354,7 +382,7 @@ fn connection_at(bits: &[u32], wires: &[u32], u: Used, first: u32, r: Row) -> Fo
 fn port_number_stands(flags: u32, number: u32) -> bool
     ensures { λ r. ⌜ r ≡ (leb 4 flags || eqb number 0) ⌝ }
 {
-    if 4 <= flags {
+    if PORT_FLAG <= flags {
         return true;
     }
     number == 0
@@ -363,12 +391,12 @@ fn port_number_stands(flags: u32, number: u32) -> bool
 fn wire_row_stands(wires: &[u32], u: Used, size: u32) -> bool
     ensures { λ r. ⌜ WireRowStands (now (wires .entry)) (usedOf u) size r ⌝ }
 {
-    let at = 8 * (u.wires as usize);
-    if wires.len() < at + 8 {
+    let at = ROW_SIZE * (u.wires as usize);
+    if wires.len() < at + ROW_SIZE {
         return false;
     }
     let q = get_row(wires, at);
-    if 15 < q.e {
+    if MOST_FLAGS < q.e {
         return false;
     }
     if !port_number_stands(q.e, q.f) {
@@ -401,7 +429,7 @@ fn wire_at(names: &[u8], wires: &[u32], u: Used, first: u32, r: Row) -> Found
         return Found::Nothing;
     }
     let x = Row {
-        kind: 5,
+        kind: WIRE,
         a: u.names,
         b: r.b,
         c: u.wires,
@@ -430,8 +458,8 @@ pub fn statement_at(
     let kind = r.kind;
     match kind {
         1 => autoidx_at(u, r),
-        2 => valued(names, strings, bits, u, r, 2, 0),
-        3 => named(names, u, r, 3),
+        2 => valued(names, strings, bits, u, r, ATTRIBUTE, 0),
+        3 => named(names, u, r, MODULE),
         4 => parameter_at(names, strings, bits, u, r),
         5 => wire_at(names, wires, u, first, r),
         6 => memory_at(names, u, r),
@@ -439,7 +467,7 @@ pub fn statement_at(
         8 => cell_parameter_at(names, strings, bits, u, r),
         9 => cell_connection_at(names, bits, wires, u, first, r),
         10 => connection_at(bits, wires, u, first, r),
-        11 => named(names, u, r, 11),
+        11 => named(names, u, r, PROCESS),
         _ => end_at(u, r),
     }
 }

@@ -1,13 +1,31 @@
 // One statement more behind those that stand.
 use crate::statements::Found;
 use crate::statements::statement_at;
+use context::kinds::ATTRIBUTE;
+use context::kinds::AUTOIDX;
+use context::kinds::CELL;
+use context::kinds::CELL_CONNECTION;
+use context::kinds::CELL_PARAMETER;
+use context::kinds::CONNECTION;
+use context::kinds::END;
+use context::kinds::MEMORY;
+use context::kinds::MODULE;
+use context::kinds::PARAMETER;
+use context::kinds::WIRE;
+use context::place::IN_MODULE;
 use context::place::Place;
+use context::place::TOP;
 use context::place::after;
+use context::sizes::MOST_SIGNAL_BITS;
+use context::sizes::MOST_STRING_BYTES;
+use context::sizes::MOST_VALUE_BITS;
+use context::sizes::NAME_ROOM;
 use context::sizes::Sizes;
 use context::sizes::kind_sizes;
 use context::sizes::plus;
 use context::sizes::within;
 use name_index::indexed_found;
+use netlist::rows::ROW_SIZE;
 use netlist::rows::row_name;
 use netlist::used::used_from;
 use tables::get_row;
@@ -30,16 +48,16 @@ pub enum Turn {
 fn is_object(kind: u32) -> bool
     ensures { λ r. ⌜ r ≡ ofKinds objectKinds kind ⌝ }
 {
-    if kind == 2 {
+    if kind == ATTRIBUTE {
         return true;
     }
-    if kind == 5 {
+    if kind == WIRE {
         return true;
     }
-    if kind == 6 {
+    if kind == MEMORY {
         return true;
     }
-    if kind == 7 {
+    if kind == CELL {
         return true;
     }
     false
@@ -51,13 +69,13 @@ fn is_module_kind(first: bool, attributed: bool, kind: u32) -> bool
     if attributed {
         return is_object(kind);
     }
-    if kind == 4 {
+    if kind == PARAMETER {
         return true;
     }
-    if kind == 10 {
+    if kind == CONNECTION {
         return true;
     }
-    if kind == 12 {
+    if kind == END {
         return true;
     }
     is_object(kind)
@@ -66,13 +84,13 @@ fn is_module_kind(first: bool, attributed: bool, kind: u32) -> bool
 fn is_top_kind(first: bool, attributed: bool, kind: u32) -> bool
     ensures { λ r. ⌜ r ≡ ofKinds (kinds top first attributed) kind ⌝ }
 {
-    if kind == 2 {
+    if kind == ATTRIBUTE {
         return true;
     }
-    if kind == 3 {
+    if kind == MODULE {
         return true;
     }
-    if kind == 1 {
+    if kind == AUTOIDX {
         return first;
     }
     false
@@ -82,19 +100,19 @@ fn is_top_kind(first: bool, attributed: bool, kind: u32) -> bool
 fn stands_at(p: Place, kind: u32) -> bool
     ensures { λ r. ⌜ r ≡ standsAt p kind ⌝ }
 {
-    if p.scope == 0 {
+    if p.scope == TOP {
         return is_top_kind(p.first, p.attributed, kind);
     }
-    if p.scope == 1 {
+    if p.scope == IN_MODULE {
         return is_module_kind(p.first, p.attributed, kind);
     }
-    if kind == 8 {
+    if kind == CELL_PARAMETER {
         return true;
     }
-    if kind == 9 {
+    if kind == CELL_CONNECTION {
         return true;
     }
-    if kind == 12 {
+    if kind == END {
         return true;
     }
     false
@@ -103,16 +121,16 @@ fn stands_at(p: Place, kind: u32) -> bool
 fn small_parts(signals: u32, values: u32, strings: u32, names: u32) -> bool
     ensures { λ r. ⌜ r ≡ smallParts signals values strings names ⌝ }
 {
-    if 8192 < signals {
+    if MOST_SIGNAL_BITS < signals {
         return false;
     }
-    if 8192 < values {
+    if MOST_VALUE_BITS < values {
         return false;
     }
-    if 8192 < strings {
+    if MOST_STRING_BYTES < strings {
         return false;
     }
-    names <= 16384
+    names <= NAME_ROOM
 }
 
 // A statement whose row stands there, with what it holds: its name is new, and no size is exceeded.
@@ -174,8 +192,8 @@ pub fn one_more(
     requires { ⌜ Indexed (now heads) (now chain) (keyAt (now names) (now rows)) (p .rows) ⌝ }
     ensures { λ r. ⌜ TurnIs (tabled (now (names .entry)) (now (strings .entry)) (now (bits .entry)) (now (wires .entry))) (now (rows .entry)) p u r ⌝ }
 {
-    let at = 8 * (p.rows as usize);
-    if rows.len() < at + 8 {
+    let at = ROW_SIZE * (p.rows as usize);
+    if rows.len() < at + ROW_SIZE {
         return Turn::Nothing;
     }
     let r = get_row(rows, at);

@@ -1,14 +1,29 @@
 // Signals and wires: each bit inside its wire, each wire within the rules.
+use crate::parts::MOST_WIDTH;
 use crate::parts::is_whole;
+use netlist::rows::ROW_SIZE;
 use numbers::kinds::SignalBit;
 use numbers::kinds::decode;
 use numbers::signed::offset_fits;
 use tables::word;
+use wires::WIRE_FLAGS;
+use wires::WIRE_OFFSET;
+use wires::WIRE_PORT;
+use wires::WIRE_WIDTH;
 use wires::port_taken;
 ghost use Prim.Native.Nat.{_≤_};
 ghost use lib.ListN.{length};
 ghost use lib.Seq.{slice};
 ghost use Rattle.replay.specs.Parts.{BitFits, BitsFit, SignalFits, WireFits};
+
+// A port's direction, times this, stands in its wire's flags.
+const PORT_FLAG: u32 = 4;
+
+// The last of the directions: input, output, inout.
+const INOUT: u32 = 3;
+
+// The highest number of a port.
+const MOST_PORT: u32 = 1023;
 
 // A bit's code, in a module whose wires are count rows from first on.
 fn bit_fits(wires: &[u32], first: u32, count: u32, code: u32) -> bool
@@ -22,7 +37,7 @@ fn bit_fits(wires: &[u32], first: u32, count: u32, code: u32) -> bool
             if count <= n {
                 return false;
             }
-            i < word(wires, 8 * (first as usize + n as usize) + 3)
+            i < word(wires, ROW_SIZE * (first as usize + n as usize) + WIRE_WIDTH)
         }
     }
 }
@@ -55,7 +70,7 @@ pub fn signal_stands(
     if !is_whole(bits.len(), at, size) {
         return false;
     }
-    if 2048 < size {
+    if MOST_WIDTH < size {
         return false;
     }
     if size == 0 {
@@ -70,26 +85,26 @@ pub fn wire_fits(wires: &[u32], first: u32, k: u32) -> bool
     requires { ⌜ first ≤ k ⌝ }
     ensures { λ r. ⌜ WireFits (now (wires .entry)) first k r ⌝ }
 {
-    let at = 8 * (k as usize);
-    let width = word(wires, at + 3);
-    if 2048 < width {
+    let at = ROW_SIZE * (k as usize);
+    let width = word(wires, at + WIRE_WIDTH);
+    if MOST_WIDTH < width {
         return false;
     }
-    if !offset_fits(word(wires, at + 4), width) {
+    if !offset_fits(word(wires, at + WIRE_OFFSET), width) {
         return false;
     }
-    let direction = word(wires, at + 5) / 4;
+    let direction = word(wires, at + WIRE_FLAGS) / PORT_FLAG;
     if direction == 0 {
         return true;
     }
-    if 3 < direction {
+    if INOUT < direction {
         return true;
     }
-    let port = word(wires, at + 6);
+    let port = word(wires, at + WIRE_PORT);
     if port == 0 {
         return false;
     }
-    if 1023 < port {
+    if MOST_PORT < port {
         return false;
     }
     !port_taken(wires, first, k - first, port)

@@ -2,6 +2,41 @@
 ghost use mathlib.Core.Path.{_≡_};
 ghost use Rattle.scanner.specs.Class.{classOf, classTable};
 
+pub const LINE_END: u8 = 0;
+
+pub const NO_BYTE: u8 = 1;
+
+pub const CONTROL: u8 = 2;
+
+pub const BLANK: u8 = 3;
+
+pub const MARK: u8 = 4;
+
+// `#`
+pub const COMMENT: u8 = 5;
+
+// Above 32 and of no other class.
+pub const OTHER: u8 = 6;
+
+pub const NAME_START: u8 = 7;
+
+// `"`
+pub const QUOTE: u8 = 8;
+
+// 8 and 9, 2 to 7, 0 and 1
+pub const HIGH_DIGIT: u8 = 9;
+
+pub const OCTAL_DIGIT: u8 = 10;
+
+pub const VALUE_DIGIT: u8 = 11;
+
+pub const MINUS: u8 = 12;
+
+// x, z and m; then all other lowercase letters
+pub const VALUE_LETTER: u8 = 13;
+
+pub const LETTER: u8 = 14;
+
 const CLASS: [u8; 256] = [
     1,
     2,

@@ -17,13 +17,13 @@ pub struct Line {
 fn ends_line(b: u8) -> bool
     ensures { λ r. ⌜ r ≡ isLineEnd b ⌝ }
 {
-    if 13 < b {
+    if b'\r' < b {
         return false;
     }
-    if b == 10 {
+    if b == b'\n' {
         return true;
     }
-    b == 13
+    b == b'\r'
 }
 
 // The first line end at or after `at`, or the end.

@@ -2,6 +2,11 @@
 ghost use mathlib.Core.Path.{_≡_};
 ghost use Rattle.rules.specs.Bytes.{legal, same, isNameStart};
 
+// The fewest and the most bytes of a name.
+pub const SHORTEST_NAME: usize = 2;
+
+pub const LONGEST_NAME: usize = 255;
+
 fn starts_name(b: u8) -> bool
     ensures { λ r. ⌜ r ≡ isNameStart b ⌝ }
 {
@@ -15,10 +20,10 @@ fn starts_name(b: u8) -> bool
 pub fn legal(n: &[u8]) -> bool
     ensures { λ r. ⌜ r ≡ legal (now (n .entry)) ⌝ }
 {
-    if n.len() < 2 {
+    if n.len() < SHORTEST_NAME {
         return false;
     }
-    if 255 < n.len() {
+    if LONGEST_NAME < n.len() {
         return false;
     }
     if !starts_name(n[0]) {
@@ -26,7 +31,7 @@ pub fn legal(n: &[u8]) -> bool
     }
     let mut i = 1;
     while i < n.len() {
-        if n[i] <= 32 {
+        if n[i] <= b' ' {
             return false;
         }
         i += 1;

@@ -1,4 +1,5 @@
 // Runs of bytes of one range of classes.
+use crate::class::BLANK;
 use crate::class::class_in;
 use crate::class::classes;
 ghost use mathlib.Core.Path.{_≡_};
@@ -29,5 +30,5 @@ pub fn blanks_end(s: &[u8], at: usize) -> usize
     ensures { λ r. ⌜ r ≡ endOf (inClass 3 3) (now (s .entry)) at ⌝ }
 {
     let table = classes();
-    run_end(&table, s, at, 3, 3)
+    run_end(&table, s, at, BLANK, BLANK)
 }

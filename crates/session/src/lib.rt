@@ -5,13 +5,19 @@ use memory_check::Held;
 use memory_check::judge_memory;
 use modules::module_wires;
 use netlist::lengths::right_lengths;
+use netlist::results::BAD_WIDTH;
 use netlist::results::CallResult;
+use netlist::results::DAMAGED;
+use netlist::results::NOT_THERE;
+use netlist::results::NOTHING_TO_UNDO;
+use netlist::results::WRONG_LENGTH;
 use numbers::kinds::ModuleNumber;
 use numbers::kinds::WireNumber;
 use rename_rules::Named;
 use rename_rules::find_named;
 use rename_rules::judge_rename;
 use rename_rules::module_of;
+use tables::ROW_WORDS;
 use tables::Row;
 use tables::put_bytes;
 use tables::put_row;
@@ -31,6 +37,12 @@ ghost use Rattle.netlist.specs.Results.{result, lent};
 ghost use Rattle.session.specs.Called.{CalledAs, answer, LookedUp, IndexGiven};
 ghost use Rattle.session.specs.Steps.{Holding, OpenedIs};
 ghost use Rattle.rename_rules.specs.Search.{searchNow};
+
+// The kind of a rename's row (context, kinds): beside the call `rename` it has another name here.
+const KIND_RENAME: u32 = 13;
+
+// The column of a rename's row where its new name's start stands.
+const RENAME_NAME: usize = 1;
 
 // Number 0 is none.
 pub struct Found {
@@ -67,11 +79,11 @@ pub fn open_memory(
         wires.len(),
         rows.len(),
     ) {
-        return Opened::Refused(1);
+        return Opened::Refused(WRONG_LENGTH);
     }
     match judge_memory(names, strings, bits, wires, rows, renames, room) {
         Held::Holding { place, sums: _ } => Opened::Open(place),
-        Held::Damaged => Opened::Refused(3),
+        Held::Damaged => Opened::Refused(DAMAGED),
     }
 }
 
@@ -92,9 +104,9 @@ fn put_rename(
     put_bytes(names, room as usize, new);
     put_row(
         rows,
-        8 * row as usize,
+        ROW_WORDS * row as usize,
         Row {
-            kind: 13,
+            kind: KIND_RENAME,
             a: room,
             b: new.len() as u32,
             c: m.0,
@@ -184,8 +196,8 @@ fn take_rename(names: &mut [u8], rows: &mut [u32], row: u32, room: u32) -> u32
     ensures { λ r. ⌜ now (names .exit) ≡ store (now (names .entry)) (column (now (rows .entry)) row 1) (replicate (room - column (now (rows .entry)) row 1) 0) ⌝ }
     ensures { λ r. ⌜ now (rows .exit) ≡ store (now (rows .entry)) (8 * row) (replicate 8 0) ⌝ }
 {
-    let at = 8 * row as usize;
-    let start = word(rows, at + 1);
+    let at = ROW_WORDS * row as usize;
+    let start = word(rows, at + RENAME_NAME);
     let from = start as usize;
     let to = room as usize;
     zero_bytes(names, from, to);
@@ -221,7 +233,7 @@ fn undo_open(
 {
     if renames == 0 {
         return CallResult {
-            number: 13,
+            number: NOTHING_TO_UNDO,
             place: 0,
             renames,
             room,
@@ -269,7 +281,7 @@ fn find(names: &[u8], wires: &[u32], rows: &[u32], m: Module, name: &[u8]) -> Fo
     match named {
         Named::At(wire) => Found { number: 0, wire },
         Named::Nothing => Found {
-            number: 8,
+            number: NOT_THERE,
             wire: WireNumber(0),
         },
     }
@@ -310,7 +322,7 @@ fn row_index(wires: &[u32], row: u32, bit: u32) -> Indexed
     match wire_index(wires, row, bit) {
         numbers::signed::Index::At(index) => Indexed { number: 0, index },
         numbers::signed::Index::Past => Indexed {
-            number: 10,
+            number: BAD_WIDTH,
             index: 0,
         },
     }
@@ -336,7 +348,7 @@ pub fn index(
             let number = w.0;
             if own.count <= number {
                 return Indexed {
-                    number: 8,
+                    number: NOT_THERE,
                     index: 0,
                 };
             }

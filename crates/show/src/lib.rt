@@ -1,6 +1,9 @@
 // The name to show of a wire: its attribute `\hdlname` if that is a string that isn't empty, else its name now, without the `\` if public. It is a part of
 // the strings or of the names, not a copy.
+use context::kinds::ATTRIBUTE;
+use context::kinds::WIRE;
 use modules::module_wires;
+use netlist::results::NOT_THERE;
 use netlist::rows::row_kind;
 use netlist::rows::row_name;
 use numbers::kinds::ModuleNumber;
@@ -9,6 +12,7 @@ use scanner::names::same_bytes;
 use session::Opened;
 use session::open_memory;
 use wire_names::last_rename;
+use wires::WIRE_NAME;
 use wires::column;
 ghost use mathlib.Core.Path.{_≡_};
 ghost use Prim.Native.Nat.{_≤_, _<_};
@@ -17,6 +21,19 @@ ghost use denote.Ref.{ptr};
 ghost use Rattle.netlist.specs.Results.{lent};
 ghost use Rattle.show.specs.Rows.{declares, wireLine, isHdlname, hdlnameRow};
 ghost use Rattle.show.specs.Parts.{cutOf, spanPart, textPart, namePart, plainPart, shownPart, numberOf, bytesIn, InRange, ShownAs, ShownAt, LiesAt};
+
+// The columns of a statement's row: a wire's row in the table of wires; the kind of an attribute's constant, and its string's start.
+const ROW_WIRE: usize = 3;
+
+const ROW_CONSTANT: usize = 3;
+
+const ROW_STRING: usize = 4;
+
+// The column of a rename's row where its new name's start stands.
+const RENAME_NAME: usize = 1;
+
+// The kind of a constant that is a string.
+const CONSTANT_STRING: u32 = 3;
 
 // Where a shown name lies: a part of the names, a part of the strings, or neither, with the refusal's number.
 pub enum Shown {
@@ -59,10 +76,10 @@ fn span(s: &[u8], t: &[u32], row: usize, c: usize) -> Part
 fn declares(rows: &[u32], row: u32, wire: u32) -> bool
     ensures { λ r. ⌜ r ≡ declares (now (rows .entry)) row wire ⌝ }
 {
-    if row_kind(rows, row) != 5 {
+    if row_kind(rows, row) != WIRE {
         return false;
     }
-    column(rows, row as usize, 3) == wire
+    column(rows, row as usize, ROW_WIRE) == wire
 }
 
 // The row of the wire's statement among the first `total`: the last that declares it, or 0.
@@ -94,7 +111,7 @@ fn hdlname_row(names: &[u8], rows: &[u32], line: u32) -> u32
     let mut k = line;
     while 0 < k {
         let last = k - 1;
-        if row_kind(rows, last) != 2 {
+        if row_kind(rows, last) != ATTRIBUTE {
             return found;
         }
         found = if is_hdlname(names, rows, last) {
@@ -115,10 +132,10 @@ fn text_part(strings: &[u8], rows: &[u32], behind: u32) -> Part
         return Part { start: 0, end: 0 };
     }
     let row = (behind - 1) as usize;
-    if column(rows, row, 3) != 3 {
+    if column(rows, row, ROW_CONSTANT) != CONSTANT_STRING {
         return Part { start: 0, end: 0 };
     }
-    span(strings, rows, row, 4)
+    span(strings, rows, row, ROW_STRING)
 }
 
 // The name now of the wire in row k of the table of wires.
@@ -136,9 +153,14 @@ fn name_part(
 {
     let last = last_rename(rows, from, count, m, w);
     if last == 0 {
-        return span(names, wires, k as usize, 1);
+        return span(names, wires, k as usize, WIRE_NAME);
     }
-    span(names, rows, from as usize + (last - 1) as usize, 1)
+    span(
+        names,
+        rows,
+        from as usize + (last - 1) as usize,
+        RENAME_NAME,
+    )
 }
 
 // Without the `\` of a public name.
@@ -208,7 +230,7 @@ pub fn find_shown(
             let own = module_wires(wires, place.wires, m);
             let number = w.0;
             if own.count <= number {
-                return Shown::Refused(8);
+                return Shown::Refused(NOT_THERE);
             }
             shown_wire(
                 names,

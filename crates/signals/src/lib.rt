@@ -2,6 +2,10 @@
 // into a scratch table from the top, the members of a bundle as they come; a slice moves its part down to where its operand began.
 use literals::Number;
 use name_index::indexed_wire;
+use netlist::results::BAD_NUMBER;
+use netlist::results::BAD_WIDTH;
+use netlist::results::NOT_THERE;
+use netlist::results::TOO_MANY;
 use numbers::kinds::SignalBit;
 use numbers::kinds::WireNumber;
 use tokens::Constant;
@@ -23,6 +27,23 @@ ghost use Rattle.name_index.specs.Index.{WiresIndexed};
 ghost use Rattle.signals.specs.Faults.{merge, tooWide};
 ghost use Rattle.signals.specs.Held.{codes, Put, PutAny, CutIs};
 ghost use Rattle.signals.specs.Reads.{markAt, slotIn, BoundsIs, SliceIs, SlicesIs, AtomIs, SignalIs, BundleIs, Readable};
+
+// The most bits of a part of a signal.
+const MOST_BITS: usize = 2048;
+
+// A bound from here on is the word of a negative one.
+const FIRST_NEGATIVE: usize = 2147483648;
+
+// The marks of a slice, `[`, `:` and `]`, and of a bundle, `{` and `}`, as a token has them.
+const SLICE_OPENS: usize = 91;
+
+const COLON: usize = 58;
+
+const SLICE_CLOSES: usize = 93;
+
+const BUNDLE_OPENS: usize = 123;
+
+const BUNDLE_CLOSES: usize = 125;
 
 // The wires of a module: their first row, and how many there are.
 pub struct Scope {
@@ -69,7 +90,7 @@ pub fn merge(a: u32, b: u32) -> u32
 fn too_wide(width: usize) -> u32
     ensures { λ r. ⌜ r ≡ tooWide width ⌝ }
 {
-    if 2048 < width { 11 } else { 0 }
+    if MOST_BITS < width { TOO_MANY } else { 0 }
 }
 
 // The bits of a wire, from the top.
@@ -101,14 +122,20 @@ fn wire_bits(
     match indexed_wire(names, wires, heads, chain, scope.first, scope.count, name) {
         Found::At(number, w) => {
             let width = w as usize;
-            if 2048 < width {
-                return Bits { width, fault: 11 };
+            if MOST_BITS < width {
+                return Bits {
+                    width,
+                    fault: TOO_MANY,
+                };
             }
             let n = number.0;
             put_wire(scratch, o, n, width);
             Bits { width, fault: 0 }
         }
-        Found::Nothing => Bits { width: 0, fault: 8 },
+        Found::Nothing => Bits {
+            width: 0,
+            fault: NOT_THERE,
+        },
     }
 }
 
@@ -145,20 +172,20 @@ fn bounds_at(tokens: &[u32], i: usize) -> Bounds
     let Slot::Given(high) = tokens::integer_at(tokens, i) else {
         return Bounds::NoShape;
     };
-    if is_mark(tokens, i + 1, 93) {
+    if is_mark(tokens, i + 1, SLICE_CLOSES) {
         return Bounds::Read {
             high,
             low: Slot::Absent,
             next: i + 2,
         };
     }
-    if !is_mark(tokens, i + 1, 58) {
+    if !is_mark(tokens, i + 1, COLON) {
         return Bounds::NoShape;
     }
     let Slot::Given(low) = tokens::integer_at(tokens, i + 2) else {
         return Bounds::NoShape;
     };
-    if !is_mark(tokens, i + 3, 93) {
+    if !is_mark(tokens, i + 3, SLICE_CLOSES) {
         return Bounds::NoShape;
     }
     Bounds::Read {
@@ -177,22 +204,22 @@ fn cut(bits: Bits, high: u32, low: u32, scratch: &mut [u32], o: usize) -> Bits
     let fault = bits.fault;
     let h = high as usize;
     let l = low as usize;
-    if 2147483648 <= h {
+    if FIRST_NEGATIVE <= h {
         return Bits {
             width,
-            fault: merge(10, fault),
+            fault: merge(BAD_WIDTH, fault),
         };
     }
     if width <= h {
         return Bits {
             width,
-            fault: merge(10, fault),
+            fault: merge(BAD_WIDTH, fault),
         };
     }
     if h < l {
         return Bits {
             width,
-            fault: merge(10, fault),
+            fault: merge(BAD_WIDTH, fault),
         };
     }
     let count = h + 1 - l;
@@ -211,11 +238,17 @@ fn literal_bits(f: &[u8], c: Constant, scratch: &mut [u32], o: usize) -> Bits
     ensures { λ r. ⌜ PutAny (rules.constant (literalIn (now (f .entry)) c)) o (now (scratch .entry)) (now (scratch .exit)) r ⌝ }
 {
     if !literals::good_literal(f, c) {
-        return Bits { width: 0, fault: 7 };
+        return Bits {
+            width: 0,
+            fault: BAD_NUMBER,
+        };
     }
     let width = literals::literal_width(f, c);
-    if 2048 < width {
-        return Bits { width, fault: 11 };
+    if MOST_BITS < width {
+        return Bits {
+            width,
+            fault: TOO_MANY,
+        };
     }
     literals::put_literal(f, c, scratch, o);
     Bits { width, fault: 0 }
@@ -272,7 +305,7 @@ fn slice(f: &[u8], bits: Bits, high: Integer, low: Slot, scratch: &mut [u32], o:
     let Number::Fits(h) = literals::integer_of(f, high) else {
         return Bits {
             width,
-            fault: merge(7, fault),
+            fault: merge(BAD_NUMBER, fault),
         };
     };
     match low {
@@ -281,7 +314,7 @@ fn slice(f: &[u8], bits: Bits, high: Integer, low: Slot, scratch: &mut [u32], o:
             let Number::Fits(l) = literals::integer_of(f, z) else {
                 return Bits {
                     width,
-                    fault: merge(7, fault),
+                    fault: merge(BAD_NUMBER, fault),
                 };
             };
             cut(bits, h, l, scratch, o)
@@ -297,7 +330,7 @@ fn slices(f: &[u8], tokens: &[u32], i: usize, bits: Bits, scratch: &mut [u32], o
 {
     let mut at = i;
     let mut b = bits;
-    while is_mark(tokens, at, 91) {
+    while is_mark(tokens, at, SLICE_OPENS) {
         let Bounds::Read { high, low, next } = bounds_at(tokens, at + 1) else {
             return Answer::NoShape;
         };
@@ -325,7 +358,7 @@ pub fn signal(
     requires { ⌜ (o + 2048 * (depth + 1) ≤ length (now scratch)) × (scope .count ≤ 512) × WiresIndexed (now heads) (now chain) (now names) (now wires) (scope .first + scope .count) ⌝ }
     ensures { λ r. ⌜ SignalIs (now (f .entry)) (now (tokens .entry)) (wiresFrom (now (names .entry)) (now (wires .entry)) (scope .first) (scope .count)) i depth o (now (scratch .entry)) (now (scratch .exit)) r ⌝ }
 {
-    if is_mark(tokens, i, 123) {
+    if is_mark(tokens, i, BUNDLE_OPENS) {
         if depth == 0 {
             return Answer::NoShape;
         }
@@ -376,8 +409,12 @@ fn bundle(
     let mut at = i;
     let mut width: usize = 0;
     let mut fault: u32 = 0;
-    while !is_mark(tokens, at, 125) {
-        let put = if width < 2048 { o + width } else { o + 2048 };
+    while !is_mark(tokens, at, BUNDLE_CLOSES) {
+        let put = if width < MOST_BITS {
+            o + width
+        } else {
+            o + MOST_BITS
+        };
         let m = signal(
             f,
             tokens,

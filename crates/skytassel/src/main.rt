@@ -3,13 +3,17 @@
 use answer::answer;
 use libc::STDIN_FILENO;
 use libc::STDOUT_FILENO;
+use text::TEXT_LENGTH;
+
+// The most bytes of a file that is read, and one more.
+const FILE_ROOM: usize = 32769;
 
 // A byte over the limit is read, so that a file over it is told. A short count may be a read that failed; errno was 0 before.
 fn answer_open(fd: i32, name: &[u8]) {
-    let mut file = [0u8; 32769];
-    let mut out = [0u8; 32768];
+    let mut file = [0u8; FILE_ROOM];
+    let mut out = [0u8; TEXT_LENGTH];
     let n = io::read_full(fd, &mut file);
-    if (n < 32769) & (os::errno() != 0) {
+    if (n < FILE_ROOM) & (os::errno() != 0) {
         os::fail(name);
         return;
     }

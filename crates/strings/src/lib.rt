@@ -45,10 +45,10 @@ pub enum Close {
 fn is_octal(b: u8) -> bool
     ensures { λ r. ⌜ r ≡ isOctal b ⌝ }
 {
-    if b < 48 {
+    if b < b'0' {
         return false;
     }
-    b <= 55
+    b <= b'7'
 }
 
 // A byte that may stand in a string raw.
@@ -58,10 +58,10 @@ fn is_string_byte(b: u8) -> bool
     if b == 0 {
         return false;
     }
-    if b == 10 {
+    if b == b'\n' {
         return false;
     }
-    b != 13
+    b != b'\r'
 }
 
 fn plain_turn(b: u8) -> Turn
@@ -83,13 +83,13 @@ fn escape_turn(b: u8) -> Turn
     ensures { λ r. ⌜ turnOf r ≡ escapeTurn b ⌝ }
 {
     if is_octal(b) {
-        return Turn::Goes(Given::Nothing, Inside::OneDigit(b - 48));
+        return Turn::Goes(Given::Nothing, Inside::OneDigit(b - b'0'));
     }
     if b == b'n' {
-        return Turn::Goes(Given::One(10), Inside::Plain);
+        return Turn::Goes(Given::One(b'\n'), Inside::Plain);
     }
     if b == b't' {
-        return Turn::Goes(Given::One(9), Inside::Plain);
+        return Turn::Goes(Given::One(b'\t'), Inside::Plain);
     }
     if is_string_byte(b) {
         return Turn::Goes(Given::One(b), Inside::Plain);
@@ -136,7 +136,7 @@ fn second_turn(n: u8, b: u8) -> Turn
     ensures { λ r. ⌜ turnOf r ≡ octalTurn 1 n b ⌝ }
 {
     if is_octal(b) {
-        let m = n as u16 * 8 + (b - 48) as u16;
+        let m = n as u16 * 8 + (b - b'0') as u16;
         return Turn::Goes(Given::Nothing, Inside::TwoDigits(m));
     }
     octal_before(n as u16, b)
@@ -146,7 +146,7 @@ fn third_turn(n: u16, b: u8) -> Turn
     ensures { λ r. ⌜ turnOf r ≡ octalTurn 2 n b ⌝ }
 {
     if is_octal(b) {
-        let m = n as u32 * 8 + (b - 48) as u32;
+        let m = n as u32 * 8 + (b - b'0') as u32;
         return octal_whole(m);
     }
     octal_before(n, b)

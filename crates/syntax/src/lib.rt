@@ -1,6 +1,8 @@
 // The statement of a line in its context, from the rows of its tokens, and the first refusal of its shape, its numbers and its wires. What comes
 // behind a taken name, the widths, is told with the statement.
+use context::place::IN_MODULE;
 use context::place::Place;
+use context::place::TOP;
 use line_forms::CellKind;
 use line_forms::Form;
 use line_forms::Kind;
@@ -11,6 +13,9 @@ use line_forms::top_line;
 use literals::Number;
 use literals::good_literal;
 use literals::integer_of;
+use netlist::results::BAD_NUMBER;
+use netlist::results::BAD_WIDTH;
+use netlist::results::NOT_THERE;
 use options::Line;
 use options::limits::MemoryRules;
 use options::limits::WireRules;
@@ -37,6 +42,18 @@ ghost use Rattle.line_forms.specs.declared.CellKind.the-variants as cellKind;
 ghost use Rattle.line_forms.specs.declared.Form.the-variants as form;
 ghost use Rattle.line_forms.specs.declared.Kind.the-variants as kind;
 ghost use Rattle.syntax.specs.Statements.{FormIs, PlainIs, WireIs, faulted, ConnectedIs, Says, ModuleIs, CellIs, StatementIs, Ready};
+
+// The words of a token's row.
+const TOKEN_SIZE: usize = 4;
+
+// The most that the flags of a wire are that is no port.
+const MOST_PLAIN_FLAGS: u32 = 3;
+
+// How deep bundles stand in bundles at most.
+const SIGNAL_DEPTH: usize = 16;
+
+// Where the right signal of a connection starts in the scratch table.
+pub const RIGHT_SIGNAL: usize = 2048;
 
 // A line's statement, or its first refusal of 5, 6, 7 and 8. Offsets and the number of `autoidx` are words in two's complement.
 pub enum Statement {
@@ -182,7 +199,7 @@ fn wire_statement(f: &[u8], tokens: &[u32], wires: &[u32], first: u32, count: u3
     else {
         return Statement::BadNumber;
     };
-    if 3 < flags {
+    if MOST_PLAIN_FLAGS < flags {
         if port_taken(wires, first, count, port) {
             return Statement::BadNumber;
         }
@@ -201,10 +218,10 @@ fn wire_statement(f: &[u8], tokens: &[u32], wires: &[u32], first: u32, count: u3
 fn refused(fault: u32, statement: Statement) -> Statement
     ensures { λ r. ⌜ r ≡ faulted fault statement ⌝ }
 {
-    if fault == 7 {
+    if fault == BAD_NUMBER {
         return Statement::BadNumber;
     }
-    if fault == 8 {
+    if fault == NOT_THERE {
         return Statement::MissingWire;
     }
     statement
@@ -215,7 +232,11 @@ fn connected(left: Bits, right: Bits) -> Statement
     ensures { λ r. ⌜ ConnectedIs left right r ⌝ }
 {
     let fault = merge(left.fault, right.fault);
-    let uneven = if left.width == right.width { 0 } else { 10 };
+    let uneven = if left.width == right.width {
+        0
+    } else {
+        BAD_WIDTH
+    };
     let late = merge(uneven, fault);
     refused(
         fault,
@@ -246,7 +267,7 @@ fn connection_statement(
         f,
         tokens,
         1,
-        16,
+        SIGNAL_DEPTH,
         names,
         wires,
         scope,
@@ -264,19 +285,19 @@ fn connection_statement(
         f,
         tokens,
         next,
-        16,
+        SIGNAL_DEPTH,
         names,
         wires,
         scope,
         scratch,
-        2048,
+        RIGHT_SIGNAL,
         heads,
         chain,
     )
     else {
         return Statement::NoShape;
     };
-    if end < tokens.len() / 4 {
+    if end < tokens.len() / TOKEN_SIZE {
         return Statement::NoShape;
     }
     connected(left, right)
@@ -303,7 +324,7 @@ fn cell_connection_statement(
         f,
         tokens,
         2,
-        16,
+        SIGNAL_DEPTH,
         names,
         wires,
         scope,
@@ -314,7 +335,7 @@ fn cell_connection_statement(
     ) else {
         return Statement::NoShape;
     };
-    if next < tokens.len() / 4 {
+    if next < tokens.len() / TOKEN_SIZE {
         return Statement::NoShape;
     }
     let name = Span { start, end };
@@ -405,10 +426,10 @@ pub fn line_statement(
     requires { ⌜ WiresIndexed (now heads) (now chain) (now names) (now wires) (scope .first + scope .count) ⌝ }
     ensures { λ r. ⌜ StatementIs place (now (f .entry)) (now (tokens .entry)) (wiresFrom (now (names .entry)) (now (wires .entry)) (scope .first) (scope .count)) (now (scratch .exit)) r ⌝ }
 {
-    if place.scope == 0 {
+    if place.scope == TOP {
         return form_statement(f, top_line(tokens, place.first));
     }
-    if place.scope == 1 {
+    if place.scope == IN_MODULE {
         return module_statement(
             f,
             tokens,

@@ -10,6 +10,12 @@ ghost use Rattle.rules.specs.Bytes.{all};
 ghost use Rattle.tables.specs.Store.{store};
 ghost use Rattle.tables.specs.Row.{words, rowAt};
 
+// The words of a row.
+pub const ROW_WORDS: usize = 8;
+
+// The words that the test for zeros looks at before it may stop.
+const BLOCK: usize = 64;
+
 // A row of eight columns; what the seven behind the kind hold depends on it.
 pub struct Row {
     pub kind: u32,
@@ -120,11 +126,11 @@ pub fn zero_from(table: &[u32], at: usize) -> bool
         return true;
     }
     let mut i = at;
-    while 64 <= n - i {
-        if !zero_between(table, i, i + 64) {
+    while BLOCK <= n - i {
+        if !zero_between(table, i, i + BLOCK) {
             return false;
         }
-        i += 64;
+        i += BLOCK;
     }
     zero_between(table, i, n)
 }

@@ -1,6 +1,8 @@
 // The leaves of the writer. Each writes a piece of text into lent room from a place on and answers the place behind it: a byte is stored
 // only where the room has a place for it, and the place moves on all the same, so that writing into any room measures. Past 32,768 bytes
 // nothing is stored and the place stays at 32,769: such a text is refused, so where it would end does not matter.
+use numbers::signed::FIRST_NEGATIVE;
+use numbers::signed::LAST_WORD;
 ghost use mathlib.Core.Path.{_≡_};
 ghost use mathlib.Core.List.{[], _∷_, map, flatMap, reverse};
 ghost use Prim.Native.Nat.{_≤_};
@@ -13,12 +15,25 @@ ghost use Rattle.numbers.specs.Signed.{signedOf};
 ghost use Rattle.text.specs.Written.{Written};
 ghost use Rattle.text.specs.Plain.{plain};
 
+// The most bytes that a text has.
+pub const TEXT_LENGTH: usize = 32768;
+
+// Where a longer text counts as ending.
+const PAST_TEXT: usize = 32769;
+
+// The codes of the digits behind 0 and 1, but for the last, `-`.
+const DIGIT_X: u32 = 2;
+
+const DIGIT_Z: u32 = 3;
+
+const DIGIT_M: u32 = 4;
+
 pub fn put_byte(out: &mut [u8], at: usize, b: u8) -> usize
     requires { ⌜ at ≤ 32769 ⌝ }
     ensures { λ r. ⌜ Written at (b ∷ []) (now (out .entry)) (now (out .exit)) r ⌝ }
 {
-    if at >= 32768 {
-        return 32769;
+    if at >= TEXT_LENGTH {
+        return PAST_TEXT;
     }
     if at < out.len() {
         out[at] = b;
@@ -46,7 +61,7 @@ pub fn put_bytes(out: &mut [u8], at: usize, s: &[u8]) -> usize
     ensures { λ r. ⌜ Written at (now (s .entry)) (now (out .entry)) (now (out .exit)) r ⌝ }
 {
     let end = at + s.len();
-    if 32768 < end {
+    if TEXT_LENGTH < end {
         return put_each(out, at, s);
     }
     if end <= out.len() {
@@ -90,11 +105,11 @@ pub fn put_integer(out: &mut [u8], at: usize, word: u32) -> usize
     requires { ⌜ at ≤ 32769 ⌝ }
     ensures { λ r. ⌜ Written at (integerText (signedOf word)) (now (out .entry)) (now (out .exit)) r ⌝ }
 {
-    if word < 2147483648 {
+    if word < FIRST_NEGATIVE {
         return put_decimal(out, at, word);
     }
     let end = put_byte(out, at, b'-');
-    put_decimal(out, end, 4294967295 - word + 1)
+    put_decimal(out, end, LAST_WORD - word + 1)
 }
 
 // A byte as it stands in a string.
@@ -108,13 +123,13 @@ fn put_escaped(out: &mut [u8], at: usize, b: u8) -> usize
     if b == b'\\' {
         return put_bytes(out, at, b"\\\\");
     }
-    if b == 10 {
+    if b == b'\n' {
         return put_bytes(out, at, b"\\n");
     }
-    if b == 9 {
+    if b == b'\t' {
         return put_bytes(out, at, b"\\t");
     }
-    if b < 32 {
+    if b < b' ' {
         return put_bytes(out, at, &[b'\\', b'0', b'0' + b / 8, b'0' + b % 8]);
     }
     put_byte(out, at, b)
@@ -124,7 +139,7 @@ fn put_escaped(out: &mut [u8], at: usize, b: u8) -> usize
 fn is_plain(b: u8) -> bool
     ensures { λ r. ⌜ r ≡ plain b ⌝ }
 {
-    (32 <= b) & (b != b'"') & (b != b'\\')
+    (b' ' <= b) & (b != b'"') & (b != b'\\')
 }
 
 // Each is looked at, also behind one that is not plain: so the compiler tests many bytes in one step.
@@ -183,13 +198,13 @@ fn digit_byte(code: u32) -> u8
     if code == 1 {
         return b'1';
     }
-    if code == 2 {
+    if code == DIGIT_X {
         return b'x';
     }
-    if code == 3 {
+    if code == DIGIT_Z {
         return b'z';
     }
-    if code == 4 {
+    if code == DIGIT_M {
         return b'm';
     }
     b'-'
@@ -228,5 +243,5 @@ pub fn put_refusal(out: &mut [u8], at: usize, number: u32, place: u32) -> usize
     let first = put_decimal(out, at, number);
     let space = put_byte(out, first, b' ');
     let second = put_decimal(out, space, place);
-    put_byte(out, second, 10)
+    put_byte(out, second, b'\n')
 }

@@ -8,6 +8,36 @@ ghost use Rattle.tables.specs.Store.{store};
 ghost use Rattle.tokens.specs.Rows.{tokenAt, rowWords, constantWords, Small, SmallConstant};
 ghost use Rattle.tokens.specs.Parts.{IdIs, IntegerIs, LiteralIs};
 
+// The words of a row.
+pub const ROW_WORDS: usize = 4;
+
+// The kind of a row's token, its first word, as it is put.
+const NAME_KIND: u32 = 0;
+
+const WORD_KIND: u32 = 1;
+
+const INTEGER_KIND: u32 = 2;
+
+const VALUE_KIND: u32 = 3;
+
+const TEXT_KIND: u32 = 4;
+
+const MARK_KIND: u32 = 5;
+
+// The kinds as they are read; any other is a mark's.
+const NAME_READ: usize = 0;
+
+const WORD_READ: usize = 1;
+
+const INTEGER_READ: usize = 2;
+
+const VALUE_READ: usize = 3;
+
+const TEXT_READ: usize = 4;
+
+// The sign word of an integer below zero.
+const NEGATIVE: usize = 1;
+
 // An integer's sign and the span of its digits.
 pub struct Integer {
     pub negative: bool,
@@ -58,35 +88,35 @@ pub enum Literal {
 pub fn token_at(tokens: &[u32], i: usize) -> Token
     ensures { λ r. ⌜ r ≡ tokenAt (now (tokens .entry)) i ⌝ }
 {
-    if tokens.len() / 4 <= i {
+    if tokens.len() / ROW_WORDS <= i {
         return Token::End;
     }
-    let k = tokens[4 * i] as usize;
-    let a = tokens[4 * i + 1] as usize;
-    let b = tokens[4 * i + 2] as usize;
-    let c = tokens[4 * i + 3] as usize;
-    if k == 0 {
+    let k = tokens[ROW_WORDS * i] as usize;
+    let a = tokens[ROW_WORDS * i + 1] as usize;
+    let b = tokens[ROW_WORDS * i + 2] as usize;
+    let c = tokens[ROW_WORDS * i + 3] as usize;
+    if k == NAME_READ {
         return Token::Name { start: a, end: b };
     }
-    if k == 1 {
+    if k == WORD_READ {
         return Token::Word(a);
     }
-    if k == 2 {
+    if k == INTEGER_READ {
         let z = Integer {
-            negative: c == 1,
+            negative: c == NEGATIVE,
             start: a,
             end: b,
         };
         return Token::Constant(Constant::Integer(z));
     }
-    if k == 3 {
+    if k == VALUE_READ {
         return Token::Constant(Constant::Value {
             start: a,
             quote: b,
             end: c,
         });
     }
-    if k == 4 {
+    if k == TEXT_READ {
         return Token::Constant(Constant::Text(a));
     }
     Token::Mark(a)
@@ -107,14 +137,14 @@ fn put_constant(table: &mut [u32], at: usize, c: Constant)
 {
     match c {
         Constant::Integer(z) => {
-            let sign: usize = if z.negative { 1 } else { 0 };
-            put_row(table, at, 2, z.start, z.end, sign);
+            let sign: usize = if z.negative { NEGATIVE } else { 0 };
+            put_row(table, at, INTEGER_KIND, z.start, z.end, sign);
         }
         Constant::Value { start, quote, end } => {
-            put_row(table, at, 3, start, quote, end);
+            put_row(table, at, VALUE_KIND, start, quote, end);
         }
         Constant::Text(start) => {
-            put_row(table, at, 4, start, 0, 0);
+            put_row(table, at, TEXT_KIND, start, 0, 0);
         }
     }
 }
@@ -126,19 +156,19 @@ pub fn put_token(table: &mut [u32], i: usize, t: Token)
 {
     match t {
         Token::Name { start, end } => {
-            put_row(table, 4 * i, 0, start, end, 0);
+            put_row(table, ROW_WORDS * i, NAME_KIND, start, end, 0);
         }
         Token::Word(c) => {
-            put_row(table, 4 * i, 1, c, 0, 0);
+            put_row(table, ROW_WORDS * i, WORD_KIND, c, 0, 0);
         }
         Token::Constant(c) => {
-            put_constant(table, 4 * i, c);
+            put_constant(table, ROW_WORDS * i, c);
         }
         Token::Mark(b) => {
-            put_row(table, 4 * i, 5, b, 0, 0);
+            put_row(table, ROW_WORDS * i, MARK_KIND, b, 0, 0);
         }
         Token::End => {
-            put_row(table, 4 * i, 5, 0, 0, 0);
+            put_row(table, ROW_WORDS * i, MARK_KIND, 0, 0, 0);
         }
     }
 }

@@ -2,11 +2,19 @@
 // All of it is total: a word past a table's end counts as 0, and a span past its end is cut.
 use numbers::kinds::ModuleNumber;
 use numbers::kinds::WireNumber;
+use wires::WIRE_NAME;
 use wires::bytes_at;
 use wires::column;
 ghost use mathlib.Core.Path.{_≡_};
 ghost use Prim.Native.Nat.{_<_};
 ghost use Rattle.wire_names.specs.Now.{renames, lastRename, nameNow};
+
+// The columns of a rename's row: where the new name starts, and the numbers of the module and the wire.
+const RENAME_NAME: usize = 1;
+
+const RENAME_MODULE: usize = 3;
+
+const RENAME_WIRE: usize = 4;
 
 // A module: its number, the rows of its wires, and the rows of the renames that stand.
 pub struct Module {
@@ -22,10 +30,10 @@ fn renames(rows: &[u32], row: usize, number: u32, wire: u32) -> bool
     requires { ⌜ row < 8589934592 ⌝ }
     ensures { λ r. ⌜ r ≡ renames (now (rows .entry)) row number wire ⌝ }
 {
-    if column(rows, row, 3) != number {
+    if column(rows, row, RENAME_MODULE) != number {
         return false;
     }
-    column(rows, row, 4) == wire
+    column(rows, row, RENAME_WIRE) == wire
 }
 
 // How many of the rename rows from a row on there are up to the last one of this wire; 0 if it has none.
@@ -57,7 +65,12 @@ pub fn name_now<'a>(
 {
     let last = last_rename(rows, m.from, m.renames, m.number, wire);
     if last == 0 {
-        return bytes_at(names, wires, k, 1);
+        return bytes_at(names, wires, k, WIRE_NAME);
     }
-    bytes_at(names, rows, m.from as usize + (last - 1) as usize, 1)
+    bytes_at(
+        names,
+        rows,
+        m.from as usize + (last - 1) as usize,
+        RENAME_NAME,
+    )
 }

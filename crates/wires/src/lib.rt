@@ -11,6 +11,18 @@ ghost use Rattle.rules.specs.Session.{indexIn};
 ghost use Rattle.numbers.specs.Signed.{verdictOf};
 ghost use Rattle.wires.specs.Rows.{column, spanAt, wireOf, hasPort, TakenIs};
 
+// The columns of a row in the table of wires. Its name's length stands behind its start, and the flags hold `upto`, `signed` and the port's
+// direction.
+pub const WIRE_NAME: usize = 1;
+
+pub const WIRE_WIDTH: usize = 3;
+
+pub const WIRE_OFFSET: usize = 4;
+
+pub const WIRE_FLAGS: usize = 5;
+
+pub const WIRE_PORT: usize = 6;
+
 // What the search for a wire by its name answers: its number in its module and its width.
 pub enum Found {
     At(WireNumber, u32),
@@ -39,14 +51,14 @@ fn has_port(wires: &[u32], row: usize, port: u32) -> bool
     requires { ⌜ row < 8589934592 ⌝ }
     ensures { λ r. ⌜ r ≡ hasPort port (wireOf (now (wires .entry)) row) ⌝ }
 {
-    let direction = column(wires, row, 5) / 4;
+    let direction = column(wires, row, WIRE_FLAGS) / 4;
     if direction == 0 {
         return false;
     }
     if 3 < direction {
         return false;
     }
-    port == column(wires, row, 6)
+    port == column(wires, row, WIRE_PORT)
 }
 
 // Whether one of the wires in count rows from first on is a port of this number.
@@ -69,8 +81,8 @@ pub fn wire_index(wires: &[u32], k: u32, bit: u32) -> Index
     ensures { λ r. ⌜ indexIn (wireOf (now (wires .entry)) k) bit ≡ verdictOf r ⌝ }
 {
     let row = k as usize;
-    let width = column(wires, row, 3);
-    let offset = column(wires, row, 4);
-    let upto = column(wires, row, 5) % 2 == 1;
+    let width = column(wires, row, WIRE_WIDTH);
+    let offset = column(wires, row, WIRE_OFFSET);
+    let upto = column(wires, row, WIRE_FLAGS) % 2 == 1;
     author_index(offset, width, upto, bit)
 }

@@ -2,8 +2,10 @@
 use context::place::Place;
 use design_text::Counts;
 use design_text::put_text;
+use netlist::results::TEXT_TOO_LONG;
 use session::Opened;
 use session::open_memory;
+use text::TEXT_LENGTH;
 ghost use mathlib.Core.Path.{_≡_};
 ghost use Prim.Native.Nat.{_≤_};
 ghost use lib.ListN.{length};
@@ -49,14 +51,14 @@ fn measure_rows(
     ensures { λ r. ⌜ (r .number, r .length) ≡ answer 0 (measureText (textRows (tabled (now (names .entry)) (now (strings .entry)) (now (bits .entry)) (now (wires .entry)) (now (rows .entry))) counts)) ⌝ }
 {
     let end = text_end(names, strings, bits, wires, rows, counts);
-    if end <= 32768 {
+    if end <= TEXT_LENGTH {
         return Written {
             number: 0,
             length: end as u32,
         };
     }
     Written {
-        number: 12,
+        number: TEXT_TOO_LONG,
         length: 0,
     }
 }
@@ -75,15 +77,15 @@ fn write_rows(
     ensures { λ r. ⌜ (r .number, r .length, now (out .exit)) ≡ wrote (now (out .entry)) (writeText (length (now (out .entry))) (textRows (tabled (now (names .entry)) (now (strings .entry)) (now (bits .entry)) (now (wires .entry)) (now (rows .entry))) counts)) ⌝ }
 {
     let end = text_end(names, strings, bits, wires, rows, counts);
-    if 32768 < end {
+    if TEXT_LENGTH < end {
         return Written {
-            number: 12,
+            number: TEXT_TOO_LONG,
             length: 0,
         };
     }
     if out.len() < end {
         return Written {
-            number: 12,
+            number: TEXT_TOO_LONG,
             length: 0,
         };
     }
