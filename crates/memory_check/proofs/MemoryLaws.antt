@@ -11,13 +11,15 @@ use Rattle.rules.specs.Judgement.{Past}
 use Rattle.rules.specs.Session.{Rename}
 use Rattle.rules.specs.Layout.{Memory, rooms}
 use Rattle.scanner.specs.Laws.{never}
-use Rattle.context.specs.Place.{placeOf}
-use Rattle.context.specs.Sizes.{sumsOf}
+use Rattle.context.specs.Place.{wiresIn, placeOf}
+use Rattle.context.specs.Sizes.{sizesBy, sumsOf}
 use Rattle.context.specs.declared.place.Place.{Place}
 use Rattle.context.specs.declared.sizes.Sizes.{Sizes}
+use Rattle.admitted.specs.AdmitLaws.{admitted-within}
 use Rattle.admitted.specs.Holds.{Holds}
+use Rattle.replay.specs.Reads.{Tables}
 use Rattle.replay.specs.Begins.{Stored, Replays, IndexLeft}
-use Rattle.name_index.specs.Index.{LinesIndexed}
+use Rattle.name_index.specs.Index.{keyAt, Indexed}
 use Rattle.replay.specs.OneLaws.{stored-one}
 use Rattle.replay.specs.declared.Replayed.{Replayed}
 use Rattle.rename_rules.specs.Judged.{Lies}
@@ -32,12 +34,18 @@ use Rattle.memory_check.specs.HeldLaws.{partsOf, holds-many, holds-room,
 pub names-short : (names strings bits wires rows : ℕ) → rightSizes names strings bits wires rows ≡ true → names ≤ 16384
 names-short names strings bits wires rows e = omega (arith, sizes-exact names strings bits wires rows e .0)
 
--- the index that the replay leaves is of the place's rows and wires
+-- the index that the replay leaves is of the place's rows
 pub index-kept :
-    {heads chain names wires rows : List ℕ} {p : Place} {u : Sizes} (o : Replayed) → IndexLeft heads chain names wires rows o → o ≡ Replayed.Holding p u →
-    LinesIndexed heads chain names wires rows (p .rows) (p .wires)
+    (heads chain names rows : List ℕ) {p : Place} {u : Sizes} (o : Replayed) → IndexLeft heads chain names rows o → o ≡ Replayed.Holding p u →
+    Indexed heads chain (keyAt names rows) (p .rows)
 unfolding IndexLeft
-index-kept o x e = rw e at x
+index-kept heads chain names rows o x e = rw e at x
+
+pub few-wires : (t : Tables) (rows : List ℕ) (o : Replayed) (p : Place) (u : Sizes) → Replays t rows o → o ≡ Replayed.Holding p u → p .wires ≤ 512
+unfolding Replays placeOf wiresIn sumsOf sizesBy
+few-wires t rows o p u r e =
+    let f = rw e at r in
+    subst (λ (x : Place). x .wires ≤ 512) (f .2) (admitted-within (f .0) (f .1 .admits) .wires)
 
 module _ (m : Memory) where
   pub other-sizes : rightLengths m ≡ false → HeldIs m Held.Damaged

@@ -2,11 +2,12 @@
 use context::kinds::RENAME;
 use context::place::Place;
 use context::sizes::Sizes;
-use name_index::ALL_CHAIN;
-use name_index::ALL_HEADS;
+use name_index::ROW_CHAIN;
+use name_index::ROW_HEADS;
 use netlist::lengths::right_lengths;
 use numbers::kinds::ModuleNumber;
 use numbers::kinds::WireNumber;
+use rename_rules::index_wires;
 use rename_rules::indexed_rename;
 use replay::Replayed;
 use replay::replay;
@@ -20,9 +21,12 @@ ghost use mathlib.Core.Path.{_≡_};
 ghost use Prim.Native.Nat.{_≤_};
 ghost use lib.ListN.{length};
 ghost use Rattle.netlist.specs.Lengths.{rightSizes};
-ghost use Rattle.name_index.specs.Index.{LinesIndexed};
+ghost use Rattle.name_index.specs.Index.{keyAt, wireKey, rowRoom, Indexed};
 ghost use Rattle.memory_check.specs.Renamed.{isRename, RenameIs, RenamesAre};
 ghost use Rattle.memory_check.specs.Held.{tabled, restZero, HeldIs};
+
+// The chain of an index of wires: a place for each wire of a design.
+const WIRE_CHAIN: usize = 512;
 
 // The place and the sums behind the statements that the memory holds.
 pub enum Held {
@@ -62,12 +66,15 @@ fn one_rename(
     rows: &[u32],
     heads: &[u32],
     chain: &[u32],
+    wire_heads: &[u32],
+    wire_chain: &[u32],
     place: Place,
     i: u32,
     used: u32,
 ) -> Renamed
     requires { ⌜ length (now names) ≤ 16384 ⌝ }
-    requires { ⌜ LinesIndexed (now heads) (now chain) (now names) (now wires) (now rows) (place .rows) (place .wires) ⌝ }
+    requires { ⌜ Indexed (now heads) (now chain) (keyAt (now names) (now rows)) (place .rows) ⌝ }
+    requires { ⌜ Indexed (now «wire_heads») (now «wire_chain») (wireKey (now names) (now wires)) (place .wires) ⌝ }
     ensures { λ r. ⌜ RenameIs (now (names .entry)) (now (wires .entry)) (now (rows .entry)) place i used r ⌝ }
 {
     let at = ROW_WORDS * (place.rows as usize + i as usize);
@@ -90,6 +97,8 @@ fn one_rename(
         rows,
         heads,
         chain,
+        wire_heads,
+        wire_chain,
         place,
         i,
         used,
@@ -110,18 +119,32 @@ fn all_renames(
     rows: &[u32],
     heads: &[u32],
     chain: &[u32],
+    wire_heads: &[u32],
+    wire_chain: &[u32],
     place: Place,
     renames: u32,
     used: u32,
 ) -> Renamed
     requires { ⌜ length (now names) ≤ 16384 ⌝ }
-    requires { ⌜ LinesIndexed (now heads) (now chain) (now names) (now wires) (now rows) (place .rows) (place .wires) ⌝ }
+    requires { ⌜ Indexed (now heads) (now chain) (keyAt (now names) (now rows)) (place .rows) ⌝ }
+    requires { ⌜ Indexed (now «wire_heads») (now «wire_chain») (wireKey (now names) (now wires)) (place .wires) ⌝ }
     ensures { λ r. ⌜ RenamesAre (now (names .entry)) (now (wires .entry)) (now (rows .entry)) place renames used r ⌝ }
 {
     let mut room = used;
     let mut i = 0;
     while i < renames {
-        let r = one_rename(names, wires, rows, heads, chain, place, i, room);
+        let r = one_rename(
+            names,
+            wires,
+            rows,
+            heads,
+            chain,
+            wire_heads,
+            wire_chain,
+            place,
+            i,
+            room,
+        );
         match r {
             Renamed::Used(n) => {
                 room = n;
@@ -133,6 +156,41 @@ fn all_renames(
         }
     }
     Renamed::Used(room)
+}
+
+// The same, with an index of the wires where renames stand.
+fn standing_renames(
+    names: &[u8],
+    wires: &[u32],
+    rows: &[u32],
+    heads: &[u32],
+    chain: &[u32],
+    place: Place,
+    renames: u32,
+    used: u32,
+) -> Renamed
+    requires { ⌜ (length (now names) ≤ 16384) × (place .wires ≤ 512) ⌝ }
+    requires { ⌜ Indexed (now heads) (now chain) (keyAt (now names) (now rows)) (place .rows) ⌝ }
+    ensures { λ r. ⌜ RenamesAre (now (names .entry)) (now (wires .entry)) (now (rows .entry)) place renames used r ⌝ }
+{
+    if renames == 0 {
+        return Renamed::Used(used);
+    }
+    let mut wire_heads = [0u32; ROW_HEADS];
+    let mut wire_chain = [0u32; WIRE_CHAIN];
+    index_wires(names, wires, &mut wire_heads, &mut wire_chain, place.wires);
+    all_renames(
+        names,
+        wires,
+        rows,
+        heads,
+        chain,
+        &wire_heads,
+        &wire_chain,
+        place,
+        renames,
+        used,
+    )
 }
 
 // Unused room is zero.
@@ -190,7 +248,8 @@ fn judge_indexed(
     renames: u32,
     room: u32,
 ) -> Held
-    requires { ⌜ LinesIndexed (now heads) (now chain) (now names) (now wires) (now rows) 0 0 ⌝ }
+    requires { ⌜ Indexed (now heads) (now chain) (keyAt (now names) (now rows)) 0 ⌝ }
+    requires { ⌜ rowRoom ≤ length (now chain) ⌝ }
     ensures { λ r. ⌜ HeldIs (tabled (now (names .entry)) (now (strings .entry)) (now (bits .entry)) (now (wires .entry)) (now (rows .entry)) renames room) r ⌝ }
 {
     if !right_tables(names, strings, bits, wires, rows) {
@@ -200,7 +259,7 @@ fn judge_indexed(
     let Replayed::Holding { place, sums } = r else {
         return Held::Damaged;
     };
-    let s = all_renames(
+    let s = standing_renames(
         names,
         wires,
         rows,
@@ -244,8 +303,8 @@ pub fn judge_memory(
 ) -> Held
     ensures { λ r. ⌜ HeldIs (tabled (now (names .entry)) (now (strings .entry)) (now (bits .entry)) (now (wires .entry)) (now (rows .entry)) renames room) r ⌝ }
 {
-    let mut heads = [0u32; ALL_HEADS];
-    let mut chain = [0u32; ALL_CHAIN];
+    let mut heads = [0u32; ROW_HEADS];
+    let mut chain = [0u32; ROW_CHAIN];
     judge_indexed(
         names,
         strings,

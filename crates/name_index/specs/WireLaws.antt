@@ -19,29 +19,6 @@ use Rattle.name_index.specs.HashLaws.{hash-less}
 use Rattle.name_index.specs.Index.{keyCount, rowRoom, hashOf, wireKey, WiresIndexed}
 use Rattle.name_index.specs.IndexLaws.{Walk, walk-first, walk-falls, walk-on}
 
--- a walk along the chain of a name's hash, for what no wire of another hash changes
-module _ {A : Type 0} (names t : List ℕ) (n : Name) (f : ℕ → A) (total : ℕ)
-    (other : (k : ℕ) → k < total → (wireKey names t k ≡ hashOf n → ⊥) → f (suc k) ≡ f k)
-    (heads chain : List ℕ) (x : WiresIndexed heads chain names t total) where
-  abbrev To : ℕ → Type 0
-  To at = Walk (wireKey names t) (hashOf n) f total at
-
-  pub wires-first : (h : ℕ) → h ≡ hashOf n → To (getD heads (keyCount + h) 0)
-  wires-first h e =
-      subst To (getD-drop keyCount heads h 0)
-      (rw e (walk-first _ _ _ _ other (drop keyCount heads) (drop rowRoom chain) (x .indexed) (omega (arith, hash-less n))))
-
-  module _ (at : ℕ) (w : To at) (p : 0 < at) where
-    pub wires-fall : getD chain (rowRoom + (at - 1)) 0 < at
-    wires-fall =
-        subst (λ (j : ℕ). j < at) (getD-drop rowRoom chain (at - 1) 0)
-        (walk-falls _ _ _ _ other (drop keyCount heads) (drop rowRoom chain) (x .indexed) at w p)
-
-    pub wires-on : f at ≡ f (at - 1) → To (getD chain (rowRoom + (at - 1)) 0)
-    wires-on e =
-        subst To (getD-drop rowRoom chain (at - 1) 0)
-        (walk-on _ _ _ _ other (drop keyCount heads) (drop rowRoom chain) (x .indexed) at w p e)
-
 -- the search for a wire below a row
 abbrev pub wireScan : (names t : List ℕ) (first : ℕ) (n : Name) → ℕ → Option (ℕ × Wire)
 wireScan names t first n m = find n (wiresFrom names t first (m - first))
@@ -74,11 +51,15 @@ module _ (names t : List ℕ) (first : ℕ) (n : Name) where
 
     module _ (heads chain : List ℕ) (x : WiresIndexed heads chain names t (first + count)) where
       pub wire-first : (h : ℕ) → h ≡ hashOf n → WireWalk count (getD heads (keyCount + h) 0)
-      wire-first h e = wires-first names t n _ _ (λ k q. wire-other k) heads chain x h e
+      wire-first h e =
+          subst (WireWalk count) (getD-drop keyCount heads h 0)
+          (rw e (walk-first _ _ _ _ (λ k q. wire-other k) (drop keyCount heads) (drop rowRoom chain) (x .indexed) (omega (arith, hash-less n))))
 
       module _ (at : ℕ) (w : WireWalk count at) (q : first < at) where
         pub wire-less : getD chain (rowRoom + (at - 1)) 0 < at
-        wire-less = wires-fall names t n _ _ (λ k q. wire-other k) heads chain x at w (omega arith)
+        wire-less =
+            subst (λ (j : ℕ). j < at) (getD-drop rowRoom chain (at - 1) 0)
+            (walk-falls _ _ _ _ (λ k q. wire-other k) (drop keyCount heads) (drop rowRoom chain) (x .indexed) at w (omega arith))
 
         -- a turn; b: whether the row's name a is the name
         module _ (a : Name) (b : Bool) (ea : a ≡ nameOf names t (at - 1)) (eb : b ≡ same a n) where
@@ -91,4 +72,6 @@ module _ (names t : List ℕ) (first : ℕ) (n : Name) where
           wire-found e = sym all-wires ∙ w .rest ∙ turn ∙ rw e
 
           pub wire-next : b ≡ false → WireWalk count (getD chain (rowRoom + (at - 1)) 0)
-          wire-next e = wires-on names t n _ _ (λ k q. wire-other k) heads chain x at w (omega arith) (turn ∙ rw e)
+          wire-next e =
+              subst (WireWalk count) (getD-drop rowRoom chain (at - 1) 0)
+              (walk-on _ _ _ _ (λ k q. wire-other k) (drop keyCount heads) (drop rowRoom chain) (x .indexed) at w (omega arith) (turn ∙ rw e))

@@ -40,10 +40,10 @@ const HASHES: usize = 512;
 // The key of a row whose kind has no name: no name has this hash.
 const NAMELESS: usize = 512;
 
-// The heads of the rows: one for each hash, and one for the rows without a name. Those of the wires stand behind them.
+// The heads of an index of rows: one for each hash, and one for the rows without a name. Those of the wires may stand behind them.
 pub const ROW_HEADS: usize = 513;
 
-// The chain of the rows: a place for each of a file's rows, and one more. That of the wires stands behind it.
+// Its chain: a place for each of a file's rows, and one more. That of the wires may stand behind it.
 pub const ROW_CHAIN: usize = 4706;
 
 // Both together: as many heads again, and places for 512 wires and one more.
@@ -65,7 +65,7 @@ pub fn hash(name: &[u8]) -> usize
 }
 
 // One row more of the key h: its place in the chain, and one more than its number.
-fn put(heads: &mut [u32], chain: &mut [u32], at: usize, h: usize, more: u32)
+pub fn put(heads: &mut [u32], chain: &mut [u32], at: usize, h: usize, more: u32)
     requires { ⌜ (h < length (now heads)) × (at < length (now chain)) ⌝ }
     ensures { λ _. ⌜ (now (heads .exit) ≡ set (now (heads .entry)) h more) × (now (chain .exit) ≡ set (now (chain .entry)) at (getD (now (heads .entry)) h 0)) ⌝ }
 {
@@ -147,6 +147,17 @@ fn row_key(names: &[u8], rows: &[u32], row: u32) -> usize
         return hash(row_name(names, rows, row));
     }
     NAMELESS
+}
+
+// The row behind those that are indexed.
+pub fn index_row(names: &[u8], rows: &[u32], heads: &mut [u32], chain: &mut [u32], row: u32)
+    requires { ⌜ Indexed (now heads) (now chain) (keyAt (now names) (now rows)) row ⌝ }
+    requires { ⌜ (row < length (now chain)) × (row < 4294967295) ⌝ }
+    ensures { λ _. ⌜ Indexed (now (heads .exit)) (now (chain .exit)) (keyAt (now (names .entry)) (now (rows .entry))) (row + 1) ⌝ }
+    ensures { λ _. ⌜ length (now (chain .exit)) ≡ length (now (chain .entry)) ⌝ }
+{
+    let h = row_key(names, rows, row);
+    put(heads, chain, row as usize, h, row + 1);
 }
 
 // The line behind those that are indexed, by its kind: its row and, where it is a wire, the wire's.

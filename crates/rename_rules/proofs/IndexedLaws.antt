@@ -6,8 +6,8 @@ use mathlib.Core.List.{List}
 use mathlib.Core.Bool.{Bool, true, false, _&&_, _||_, or-true, and-false}
 use native.Mathlib.Omega.{arith}
 use lib.Dec.{eqb, leb, ltb}
-use lib.ListN.{getD}
-use borrow.Author.Tests.{leb-true, leb-false, eqb-false}
+use lib.ListN.{length, getD, set}
+use borrow.Author.Tests.{leb-true, leb-false, eqb-true, eqb-false}
 use Rattle.rules.specs.Bytes.{same, any}
 use Rattle.rules.specs.Tokens.{Name}
 use Rattle.rules.specs.Statements.{code}
@@ -17,10 +17,9 @@ use Rattle.wires.specs.Rows.{nameOf, spanAt}
 use Rattle.context.specs.declared.place.Place.{Place}
 use Rattle.netlist.specs.Rows.{kindAt, nameAt, namesBetween}
 use Rattle.netlist.specs.Kinds.{isKind, ofKinds, hasName}
-use Rattle.name_index.specs.Index.{hashOf, wireKey, Named, LinesIndexed}
-use Rattle.name_index.specs.IndexLaws.{Walk}
-use Rattle.name_index.specs.SpaceLaws.{by-three}
-use Rattle.name_index.specs.WireLaws.{wires-first, wires-fall, wires-on}
+use Rattle.name_index.specs.Index.{hashOf, wireKey, Named, Indexed}
+use Rattle.name_index.specs.IndexLaws.{Walk, walk-first, walk-falls, walk-on, indexed-more}
+use Rattle.name_index.specs.HashLaws.{hash-less}
 use Rattle.modules.specs.Ranges.{wireRange, rowRange, lineOf}
 use Rattle.modules.specs.RangeLaws.{where-le, where-next, line-le}
 use Rattle.wire_names.specs.Now.{wiresIn, wiresNow}
@@ -73,7 +72,9 @@ object-free names rows total m n b eb e =
 
 pub objects-named : (rows : List ℕ) (from count : ℕ) → Named rows (isKind (record { a = 6; b = 7; c = 7 })) from count
 unfolding isKind hasName ofKinds any code
-objects-named rows from count k q r e = by-three 6 7 7 (kindAt rows k) e (λ z. rw (← z)) (λ z. rw (← z)) (λ z. rw (← z))
+objects-named rows from count k q r e =
+    by-test (eqb 6 (kindAt rows k)) (λ t. rw (← eqb-true 6 (kindAt rows k) t))
+    (λ t. by-test (eqb 7 (kindAt rows k)) (λ u. rw (← eqb-true 7 (kindAt rows k) u)) (λ u. never false (rw (t, u) at e) refl))
 
 -- WIRES
 pub inside-by : (wires : List ℕ) (p : Place) (standing m : ℕ) → moduleBy wires p standing m .first + moduleBy wires p standing m .wires ≤ p .wires
@@ -126,7 +127,7 @@ module _ (names wires rows : List ℕ) (m : Module) (n : Name) where
         (λ w. reach-turn k w ∙ rw (unkept k e w))
         (λ w. let z : suc k - m .first - (suc k - (m .first + m .wires)) ≡ k - m .first - (k - (m .first + m .wires)) = omega arith in rw z)
 
-    module _ (heads chain : List ℕ) (q : ModuleIndexed heads chain names wires rows m) where
+    module _ (heads chain : List ℕ) (q : ModuleIndexed heads chain names wires m) where
       abbrev Any : Bool
       Any = any (λ x. same n (x .0)) (wiresIn names wires rows m)
 
@@ -134,8 +135,8 @@ module _ (names wires rows : List ℕ) (m : Module) (n : Name) where
       unfolding wiresIn
       all-wires = let z : q .total - m .first - (q .total - (m .first + m .wires)) ≡ m .wires = omega (arith, q .inside) in rw z
 
-      pub kept-first : (h : ℕ) → h ≡ hashOf n → KeptWalk (q .total) (getD heads (513 + h) 0)
-      kept-first h e = wires-first names wires n _ _ (λ k p. reach-other k) heads chain (q .lines .by-wire) h e
+      pub kept-first : (h : ℕ) → h ≡ hashOf n → KeptWalk (q .total) (getD heads h 0)
+      kept-first h e = rw e (walk-first _ _ _ _ (λ k p. reach-other k) heads chain (q .indexed) (omega (arith, hash-less n)))
 
       module _ (at : ℕ) (w : KeptWalk (q .total) at) where
         pub kept-end : at ≤ m .first → Any ≡ false
@@ -143,8 +144,8 @@ module _ (names wires rows : List ℕ) (m : Module) (n : Name) where
         kept-end p = let z : at - m .first - (at - (m .first + m .wires)) ≡ 0 = omega arith in sym all-wires ∙ w .rest ∙ rw z
 
         module _ (p : m .first < at) where
-          pub kept-less : getD chain (4706 + (at - 1)) 0 < at
-          kept-less = wires-fall names wires n _ _ (λ k p. reach-other k) heads chain (q .lines .by-wire) at w (omega arith)
+          pub kept-less : getD chain (at - 1) 0 < at
+          kept-less = walk-falls _ _ _ _ (λ k p. reach-other k) heads chain (q .indexed) at w (omega arith)
 
           -- b: whether the row's wire has the name
           module _ (b : Bool) (eb : b ≡ rowKeeps names wires rows m n (at - 1)) where
@@ -154,13 +155,25 @@ module _ (names wires rows : List ℕ) (m : Module) (n : Name) where
             pub kept-found : b ≡ true → Any ≡ true
             kept-found e = sym all-wires ∙ w .rest ∙ here ∙ rw e
 
-            pub kept-next : b ≡ false → KeptWalk (q .total) (getD chain (4706 + (at - 1)) 0)
-            kept-next e = wires-on names wires n _ _ (λ k p. reach-other k) heads chain (q .lines .by-wire) at w (omega arith) (here ∙ rw e)
+            pub kept-next : b ≡ false → KeptWalk (q .total) (getD chain (at - 1) 0)
+            kept-next e = walk-on _ _ _ _ (λ k p. reach-other k) heads chain (q .indexed) at w (omega arith) (here ∙ rw e)
+
+-- one wire more
+module _ (names wires heads chain : List ℕ) (k h : ℕ) (x : Indexed heads chain (wireKey names wires) k) (eh : h ≡ hashOf (spanAt names wires k 1)) where
+  pub wire-fits : h < length heads
+  wire-fits = omega (arith, x .keys, eh, hash-less (spanAt names wires k 1))
+
+  pub wire-put :
+      k < length chain → (heads′ chain′ : List ℕ) → heads′ ≡ set heads h (k + 1) → chain′ ≡ set chain k (getD heads h 0) →
+      Indexed heads′ chain′ (wireKey names wires) (k + 1)
+  unfolding wireKey nameOf
+  wire-put r heads′ chain′ a b =
+      rw (a, b, eh) (indexed-more heads chain (wireKey names wires) k x (omega (arith, hash-less (spanAt names wires k 1))) r)
 
 -- THE NUMBER
 module _ (names wires rows : List ℕ) (p : Place) (standing m : ℕ) (own : Module) (eo : own ≡ moduleBy wires p standing m) where
-  pub module-indexed : {heads chain : List ℕ} → LinesIndexed heads chain names wires rows (p .rows) (p .wires) → ModuleIndexed heads chain names wires rows own
-  module-indexed x = rw eo (record { total = p .wires; lines = x; inside = inside-by wires p standing m })
+  pub module-indexed : {heads chain : List ℕ} → Indexed heads chain (wireKey names wires) (p .wires) → ModuleIndexed heads chain names wires own
+  module-indexed x = rw eo (record { total = p .wires; indexed = x; inside = inside-by wires p standing m })
 
   pub number-judged :
       (room w : ℕ) (n : Name) (t : Bool) → t ≡ nameTaken names wires rows own n →

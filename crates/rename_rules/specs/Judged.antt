@@ -14,7 +14,7 @@ use Rattle.wires.specs.Rows.{wireOf}
 use Rattle.context.specs.Place.{placeOf}
 use Rattle.context.specs.declared.place.Place.{Place}
 use Rattle.admitted.specs.Admitted.{admitted, closes}
-use Rattle.name_index.specs.Index.{LinesIndexed}
+use Rattle.name_index.specs.Index.{wireKey, Indexed}
 use Rattle.netlist.specs.Rows.{namesBetween}
 use Rattle.netlist.specs.Kinds.{isKind, threeKinds}
 use Rattle.netlist.specs.Laid.{Laid, Wired}
@@ -47,10 +47,10 @@ moduleBy wires p standing m =
       renames = standing;
     }
 
--- an index of the names of all statements and wires, those of the module among them
-pub record ModuleIndexed (heads chain names wires rows : List ℕ) (m : Module) : Type 0 where
+-- an index of wires by their own names, those of the module among them
+pub record ModuleIndexed (heads chain names wires : List ℕ) (m : Module) : Type 0 where
   pub total : ℕ
-  pub lines : LinesIndexed heads chain names wires rows (m .from) total
+  pub indexed : Indexed heads chain (wireKey names wires) total
   pub inside : m .first + m .wires ≤ total
 
 -- the lowest number that applies, 0 if none does, where it is known whether the name is taken

@@ -6,10 +6,9 @@ use context::place::Place;
 use context::sizes::MOST_RENAMES;
 use modules::module_rows;
 use modules::module_wires;
-use name_index::ROW_CHAIN;
-use name_index::ROW_HEADS;
 use name_index::hash;
 use name_index::indexed_taken;
+use name_index::put;
 use netlist::lengths::NAMES_LENGTH;
 use netlist::results::BAD_TOKEN;
 use netlist::results::NOT_THERE;
@@ -35,7 +34,8 @@ ghost use Rattle.rules.specs.Bytes.{same, any};
 ghost use Rattle.rules.specs.Session.{isPort};
 ghost use Rattle.wires.specs.Rows.{wireOf};
 ghost use Rattle.wire_names.specs.Now.{wiresIn};
-ghost use Rattle.name_index.specs.Index.{keyAt, Indexed, LinesIndexed};
+ghost use Rattle.name_index.specs.Index.{keyAt, wireKey, Indexed};
+ghost use lib.ListN.{length};
 ghost use Rattle.rename_rules.specs.Search.{searchNow, named, Renamed, keepsName, rowKeeps};
 ghost use Rattle.rename_rules.specs.Judged.{objectTaken, nameTaken, exceedsRoom, moduleBy, ModuleIndexed, numberBy, judged};
 
@@ -173,6 +173,20 @@ fn is_taken(names: &[u8], wires: &[u32], rows: &[u32], m: Module, name: &[u8]) -
     object_name_taken(names, rows, m.from, number, name)
 }
 
+// An index of the first wires by their own names.
+pub fn index_wires(names: &[u8], wires: &[u32], heads: &mut [u32], chain: &mut [u32], count: u32)
+    requires { ⌜ Indexed (now heads) (now chain) (wireKey (now names) (now wires)) 0 ⌝ }
+    requires { ⌜ count ≤ length (now chain) ⌝ }
+    ensures { λ _. ⌜ Indexed (now (heads .exit)) (now (chain .exit)) (wireKey (now (names .entry)) (now (wires .entry))) count ⌝ }
+{
+    let mut k = 0;
+    while k < count {
+        let h = hash(bytes_at(names, wires, k as usize, WIRE_NAME));
+        put(heads, chain, k as usize, h, k + 1);
+        k = k + 1;
+    }
+}
+
 // Whether the wire in a row is the module's, has this name from its own line, and no rename.
 fn row_keeps_name(
     names: &[u8],
@@ -202,18 +216,18 @@ fn indexed_kept(
     m: Module,
     name: &[u8],
 ) -> bool
-    requires { ⌜ ModuleIndexed (now heads) (now chain) (now names) (now wires) (now rows) m ⌝ }
+    requires { ⌜ ModuleIndexed (now heads) (now chain) (now names) (now wires) m ⌝ }
     requires { ⌜ Renamed (now names) (now rows) m (now name) (m .renames) (m .wires) ⌝ }
     ensures { λ r. ⌜ r ≡ any (λ x. same (now (name .entry)) (x .0)) (wiresIn (now (names .entry)) (now (wires .entry)) (now (rows .entry)) m) ⌝ }
 {
     let h = hash(name);
-    let mut at = heads[ROW_HEADS + h];
+    let mut at = heads[h];
     while m.first < at {
         let row = at - 1;
         if row_keeps_name(names, wires, rows, m, row, name) {
             return true;
         }
-        at = chain[ROW_CHAIN + row as usize];
+        at = chain[row as usize];
     }
     false
 }
@@ -257,16 +271,19 @@ fn indexed_is_taken(
     rows: &[u32],
     heads: &[u32],
     chain: &[u32],
+    wire_heads: &[u32],
+    wire_chain: &[u32],
     m: Module,
     name: &[u8],
 ) -> bool
-    requires { ⌜ ModuleIndexed (now heads) (now chain) (now names) (now wires) (now rows) m ⌝ }
+    requires { ⌜ Indexed (now heads) (now chain) (keyAt (now names) (now rows)) (m .from) ⌝ }
+    requires { ⌜ ModuleIndexed (now «wire_heads») (now «wire_chain») (now names) (now wires) m ⌝ }
     ensures { λ r. ⌜ r ≡ nameTaken (now (names .entry)) (now (wires .entry)) (now (rows .entry)) m (now (name .entry)) ⌝ }
 {
     if renamed_to(names, rows, m, name) < m.wires {
         return true;
     }
-    if indexed_kept(names, wires, rows, heads, chain, m, name) {
+    if indexed_kept(names, wires, rows, wire_heads, wire_chain, m, name) {
         return true;
     }
     let number = m.number;
@@ -340,13 +357,15 @@ pub fn judge_rename(
     rename_number(wires, module, room, w, new, taken)
 }
 
-// The same, over an index of the names of all statements and wires.
+// The same, over an index of all rows and one of all wires.
 pub fn indexed_rename(
     names: &[u8],
     wires: &[u32],
     rows: &[u32],
     heads: &[u32],
     chain: &[u32],
+    wire_heads: &[u32],
+    wire_chain: &[u32],
     place: Place,
     standing: u32,
     room: u32,
@@ -354,10 +373,21 @@ pub fn indexed_rename(
     w: WireNumber,
     new: &[u8],
 ) -> u32
-    requires { ⌜ LinesIndexed (now heads) (now chain) (now names) (now wires) (now rows) (place .rows) (place .wires) ⌝ }
+    requires { ⌜ Indexed (now heads) (now chain) (keyAt (now names) (now rows)) (place .rows) ⌝ }
+    requires { ⌜ Indexed (now «wire_heads») (now «wire_chain») (wireKey (now names) (now wires)) (place .wires) ⌝ }
     ensures { λ r. ⌜ r ≡ judged (now (names .entry)) (now (wires .entry)) (now (rows .entry)) place standing room (m .0) (w .0) (now (new .entry)) ⌝ }
 {
     let module = module_of(wires, place, standing, m);
-    let taken = indexed_is_taken(names, wires, rows, heads, chain, module, new);
+    let taken = indexed_is_taken(
+        names,
+        wires,
+        rows,
+        heads,
+        chain,
+        wire_heads,
+        wire_chain,
+        module,
+        new,
+    );
     rename_number(wires, module, room, w, new, taken)
 }

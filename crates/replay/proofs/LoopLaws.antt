@@ -1,29 +1,26 @@
 -- The replay: the statements that the tables hold begin with those replayed so far.
 -- Assumes nothing.
-use Prim.Native.Nat.{ℕ, _+_, _*_, _≤_}
-use mathlib.Core.Path.{_≡_, refl, sym, ap, ap₂, _∙_, subst}
+use Prim.Native.Nat.{ℕ, _+_, _*_}
+use mathlib.Core.Path.{_≡_, refl, sym, ap, _∙_, subst}
 use mathlib.Core.List.{List, [], _∷_, flatMap}
 use mathlib.Core.Logic.{⊎-elim}
-use mathlib.Core.Bool.{true, false, cond}
+use mathlib.Core.Bool.{true, false}
 use native.Mathlib.Omega.{arith}
-use lib.Dec.{eqb}
 use lib.ListN.{length, getD}
 use Rattle.rules.specs.Bytes.{within}
-use Rattle.rules.specs.Statements.{Statement, code, contents}
+use Rattle.rules.specs.Statements.{Statement}
 use Rattle.rules.specs.Judgement.{Past}
 use Rattle.admitted.specs.Admitted.{admits, admitted, closes}
 use Rattle.admitted.specs.AdmitLaws.{admits-last, admitted-few, admitted-within}
 use Rattle.scanner.specs.Laws.{never}
-use Rattle.wires.specs.Rows.{wordAt, column}
-use Rattle.netlist.specs.Rows.{kindAt}
-use Rattle.netlist.specs.FrontLaws.{fronts-kind}
+use Rattle.wires.specs.Rows.{wordAt}
 use Rattle.netlist.specs.Laid.{roomsOf}
 use Rattle.netlist.specs.LaidLaws.{length-rows}
-use Rattle.context.specs.Place.{wiresIn, placeOf, placeAfter, closesAt, Bounds}
-use Rattle.context.specs.Sizes.{sizesBy, sumsOf, Within}
+use Rattle.context.specs.Place.{placeOf, closesAt, Bounds}
+use Rattle.context.specs.Sizes.{sumsOf, Within}
 use Rattle.context.specs.declared.place.Place.{Place}
 use Rattle.context.specs.declared.sizes.Sizes.{Sizes}
-use Rattle.context.proofs.PlaceLaws.{bounds, closes-place, place-step, place-rows}
+use Rattle.context.proofs.PlaceLaws.{bounds, closes-place, place-rows}
 use Rattle.replay.specs.Reads.{Tables}
 use Rattle.replay.specs.OneLaws.{next-kind, stored-next}
 use Rattle.replay.specs.Begins.{isStatement, Replays}
@@ -64,10 +61,6 @@ module _ (t : Tables) (rows : List ℕ) (p : Place) (u : Sizes) (d : Done t rows
         few = omega (arith, rows-are, admitted-few ss (d .reached .admits));
         within = subst Within (d .reached .sums) (admitted-within ss (d .reached .admits));
       }
-
-  pub few-wires : p .wires ≤ 512
-  unfolding placeOf wiresIn sumsOf sizesBy
-  few-wires = subst (λ (x : Place). x .wires ≤ 512) (d .reached .place) (admitted-within ss (d .reached .admits) .wires)
 
   module _ (k : ℕ) (ek : k ≡ getD rows (8 * p .rows) 0) where
     kind-is : isStatement (wordAt rows (8 * length (roomsOf ss .rows))) ≡ isStatement k
@@ -113,11 +106,3 @@ module _ (t : Tables) (rows : List ℕ) (p : Place) (u : Sizes) (d : Done t rows
 
       pub next-rows : q .rows ≡ p .rows + 1
       next-rows = omega (arith, rows-are, place-rows (next-is .0 ∷ ss) (next-is .1 .place))
-
-      pub next-wires : q .wires ≡ p .wires + cond (eqb k 5) 1 0
-      unfolding placeAfter kindAt column wordAt
-      next-wires =
-          let s : Statement = next-is .0 in
-          let z : 8 * length ss + 0 ≡ 8 * p .rows = omega (arith, rows-are) in
-          let c : code (contents s .kind) ≡ k = sym (fronts-kind s ss (next-is .1 .fronts)) ∙ ap (λ (i : ℕ). getD rows i 0) z ∙ sym ek in
-          ap (λ (x : Place). x .wires) (sym (next-is .1 .place) ∙ place-step ss s ∙ ap₂ placeAfter (d .reached .place) c)

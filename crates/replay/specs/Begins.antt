@@ -14,7 +14,7 @@ use Rattle.context.specs.Place.{placeOf}
 use Rattle.context.specs.Sizes.{sumsOf}
 use Rattle.netlist.specs.Tables as netlist
 use Rattle.netlist.specs.Fronts.{Fronts}
-use Rattle.name_index.specs.Index.{LinesIndexed}
+use Rattle.name_index.specs.Index.{keyAt, Indexed}
 use Rattle.replay.specs.Reads.{Tables}
 use Rattle.replay.specs.declared.Replayed.{Replayed}
 
@@ -43,7 +43,7 @@ Replays t rows (Replayed.Holding p u) =
     (ss : Past) × Stored t rows ss × (placeOf ss ≡ p) × (sumsOf ss ≡ u)
 Replays t rows Replayed.Damaged = (ss : Past) → Stored t rows ss → ⊥
 
--- where there are such statements, their rows and their wires are indexed
-unfoldable pub IndexLeft : (heads chain names wires rows : List ℕ) → Replayed → Type 0
-IndexLeft heads chain names wires rows (Replayed.Holding p u) = LinesIndexed heads chain names wires rows (p .rows) (p .wires)
-IndexLeft heads chain names wires rows Replayed.Damaged = Unit {0}
+-- where there are such statements, their rows are indexed
+unfoldable pub IndexLeft : (heads chain names rows : List ℕ) → Replayed → Type 0
+IndexLeft heads chain names rows (Replayed.Holding p u) = Indexed heads chain (keyAt names rows) (p .rows)
+IndexLeft heads chain names rows Replayed.Damaged = Unit {0}

@@ -6,7 +6,7 @@ use context::place::is_closed;
 use context::place::start;
 use context::sizes::Sizes;
 use context::sizes::none;
-use name_index::index_line;
+use name_index::index_row;
 use netlist::rows::ROW_SIZE;
 use tables::word;
 
@@ -18,7 +18,9 @@ mod wiring;
 use turns::Turn;
 use turns::one_more;
 ghost use mathlib.Core.Path.{_≡_};
-ghost use Rattle.name_index.specs.Index.{LinesIndexed};
+ghost use Prim.Native.Nat.{_≤_};
+ghost use lib.ListN.{length};
+ghost use Rattle.name_index.specs.Index.{keyAt, rowRoom, Indexed};
 ghost use Rattle.replay.specs.Reads.{tabled};
 ghost use Rattle.replay.specs.Begins.{isStatement, Replays, IndexLeft};
 
@@ -37,7 +39,7 @@ fn is_statement(kind: u32) -> bool
     kind <= END
 }
 
-// It leaves an index of the names of its rows and wires, where the tables hold such statements.
+// It fills an index of its rows by their names, which stays with the caller.
 pub fn replay(
     names: &[u8],
     strings: &[u8],
@@ -47,15 +49,15 @@ pub fn replay(
     heads: &mut [u32],
     chain: &mut [u32],
 ) -> Replayed
-    requires { ⌜ LinesIndexed (now heads) (now chain) (now names) (now wires) (now rows) 0 0 ⌝ }
+    requires { ⌜ Indexed (now heads) (now chain) (keyAt (now names) (now rows)) 0 ⌝ }
+    requires { ⌜ rowRoom ≤ length (now chain) ⌝ }
     ensures { λ r. ⌜ Replays (tabled (now (names .entry)) (now (strings .entry)) (now (bits .entry)) (now (wires .entry))) (now (rows .entry)) r ⌝ }
-    ensures { λ r. ⌜ IndexLeft (now (heads .exit)) (now (chain .exit)) (now (names .entry)) (now (wires .entry)) (now (rows .entry)) r ⌝ }
+    ensures { λ r. ⌜ IndexLeft (now (heads .exit)) (now (chain .exit)) (now (names .entry)) (now (rows .entry)) r ⌝ }
 {
     let mut place = start();
     let mut sums = none();
     loop {
-        let kind = word(rows, ROW_SIZE * (place.rows as usize));
-        if !is_statement(kind) {
+        if !is_statement(word(rows, ROW_SIZE * (place.rows as usize))) {
             if is_closed(place) {
                 return Replayed::Holding { place, sums };
             }
@@ -64,16 +66,7 @@ pub fn replay(
         let t = one_more(names, strings, bits, wires, rows, heads, chain, place, sums);
         match t {
             Turn::Next { place: p, sums: u } => {
-                index_line(
-                    names,
-                    wires,
-                    rows,
-                    heads,
-                    chain,
-                    place.rows,
-                    place.wires,
-                    kind,
-                );
+                index_row(names, rows, heads, chain, place.rows);
                 place = p;
                 sums = u;
             }

@@ -11,16 +11,16 @@ use Rattle.memory_check.proofs.all_renames.Statement.{statement}
 use Rattle.memory_check.proofs.all_renames.Tie as tie
 
 abbrev Inv-loop : tie.InvT-loop
-Inv-loop names wires rows heads chain place renames used room₀ i₀ room i = (i ≤ renames) × RenamesAre names wires rows place i used (Renamed.Used room)
+Inv-loop names wires rows heads chain wire-heads wire-chain place renames used room₀ i₀ room i = (i ≤ renames) × RenamesAre names wires rows place i used (Renamed.Used room)
 
 abbrev μ-loop : tie.MeasureT-loop
-μ-loop names wires rows heads chain place renames used room₀ i₀ room i = renames - i
+μ-loop names wires rows heads chain wire-heads wire-chain place renames used room₀ i₀ room i = renames - i
 
 loop-holds : tie.Need-loop-holds Inv-loop μ-loop
 loop-holds c = (omega arith, renames-start _ _ _ _ _)
 
 one-rename-requires : tie.Need-one-rename-requires Inv-loop μ-loop
-one-rename-requires c κs = c .before .before .before .before .before .before .before .pre
+one-rename-requires c κs = c .before .before .before .before .before .before .before .before .before .pre
 
 enum-known-r : tie.Need-enum-known-r Inv-loop μ-loop
 enum-known-r c = search needs
@@ -42,7 +42,7 @@ returns c = renames-stuck _ _ _ _ _ _ _ (c .before .before .before .before .loop
 
 returns-2 : tie.Need-returns-2 Inv-loop μ-loop
 returns-2 c =
-    let e : c .before .loop .i ≡ c .before .before .before .before .before .before .before .args .renames = omega arith in
+    let e : c .before .loop .i ≡ c .before .before .before .before .before .before .before .before .before .args .renames = omega arith in
     rw (← e) (c .before .loop .inv .1)
 
 pub all-renames-spec : {M : Type 1} → statement M

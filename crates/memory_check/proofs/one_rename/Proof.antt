@@ -1,6 +1,7 @@
 -- `one_rename` meets its contract.
 -- Assumes nothing.
 use mathlib.Core.Path.{sym, _∙_}
+use native.Mathlib.Omega.{arith}
 use borrow.Author.Needs.{needs}
 use borrow.Author.Tests.{not-true, not-false}
 use Rattle.memory_check.proofs.RenameTurns.{no-row, no-rename, no-name, rename-refused, rename-next}
@@ -44,13 +45,13 @@ part-requires : tie.Need-part-requires
 part-requires c κs = search needs
 
 indexed-rename-requires : tie.Need-indexed-rename-requires
-indexed-rename-requires c κs = c .before .before .before .before .before .before .before .before .before .before .before .before .before .pre .1
+indexed-rename-requires c κs = c .before .before .before .before .before .before .before .before .before .before .before .before .before .before .before .pre .1
 
 returns-4 : tie.Need-returns-4
 returns-4 c = rename-refused _ _ _ _ _ _ _ (c .before .before .before .before .before .before .before .get-row .ensures) _ (c .before .before .part .ensures) _ (c .before .indexed-rename .ensures) (c .if4 .taken)
 
-cast-t22 : tie.Need-cast-t22
-cast-t22 c = search needs
+cast-t24 : tie.Need-cast-t24
+cast-t24 c = omega (arith, c .before .before .before .before .before .before .before .before .before .before .before .before .before .before .before .before .before .pre .0)
 
 returns-5 : tie.Need-returns-5
 returns-5 c =
@@ -74,5 +75,5 @@ one-rename-spec =
     part-requires
     indexed-rename-requires
     returns-4
-    cast-t22
+    cast-t24
     returns-5)

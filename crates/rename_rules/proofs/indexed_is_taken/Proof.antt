@@ -17,14 +17,14 @@ returns c = rw (renamed-taken _ _ _ _ _ _ (c .before .before .renamed-to .ensure
 
 indexed-kept-requires : tie.Need-indexed-kept-requires
 indexed-kept-requires c κs =
-    let e : c .before .before .renamed-to .result ≡ c .before .before .before .before .before .before .before .before .before .args .m .wires = omega (arith, c .before .before .renamed-to .ensures .below, c .if1 .left) in (c .before .before .before .before .before .before .before .before .before .pre, rw e at (c .before .before .renamed-to .ensures))
+    let e : c .before .before .renamed-to .result ≡ c .before .before .before .before .before .before .before .before .before .before .before .args .m .wires = omega (arith, c .before .before .renamed-to .ensures .below, c .if1 .left) in (c .before .before .before .before .before .before .before .before .before .before .before .pre .1, rw e at (c .before .before .renamed-to .ensures))
 
 returns-2 : tie.Need-returns-2
 unfolding nameTaken
 returns-2 c = rw (← c .before .indexed-kept .ensures, c .if2 .taken)
 
 indexed-object-requires : tie.Need-indexed-object-requires
-indexed-object-requires c κs = c .before .before .before .before .before .before .before .before .before .before .before .before .pre .lines .by-row
+indexed-object-requires c κs = c .before .before .before .before .before .before .before .before .before .before .before .before .before .before .pre .0
 
 returns-3 : tie.Need-returns-3
 unfolding nameTaken

@@ -2,7 +2,6 @@
 -- Assumes nothing.
 use mathlib.Core.Path.{sym, _∙_}
 use native.Mathlib.Omega.{arith}
-use lib.ListN.{length-drop}
 use borrow.Author.Needs.{needs}
 use Rattle.name_index.specs.HashLaws.{hash-less}
 use Rattle.rename_rules.specs.Judged.{ModuleIndexed}
@@ -11,7 +10,7 @@ use Rattle.rename_rules.proofs.indexed_kept.Statement.{statement}
 use Rattle.rename_rules.proofs.indexed_kept.Tie as tie
 
 abbrev Inv-loop : tie.InvT-loop
-Inv-loop names wires rows heads chain m name h at₀ at = (q : ModuleIndexed heads chain names wires rows m) → KeptWalk names wires rows m name (q .total) at
+Inv-loop names wires rows heads chain m name h at₀ at = (q : ModuleIndexed heads chain names wires m) → KeptWalk names wires rows m name (q .total) at
 
 abbrev μ-loop : tie.MeasureT-loop
 μ-loop names wires rows heads chain m name h at₀ at = at
@@ -19,14 +18,11 @@ abbrev μ-loop : tie.MeasureT-loop
 hash-requires : tie.Need-hash-requires Inv-loop μ-loop
 hash-requires c κs = search needs
 
-add-at : tie.Need-add-at Inv-loop μ-loop
-add-at c = omega (arith, c .hash .ensures, hash-less (c .before .before .before .before .before .before .before .args .name .now))
-
 mul-at : tie.Need-mul-at Inv-loop μ-loop
 mul-at c = omega (arith, c .hash .ensures, hash-less (c .before .before .before .before .before .before .before .args .name .now))
 
 shared-slice-read-at : tie.Need-shared-slice-read-at Inv-loop μ-loop
-shared-slice-read-at c = omega (arith, c .before .hash .ensures, hash-less (c .before .before .before .before .before .before .before .before .args .name .now), c .before .before .before .before .before .before .before .before .pre .0 .lines .heads-long)
+shared-slice-read-at c = omega (arith, c .before .hash .ensures, hash-less (c .before .before .before .before .before .before .before .before .args .name .now), c .before .before .before .before .before .before .before .before .pre .0 .indexed .keys)
 
 loop-holds : tie.Need-loop-holds Inv-loop μ-loop
 loop-holds c = λ q. kept-first _ _ _ _ _ (c .before .before .before .before .before .before .before .before .pre .1) _ _ q _ (c .before .hash .ensures)
@@ -41,16 +37,13 @@ returns : tie.Need-returns Inv-loop μ-loop
 returns c = sym (kept-found _ _ _ _ _ (c .before .before .before .before .before .before .before .before .before .before .before .before .before .pre .1) _ _ (c .before .before .before .before .before .before .before .before .before .before .before .before .before .pre .0) _ (c .before .before .before .before .loop .inv (c .before .before .before .before .before .before .before .before .before .before .before .before .before .pre .0)) (c .before .before .if1 .taken) _ (c .before .row-keeps-name .ensures) (c .if2 .taken))
 
 cast-at : tie.Need-cast-at Inv-loop μ-loop
-cast-at c = omega (arith, c .before .before .before .before .loop .inv (c .before .before .before .before .before .before .before .before .before .before .before .before .before .pre .0) .below, c .before .before .before .before .before .before .before .before .before .before .before .before .before .pre .0 .lines .by-wire .indexed .room, length-drop 4706 (c .before .before .before .before .before .before .before .before .before .before .before .before .before .args .chain .now), c .before .before .before .before .before .before .before .before .before .before .before .before .before .pre .0 .lines .chain-long)
-
-add-at-2 : tie.Need-add-at-2 Inv-loop μ-loop
-add-at-2 c = omega (arith, c .before .before .before .before .loop .inv (c .before .before .before .before .before .before .before .before .before .before .before .before .before .pre .0) .below, c .before .before .before .before .before .before .before .before .before .before .before .before .before .pre .0 .lines .by-wire .indexed .room, length-drop 4706 (c .before .before .before .before .before .before .before .before .before .before .before .before .before .args .chain .now), c .before .before .before .before .before .before .before .before .before .before .before .before .before .pre .0 .lines .chain-long)
+cast-at c = omega (arith, c .before .before .before .before .loop .inv (c .before .before .before .before .before .before .before .before .before .before .before .before .before .pre .0) .below, c .before .before .before .before .before .before .before .before .before .before .before .before .before .pre .0 .indexed .room)
 
 mul-at-2 : tie.Need-mul-at-2 Inv-loop μ-loop
-mul-at-2 c = omega (arith, c .before .before .before .before .loop .inv (c .before .before .before .before .before .before .before .before .before .before .before .before .before .pre .0) .below, c .before .before .before .before .before .before .before .before .before .before .before .before .before .pre .0 .lines .by-wire .indexed .room, length-drop 4706 (c .before .before .before .before .before .before .before .before .before .before .before .before .before .args .chain .now), c .before .before .before .before .before .before .before .before .before .before .before .before .before .pre .0 .lines .chain-long)
+mul-at-2 c = omega (arith, c .before .before .before .before .loop .inv (c .before .before .before .before .before .before .before .before .before .before .before .before .before .pre .0) .below, c .before .before .before .before .before .before .before .before .before .before .before .before .before .pre .0 .indexed .room)
 
 shared-slice-read-at-2 : tie.Need-shared-slice-read-at-2 Inv-loop μ-loop
-shared-slice-read-at-2 c = omega (arith, c .before .before .before .before .before .loop .inv (c .before .before .before .before .before .before .before .before .before .before .before .before .before .before .pre .0) .below, c .before .before .before .before .before .before .before .before .before .before .before .before .before .before .pre .0 .lines .by-wire .indexed .room, length-drop 4706 (c .before .before .before .before .before .before .before .before .before .before .before .before .before .before .args .chain .now))
+shared-slice-read-at-2 c = omega (arith, c .before .before .before .before .before .loop .inv (c .before .before .before .before .before .before .before .before .before .before .before .before .before .before .pre .0) .below, c .before .before .before .before .before .before .before .before .before .before .before .before .before .before .pre .0 .indexed .room)
 
 loop-less : tie.Need-loop-less Inv-loop μ-loop
 loop-less c = kept-less _ _ _ _ _ (c .before .before .before .before .before .before .before .before .before .before .before .before .before .before .pre .1) _ _ (c .before .before .before .before .before .before .before .before .before .before .before .before .before .before .pre .0) _ (c .before .before .before .before .before .loop .inv (c .before .before .before .before .before .before .before .before .before .before .before .before .before .before .pre .0)) (c .before .before .before .if1 .taken)
@@ -68,7 +61,6 @@ indexed-kept-spec =
     Inv-loop
     μ-loop
     hash-requires
-    add-at
     mul-at
     shared-slice-read-at
     loop-holds
@@ -76,7 +68,6 @@ indexed-kept-spec =
     row-keeps-name-requires
     returns
     cast-at
-    add-at-2
     mul-at-2
     shared-slice-read-at-2
     loop-less

@@ -1,6 +1,8 @@
 -- `indexed_rename` meets its contract: its answer is the number by the tables.
 -- Assumes nothing.
-use mathlib.Core.Path.{_∙_}
+use mathlib.Core.Path.{ap, _∙_}
+use Rattle.name_index.specs.IndexLaws.{indexed-upto}
+use Rattle.wire_names.specs.declared.Module.{Module}
 use borrow.Author.Needs.{needs}
 use Rattle.rename_rules.proofs.IndexedLaws.{module-indexed, number-judged}
 use Rattle.rename_rules.proofs.indexed_rename.Statement.{statement}
@@ -10,7 +12,7 @@ module-of-requires : tie.Need-module-of-requires
 module-of-requires c κs = search needs
 
 indexed-is-taken-requires : tie.Need-indexed-is-taken-requires
-indexed-is-taken-requires c κs = module-indexed _ _ _ (c .before .before .before .before .before .before .before .args .place) (c .before .before .before .before .before .before .before .args .standing) (c .before .before .before .before .before .before .before .args .m .0) _ (c .module-of .ensures) (c .before .before .before .before .before .before .before .pre)
+indexed-is-taken-requires c κs = (indexed-upto (ap (λ (x : Module). x .from) (c .module-of .ensures)) (c .before .before .before .before .before .before .before .before .before .pre .0), module-indexed _ _ (c .before .before .before .before .before .before .before .before .before .args .rows .now) (c .before .before .before .before .before .before .before .before .before .args .place) (c .before .before .before .before .before .before .before .before .before .args .standing) (c .before .before .before .before .before .before .before .before .before .args .m .0) _ (c .module-of .ensures) (c .before .before .before .before .before .before .before .before .before .pre .1))
 
 rename-number-requires : tie.Need-rename-number-requires
 rename-number-requires c κs = search needs

@@ -1,26 +1,25 @@
--- The invariant: every list of statements that the tables hold begins with those replayed, and their rows and wires are indexed.
+-- The invariant: every list of statements that the tables hold begins with those replayed, and their names are indexed.
 -- Assumes nothing.
 use Prim.Native.Nat.{_-_, _≤_}
 use mathlib.Core.Path.{_≡_, refl, sym, ap, _∙_}
 use native.Mathlib.Omega.{arith}
 use lib.ListN.{length}
 use borrow.Author.Tests.{not-true, not-false}
-use Rattle.name_index.specs.Index.{LinesIndexed}
-use Rattle.name_index.specs.LineLaws.{lines-upto}
-use Rattle.rules.specs.Judgement.{sum}
-use Rattle.context.specs.Place.{wiresIn, placeOf}
+use Rattle.name_index.specs.Index.{keyAt, Indexed}
+use Rattle.name_index.specs.IndexLaws.{indexed-upto}
+use Rattle.context.specs.Place.{placeOf}
 use Rattle.context.specs.declared.place.Place.{Place}
 use Rattle.replay.specs.Begins.{IndexLeft}
 use Rattle.replay.specs.Reads.{tabled}
-use Rattle.replay.proofs.LoopLaws.{Done, done-start, done-ready, few-wires, done-closed, done-open, done-stuck, done-next, next-rows, next-wires}
+use Rattle.replay.proofs.LoopLaws.{Done, done-start, done-ready, done-closed, done-open, done-stuck, done-next, next-rows}
 use borrow.Author.Needs.{needs}
 use Rattle.replay.proofs.replay.Statement.{statement}
 use Rattle.replay.proofs.replay.Tie as tie
 
 abbrev Inv-loop : tie.InvT-loop
 Inv-loop names strings bits wires rows heads₀ chain₀ place₀ sums₀ heads chain place sums =
-    Done (tabled names strings bits wires) rows place sums × LinesIndexed heads chain names wires rows (place .rows) (place .wires)
-    × (length heads ≡ length heads₀) × (length chain ≡ length chain₀)
+    Done (tabled names strings bits wires) rows place sums × Indexed heads chain (keyAt names rows) (place .rows) × (length heads ≡ length heads₀) × (length chain ≡ length chain₀)
+    × (4706 ≤ length chain)
 
 abbrev μ-loop : tie.MeasureT-loop
 μ-loop names strings bits wires rows heads₀ chain₀ place₀ sums₀ heads chain place sums = 4706 - place .rows
@@ -32,8 +31,8 @@ none-requires : tie.Need-none-requires Inv-loop μ-loop
 none-requires c κs = tt
 
 loop-holds : tie.Need-loop-holds Inv-loop μ-loop
-unfolding placeOf wiresIn sum
-loop-holds c = (done-start _ _ _ _ (c .before .start .ensures) (c .none .ensures), lines-upto (ap (λ (p : Place). p .rows) (c .before .start .ensures)) (ap (λ (p : Place). p .wires) (c .before .start .ensures)) (c .before .before .before .before .before .before .before .before .before .pre), refl, refl)
+unfolding placeOf
+loop-holds c = (done-start _ _ _ _ (c .before .start .ensures) (c .none .ensures), indexed-upto (ap (λ (p : Place). p .rows) (c .before .start .ensures)) (c .before .before .before .before .before .before .before .before .before .pre .0), refl, refl, c .before .before .before .before .before .before .before .before .before .pre .1)
 
 cast-word : tie.Need-cast-word Inv-loop μ-loop
 cast-word c = search needs
@@ -71,14 +70,15 @@ unfolding IndexLeft
 returns-2 c = (done-open _ _ _ _ (c .before .before .before .before .before .before .loop .inv .0) _ (c .before .before .before .before .word .ensures) (sym (c .before .before .before .is-statement .ensures) ∙ not-true _ (c .before .before .if1 .taken)) (sym (c .before .is-closed .ensures) ∙ c .if2 .left), tt)
 
 one-more-requires : tie.Need-one-more-requires Inv-loop μ-loop
-one-more-requires c κs = (done-ready _ _ _ _ (c .before .before .before .before .before .before .loop .inv .0), c .before .before .before .before .before .before .loop .inv .1 .by-row)
+one-more-requires c κs = (done-ready _ _ _ _ (c .before .before .before .before .before .before .loop .inv .0), c .before .before .before .before .before .before .loop .inv .1)
 
 enum-known-t : tie.Need-enum-known-t Inv-loop μ-loop
 enum-known-t c = search needs
 
-index-line-requires : tie.Need-index-line-requires Inv-loop μ-loop
-index-line-requires c κs =
-    (c .before .before .before .before .before .before .before .before .before .before .before .before .loop .inv .1, (omega (arith, done-ready _ _ _ _ (c .before .before .before .before .before .before .before .before .before .before .before .before .loop .inv .0) .few), omega (arith, few-wires _ _ _ _ (c .before .before .before .before .before .before .before .before .before .before .before .before .loop .inv .0))))
+index-row-requires : tie.Need-index-row-requires Inv-loop μ-loop
+index-row-requires c κs =
+    let few = done-ready _ _ _ _ (c .before .before .before .before .before .before .before .before .before .before .before .before .loop .inv .0) .few in
+    (c .before .before .before .before .before .before .before .before .before .before .before .before .loop .inv .1, (omega (arith, few, c .before .before .before .before .before .before .before .before .before .before .before .before .loop .inv .4), omega (arith, few)))
 
 loop-less : tie.Need-loop-less Inv-loop μ-loop
 loop-less c = omega (arith, done-ready _ _ _ _ (c .before .before .before .before .before .before .before .before .before .before .before .before .before .before .before .before .before .loop .inv .0) .few, next-rows _ _ _ _ (c .before .before .before .before .before .before .before .before .before .before .before .before .before .before .before .before .before .loop .inv .0) _ (c .before .before .before .before .before .before .before .before .before .before .before .before .before .before .before .word .ensures) (sym (c .before .before .before .before .before .before .before .before .before .before .before .before .before .before .is-statement .ensures) ∙ not-false _ (c .before .before .before .before .before .before .before .before .before .before .before .before .before .if1 .left)) _ _ _ (c .before .before .before .before .before .before .before .before .before .before .one-more .ensures) (c .before .before .before .before .before .before .before .before .t .given .1))
@@ -86,12 +86,10 @@ loop-less c = omega (arith, done-ready _ _ _ _ (c .before .before .before .befor
 loop-again : tie.Need-loop-again Inv-loop μ-loop
 loop-again c = (
   done-next _ _ _ _ (c .before .before .before .before .before .before .before .before .before .before .before .before .before .before .before .before .before .loop .inv .0) _ (c .before .before .before .before .before .before .before .before .before .before .before .before .before .before .before .word .ensures) (sym (c .before .before .before .before .before .before .before .before .before .before .before .before .before .before .is-statement .ensures) ∙ not-false _ (c .before .before .before .before .before .before .before .before .before .before .before .before .before .if1 .left)) _ _ _ (c .before .before .before .before .before .before .before .before .before .before .one-more .ensures) (c .before .before .before .before .before .before .before .before .t .given .1),
-  lines-upto
-      (next-rows _ _ _ _ (c .before .before .before .before .before .before .before .before .before .before .before .before .before .before .before .before .before .loop .inv .0) _ (c .before .before .before .before .before .before .before .before .before .before .before .before .before .before .before .word .ensures) (sym (c .before .before .before .before .before .before .before .before .before .before .before .before .before .before .is-statement .ensures) ∙ not-false _ (c .before .before .before .before .before .before .before .before .before .before .before .before .before .if1 .left)) _ _ _ (c .before .before .before .before .before .before .before .before .before .before .one-more .ensures) (c .before .before .before .before .before .before .before .before .t .given .1))
-      (next-wires _ _ _ _ (c .before .before .before .before .before .before .before .before .before .before .before .before .before .before .before .before .before .loop .inv .0) _ (c .before .before .before .before .before .before .before .before .before .before .before .before .before .before .before .word .ensures) (sym (c .before .before .before .before .before .before .before .before .before .before .before .before .before .before .is-statement .ensures) ∙ not-false _ (c .before .before .before .before .before .before .before .before .before .before .before .before .before .if1 .left)) _ _ _ (c .before .before .before .before .before .before .before .before .before .before .one-more .ensures) (c .before .before .before .before .before .before .before .before .t .given .1))
-      (c .before .before .before .before .index-line .ensures),
-  c .before .before .before .before .index-line .kept .1 .1 .1 .0 ∙ c .before .before .before .before .before .before .before .before .before .before .before .before .before .before .before .before .before .loop .inv .2,
-  c .before .before .before .before .index-line .kept .1 .1 .1 .1 .0 ∙ c .before .before .before .before .before .before .before .before .before .before .before .before .before .before .before .before .before .loop .inv .3,
+  indexed-upto (next-rows _ _ _ _ (c .before .before .before .before .before .before .before .before .before .before .before .before .before .before .before .before .before .loop .inv .0) _ (c .before .before .before .before .before .before .before .before .before .before .before .before .before .before .before .word .ensures) (sym (c .before .before .before .before .before .before .before .before .before .before .before .before .before .before .is-statement .ensures) ∙ not-false _ (c .before .before .before .before .before .before .before .before .before .before .before .before .before .if1 .left)) _ _ _ (c .before .before .before .before .before .before .before .before .before .before .one-more .ensures) (c .before .before .before .before .before .before .before .before .t .given .1)) (c .before .before .before .before .index-row .ensures .0),
+  c .before .before .before .before .index-row .kept .1 .1 .0 ∙ c .before .before .before .before .before .before .before .before .before .before .before .before .before .before .before .before .before .loop .inv .2,
+  c .before .before .before .before .index-row .ensures .1 ∙ c .before .before .before .before .before .before .before .before .before .before .before .before .before .before .before .before .before .loop .inv .3,
+  omega (arith, c .before .before .before .before .index-row .ensures .1, c .before .before .before .before .before .before .before .before .before .before .before .before .before .before .before .before .before .loop .inv .4),
 )
 
 enum-told : tie.Need-enum-told Inv-loop μ-loop
@@ -129,7 +127,7 @@ replay-spec =
     returns-2
     one-more-requires
     enum-known-t
-    index-line-requires
+    index-row-requires
     loop-less
     loop-again
     enum-told
