@@ -14,7 +14,6 @@ use line_forms::Span;
 use literals::literal_width;
 use literals::put_literal;
 use netlist::rows::INTEGER_CONSTANT;
-use netlist::rows::ROW_SIZE;
 use netlist::rows::STRING_CONSTANT;
 use netlist::rows::VALUE_CONSTANT;
 use netlist::used::Used;
@@ -25,6 +24,7 @@ use scanner::parts::part;
 use strings::put_string;
 use syntax::RIGHT_SIGNAL;
 use syntax::Statement;
+use tables::ROW_WORDS;
 use tables::Row;
 use tables::put_bytes;
 use tables::put_row;
@@ -115,7 +115,7 @@ fn put_columns(table: &mut [u32], k: u32, kind: u32, a: u32, b: u32, c: u32, d: 
         f: g,
         g: 0,
     };
-    put_row(table, ROW_SIZE * (k as usize), r);
+    put_row(table, ROW_WORDS * (k as usize), r);
 }
 
 // Stores a name, and answers its length.

@@ -11,9 +11,6 @@ ghost use Rattle.rules.specs.Bytes.{same, any};
 ghost use Rattle.netlist.specs.Rows.{nameColumn, kindAt, nameAt, namesBetween};
 ghost use Rattle.netlist.specs.Kinds.{isKind};
 
-// The words of a row.
-pub const ROW_SIZE: usize = 8;
-
 // The columns of a row: its kind, and where its name starts, which in the row of a cell stands behind its type.
 const KIND: usize = 0;
 

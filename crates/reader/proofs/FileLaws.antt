@@ -40,9 +40,10 @@ use Rattle.layout.specs.Put.{tablesOf}
 use Rattle.layout.specs.Stored.{Sized}
 use Rattle.netlist.specs.Results.{Result, result, lent}
 use Rattle.reader.specs.Read.{leaves, readInto}
-use Rattle.reader.specs.Steps.{lineOf, LineFits, Reached, Before, Done, Goes, StepIs, StepAs, refusalOf, finishOf, Landed, ReachAs}
-use Rattle.reader.specs.declared.Step.{Step}
-use Rattle.reader.specs.declared.Step.the-variants.{Next, Stop}
+use Rattle.reading_step.specs.Steps.{lineOf, LineFits, Done, Goes, StepIs, StepAs}
+use Rattle.reader.specs.Lines.{Reached, Before, refusalOf, finishOf, Landed, ReachAs}
+use Rattle.reading_step.specs.declared.Step.{Step}
+use Rattle.reading_step.specs.declared.Step.the-variants.{Next, Stop}
 use Rattle.reader.specs.declared.Answer.{Answer}
 use Rattle.reader.specs.declared.Answer.the-variants.{Accepted, Refused}
 use Rattle.reader.specs.declared.Reach.{Reach}

@@ -1,3 +1,1 @@
-mod LineLaws
-mod StepLaws
 mod FileLaws

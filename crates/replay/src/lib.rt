@@ -7,7 +7,7 @@ use context::place::start;
 use context::sizes::Sizes;
 use context::sizes::none;
 use name_index::index_row;
-use netlist::rows::ROW_SIZE;
+use tables::ROW_WORDS;
 use tables::word;
 
 mod parts;
@@ -57,7 +57,7 @@ pub fn replay(
     let mut place = start();
     let mut sums = none();
     loop {
-        if !is_statement(word(rows, ROW_SIZE * (place.rows as usize))) {
+        if !is_statement(word(rows, ROW_WORDS * (place.rows as usize))) {
             if is_closed(place) {
                 return Replayed::Holding { place, sums };
             }

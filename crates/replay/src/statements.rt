@@ -18,11 +18,11 @@ use context::kinds::PARAMETER;
 use context::kinds::PROCESS;
 use context::kinds::WIRE;
 use netlist::rows::INTEGER_CONSTANT;
-use netlist::rows::ROW_SIZE;
 use netlist::rows::STRING_CONSTANT;
 use netlist::rows::VALUE_CONSTANT;
 use netlist::used::Used;
 use netlist::used::last_module;
+use tables::ROW_WORDS;
 use tables::Row;
 use tables::get_row;
 ghost use mathlib.Core.Path.{_≡_};
@@ -391,8 +391,8 @@ fn port_number_stands(flags: u32, number: u32) -> bool
 fn wire_row_stands(wires: &[u32], u: Used, size: u32) -> bool
     ensures { λ r. ⌜ WireRowStands (now (wires .entry)) (usedOf u) size r ⌝ }
 {
-    let at = ROW_SIZE * (u.wires as usize);
-    if wires.len() < at + ROW_SIZE {
+    let at = ROW_WORDS * (u.wires as usize);
+    if wires.len() < at + ROW_WORDS {
         return false;
     }
     let q = get_row(wires, at);

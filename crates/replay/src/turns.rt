@@ -25,9 +25,9 @@ use context::sizes::kind_sizes;
 use context::sizes::plus;
 use context::sizes::within;
 use name_index::indexed_found;
-use netlist::rows::ROW_SIZE;
 use netlist::rows::row_name;
 use netlist::used::used_from;
+use tables::ROW_WORDS;
 use tables::get_row;
 ghost use mathlib.Core.Path.{_≡_};
 ghost use Rattle.rules.specs.Shapes.{top, inModule};
@@ -192,8 +192,8 @@ pub fn one_more(
     requires { ⌜ Indexed (now heads) (now chain) (keyAt (now names) (now rows)) (p .rows) ⌝ }
     ensures { λ r. ⌜ TurnIs (tabled (now (names .entry)) (now (strings .entry)) (now (bits .entry)) (now (wires .entry))) (now (rows .entry)) p u r ⌝ }
 {
-    let at = ROW_SIZE * (p.rows as usize);
-    if rows.len() < at + ROW_SIZE {
+    let at = ROW_WORDS * (p.rows as usize);
+    if rows.len() < at + ROW_WORDS {
         return Turn::Nothing;
     }
     let r = get_row(rows, at);

@@ -1,10 +1,10 @@
 // Signals and wires: each bit inside its wire, each wire within the rules.
 use crate::parts::MOST_WIDTH;
 use crate::parts::is_whole;
-use netlist::rows::ROW_SIZE;
 use numbers::kinds::SignalBit;
 use numbers::kinds::decode;
 use numbers::signed::offset_fits;
+use tables::ROW_WORDS;
 use tables::word;
 use wires::WIRE_FLAGS;
 use wires::WIRE_OFFSET;
@@ -37,7 +37,11 @@ fn bit_fits(wires: &[u32], first: u32, count: u32, code: u32) -> bool
             if count <= n {
                 return false;
             }
-            i < word(wires, ROW_SIZE * (first as usize + n as usize) + WIRE_WIDTH)
+            i
+                < word(
+                    wires,
+                    ROW_WORDS * (first as usize + n as usize) + WIRE_WIDTH,
+                )
         }
     }
 }
@@ -85,7 +89,7 @@ pub fn wire_fits(wires: &[u32], first: u32, k: u32) -> bool
     requires { ⌜ first ≤ k ⌝ }
     ensures { λ r. ⌜ WireFits (now (wires .entry)) first k r ⌝ }
 {
-    let at = ROW_SIZE * (k as usize);
+    let at = ROW_WORDS * (k as usize);
     let width = word(wires, at + WIRE_WIDTH);
     if MOST_WIDTH < width {
         return false;

@@ -1,4 +1,4 @@
-use Rattle.reader.specs.Steps.{finishOf}
+use Rattle.reader.specs.Lines.{finishOf}
 use borrow.Author.Needs.{needs}
 use Rattle.reader.proofs.finish.Statement.{statement}
 use Rattle.reader.proofs.finish.Tie as tie

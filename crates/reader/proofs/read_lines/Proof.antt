@@ -4,8 +4,8 @@ use native.Mathlib.Omega.{arith}
 use lib.ListN.{length}
 use Rattle.netlist.specs.Tables.{tabled}
 use Rattle.name_index.specs.Index.{LinesIndexed}
-use Rattle.reader.specs.Steps.{Before}
-use Rattle.reader.proofs.StepLaws.{done-sized, next-indexed}
+use Rattle.reader.specs.Lines.{Before}
+use Rattle.reading_step.proofs.StepLaws.{done-sized, next-indexed}
 use Rattle.reader.proofs.FileLaws.{reached-fits, less, before, reached-more, landed-stop, landed-end}
 use Rattle.reader.proofs.read_lines.Statement.{statement}
 use Rattle.reader.proofs.read_lines.Tie as tie

@@ -2,7 +2,7 @@ use Prim.Native.Nat.{zero-le}
 use mathlib.Core.Path.{sym, ap, _∙_}
 use native.Mathlib.Omega.{arith}
 use denote.Ref.{now}
-use Rattle.reader.specs.Steps.{refusalOf}
+use Rattle.reader.specs.Lines.{refusalOf}
 use Rattle.reader.specs.declared.Answer.the-variants.{Refused}
 use Rattle.reader.proofs.FileLaws.{place-end, end-small}
 use borrow.Author.Needs.{needs}

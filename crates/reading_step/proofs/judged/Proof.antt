@@ -1,8 +1,8 @@
 use mathlib.Core.Path.{sym, ap}
-use Rattle.reader.specs.Steps.{judgedAs}
+use Rattle.reading_step.specs.Steps.{judgedAs}
 use borrow.Author.Needs.{needs}
-use Rattle.reader.proofs.judged.Statement.{statement}
-use Rattle.reader.proofs.judged.Tie as tie
+use Rattle.reading_step.proofs.judged.Statement.{statement}
+use Rattle.reading_step.proofs.judged.Tie as tie
 
 enum-known-j : tie.Need-enum-known-j
 enum-known-j c = search needs

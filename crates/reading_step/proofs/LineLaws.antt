@@ -33,8 +33,8 @@ use Rattle.judgement.specs.Judged as judgement
 use Rattle.judgement.specs.Judged.{Verdicts}
 use Rattle.judgement.specs.declared.Judged.{Judged}
 use Rattle.judgement.specs.declared.Judged.the-variants as judgedly
-use Rattle.reader.specs.Steps.{lineOf, judgedAs, OutcomeIs, Storable}
-use Rattle.reader.specs.declared.Outcome.{Outcome}
+use Rattle.reading_step.specs.Steps.{lineOf, judgedAs, OutcomeIs, Storable}
+use Rattle.reading_step.specs.declared.Outcome.{Outcome}
 
 -- ---- the rows of a line
 

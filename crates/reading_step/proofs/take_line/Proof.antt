@@ -5,10 +5,10 @@ use Rattle.context.proofs.PlaceLaws.{after-is}
 use Rattle.context.specs.Place.{placeAfter}
 use Rattle.context.specs.declared.place.Place.{Place}
 use Rattle.name_index.specs.LineLaws.{lines-upto}
-use Rattle.reader.specs.Steps.{lineOf}
-use Rattle.reader.proofs.StepLaws.{done-fits, done-stands, done-rows, put-storable, step-stated, step-skipped, step-refused, step-indexed, done-few, done-wires}
-use Rattle.reader.proofs.take_line.Statement.{statement}
-use Rattle.reader.proofs.take_line.Tie as tie
+use Rattle.reading_step.specs.Steps.{lineOf}
+use Rattle.reading_step.proofs.StepLaws.{done-fits, done-stands, done-rows, put-storable, step-stated, step-skipped, step-refused, step-indexed, done-few, done-wires}
+use Rattle.reading_step.proofs.take_line.Statement.{statement}
+use Rattle.reading_step.proofs.take_line.Tie as tie
 
 line-outcome-requires : tie.Need-line-outcome-requires
 line-outcome-requires c κs = (c .before .before .before .before .before .before .before .before .before .before .before .before .before .before .before .before .before .pre .0, (done-fits (c .before .before .before .before .before .before .before .before .before .before .before .before .before .before .before .before .before .pre .1 .0 .done), c .before .before .before .before .before .before .before .before .before .before .before .before .before .before .before .before .before .pre .1 .1))

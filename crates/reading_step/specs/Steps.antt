@@ -1,21 +1,20 @@
--- What the parts of reading promise: of one line, and of the lines so far.
-use Prim.Native.Nat.{ℕ, _-_, _*_, _≤_, _<_}
+-- What a step of reading promises: of one line, and of the statements so far.
+use Prim.Native.Nat.{ℕ, _-_, _≤_}
 use mathlib.Core.Path.{_≡_}
-use mathlib.Core.Bool.{true, cond}
+use mathlib.Core.Bool.{true}
 use mathlib.Core.Option.{some}
 use mathlib.Core.List.{List, _∷_}
-use lib.ListN.{length, drop}
+use lib.ListN.{length}
 use lib.Seq.{slice}
 use Rattle.rules.specs.Lines as rules
-use Rattle.rules.specs.Lines.{linesFrom, place}
+use Rattle.rules.specs.Lines.{place}
 use Rattle.rules.specs.Statements as statements
 use Rattle.rules.specs.Judgement.{Past}
 use Rattle.rules.specs.Reading as reading
-use Rattle.rules.specs.Reading.{outcome, next, readLines, readAny}
-use Rattle.rules.specs.Layout.{empty, putAll, memory}
-use Rattle.scanner.specs.Lines.{lineFrom}
+use Rattle.rules.specs.Reading.{outcome, next}
+use Rattle.rules.specs.Layout.{memory}
 use Rattle.scanner.specs.declared.lines.Line.{Line}
-use Rattle.context.specs.Place.{placeOf, closesAt, Bounds}
+use Rattle.context.specs.Place.{placeOf, Bounds}
 use Rattle.context.specs.Sizes.{sumsOf, Within}
 use Rattle.context.specs.declared.place.Place.{Place}
 use Rattle.context.specs.declared.sizes.Sizes.{Sizes}
@@ -29,14 +28,10 @@ use Rattle.name_index.specs.Index.{LinesIndexed}
 use Rattle.judgement.specs.Judged.{Stands}
 use Rattle.judgement.specs.declared.Judged.{Judged}
 use Rattle.judgement.specs.declared.Judged.the-variants as judged
-use Rattle.reader.specs.declared.Outcome.{Outcome}
-use Rattle.reader.specs.declared.Outcome.the-variants.{Skipped, Stated, Refused}
-use Rattle.reader.specs.declared.Step.{Step}
-use Rattle.reader.specs.declared.Step.the-variants.{Next, Stop}
-use Rattle.reader.specs.declared.Answer.{Answer}
-use Rattle.reader.specs.declared.Answer.the-variants as answer
-use Rattle.reader.specs.declared.Reach.{Reach}
-use Rattle.reader.specs.declared.Reach.the-variants.{Ended, Longer}
+use Rattle.reading_step.specs.declared.Outcome.{Outcome}
+use Rattle.reading_step.specs.declared.Outcome.the-variants.{Skipped, Stated, Refused}
+use Rattle.reading_step.specs.declared.Step.{Step}
+use Rattle.reading_step.specs.declared.Step.the-variants.{Next, Stop}
 
 -- the line of the rules
 unfoldable pub lineOf : List ℕ → Line → rules.Line
@@ -106,39 +101,7 @@ StepIs ss l t (Stop n) = outcome ss l ≡ reading.Outcome.refused n (place l)
 abbrev pub StepAs : List ℕ → Line → Place → Sizes → (t t′ : Tables) → Step → Type 0
 StepAs f l p u t t′ r = (ss : Past) → Done ss p u t → StepIs ss (lineOf f l) t′ r
 
--- THE FILE. A refused line
-unfoldable pub refusalOf : List ℕ → Line → Step → Answer
-refusalOf f l (Next p u) = answer.Accepted 0
-refusalOf f l (Stop n) = answer.Refused n (place (lineOf f l))
-
--- and the file's end, by the place behind the last statement
-unfoldable pub finishOf : ℕ → Place → Sizes → Answer
-finishOf size p u = cond (closesAt p) (answer.Accepted (u .«name_bytes»)) (answer.Refused 5 size)
-
--- the file's answer: of an accepted one the tables hold the statements, and so many bytes of the name room are used
-abbrev pub Landed : reading.Answer → Tables → Answer → Type 0
-Landed (reading.accepted ss) t r = (r ≡ answer.Accepted (length (putAll empty ss .names))) × (t ≡ tablesOf (memory (putAll empty ss) 0))
-Landed (reading.refused n p) t r = r ≡ answer.Refused n p
-
 -- the names of the statements so far are indexed
 abbrev pub StepIndexed : (heads chain names wires rows : List ℕ) → Step → Type 0
 StepIndexed heads chain names wires rows (Next p u) = LinesIndexed heads chain names wires rows (p .rows) (p .wires)
 StepIndexed heads chain names wires rows (Stop n) = Unit {0}
-
--- the lines before this place are read
-pub record Reached (f scratch : List ℕ) (p : Place) (u : Sizes) (t : Tables) (at : ℕ) : Type 0 where
-  pub inside : at ≤ length f
-  pub file : length f ≤ 32768
-  pub scratch-long : length scratch ≡ 36864
-  pub past : Past
-  pub done : Done past p u t
-  pub rest : readAny f ≡ readLines (length f) (linesFrom at (drop at f)) past
-
-pub record Before (f scratch : List ℕ) (p : Place) (u : Sizes) (t : Tables) (l : Line) : Type 0 where
-  pub reached : Reached f scratch p u t (l .start)
-  pub is : l ≡ lineFrom f (l .start)
-
--- the file's answer; or the lines before one that is too long for the table of tokens are read
-abbrev pub ReachAs : (f tokens scratch heads chain : List ℕ) → Tables → Reach → Type 0
-ReachAs f tokens scratch heads chain t (Ended a) = Landed (readAny f) t a
-ReachAs f tokens scratch heads chain t (Longer l p u) = Before f scratch p u t l × LinesIndexed heads chain (t .names) (t .wires) (t .rows) (p .rows) (p .wires) × (length tokens < 4 * (l .end - l .start))

@@ -45,11 +45,11 @@ use Rattle.netlist.specs.UsedLaws.{used-past, used-wires}
 use Rattle.layout.proofs.PastLaws.{room-past}
 use Rattle.judgement.specs.Judged.{Stands}
 use Rattle.soundness.specs.ReadLaws.{states-admitted}
-use Rattle.reader.specs.Steps.{PlaceFits, States, OutcomeIs, Storable, Done, Goes, StepIndexed}
-use Rattle.reader.specs.declared.Outcome.{Outcome}
-use Rattle.reader.specs.declared.Outcome.the-variants as outcomes
-use Rattle.reader.specs.declared.Step.{Step}
-use Rattle.reader.specs.declared.Step.the-variants.{Next}
+use Rattle.reading_step.specs.Steps.{PlaceFits, States, OutcomeIs, Storable, Done, Goes, StepIndexed}
+use Rattle.reading_step.specs.declared.Outcome.{Outcome}
+use Rattle.reading_step.specs.declared.Outcome.the-variants as outcomes
+use Rattle.reading_step.specs.declared.Step.{Step}
+use Rattle.reading_step.specs.declared.Step.the-variants.{Next}
 
 -- ---- what the statements so far give
 

@@ -3,8 +3,8 @@ use Rattle.rules.specs.Statements.{code}
 use Rattle.syntax.specs.Statements.{kindIn}
 use Rattle.syntax.specs.declared.Statement.{Statement}
 use borrow.Author.Needs.{needs}
-use Rattle.reader.proofs.kind_code.Statement.{statement}
-use Rattle.reader.proofs.kind_code.Tie as tie
+use Rattle.reading_step.proofs.kind_code.Statement.{statement}
+use Rattle.reading_step.proofs.kind_code.Tie as tie
 
 enum-told : tie.Need-enum-told
 enum-told c = search needs

@@ -1,8 +1,8 @@
 use Prim.Native.Nat.{zero-le}
 use native.Mathlib.Omega.{arith}
-use Rattle.reader.proofs.LineLaws.{outcome-bad, outcome-none, outcome-open, outcome-shaped, rows-few, rows-fit, rows-ready, outcome-judged, storable-judged}
-use Rattle.reader.proofs.line_outcome.Statement.{statement}
-use Rattle.reader.proofs.line_outcome.Tie as tie
+use Rattle.reading_step.proofs.LineLaws.{outcome-bad, outcome-none, outcome-open, outcome-shaped, rows-few, rows-fit, rows-ready, outcome-judged, storable-judged}
+use Rattle.reading_step.proofs.line_outcome.Statement.{statement}
+use Rattle.reading_step.proofs.line_outcome.Tie as tie
 
 lex-line-requires : tie.Need-lex-line-requires
 lex-line-requires c κs = (c .before .before .before .before .before .before .before .before .before .pre .0 .0 .low, c .before .before .before .before .before .before .before .before .before .pre .0 .0 .high, c .before .before .before .before .before .before .before .before .before .pre .0 .0 .file, c .before .before .before .before .before .before .before .before .before .pre .0 .1)
