@@ -1,7 +1,7 @@
 /* Skytassel: reads, writes and reversibly renames RTLIL netlists. The calls of target/staticlib/libskytassel_c.a, which `rt staticlib skytassel_c` writes; link it statically.
  *
  * Every call is proved to answer for any bytes and any lengths, and to end. It relies on C for what C alone can promise: no pointer is null, each length is
- * that of its part, and no two parts overlap where one of them is changed. Reading takes less than 800 KB of stack, the other calls far less; nothing is
+ * that of its part, and no two parts overlap where one of them is changed. Reading takes less than 900 KB of stack, the other calls far less; nothing is
  * kept between calls.
  *
  * Numbers: 0 none. 1 a table hasn't its exact length. 2 file over 32,768 bytes. 3 memory that holds no design. 4 bad token, ill-formed new name. 5 no permitted

@@ -11,7 +11,7 @@ pub const ROW: usize = 8;
 pub const WIRES: usize = ROW * 512;
 pub const ROWS: usize = ROW * 4_769;
 
-/// Design memory lent to a call that may change it. Reading takes less than 800 KB of stack.
+/// Design memory lent to a call that may change it. Reading takes less than 900 KB of stack.
 #[derive(Debug)]
 pub struct Lent<'a> {
     pub names: &'a mut [u8],
