@@ -15,9 +15,9 @@ use Rattle.rules.specs.Statements.{Statement, Wire, aModule, contents, is}
 use Rattle.rules.specs.Numbers.{int32}
 use Rattle.rules.specs.Signals.{Wires}
 use Rattle.rules.specs.Judgement.{Past, until, ofModule, wires, portNumbers, takesName, exceedsSize}
-use Rattle.scanner.specs.Laws.{by-test, and-true-left, and-true-right}
-use Rattle.scanner.specs.Lists.{keeps-before}
-use Rattle.scanner.specs.Elements.{all-append, all-implied, test-at}
+use Rattle.lists.specs.Tests.{by-test, and-true-left, and-true-right}
+use Rattle.lists.specs.Lists.{keeps-before}
+use Rattle.lists.specs.Elements.{all-append, all-implied, test-at}
 use Rattle.context.specs.Sizes.{sumsOf, Within}
 use Rattle.context.specs.Offsets.{fitsOffset, Offsets, no-offsets, more-offsets}
 use Rattle.context.proofs.SizeLaws.{within-past, within-none}

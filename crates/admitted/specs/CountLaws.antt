@@ -15,8 +15,8 @@ use Rattle.rules.specs.Shapes.{Scope, top, inModule, inCell}
 use Rattle.rules.specs.Judgement.{Past, sum, scope, context, among, count}
 use Rattle.context.specs.Place.{scopeCode, scopeAfter}
 use Rattle.context.specs.Sizes.{sizesBy, sumsOf, Within}
-use Rattle.scanner.specs.Laws.{by-test, and-true-left, and-true-right}
-use Rattle.scanner.specs.Elements.{test-at}
+use Rattle.lists.specs.Tests.{by-test, and-true-left, and-true-right}
+use Rattle.lists.specs.Elements.{test-at}
 use Rattle.context.proofs.KindLaws.{count-one, count-two}
 use Rattle.context.proofs.PlaceLaws.{scope-step}
 use Rattle.admitted.specs.Admitted.{kinds, stands}

@@ -10,7 +10,7 @@ use Rattle.rules.specs.Statements.{Shape, Statement, Kind, Contents, holds, aPr
 use Rattle.rules.specs.Numbers.{wireOf, memoryOf}
 use Rattle.rules.specs.Signals.{Wires, kept, bits}
 use Rattle.rules.specs.Judgement.{Past, wires, among, breaksNumber, lacksWire, takesName, breaksWidth, partTooWide, exceedsSize, lowest, Verdict, verdict, meaning, judgeIn, judge}
-use Rattle.scanner.specs.Elements.{all-first, all-later, Each}
+use Rattle.lists.specs.Elements.{all-first, all-later, Each}
 use Rattle.context.specs.Forms.{translated, contents-translated}
 
 -- what a shape means is of its kind

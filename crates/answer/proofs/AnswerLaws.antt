@@ -15,7 +15,7 @@ use Rattle.rules.specs.Design.{design}
 use Rattle.rules.specs.Session.{Rename, now}
 use Rattle.rules.specs.Text.{decimalOnto, decimalText, text, writeText, write, refusal, printed, programBy, program}
 use Rattle.rules.specs.Layout.{Memory}
-use Rattle.scanner.specs.Laws.{by-cond}
+use Rattle.lists.specs.Tests.{by-cond}
 use Rattle.netlist.specs.Lengths.{rightSizes, rightLengths}
 use Rattle.text.specs.Written.{Written, written-end, written-whole}
 use Rattle.netlist.specs.Results.{Result}

@@ -11,7 +11,7 @@ use Rattle.rules.specs.Statements.{Statement}
 use Rattle.rules.specs.Design.{design}
 use Rattle.rules.specs.Session.{Rename, Call, call, answerOf, standing, plainSession}
 use Rattle.rules.specs.Layout.{Memory, layout}
-use Rattle.scanner.specs.Lists.{flatMap-snoc}
+use Rattle.lists.specs.Lists.{flatMap-snoc}
 use Rattle.tables.specs.Store.{store, store-none, store-more, store-then}
 use Rattle.admitted.specs.Holds.{Holds}
 use Rattle.netlist.specs.Results.{Result, result}

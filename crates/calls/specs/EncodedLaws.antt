@@ -6,8 +6,8 @@ use mathlib.Core.List.{List, [], _∷_, _++_, append-assoc}
 use lib.ListN.{length, length-append}
 use native.Mathlib.Omega.{arith}
 use Rattle.rules.specs.Session.{Call, rename, undo}
-use Rattle.scanner.specs.Elements.{Each, each-append}
-use Rattle.scanner.specs.Parts.{slice-between}
+use Rattle.lists.specs.Elements.{Each, each-append}
+use Rattle.lists.specs.Parts.{slice-between}
 use Rattle.calls.specs.Calls.{callWord, renameAt, callAt, callsFrom, callsIn}
 
 -- the names of renames, one behind the other

@@ -9,8 +9,8 @@ use Rattle.rules.specs.Tokens.{Name}
 use Rattle.rules.specs.Statements.{Statement, autoidx-stmt, module-stmt, param-stmt, wire-stmt, memory-stmt, cell-stmt, conn-stmt, end-stmt, statementsOpen}
 use Rattle.rules.specs.Judgement.{Past, wires}
 use Rattle.rules.specs.Design.{Setting, Object, object, design, flatten}
-use Rattle.scanner.specs.Elements.{Each, each-map, each-through, each-together, all-each, all-flatMap}
-use Rattle.scanner.specs.Sums.{sum-reverse}
+use Rattle.lists.specs.Elements.{Each, each-map, each-through, each-together, all-each, all-flatMap}
+use Rattle.lists.specs.Sums.{sum-reverse}
 use Rattle.admitted.specs.Admitted.{fineAlone, admits, admitted, closes}
 use Rattle.canonical.specs.Nesting.{Entry, param-entry, wire-entry, memory-entry, cell-entry, connection-entry, File, settings, lineIn, linesOf, linesOfModule, linesOfFile, wiresOf, memoriesOf, cellBody, cellsOf, bodyOf, moduleIn, designOf}
 use Rattle.canonical.specs.DesignLaws.{design-lines}

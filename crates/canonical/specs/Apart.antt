@@ -8,8 +8,8 @@ use borrow.Author.Tests.{not-true}
 use Rattle.rules.specs.Bytes.{any, all, same}
 use Rattle.rules.specs.Statements.{Statement, contents, ownName}
 use Rattle.rules.specs.Judgement.{Past, sum, wires, among, Space, namesIn, nameSpaces, takesName, sizes, exceedsSize}
-use Rattle.scanner.specs.Laws.{and-true-left, and-true-right}
-use Rattle.scanner.specs.Elements.{Each, test-at, any-none, none-any}
+use Rattle.lists.specs.Tests.{and-true-left, and-true-right}
+use Rattle.lists.specs.Elements.{Each, test-at, any-none, none-any}
 use Rattle.admitted.specs.Admitted.{stands, fineSignal, fineAlone, fineParts, admits, admitted}
 use Rattle.admitted.specs.AdmitLaws.{admits-all, admits-last, admitted-before}
 use Rattle.canonical.specs.Tally.{Through, nameTally, moduleNames, objectNames, attributeNames, parameterNames, cellParameterNames, cellPortNames, portTally}

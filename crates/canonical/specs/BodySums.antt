@@ -18,7 +18,7 @@ use Rattle.canonical.specs.Nesting.{CellEntry, parameter-entry, port-ent
 use Rattle.canonical.specs.DesignLaws.{flatten-file, design-file}
 use Rattle.canonical.specs.Fine.{times, settingNames, portsIn}
 use Rattle.canonical.specs.Tally.{nameTally, moduleNames, objectNames, attributeNames, parameterNames, cellParameterNames, cellPortNames, portTally}
-use Rattle.scanner.specs.Sums.{sum-append, sum-map, sum-flatMap, sum-same, sum-zero}
+use Rattle.lists.specs.Sums.{sum-append, sum-map, sum-flatMap, sum-same, sum-zero}
 use Rattle.canonical.specs.Sums.{times-append}
 
 -- a cell; a module's entries

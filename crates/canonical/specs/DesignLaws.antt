@@ -11,9 +11,9 @@ use Rattle.rules.specs.Statements.{Sort, Constant, Signal, Wire, Memory, Statem
 use Rattle.rules.specs.Bytes.{all}
 use Rattle.rules.specs.Judgement.{until}
 use Rattle.rules.specs.Design.{Setting, Object, object, Cell, Module, Design, Item, settingIn, items, blocks, objectsIn, parameterIn, portIn, pair, connectionIn, cellParameterIn, each, cellOf, moduleOf, design, flatten, objects, cellLines, moduleLines, designOpen}
-use Rattle.scanner.specs.Laws.{and-true-left, and-true-right}
-use Rattle.scanner.specs.Lists.{flatMap-append, flatMap-same, flatMap-map, flatMap-flatMap, flatMap-none, flatMap-one, flatMap-self}
-use Rattle.scanner.specs.Elements.{until-none, all-append, all-map, all-each, map-back, each-all, all-flatMap}
+use Rattle.lists.specs.Tests.{and-true-left, and-true-right}
+use Rattle.lists.specs.Lists.{flatMap-append, flatMap-same, flatMap-map, flatMap-flatMap, flatMap-none, flatMap-one, flatMap-self}
+use Rattle.lists.specs.Elements.{until-none, all-append, all-map, all-each, map-back, each-all, all-flatMap}
 use Rattle.canonical.specs.Nesting.{CellEntry, parameter-entry, port-entry, Entry, param-entry, wire-entry, memory-entry, cell-entry, connection-entry, File, settings, lineIn, linesOf, linesOfModule, linesOfFile, parameterOf, portOf, parametersOf, wiresOf, memoriesOf, cellBody, cellsOf, connectionsOf, bodyOf, moduleIn, designOf, cellEntries, entries, asFile, fileOf, nestingOpen}
 
 none-of : {A B : Type 0} (xs : List A) → flatMap {B = B} (λ (x : A). []) xs ≡ []

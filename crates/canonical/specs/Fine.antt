@@ -11,7 +11,7 @@ use Rattle.rules.specs.Signals.{Wires}
 use Rattle.rules.specs.Judgement.{sum, portNumbers, exceedsSize}
 use Rattle.rules.specs.Design.{Setting, Object, Cell, Module, Design, flatten}
 use Rattle.rules.specs.Session.{names}
-use Rattle.scanner.specs.Elements.{Each}
+use Rattle.lists.specs.Elements.{Each}
 use Rattle.admitted.specs.Admitted.{fineSignal, fineAlone}
 
 -- how many pass a test

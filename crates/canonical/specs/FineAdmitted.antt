@@ -12,9 +12,9 @@ use Rattle.rules.specs.Tokens.{Name}
 use Rattle.rules.specs.Statements.{Statement, autoidx-stmt, statementsOpen}
 use Rattle.rules.specs.Judgement.{Past, sum, among, space}
 use Rattle.rules.specs.Design.{Object, Cell, Module, Design, flatten}
-use Rattle.scanner.specs.Elements.{Each, each-map, each-through}
-use Rattle.scanner.specs.Lists.{flatMap-map}
-use Rattle.scanner.specs.Sums.{sum-reverse}
+use Rattle.lists.specs.Elements.{Each, each-map, each-through}
+use Rattle.lists.specs.Lists.{flatMap-map}
+use Rattle.lists.specs.Sums.{sum-reverse}
 use Rattle.admitted.specs.Admitted.{admitted, closes}
 use Rattle.canonical.specs.Nesting.{Entry, File, linesOfModule, linesOfFile, bodyOf, moduleIn, asFile, fileOf}
 use Rattle.canonical.specs.DesignLaws.{body-entries, flatten-file}

@@ -14,9 +14,9 @@ use Rattle.rules.specs.Judgement.{Past, outer, scope, context, among}
 use Rattle.rules.specs.Reading.{isTop}
 use Rattle.rules.specs.Design.{Setting, object}
 use Rattle.admitted.specs.Admitted.{kinds, stands, closes}
-use Rattle.scanner.specs.Laws.{and-true-left, and-true-right, or-true-right, never}
+use Rattle.lists.specs.Tests.{and-true-left, and-true-right, or-true-right, never}
 use Rattle.context.specs.Forms.{by-form}
-use Rattle.scanner.specs.Lists.{flatMap-append}
+use Rattle.lists.specs.Lists.{flatMap-append}
 use Rattle.admitted.specs.CountLaws.{context-scope}
 use Rattle.canonical.specs.Nesting.{CellEntry, parameter-entry, port-entry, Entry, param-entry, wire-entry, memory-entry, cell-entry, connection-entry, File, settings, lineIn, linesOf, linesOfFile, nestingOpen}
 use Rattle.canonical.specs.Tally.{Through}

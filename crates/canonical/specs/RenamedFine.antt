@@ -17,10 +17,11 @@ use Rattle.rules.specs.Judgement.{sum, among, count, signalSize, valueSize, str
 use Rattle.rules.specs.Design.{Object, object, Module, Design, flatten}
 use Rattle.rules.specs.Session.{Rename, wireAt, change, renameWire, renamed, now, roomUsed, names, taken, renameCall, undoCall}
 use Rattle.admitted.specs.Admitted.{fineBit, fineSignal, fineAlone}
-use Rattle.scanner.specs.Laws.{by-test, same-eq, or-false-left, or-false-right}
-use Rattle.scanner.specs.Lists.{drop-last, elim-map, flatMap-map}
-use Rattle.scanner.specs.Elements.{Each, all-same}
-use Rattle.scanner.specs.Sums.{sum-append, sum-map}
+use Rattle.lists.specs.Tests.{by-test, or-false-left, or-false-right}
+use Rattle.scanner.specs.Laws.{same-eq}
+use Rattle.lists.specs.Lists.{drop-last, elim-map, flatMap-map}
+use Rattle.lists.specs.Elements.{Each, all-same}
+use Rattle.lists.specs.Sums.{sum-append, sum-map}
 use Rattle.context.specs.Sizes.{sizesBy, sumsOf}
 use Rattle.context.proofs.SizeLaws.{within-past, limits-within, exceeds-sums}
 use Rattle.admitted.specs.Holds.{Allowed, no-renames, one-rename}

@@ -16,15 +16,15 @@ use Rattle.rules.specs.Signals.{Wires}
 use Rattle.rules.specs.Judgement.{Past, sum, wires}
 use Rattle.rules.specs.Design.{Setting, Object, Cell, Module}
 use Rattle.admitted.specs.Admitted.{fineBit, fineSignal}
-use Rattle.scanner.specs.Laws.{and-true-left, and-true-right}
-use Rattle.scanner.specs.Lists.{flatMap-append, element-stays, flatMap-map}
-use Rattle.scanner.specs.Elements.{all-append, all-implied, all-both, all-right, all-flatMap}
+use Rattle.lists.specs.Tests.{and-true-left, and-true-right}
+use Rattle.lists.specs.Lists.{flatMap-append, element-stays, flatMap-map}
+use Rattle.lists.specs.Elements.{all-append, all-implied, all-both, all-right, all-flatMap}
 use Rattle.canonical.specs.Nesting.{CellEntry, Entry, param-entry, wire-entry, memory-entry, cell-entry, connection-entry, settings, lineIn, linesOf, wiresOf, bodyOf, linesOfModule, cellEntries, entries, asFile}
 use Rattle.canonical.specs.DesignLaws.{settings-pass, cell-pass, cellEntry, body-entries}
 use Rattle.canonical.specs.Fine.{wiresIn, signalsIn}
 use Rattle.canonical.specs.Tally.{Through, behind-all, through-before}
 use Rattle.canonical.specs.Apart.{sees}
-use Rattle.scanner.specs.Sums.{sum-append, sum-map, sum-flatMap, sum-same, sum-zero}
+use Rattle.lists.specs.Sums.{sum-append, sum-map, sum-flatMap, sum-same, sum-zero}
 use Rattle.canonical.specs.Sums.{fails, all-none, none-all}
 use Rattle.canonical.specs.BodySums.{cellSum, bodySum, body-sum, settings-zero}
 use Rattle.canonical.specs.Walks.{noModule}

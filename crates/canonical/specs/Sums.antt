@@ -9,9 +9,9 @@ use borrow.Author.Tests.{ltb-false, le-ltb}
 use Rattle.rules.specs.Bytes.{all}
 use Rattle.rules.specs.Statements.{Statement}
 use Rattle.rules.specs.Judgement.{sum, sizes, exceedsSize}
-use Rattle.scanner.specs.Laws.{by-test}
-use Rattle.scanner.specs.Elements.{each-map, each-of, all-of, any-none, none-any}
-use Rattle.scanner.specs.Sums.{sum-append, zeros-sum, sum-zeros}
+use Rattle.lists.specs.Tests.{by-test}
+use Rattle.lists.specs.Elements.{each-map, each-of, all-of, any-none, none-any}
+use Rattle.lists.specs.Sums.{sum-append, zeros-sum, sum-zeros}
 use Rattle.canonical.specs.Fine.{times}
 
 -- how many of two lists pass a test

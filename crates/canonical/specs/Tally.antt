@@ -13,10 +13,11 @@ use Rattle.rules.specs.Tokens.{Name}
 use Rattle.rules.specs.Statements.{Wire, Direction, Statement, statementsOpen, Kind, anAttribute, aModule, aParameter, aWire, aMemory, aCell, aCellParameter, aCellConnection, code, contents, is, ownName}
 use Rattle.rules.specs.Signals.{Wires}
 use Rattle.rules.specs.Judgement.{Past, sum, wires, portNumbers, among, Space, space, namesIn, only, until, ofModule, ofCell, ofObject}
-use Rattle.scanner.specs.Laws.{by-test, and-true-left, and-true-right, same-refl, same-eq}
-use Rattle.scanner.specs.Lists.{keeps-before}
-use Rattle.scanner.specs.Elements.{all-first, all-later}
-use Rattle.scanner.specs.Sums.{none-sum, sum-none}
+use Rattle.lists.specs.Tests.{by-test, and-true-left, and-true-right}
+use Rattle.scanner.specs.Laws.{same-refl, same-eq}
+use Rattle.lists.specs.Lists.{keeps-before}
+use Rattle.lists.specs.Elements.{all-first, all-later}
+use Rattle.lists.specs.Sums.{none-sum, sum-none}
 use Rattle.context.proofs.PlaceLaws.{wires-none, wires-one, wires-reset}
 use Rattle.context.specs.Forms.{by-wire}
 use Rattle.admitted.specs.Admitted.{newPorts}

@@ -15,8 +15,8 @@ use Rattle.rules.specs.Statements.{Constant, Signal, Wire, Memory, Statement, a
 use Rattle.rules.specs.Judgement.{Past, sum, among, space}
 use Rattle.rules.specs.Design.{Setting, Object, Cell, Module}
 use Rattle.rules.specs.Session.{names}
-use Rattle.scanner.specs.Laws.{or-false-left, or-false-right}
-use Rattle.scanner.specs.Elements.{all-append, all-each, all-same, all-first, all-later, Each, all-flatMap, each-front, each-back, each-apart}
+use Rattle.lists.specs.Tests.{or-false-left, or-false-right}
+use Rattle.lists.specs.Elements.{all-append, all-each, all-same, all-first, all-later, Each, all-flatMap, each-front, each-back, each-apart}
 use Rattle.canonical.specs.Nesting.{CellEntry, Entry, param-entry, wire-entry, memory-entry, cell-entry, connection-entry, File, settings, lineIn, linesOf, linesOfModule, linesOfFile, wiresOf, memoriesOf, cellBody, cellsOf, bodyOf, moduleIn, nestingOpen}
 use Rattle.canonical.specs.DesignLaws.{settings-pass, cell-pass}
 use Rattle.canonical.specs.Fine.{times, Differ, portsIn, settingNames, FineCell, FineModule}

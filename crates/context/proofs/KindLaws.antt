@@ -8,7 +8,7 @@ use lib.Dec.{eqb}
 use Rattle.rules.specs.Bytes.{any}
 use Rattle.rules.specs.Statements.{Kind, Statement, code, contents, is}
 use Rattle.rules.specs.Judgement.{among, count}
-use Rattle.scanner.specs.Laws.{eqb-sym, cond-le}
+use Rattle.lists.specs.Tests.{eqb-sym, cond-le}
 
 pub count-le : (ks : List Kind) (s : Statement) → count ks s ≤ 1
 unfolding count

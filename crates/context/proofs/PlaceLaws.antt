@@ -17,9 +17,9 @@ use Rattle.rules.specs.Reading.{isTop}
 use Rattle.context.specs.Forms.{by-form}
 use Rattle.context.specs.Place.{scopeCode, scopeOf, wiresIn, placeOf, contextOf, closesAt, Bounds, scopeAfter, placeAfter, AfterIs}
 use Rattle.context.specs.declared.place.Place.{Place}
-use Rattle.scanner.specs.Laws.{by-test}
-use Rattle.scanner.specs.Lists.{zip-none, flatMap-until}
-use Rattle.scanner.specs.Sums.{sum-more, sum-le, sum-until, length-flatMap}
+use Rattle.lists.specs.Tests.{by-test}
+use Rattle.lists.specs.Lists.{zip-none, flatMap-until}
+use Rattle.lists.specs.Sums.{sum-more, sum-le, sum-until, length-flatMap}
 use Rattle.context.proofs.KindLaws.{is-code, count-one, count-le}
 
 -- A measure of lists to which each element adds its own: over the last elements, and over those before them

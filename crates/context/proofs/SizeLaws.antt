@@ -13,7 +13,7 @@ use Rattle.rules.specs.Judgement.{Past, sum, signalSize, valueSize, stringSize,
 use Rattle.context.specs.Place.{placeOf, wiresIn}
 use Rattle.context.specs.Sizes.{sizesBy, sizesOf, sumsOf, plusOf, limits, exceeds, Within, AtMost, kindSizes, KindSizesAre}
 use Rattle.context.specs.declared.sizes.Sizes.{Sizes}
-use Rattle.scanner.specs.Elements.{Each, any-none, each-map, none-any}
+use Rattle.lists.specs.Elements.{Each, any-none, each-map, none-any}
 use Rattle.context.proofs.KindLaws.{count-le, count-one, count-two}
 
 -- the sums with one statement more

@@ -9,8 +9,8 @@ use Rattle.rules.specs.Bytes.{bytes, same, all}
 use Rattle.rules.specs.Statements.{Opt, Statement, contents}
 use Rattle.rules.specs.Numbers.{int32, numberOr, once, goodOptions, goodWire, goodMemory, wireOf, memoryOf}
 use Rattle.rules.specs.Judgement.{Past}
-use Rattle.scanner.specs.Laws.{by-cond, and-true-left, and-true-right}
-use Rattle.scanner.specs.Elements.{all-first, all-later}
+use Rattle.lists.specs.Tests.{by-cond, and-true-left, and-true-right}
+use Rattle.lists.specs.Elements.{all-first, all-later}
 
 abbrev pub fitsOffset : Statement → Bool
 fitsOffset s = all (λ w. int32 (w .offset)) (contents s .wires)

@@ -8,7 +8,7 @@ use native.Mathlib.Omega.{arith}
 use lib.Dec.{eqb}
 use borrow.Author.Tests.{eq-eqb, ne-eqb}
 use Rattle.rules.specs.Bytes.{bytes}
-use Rattle.scanner.specs.Laws.{cond-le}
+use Rattle.lists.specs.Tests.{cond-le}
 use Rattle.netlist.specs.Rows.{kindAt}
 use Rattle.wire_names.specs.Now.{wiresIn}
 use Rattle.wire_names.specs.declared.Module.{Module}

@@ -19,9 +19,9 @@ use Rattle.rules.specs.Judgement.{Past, until, count, ofModule, wires}
 use Rattle.rules.specs.Session.{Rename}
 use Rattle.rules.specs.Text.{textOpen}
 use Rattle.rules.specs.Layout.{used, nameBytes, putRenames}
-use Rattle.scanner.specs.Laws.{by-test, and-true-left, and-true-right, eqb-sym}
-use Rattle.scanner.specs.Elements.{all-snoc}
-use Rattle.scanner.specs.Sums.{sum-behind}
+use Rattle.lists.specs.Tests.{by-test, and-true-left, and-true-right, eqb-sym}
+use Rattle.lists.specs.Elements.{all-snoc}
+use Rattle.lists.specs.Sums.{sum-behind}
 use Rattle.wires.specs.Rows.{column, nameOf, wireOf}
 use Rattle.wires.specs.RowLaws.{row-wire, row-name}
 use Rattle.context.specs.Place.{wiresIn}

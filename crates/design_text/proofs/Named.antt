@@ -12,7 +12,7 @@ use Rattle.rules.specs.Shapes.{Scope}
 use Rattle.rules.specs.Signals.{Wires}
 use Rattle.rules.specs.Judgement.{until}
 use Rattle.rules.specs.Session.{Rename}
-use Rattle.scanner.specs.Laws.{by-test}
+use Rattle.lists.specs.Tests.{by-test}
 use Rattle.context.specs.Forms.{by-form, is-other}
 use Rattle.modules.specs.Now.{nameNow}
 use Rattle.module_text.specs.Passes.{named, kindLines, Print, objectLines, printWire, printMemory, cellBlock, printToEnd, bodyLines}

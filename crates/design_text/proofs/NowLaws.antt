@@ -3,7 +3,7 @@
 use Prim.Native.Nat.{ℕ, zero, suc, _+_}
 use mathlib.Core.Path.{_≡_, refl, sym, ap, ap₂, _∙_}
 use mathlib.Core.List.{List, _∷_, reverseAux}
-use Rattle.scanner.specs.Lists.{keeps-before}
+use Rattle.lists.specs.Lists.{keeps-before}
 use lib.ListN.{length}
 use Rattle.rules.specs.Tokens.{Name}
 use Rattle.rules.specs.Statements.{Statement, Wire}

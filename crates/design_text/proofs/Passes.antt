@@ -14,8 +14,8 @@ use Rattle.rules.specs.Statements.{Statement, Kind, anAttribute, aParameter, aW
 use Rattle.rules.specs.Signals.{Wires}
 use Rattle.rules.specs.Judgement.{until}
 use Rattle.rules.specs.Text.{textOpen}
-use Rattle.scanner.specs.Laws.{by-test, and-true-left, and-true-right, eqb-sym}
-use Rattle.scanner.specs.Elements.{all-snoc}
+use Rattle.lists.specs.Tests.{by-test, and-true-left, and-true-right, eqb-sym}
+use Rattle.lists.specs.Elements.{all-snoc}
 use Rattle.context.specs.Forms.{is-other}
 use Rattle.netlist.specs.Rows.{kindAt}
 use Rattle.wire_names.specs.Now.{wiresIn}

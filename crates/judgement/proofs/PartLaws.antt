@@ -14,7 +14,7 @@ use Rattle.rules.specs.Numbers.{goodLiteral}
 use Rattle.rules.specs.Signals.{kept, literalBits, literalWidth}
 use Rattle.rules.specs.Judgement.{sum, signalSize, valueSize, stringSize, nameSize}
 use Rattle.scanner.specs.Numbers.{capped}
-use Rattle.scanner.specs.Parts.{slice-le}
+use Rattle.lists.specs.Parts.{slice-le}
 use Rattle.strings.proofs.StringLaws.{decoded-length}
 use Rattle.tokens.specs.Rows.{literalIn}
 use Rattle.tokens.specs.declared.Constant.the-variants as constant

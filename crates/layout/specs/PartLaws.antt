@@ -6,7 +6,7 @@ use mathlib.Core.List.{List, [], _∷_, _++_, map, flatMap, zip, zipWith, append
 use Rattle.rules.specs.Tokens.{Name}
 use Rattle.rules.specs.Statements.{Statement, Constant, Signal, Wire, contents, digitsOf, bytesOf}
 use Rattle.rules.specs.Layout.{Used, nameBytes, stringBytes, digitCode, bitCode, bitCodes, wireRow, wireRows}
-use Rattle.scanner.specs.Lists.{zip-none}
+use Rattle.lists.specs.Lists.{zip-none}
 
 module _ (s : Statement) where
   pub no-names : contents s .names ≡ [] → nameBytes s ≡ []

@@ -8,8 +8,8 @@ use lib.ListN.{length, length-append, length-map}
 use Rattle.rules.specs.Tokens.{Name}
 use Rattle.rules.specs.Statements.{Statement, Constant, Signal, Wire, contents, digitsOf, bytesOf}
 use Rattle.rules.specs.Layout.{Rooms, Used, padded, used, nameBytes, stringBytes, bitCodes, wireRow, wireRows, statementRow, put, memory}
-use Rattle.scanner.specs.Lists.{flatMap-append}
-use Rattle.scanner.specs.Elements.{each-mapped}
+use Rattle.lists.specs.Lists.{flatMap-append}
+use Rattle.lists.specs.Elements.{each-mapped}
 use Rattle.tables.specs.Store.{store, store-none}
 use Rattle.tables.specs.Padded.{store-padded}
 use Rattle.tables.specs.Flat.{flat, Eights, length-flat, store-row}

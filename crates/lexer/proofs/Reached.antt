@@ -10,8 +10,8 @@ use lib.ListN.{length, getD, take, drop}
 use lib.Seq.{slice, length-slice, append-snoc}
 use borrow.Author.Tests.{ltb-true, ltb-false}
 use Rattle.rules.specs.Tokens as rules
-use Rattle.scanner.specs.Laws.{by-test}
-use Rattle.scanner.specs.Parts.{slice-part}
+use Rattle.lists.specs.Tests.{by-test}
+use Rattle.lists.specs.Parts.{slice-part}
 use Rattle.tables.specs.Store.{store, length-store, store-before, store-inside}
 use Rattle.tokens.specs.Rows.{tokenIn, tokenOf, rowOf, rowWords, rowsFrom, line, Small}
 use Rattle.tokens.specs.declared.Token.{Token}

@@ -23,7 +23,7 @@ use Rattle.scanner.proofs.ClassLaws.{class-value-digit, class-parting, class-na
 use Rattle.scanner.proofs.NameLaws.{legal-run}
 use Rattle.scanner.proofs.RunLaws.{endOf-low, endOf-high, endOf-slice, endOf-rest}
 use Rattle.scanner.proofs.WordLaws.{keyword-number, keyword-back}
-use Rattle.scanner.specs.Parts.{slice-part}
+use Rattle.lists.specs.Parts.{slice-part}
 use Rattle.strings.specs.Decoded.{CloseIs}
 use Rattle.strings.specs.declared.Close.{Close}
 use Rattle.strings.specs.declared.Close.the-variants.{At, Broken}

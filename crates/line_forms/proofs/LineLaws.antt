@@ -16,7 +16,7 @@ use Rattle.rules.specs.Statements.{Shape, Sort}
 use Rattle.rules.specs.Shapes.{Parse, isWord, give, one, of₁, either, choice, orEnd, sort, Scope, top, inModule, inCell, Context, autoidxForm, attributeForm, topForms, objectForms, bodyForms, cellForms, forms, wholeBy, whole, shape}
 use Rattle.rules.specs.Shapes as shapes
 use Rattle.scanner.specs.Words.{keywordNumber, keywordAt, placeIn}
-use Rattle.scanner.specs.Laws.{and-true-left, and-true-right}
+use Rattle.lists.specs.Tests.{and-true-left, and-true-right}
 use Rattle.scanner.proofs.WordLaws.{keyword-back, keyword-number}
 use Rattle.tokens.specs.Rows.{line}
 use Rattle.tokens.specs.Parts.{IdIs, IntegerIs, idGives, integerGives}

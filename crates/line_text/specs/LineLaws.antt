@@ -26,7 +26,7 @@ use Rattle.wire_names.specs.Now.{nameNow, ownNow}
 use Rattle.line_text.specs.Pieces.{spread, Piece, piece-none, piece-name, piece-word, piece-literal, piece-sig, piece-bounds, spread-name, spread-literal, spread-digits, spread-append, spaced-word, spaced-two, spaced-three}
 use Rattle.line_text.specs.Options.{piece-options, spread-options}
 use Rattle.line_text.specs.Lines.{statementNow, bodyText}
-use Rattle.scanner.specs.Parts.{slice-le}
+use Rattle.lists.specs.Parts.{slice-le}
 
 pub span-le : (t rows w : List ℕ) (k c : ℕ) → w ≡ spanAt t rows k c → length w ≤ length t
 unfolding spanAt

@@ -15,7 +15,7 @@ use Rattle.rules.specs.Tokens.{value, mark}
 use Rattle.rules.specs.Shapes.{isMark, sigs}
 use Rattle.rules.specs.Signals.{Wires}
 use Rattle.rules.specs.Text.{Run, digits, span, join, runs, cut, runSig, runsSig, sig, sigTokens, sigsTokens, behind, tight, tokenText, literalText}
-use Rattle.scanner.specs.Laws.{by-test}
+use Rattle.lists.specs.Tests.{by-test}
 use Rattle.numbers.specs.Kinds.{digitOf, bitOf, bitAt, signalOf}
 use Rattle.line_text.specs.Pieces.{spread, spread-digits, spread-append, piece-append, piece-sig, piece-sigs, piece-open, piece-close}
 use Rattle.line_text.specs.Runs.{joint, firstRun, runsText, Apart, Lowest}

@@ -17,7 +17,7 @@ use Rattle.rules.specs.Numbers.{int32, goodLiteral}
 use Rattle.rules.specs.Signals.{filler, topFiller, fill, valueBits, twosComplement, binary, literalBits, literalWidth}
 use Rattle.rules.specs.Layout.{digitCode}
 use Rattle.scanner.specs.Numbers.{capped}
-use Rattle.scanner.specs.Laws.{and-true-left, and-true-right}
+use Rattle.lists.specs.Tests.{and-true-left, and-true-right}
 use Rattle.scanner.proofs.NumberLaws.{capped-small}
 use Rattle.numbers.specs.Signed.{integerOf}
 use Rattle.numbers.specs.SignedLaws.{capped-int32, capped-same, binary-length, binary-at}
@@ -28,9 +28,9 @@ use Rattle.tokens.specs.declared.Integer.{Integer}
 use Rattle.tokens.specs.declared.Constant.{Constant}
 use Rattle.tokens.specs.declared.Constant.the-variants as constant
 use Rattle.literals.specs.Codes.{codes, wordCodes, filledCodes, fillerCode}
-use Rattle.scanner.specs.Lists.{flatMap-snoc, getD-reverse, map-at, map-replicate, map-reverse, flatMap-more}
-use Rattle.scanner.specs.Sums.{length-equal}
-use Rattle.scanner.specs.Elements.{each-all}
+use Rattle.lists.specs.Lists.{flatMap-snoc, getD-reverse, map-at, map-replicate, map-reverse, flatMap-more}
+use Rattle.lists.specs.Sums.{length-equal}
+use Rattle.lists.specs.Elements.{each-all}
 
 -- ---- widths
 

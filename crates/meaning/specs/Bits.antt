@@ -18,8 +18,8 @@ use Rattle.rules.specs.Statements.{Bit, digit, bit, Signal, Wire}
 use Rattle.rules.specs.Signals.{Wires, fill, valueBits, literalBits, wireBits, lower, width}
 use Rattle.rules.specs.Text.{Run, digits, join, runs}
 use Rattle.admitted.specs.Admitted.{fineBit}
-use Rattle.scanner.specs.Laws.{by-cond}
-use Rattle.scanner.specs.Elements.{all-first, all-later, Each}
+use Rattle.lists.specs.Tests.{by-cond}
+use Rattle.lists.specs.Elements.{all-first, all-later, Each}
 
 -- ---- the bits of runs
 

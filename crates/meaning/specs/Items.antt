@@ -9,7 +9,7 @@ use native.Mathlib.Omega.{arith}
 use lib.ListN.{length, length-append}
 use Rattle.rules.specs.Tokens.{Token}
 use Rattle.rules.specs.Shapes.{Parse, repeat, several}
-use Rattle.scanner.specs.Elements.{Each}
+use Rattle.lists.specs.Elements.{Each}
 
 module _ {A : Type 0} (goes : Token → Bool) (p : Parse A) (text : A → List Token) (Behind : List Token → Type 0) where
   -- an item with a token or more, that is read where what is behind it may stand there, and may itself stand behind another

@@ -18,7 +18,7 @@ use Rattle.rules.specs.Judgement.{Past, context, wires, among, newPort, allPart
 use Rattle.rules.specs.Reading.{shaped}
 use Rattle.rules.specs.Text.{sig, literalOf, wireOptions, memoryOptions, written, shapeTokens}
 use Rattle.admitted.specs.Admitted.{stands, fineConstant, ownWire, newPorts, fineMemory, fineSignal, sameLength, admits, admitted}
-use Rattle.scanner.specs.Elements.{all-append, all-first, all-later, all-implied, all-map, all-through, all-both, test-at}
+use Rattle.lists.specs.Elements.{all-append, all-first, all-later, all-implied, all-map, all-through, all-both, test-at}
 use Rattle.admitted.specs.AdmitLaws.{FineParts, fine-parts, Admits, admits-all}
 use Rattle.context.specs.Forms.{translated, contents-translated}
 use Rattle.admitted.specs.CountLaws.{never-process}

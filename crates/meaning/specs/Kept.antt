@@ -12,8 +12,9 @@ use Rattle.rules.specs.Signals.{Wires, find}
 use Rattle.rules.specs.Judgement.{Past, until, only, ofModule, wires, among, space, namesIn, nameSpaces, takesName}
 use Rattle.context.specs.Forms.{by-form}
 use Rattle.admitted.specs.Admitted.{ownWire, admitted}
-use Rattle.scanner.specs.Laws.{same-sym, or-false-left, or-false-right}
-use Rattle.scanner.specs.Elements.{all-first}
+use Rattle.lists.specs.Tests.{or-false-left, or-false-right}
+use Rattle.scanner.specs.Laws.{same-sym}
+use Rattle.lists.specs.Elements.{all-first}
 use Rattle.admitted.specs.AdmitLaws.{FineParts, fine-parts, Admits, admitted-before, admitted-last}
 use Rattle.meaning.specs.Wires.{Sound, no-wire, one-more}
 use Rattle.meaning.specs.Settings.{wire-width}

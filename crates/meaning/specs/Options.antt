@@ -15,7 +15,7 @@ use Rattle.rules.specs.Statements.{Opt, Direction, input, output, inout, Wire, 
 use Rattle.rules.specs.Shapes.{Parse, after, choice, offers, repeat, options, wireOptionForms, memoryOptionForms, shapesOpen}
 use Rattle.rules.specs.Numbers.{inRange}
 use Rattle.rules.specs.Text.{setting, unless, directionWord, portOptions, wireOptions, memoryOptions, numberToken, optionTokens, textOpen}
-use Rattle.scanner.specs.Elements.{Each, each-append, each-map, none-any, each-all}
+use Rattle.lists.specs.Elements.{Each, each-append, each-map, none-any, each-all}
 use Rattle.meaning.specs.Items.{Item, items-read}
 
 abbrev pub OptionForms : Type 0

@@ -18,9 +18,9 @@ use Rattle.rules.specs.Numbers.{int32, goodLiteral, goodNumbers}
 use Rattle.rules.specs.Signals.{Wires, literalWidth, wireBits, inside, span, width, widths, bits, bitsOf, declaredWire, goodSlice, parts, partsOf}
 use Rattle.rules.specs.Text.{Run, digits, runs, cut, runSig, runsSig, sig}
 use Rattle.admitted.specs.Admitted.{fineSignal}
-use Rattle.scanner.specs.Laws.{by-order, by-cond, and-true-left, and-true-right}
-use Rattle.scanner.specs.Lists.{length-wire, element-none}
-use Rattle.scanner.specs.Elements.{all-append, Each}
+use Rattle.lists.specs.Tests.{by-order, by-cond, and-true-left, and-true-right}
+use Rattle.lists.specs.Lists.{length-wire, element-none}
+use Rattle.lists.specs.Elements.{all-append, Each}
 use Rattle.meaning.specs.Wires.{Sound, Located, located}
 use Rattle.meaning.specs.Bits.{runBits, allBits, runs-bits, widthAt, Inside, digits-in, span-in, runs-inside, fill-all, part-wire, lower-is}
 

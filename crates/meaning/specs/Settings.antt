@@ -18,8 +18,9 @@ use Rattle.rules.specs.Judgement.{portNumbers, newPort}
 use Rattle.rules.specs.Text.{setting, unless, directionWord, portOptions, wireOptions, memoryOptions}
 use Rattle.admitted.specs.Admitted.{ownWire, newPorts, fineMemory}
 use Rattle.admitted.specs.AdmitLaws.{OwnWire, own-wire}
-use Rattle.scanner.specs.Laws.{by-test, within-yes, within-low, within-high}
-use Rattle.scanner.specs.Elements.{all-first, test-at, all-of}
+use Rattle.lists.specs.Tests.{by-test}
+use Rattle.scanner.specs.Laws.{within-yes, within-low, within-high}
+use Rattle.lists.specs.Elements.{all-first, test-at, all-of}
 use Rattle.meaning.specs.Options.{wire-each, memory-each}
 
 -- ---- an option that is left out where it says the default

@@ -15,8 +15,8 @@ use Rattle.rules.specs.Statements.{Sig, constant, wire, slice, bundle, nothing,
 use Rattle.rules.specs.Shapes.{Parse, isMark, bounds, repeat, several, sigs, signal, sigspec, shapesOpen}
 use Rattle.rules.specs.Signals.{Wires}
 use Rattle.rules.specs.Text.{Run, digits, span, runs, cut, runSig, runsSig, sig, sigTokens, sigsTokens, textOpen}
-use Rattle.scanner.specs.Laws.{by-cond}
-use Rattle.scanner.specs.Elements.{Each, each-map, each-all, each-through}
+use Rattle.lists.specs.Tests.{by-cond}
+use Rattle.lists.specs.Elements.{Each, each-map, each-all, each-through}
 use Rattle.meaning.specs.Items.{Item, items-read}
 
 -- a member of a written bundle

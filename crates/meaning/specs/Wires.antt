@@ -14,8 +14,9 @@ use Rattle.rules.specs.Bytes.{same}
 use Rattle.rules.specs.Tokens.{Name}
 use Rattle.rules.specs.Statements.{Wire}
 use Rattle.rules.specs.Signals.{Wires, find}
-use Rattle.scanner.specs.Laws.{by-test, same-refl, same-eq}
-use Rattle.scanner.specs.Lists.{element-at, element-front}
+use Rattle.lists.specs.Tests.{by-test}
+use Rattle.scanner.specs.Laws.{same-refl, same-eq}
+use Rattle.lists.specs.Lists.{element-at, element-front}
 
 -- ---- names that differ
 

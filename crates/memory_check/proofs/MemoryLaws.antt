@@ -10,7 +10,7 @@ use Rattle.rules.specs.Statements.{Statement}
 use Rattle.rules.specs.Judgement.{Past}
 use Rattle.rules.specs.Session.{Rename}
 use Rattle.rules.specs.Layout.{Memory, rooms}
-use Rattle.scanner.specs.Laws.{never}
+use Rattle.lists.specs.Tests.{never}
 use Rattle.context.specs.Place.{wiresIn, placeOf}
 use Rattle.context.specs.Sizes.{sizesBy, sumsOf}
 use Rattle.context.specs.declared.place.Place.{Place}

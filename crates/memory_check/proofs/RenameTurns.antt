@@ -20,8 +20,8 @@ use Rattle.context.proofs.PlaceLaws.{place-rows}
 use Rattle.admitted.specs.Holds.{Allowed, no-renames}
 use Rattle.netlist.specs.Spans.{Has}
 use Rattle.netlist.specs.Laid.{Laid, Wired}
-use Rattle.scanner.specs.Laws.{never}
-use Rattle.scanner.specs.Parts.{slice-span}
+use Rattle.lists.specs.Tests.{never}
+use Rattle.lists.specs.Parts.{slice-span}
 use Rattle.rename_rules.specs.Judged.{Lies, judged}
 use Rattle.rename_rules.specs.JudgedLaws.{judged-is}
 use Rattle.memory_check.specs.declared.Renamed.{Renamed}

@@ -13,7 +13,7 @@ use Rattle.rules.specs.Session.{Rename, roomUsed, renameCall, numberOf}
 use Rattle.admitted.specs.JudgeLaws.{by-verdict}
 use Rattle.admitted.specs.Holds.{Allowed, no-renames, one-rename}
 use Rattle.canonical.specs.RenamedFine.{accepted-keeps, room-more}
-use Rattle.scanner.specs.Lists.{last-same, no-last}
+use Rattle.lists.specs.Lists.{last-same, no-last}
 
 -- THE FIRST ONES of accepted renames are accepted
 module _ {d : Design} where

@@ -19,7 +19,7 @@ use Rattle.rules.specs.Layout.{Rooms, padded, used, putRename, putRenames, room
 use Rattle.tables.specs.Row.{rowAt}
 use Rattle.tables.specs.Flat.{flat, length-flat}
 use Rattle.tables.specs.Padded.{length-padded, padded-behind, padded-rest, is-padded}
-use Rattle.scanner.specs.Laws.{and-true-left, and-true-right}
+use Rattle.lists.specs.Tests.{and-true-left, and-true-right}
 use Rattle.wires.specs.Rows.{wordAt}
 use Rattle.context.specs.Place.{wiresIn, placeOf}
 use Rattle.context.specs.Sizes.{sizesBy, sumsOf, Within}

@@ -15,8 +15,8 @@ use Rattle.rules.specs.Layout.{Rooms, padded, row, renameRow, putRename, putRen
 use Rattle.tables.specs.Row.{words, rowAt}
 use Rattle.tables.specs.Flat.{flat, Eights, length-flat}
 use Rattle.tables.specs.declared.Row.{Row}
-use Rattle.scanner.specs.Elements.{test-at}
-use Rattle.scanner.specs.Lists.{none-more, flatMap-snoc}
+use Rattle.lists.specs.Elements.{test-at}
+use Rattle.lists.specs.Lists.{none-more, flatMap-snoc}
 use Rattle.netlist.specs.Laid.{roomsOf, Laid}
 use Rattle.netlist.specs.Spans.{Starts, Has, starts-has, starts-long, starts-more, row-has, has-row}
 use Rattle.netlist.specs.LaidLaws.{laid-renames, eights-rows, length-rows}

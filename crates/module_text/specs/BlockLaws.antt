@@ -13,8 +13,8 @@ use Rattle.rules.specs.Signals.{Wires}
 use Rattle.rules.specs.Judgement.{Past, until, outer, scope, ofModule, wires}
 use Rattle.rules.specs.Design.{Setting, Object, Cell, Module, Design, objects, cellLines, moduleLines, flatten}
 use Rattle.rules.specs.Text.{written, level, indent, lineText, textFrom, text}
-use Rattle.scanner.specs.Laws.{by-test}
-use Rattle.scanner.specs.Lists.{flatMap-one}
+use Rattle.lists.specs.Tests.{by-test}
+use Rattle.lists.specs.Lists.{flatMap-one}
 use Rattle.canonical.specs.Nesting.{settings}
 use Rattle.canonical.specs.Fine.{wiresIn}
 use Rattle.module_text.specs.Blocks.{lineOf, plainLine, attributesText, wireText, memoryText, cellText, bodyText, moduleText, designText}

@@ -13,8 +13,8 @@ use Rattle.rules.specs.Judgement.{until, only}
 use Rattle.rules.specs.Design.{Setting, settingIn, Object, object, Cell, Module, Item, items, blocks, objectsIn, parameterIn, portIn, connectionIn, cellParameterIn, each, cellOf, moduleOf, design, designOpen}
 use Rattle.rules.specs.Session.{Rename, now}
 use Rattle.rules.specs.Text.{text}
-use Rattle.scanner.specs.Laws.{by-test}
-use Rattle.scanner.specs.Lists.{flatMap-same, flatMap-map}
+use Rattle.lists.specs.Tests.{by-test}
+use Rattle.lists.specs.Lists.{flatMap-same, flatMap-map}
 use Rattle.context.specs.Forms.{by-form, by-attribute}
 use Rattle.modules.specs.DesignLaws.{only-attribute, items-until, wires-pairs}
 use Rattle.modules.specs.Now.{numbered, nameNow, wireNow, moduleNow, designNow}

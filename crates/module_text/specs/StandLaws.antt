@@ -11,8 +11,8 @@ use Rattle.rules.specs.Statements.{Statement, Kind, anAutoidx, anAttribute, aMo
 use Rattle.rules.specs.Shapes.{Scope, top, inModule, inCell}
 use Rattle.rules.specs.Signals.{Wires}
 use Rattle.rules.specs.Judgement.{Past, until, only, among, outer, scope, context}
-use Rattle.scanner.specs.Laws.{by-test, by-cond, and-true-left, and-true-right}
-use Rattle.scanner.specs.Lists.{keeps-before}
+use Rattle.lists.specs.Tests.{by-test, by-cond, and-true-left, and-true-right}
+use Rattle.lists.specs.Lists.{keeps-before}
 use Rattle.admitted.specs.Admitted.{kinds, stands}
 use Rattle.admitted.specs.CountLaws.{Standing, one-stands, among-test, context-scope}
 use Rattle.module_text.specs.Blocks.{lineOf}

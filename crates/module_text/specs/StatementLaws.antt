@@ -8,7 +8,7 @@ use lib.Dec.{eqb}
 use Rattle.rules.specs.Statements.{Constant, Statement, param-stmt, cell-param-stmt, cell-conn-stmt, conn-stmt, Kind, code, anAttribute, aParameter, aCellParameter, aCellConnection, aConnection, is, statementsOpen}
 use Rattle.rules.specs.Judgement.{only}
 use Rattle.rules.specs.Design.{Setting, items, parameterIn, portIn, connectionIn, cellParameterIn, each, designOpen}
-use Rattle.scanner.specs.Lists.{flatMap-same, flatMap-only, map-flatMap}
+use Rattle.lists.specs.Lists.{flatMap-same, flatMap-only, map-flatMap}
 use Rattle.modules.specs.DesignLaws.{each-items}
 use Rattle.context.specs.Forms.{by-form, is-other}
 

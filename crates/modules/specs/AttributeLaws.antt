@@ -11,8 +11,8 @@ use Rattle.rules.specs.Statements.{Statement, Wire, wire-stmt, anAttribute, aMo
 use Rattle.rules.specs.Judgement.{Past, until, wires, ofModule, ofObject}
 use Rattle.rules.specs.Design.{Setting, Object, object, Item, settingIn, items, objectsIn, design}
 use Rattle.rules.specs.Session.{wireAt}
-use Rattle.scanner.specs.Laws.{by-test}
-use Rattle.scanner.specs.Lists.{element-at, flatMap-append, flatMap-back}
+use Rattle.lists.specs.Tests.{by-test}
+use Rattle.lists.specs.Lists.{element-at, flatMap-append, flatMap-back}
 use Rattle.modules.specs.Modules.{statementsOf, wiresOf, moduleCount}
 use Rattle.modules.specs.DesignLaws.{only-attribute, wires-pairs, wires-at}
 use Rattle.modules.specs.PastLaws.{module-open}

@@ -15,8 +15,8 @@ use Rattle.rules.specs.Statements.{Wire, Bit, digit, bit, Signal, contents}
 use Rattle.rules.specs.Signals.{Wires}
 use Rattle.rules.specs.Judgement.{Past, wires}
 use Rattle.rules.specs.Layout.{digitCode, bitCode}
-use Rattle.scanner.specs.Laws.{and-true-right}
-use Rattle.scanner.specs.Elements.{all-reverse, all-element, all-implied, all-zip-second, each-all, each-of, map-back}
+use Rattle.lists.specs.Tests.{and-true-right}
+use Rattle.lists.specs.Elements.{all-reverse, all-element, all-implied, all-zip-second, each-all, each-of, map-back}
 use Rattle.numbers.specs.Kinds.{digitOf, bitOf, bitAt, signalOf}
 use Rattle.numbers.specs.KindLaws as kinds
 use Rattle.numbers.specs.KindLaws.{Within, digit-back, bit-back}

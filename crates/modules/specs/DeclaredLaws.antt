@@ -11,7 +11,7 @@ use Rattle.rules.specs.Statements.{Statement, Wire, wire-stmt, aModule, is, sta
 use Rattle.rules.specs.Judgement.{Past, ofModule, wires}
 use Rattle.rules.specs.Design.{object, design}
 use Rattle.rules.specs.Session.{wireAt}
-use Rattle.scanner.specs.Laws.{by-test, by-order}
+use Rattle.lists.specs.Tests.{by-test, by-order}
 use Rattle.context.specs.Place.{wiresIn, placeOf}
 use Rattle.context.proofs.PlaceLaws.{length-all-wires, wires-none, wires-one, wires-reset}
 use Rattle.netlist.specs.Laid.{roomsOf, Wired}

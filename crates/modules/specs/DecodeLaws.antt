@@ -15,7 +15,7 @@ use Rattle.rules.specs.Signals.{Wires, twosComplement}
 use Rattle.rules.specs.Numbers.{int32}
 use Rattle.rules.specs.Judgement.{Past, wires}
 use Rattle.rules.specs.Layout.{Used, padded, row, digitCode, bitCode, nameBytes, stringBytes, bitCodes, constantColumns, sortCode, columns, statementRow, used}
-use Rattle.scanner.specs.Laws.{and-true-left, and-true-right}
+use Rattle.lists.specs.Tests.{and-true-left, and-true-right}
 use Rattle.numbers.specs.Kinds.{digitOf, signalOf}
 use Rattle.numbers.specs.Signed.{signedOf}
 use Rattle.numbers.specs.SignedLaws.{signed-word}

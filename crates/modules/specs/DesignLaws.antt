@@ -13,9 +13,9 @@ use Rattle.rules.specs.Judgement.{until, only, among}
 use Rattle.rules.specs.Design.{Setting, Object, object, Module, Item, Inside, settingIn, items, blocks, objectsIn, pair, each, cellOf, moduleOf, Design, design}
 use Rattle.rules.specs.Session.{wiresAt, names, taken}
 use Rattle.context.specs.Forms.{by-form, by-attribute}
-use Rattle.scanner.specs.Laws.{by-test}
-use Rattle.scanner.specs.Lists.{zip-none, flatMap-same, elim-at, elim-map, flatMap-only, map-flatMap}
-use Rattle.scanner.specs.Elements.{each-all, any-append, any-same, any-only, any-map, any-or}
+use Rattle.lists.specs.Tests.{by-test}
+use Rattle.lists.specs.Lists.{zip-none, flatMap-same, elim-at, elim-map, flatMap-only, map-flatMap}
+use Rattle.lists.specs.Elements.{each-all, any-append, any-same, any-only, any-map, any-or}
 use Rattle.netlist.specs.NameLaws.{ownNames}
 use Rattle.modules.specs.Modules.{modulesIn, statementsOf, wiresOf, memoriesAt, cellsAt}
 

@@ -11,7 +11,7 @@ use Rattle.rules.specs.Bytes.{all}
 use Rattle.rules.specs.Statements.{Statement, aModule, aWire, aCell, anEnd, is, code, contents}
 use Rattle.rules.specs.Shapes.{Scope, top, inModule, inCell}
 use Rattle.rules.specs.Judgement.{Past, outer, scope, context}
-use Rattle.scanner.specs.Laws.{by-test, or-true-right, or-true-left}
+use Rattle.lists.specs.Tests.{by-test, or-true-right, or-true-left}
 use Rattle.context.specs.Place.{scopeCode}
 use Rattle.admitted.specs.Admitted.{kinds, stands}
 use Rattle.admitted.specs.CountLaws.{Standing, none-stand, one-stands, context-scope, among-test}

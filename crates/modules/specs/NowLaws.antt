@@ -12,7 +12,7 @@ use Rattle.rules.specs.Tokens.{Name}
 use Rattle.rules.specs.Statements.{Statement, Wire, aMemory, aCell}
 use Rattle.rules.specs.Design.{Object, object, Module, Design, design}
 use Rattle.rules.specs.Session.{Rename, wiresAt, wireAt, change, renameWire, renamed, now, taken}
-use Rattle.scanner.specs.Laws.{by-test}
+use Rattle.lists.specs.Tests.{by-test}
 use Rattle.netlist.specs.NameLaws.{ownNames}
 use Rattle.modules.specs.Modules.{statementsOf, wiresOf, memoriesAt, cellsAt}
 use Rattle.modules.specs.Now.{numbered, renames, nameNow, wireNow, moduleNow, designNow}

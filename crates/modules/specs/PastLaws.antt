@@ -9,7 +9,7 @@ use lib.ListN.{length, getD}
 use Rattle.rules.specs.Bytes.{any}
 use Rattle.rules.specs.Statements.{Statement, aModule, is}
 use Rattle.rules.specs.Judgement.{Past, until, sum, among, count, ofModule}
-use Rattle.scanner.specs.Laws.{by-test, by-le}
+use Rattle.lists.specs.Tests.{by-test, by-le}
 use Rattle.modules.specs.Modules.{modulesIn, statementsOf, moduleCount, upTo}
 
 module _ (s : Statement) (ss : Past) where

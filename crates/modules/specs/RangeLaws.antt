@@ -9,7 +9,7 @@ use native.Mathlib.Omega.{arith}
 use lib.Dec.{eqb, ltb}
 use borrow.Author.Tests.{eq-eqb, ne-eqb, eqb-true, eqb-false, ltb-true, ltb-false}
 use Rattle.wires.specs.Rows.{column}
-use Rattle.scanner.specs.Laws.{by-test, by-le, by-order, cond-le}
+use Rattle.lists.specs.Tests.{by-test, by-le, by-order, cond-le}
 use Rattle.modules.specs.Ranges.{rowsWhere, linesIn, lineOf, rowRange}
 
 -- one row more, and all of them

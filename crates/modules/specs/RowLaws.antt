@@ -14,9 +14,9 @@ use Rattle.rules.specs.Statements.{Statement, Kind, aModule, code, contents, is
 use Rattle.rules.specs.Judgement.{Past, only, sum, count, ofModule}
 use Rattle.rules.specs.Layout.{used}
 use Rattle.wires.specs.Rows.{column}
-use Rattle.scanner.specs.Laws.{by-test, by-order}
-use Rattle.scanner.specs.Lists.{until-take}
-use Rattle.scanner.specs.Elements.{any-reverse}
+use Rattle.lists.specs.Tests.{by-test, by-order}
+use Rattle.lists.specs.Lists.{until-take}
+use Rattle.lists.specs.Elements.{any-reverse}
 use Rattle.context.proofs.KindLaws.{count-one}
 use Rattle.netlist.specs.Rows.{kindAt, namesBetween}
 use Rattle.netlist.specs.Kinds.{Tests, hasName}

@@ -18,9 +18,9 @@ use Rattle.rules.specs.Session.{wiresAt}
 use Rattle.rules.specs.Layout.{used, padded, row, wireRow}
 use Rattle.context.specs.Forms.{by-form, by-wire, is-other}
 use Rattle.wires.specs.Rows.{column, wiresFrom}
-use Rattle.scanner.specs.Laws.{by-test, by-order}
-use Rattle.scanner.specs.Lists.{flatMap-back, keeps-behind}
-use Rattle.scanner.specs.Sums.{sum-append}
+use Rattle.lists.specs.Tests.{by-test, by-order}
+use Rattle.lists.specs.Lists.{flatMap-back, keeps-behind}
+use Rattle.lists.specs.Sums.{sum-append}
 use Rattle.context.specs.Place.{wiresIn, placeOf}
 use Rattle.context.specs.Offsets.{Offsets, more-offsets}
 use Rattle.netlist.specs.Laid.{roomsOf, Wired}

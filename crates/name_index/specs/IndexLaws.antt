@@ -12,8 +12,9 @@ use lib.Seq.{getD-drop, getD-set-same, getD-set-other}
 use borrow.Author.Tests.{eq-eqb, ne-eqb, eqb-true, eqb-false}
 use Rattle.rules.specs.Bytes.{same, any}
 use Rattle.rules.specs.Tokens.{Name}
-use Rattle.scanner.specs.Laws.{by-cond, by-test, by-order, same-eq}
-use Rattle.scanner.specs.Elements.{any-chosen}
+use Rattle.lists.specs.Tests.{by-cond, by-test, by-order}
+use Rattle.scanner.specs.Laws.{same-eq}
+use Rattle.lists.specs.Elements.{any-chosen}
 use Rattle.netlist.specs.Rows.{kindAt, nameAt, namesBetween}
 use Rattle.netlist.specs.Kinds.{hasName}
 use Rattle.name_index.specs.HashLaws.{hash-less}

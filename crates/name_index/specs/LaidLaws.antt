@@ -10,8 +10,8 @@ use Rattle.rules.specs.Tokens.{Name}
 use Rattle.rules.specs.Statements.{Statement, Wire, wire-stmt, code, contents, ownName, statementsOpen}
 use Rattle.rules.specs.Judgement.{Past}
 use Rattle.rules.specs.Layout.{used, put, nameBytes, wireRows}
-use Rattle.scanner.specs.Laws.{by-test, by-order}
-use Rattle.scanner.specs.Lists.{zip-none}
+use Rattle.lists.specs.Tests.{by-test, by-order}
+use Rattle.lists.specs.Lists.{zip-none}
 use Rattle.context.specs.Forms.{by-wire}
 use Rattle.wires.specs.Rows.{nameOf}
 use Rattle.wires.specs.RowLaws.{row-name}

@@ -8,8 +8,8 @@ use native.Mathlib.Omega.{arith}
 use lib.Dec.{eqb}
 use Rattle.rules.specs.Bytes.{same, any}
 use Rattle.rules.specs.Tokens.{Name}
-use Rattle.scanner.specs.Laws.{by-cond}
-use Rattle.scanner.specs.Elements.{any-chosen}
+use Rattle.lists.specs.Tests.{by-cond}
+use Rattle.lists.specs.Elements.{any-chosen}
 use Rattle.netlist.specs.Rows.{nameColumn, kindAt, nameAt, namesBetween}
 
 pub name-column-small : (k : ℕ) → nameColumn k ≤ 3

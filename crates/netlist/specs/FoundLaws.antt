@@ -19,7 +19,7 @@ use Rattle.netlist.specs.Laid.{roomsOf, Laid}
 use Rattle.context.specs.Place.{placeOf, Bounds}
 use Rattle.context.specs.declared.place.Place.{Place}
 use Rattle.netlist.specs.Found.{spaceFrom, kindsFrom, foundIn}
-use Rattle.scanner.specs.Lists.{until-le}
+use Rattle.lists.specs.Lists.{until-le}
 
 -- a name space begins at one of the rows so far
 pick-le : (b : Bool) (m n k : ℕ) → m ≤ k → n ≤ k → cond b m n ≤ k

@@ -10,7 +10,7 @@ use Rattle.rules.specs.Statements.{Statement, Wire, wire-stmt, contents, code, 
 use Rattle.rules.specs.Judgement.{Past}
 use Rattle.rules.specs.Session.{Rename}
 use Rattle.rules.specs.Layout.{Rooms, Used, used, padded, row, columns, nameBytes, stringBytes, bitCodes, wireRow, wireRows, statementRow, put, renameRow, putRename, putRenames, rooms, memory, layout}
-use Rattle.scanner.specs.Lists.{keeps-behind, flatMap-append, flatMap-snoc}
+use Rattle.lists.specs.Lists.{keeps-behind, flatMap-append, flatMap-snoc}
 use Rattle.tables.specs.Flat.{flat, length-flat}
 use Rattle.wires.specs.Rows.{column}
 use Rattle.wires.specs.RowLaws.{length-wire-row, RowIs}

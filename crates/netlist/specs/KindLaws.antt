@@ -8,7 +8,7 @@ use lib.Dec.{eqb}
 use borrow.Author.Tests.{eqb-true}
 use Rattle.rules.specs.Bytes.{any, all}
 use Rattle.rules.specs.Statements.{Kind, code}
-use Rattle.scanner.specs.Laws.{by-test, and-true-left, and-true-right}
+use Rattle.lists.specs.Tests.{by-test, and-true-left, and-true-right}
 use Rattle.netlist.specs.Kinds.{isKind, ofKinds, Tests, hasName, oneKind, threeKinds}
 
 pub one-kind : (k : Kind) → Tests (isKind (oneKind k)) (k ∷ [])

@@ -9,8 +9,8 @@ use Rattle.rules.specs.Statements.{Statement}
 use Rattle.rules.specs.Judgement.{Past}
 use Rattle.rules.specs.Session.{Rename}
 use Rattle.rules.specs.Layout.{Rooms, empty, padded, used, nameBytes, statementRow, put, putAll, renameRow, putRename, putRenames}
-use Rattle.scanner.specs.Lists.{flatMap-snoc}
-use Rattle.scanner.specs.Elements.{each-append}
+use Rattle.lists.specs.Lists.{flatMap-snoc}
+use Rattle.lists.specs.Elements.{each-append}
 use Rattle.tables.specs.Flat.{flat, Eights}
 use Rattle.wires.specs.RowLaws.{RowIs}
 use Rattle.netlist.specs.RowLaws.{length-statement-row}

@@ -8,7 +8,7 @@ use lib.Dec.{eqb}
 use lib.ListN.{length}
 use borrow.Author.Tests.{eqb-true}
 use Rattle.rules.specs.Layout.{Memory}
-use Rattle.scanner.specs.Elements.{test-at}
+use Rattle.lists.specs.Elements.{test-at}
 
 unfoldable pub rightSizes : (names strings bits wires rows : ℕ) → Bool
 rightSizes n s b w r = eqb n 16384 && eqb s 8192 && eqb b 16384 && eqb w (8 * 512) && eqb r (8 * 4769)

@@ -11,7 +11,7 @@ use Rattle.rules.specs.Tokens.{Name}
 use Rattle.rules.specs.Statements.{Kind, Statement, code, contents, is, ownName}
 use Rattle.rules.specs.Judgement.{Past, only, among}
 use Rattle.rules.specs.Layout.{used}
-use Rattle.scanner.specs.Laws.{by-test}
+use Rattle.lists.specs.Tests.{by-test}
 use Rattle.netlist.specs.Rows.{kindAt, nameAt, namesBetween}
 use Rattle.netlist.specs.Kinds.{ofKinds, Tests, hasName}
 use Rattle.netlist.specs.KindLaws.{kinds-named}

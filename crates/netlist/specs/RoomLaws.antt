@@ -9,7 +9,7 @@ use Rattle.rules.specs.Statements.{Statement}
 use Rattle.rules.specs.Judgement.{sum}
 use Rattle.rules.specs.Session.{Rename}
 use Rattle.rules.specs.Layout.{Rooms, empty, padded, row, putAll, renameRow, putRename, putRenames, rooms}
-use Rattle.scanner.specs.Elements.{each-append}
+use Rattle.lists.specs.Elements.{each-append}
 use Rattle.tables.specs.Flat.{Eights}
 use Rattle.netlist.specs.Laid.{roomsOf}
 use Rattle.netlist.specs.LaidLaws.{rooms-past}

@@ -10,8 +10,8 @@ use lib.Seq.{take-length}
 use Rattle.rules.specs.Bytes.{same, any, all}
 use Rattle.rules.specs.Statements.{Kind, anAutoidx, anAttribute, aModule, aParameter, aWire, aMemory, aCell, aCellParameter, aCellConnection, aConnection, aProcess, anEnd, Stmt, code, contents, is, ownName}
 use Rattle.rules.specs.Judgement.{Past, only, ofModule, ofCell, ofObject, among, Space, space, namesIn, nameSpaces, takesName}
-use Rattle.scanner.specs.Elements.{Each, each-map, any-only, any-same}
-use Rattle.scanner.specs.Lists.{until-take}
+use Rattle.lists.specs.Elements.{Each, each-map, any-only, any-same}
+use Rattle.lists.specs.Lists.{until-take}
 use Rattle.netlist.specs.Rows.{namesBetween}
 use Rattle.netlist.specs.Kinds.{isKind, ofKinds, hasName, oneKind, threeKinds}
 use Rattle.netlist.specs.KindLaws.{one-kind, three-kinds}

@@ -10,8 +10,8 @@ use Rattle.rules.specs.Layout.{padded}
 use Rattle.tables.specs.Row.{words, rowAt, words-rowAt}
 use Rattle.tables.specs.Flat.{flat, Eights, length-flat}
 use Rattle.wires.specs.RowLaws.{RowIs, row-taken}
-use Rattle.scanner.specs.Parts.{slice-span}
-use Rattle.scanner.specs.Lists.{flatMap-snoc}
+use Rattle.lists.specs.Parts.{slice-span}
+use Rattle.lists.specs.Lists.{flatMap-snoc}
 
 abbrev pub Starts : List ℕ → List ℕ → Type 0
 Starts t xs = (more : List ℕ) × (t ≡ xs ++ more)

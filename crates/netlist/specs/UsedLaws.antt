@@ -14,7 +14,7 @@ use Rattle.context.proofs.PlaceLaws.{wire-count}
 use Rattle.netlist.specs.Laid.{roomsOf}
 use Rattle.netlist.specs.LaidLaws.{length-rows}
 use Rattle.netlist.specs.Used.{usedBy}
-use Rattle.scanner.specs.Sums.{length-flatMap}
+use Rattle.lists.specs.Sums.{length-flatMap}
 
 -- what a statement puts is as long as the rules count it
 module _ (s : Statement) where

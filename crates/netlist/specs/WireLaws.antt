@@ -15,9 +15,9 @@ use Rattle.rules.specs.Judgement.{Past, wires}
 use Rattle.rules.specs.Session.{Rename}
 use Rattle.rules.specs.Layout.{Rooms, padded, used, nameBytes, wireRow, wireRows, put, putRename, putRenames, memory}
 use Rattle.tables.specs.Flat.{flat, Eights}
-use Rattle.scanner.specs.Laws.{and-true-left}
-use Rattle.scanner.specs.Lists.{zip-none, flatMap-append}
-use Rattle.scanner.specs.Elements.{each-append, each-mapped}
+use Rattle.lists.specs.Tests.{and-true-left}
+use Rattle.lists.specs.Lists.{zip-none, flatMap-append}
+use Rattle.lists.specs.Elements.{each-append, each-mapped}
 use Rattle.wires.specs.Rows.{nameOf, wireOf, wiresFrom}
 use Rattle.wires.specs.RowLaws.{length-wire-row, RowIs, row-wire, row-name}
 use Rattle.context.specs.Forms.{by-wire}

@@ -8,8 +8,8 @@ use mathlib.Core.List.{List, map}
 use Rattle.rules.specs.Tokens.{Digit, S0, S1, Sx, Sz, Sm, Sa}
 use Rattle.rules.specs.Statements.{Bit, digit, bit, Signal, Sort}
 use Rattle.rules.specs.Layout.{digitCode, bitCode, sortCode}
-use Rattle.scanner.specs.Laws.{by-lt}
-use Rattle.scanner.specs.Elements.{Each, each-all, map-back}
+use Rattle.lists.specs.Tests.{by-lt}
+use Rattle.lists.specs.Elements.{Each, each-all, map-back}
 use Rattle.numbers.specs.Kinds.{digitOf, bitOf, bitAt, signalOf, sortOf}
 use Rattle.numbers.specs.declared.kinds.SignalBit.{SignalBit}
 

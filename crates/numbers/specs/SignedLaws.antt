@@ -14,7 +14,7 @@ use Rattle.rules.specs.Tokens.{S0, S1}
 use Rattle.rules.specs.Numbers.{int32}
 use Rattle.rules.specs.Signals.{twosComplement, binary}
 use Rattle.rules.specs.Layout.{digitCode}
-use Rattle.scanner.specs.Laws.{by-cond, by-lt}
+use Rattle.lists.specs.Tests.{by-cond, by-lt}
 use Rattle.numbers.specs.Signed.{signedOf, integerOf}
 
 pub signed-word : (z : ℤ) → int32 z ≡ true → signedOf (twosComplement z) ≡ z

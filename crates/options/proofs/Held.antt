@@ -13,8 +13,8 @@ use Rattle.rules.specs.Bytes.{same, any, all}
 use Rattle.rules.specs.Statements.{Opt}
 use Rattle.rules.specs.Numbers.{once}
 use Rattle.scanner.specs.Words.{keywordAt}
-use Rattle.scanner.specs.Laws.{by-test, or-true-right, or-false-left, or-false-right}
-use Rattle.scanner.specs.Elements.{_then_, by-any}
+use Rattle.lists.specs.Tests.{by-test, or-true-right, or-false-left, or-false-right}
+use Rattle.lists.specs.Elements.{_then_, by-any}
 use Rattle.tokens.specs.Rows.{integerIn}
 use Rattle.tokens.specs.declared.Integer.{Integer}
 use Rattle.tokens.specs.declared.Slot.{Slot}

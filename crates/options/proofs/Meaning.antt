@@ -15,7 +15,7 @@ use Rattle.rules.specs.Statements.{Opt, Direction, input, output, inout}
 use Rattle.rules.specs.Numbers.{int32, inRange, has, numberOr, portsAmong, ports, portOf, wireOf, memoryOf, goodWire, goodMemory}
 use Rattle.rules.specs.Layout.{flags}
 use Rattle.scanner.specs.Words.{keywordAt}
-use Rattle.scanner.specs.Laws.{cond-le}
+use Rattle.lists.specs.Tests.{cond-le}
 use Rattle.numbers.specs.Signed.{signedOf}
 use Rattle.numbers.specs.SignedLaws.{signed-word}
 use Rattle.tokens.specs.declared.Slot.{Slot}

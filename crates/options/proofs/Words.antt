@@ -14,10 +14,10 @@ use Rattle.rules.specs.Tokens.{Token, word, keywords}
 use Rattle.rules.specs.Statements.{Opt}
 use Rattle.rules.specs.Shapes.{offers, choice, of₁, int, isWord, wireOptionForms, memoryOptionForms, numbered, flag, shapesOpen}
 use Rattle.scanner.specs.Words.{keywordAt}
-use Rattle.scanner.specs.Laws.{by-test}
+use Rattle.lists.specs.Tests.{by-test}
 use Rattle.tokens.proofs.Words.{word-is}
 use Rattle.options.specs.Forms.{forms, codes, accepted, isFlag, numberCodes, optionCodes, isOption}
-use Rattle.scanner.specs.Elements.{_then_, by-any, each-all, none-any}
+use Rattle.lists.specs.Elements.{_then_, by-any, each-all, none-any}
 
 pub offers-word : (m : Bool) (c : ℕ) → offers (forms m) (word (keywordAt c)) ≡ accepted m c
 unfolding offers any forms accepted codes wireOptionForms memoryOptionForms numbered flag keywords keywordAt

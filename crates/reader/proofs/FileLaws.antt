@@ -20,7 +20,7 @@ use Rattle.tables.specs.Padded.{padded-nil}
 use Rattle.scanner.specs.Class.{inClass}
 use Rattle.scanner.specs.Runs.{endOf}
 use Rattle.scanner.specs.Lines.{lineFrom}
-use Rattle.scanner.specs.Laws.{by-test, by-cond}
+use Rattle.lists.specs.Tests.{by-test, by-cond}
 use Rattle.scanner.specs.declared.lines.Line.{Line}
 use Rattle.scanner.proofs.ClassLaws.{class-blank}
 use Rattle.scanner.proofs.RunLaws.{endOf-low, endOf-high}

@@ -16,7 +16,7 @@ use Rattle.rules.specs.Shapes.{shape}
 use Rattle.rules.specs.Judgement.{Past, context}
 use Rattle.rules.specs.Reading as reading
 use Rattle.rules.specs.Reading.{shaped, stated, judged, lexed, outcome, skipped}
-use Rattle.scanner.specs.Laws.{by-test}
+use Rattle.lists.specs.Tests.{by-test}
 use Rattle.scanner.specs.declared.lines.Line.{Line}
 use Rattle.tokens.specs.Rows.{rowOf, tokenAt, rowsFrom, line}
 use Rattle.tokens.specs.declared.Constant.the-variants as constant

@@ -11,8 +11,9 @@ use borrow.Author.Tests.{leb-true, leb-false, eqb-true, eqb-false}
 use Rattle.rules.specs.Bytes.{same, any}
 use Rattle.rules.specs.Tokens.{Name}
 use Rattle.rules.specs.Statements.{code}
-use Rattle.scanner.specs.Laws.{by-test, by-order, never, same-eq}
-use Rattle.scanner.specs.Elements.{any-chosen}
+use Rattle.lists.specs.Tests.{by-test, by-order, never}
+use Rattle.scanner.specs.Laws.{same-eq}
+use Rattle.lists.specs.Elements.{any-chosen}
 use Rattle.wires.specs.Rows.{nameOf, spanAt}
 use Rattle.context.specs.declared.place.Place.{Place}
 use Rattle.netlist.specs.Rows.{kindAt, nameAt, namesBetween}

@@ -9,7 +9,7 @@ use native.Mathlib.Omega.{arith}
 use lib.Dec.{leb}
 use borrow.Author.Tests.{leb-true, leb-false}
 use Rattle.rules.specs.Session.{isPort}
-use Rattle.scanner.specs.Laws.{by-test}
+use Rattle.lists.specs.Tests.{by-test}
 use Rattle.wires.specs.RowLaws.{port-by, port-none}
 use Rattle.wires.specs.Rows.{wordAt, column, portOf, wireOf}
 

@@ -12,7 +12,7 @@ use Rattle.rules.specs.Statements.{Statement}
 use Rattle.rules.specs.Judgement.{lowest, verdict}
 use Rattle.rules.specs.Design.{design}
 use Rattle.rules.specs.Session.{Rename, now, roomUsed, taken, isPort, renameCall, numberOf}
-use Rattle.scanner.specs.Laws.{by-test}
+use Rattle.lists.specs.Tests.{by-test}
 use Rattle.context.specs.declared.place.Place.{Place}
 use Rattle.modules.specs.Ranges.{wireRange}
 use Rattle.rename_rules.specs.Judged.{nameTaken, exceedsRoom, moduleBy, judged, Lies}

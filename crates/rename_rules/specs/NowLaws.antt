@@ -32,8 +32,8 @@ use Rattle.wire_names.specs.Now as rows
 use Rattle.wire_names.specs.declared.Module.{Module}
 use Rattle.rename_rules.specs.Judged.{moduleBy}
 use Rattle.netlist.specs.RoomLaws.{put-renames-last, length-rename-row, rename-rows, eights-renames}
-use Rattle.scanner.specs.Lists.{up, up-same, up-last}
-use Rattle.scanner.specs.Parts.{slice-span}
+use Rattle.lists.specs.Lists.{up, up-same, up-last}
+use Rattle.lists.specs.Parts.{slice-span}
 
 -- what a rename's row holds
 module _ (t : List ℕ) (k at : ℕ) (r : Rename) (h : RowIs t k (renameRow at r)) where

@@ -18,7 +18,7 @@ use Rattle.canonical.specs.BodySums.{canonical-sum}
 use Rattle.canonical.specs.AdmittedFine.{file-of}
 use Rattle.netlist.specs.UsedLaws.{used-names}
 use Rattle.netlist.specs.RoomLaws.{rename-names, rooms-file}
-use Rattle.scanner.specs.Sums.{sum-reverse}
+use Rattle.lists.specs.Sums.{sum-reverse}
 
 -- what is summed over a design's statements doesn't depend on their order
 pub sum-design : (f : Statement → ℕ) (ss : List Statement) → admitted (reverse ss) ≡ true → closes (reverse ss) ≡ true → sum f (flatten (design ss)) ≡ sum f ss

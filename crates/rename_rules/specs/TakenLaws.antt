@@ -16,8 +16,8 @@ use Rattle.rules.specs.Signals.{Wires}
 use Rattle.rules.specs.Design.{Object, design}
 use Rattle.rules.specs.Session.{Rename, wiresAt, wireAt, now, taken}
 use Rattle.rules.specs.Layout.{putRenames}
-use Rattle.scanner.specs.Lists.{elim-map, up, up-last}
-use Rattle.scanner.specs.Elements.{any-append}
+use Rattle.lists.specs.Lists.{elim-map, up, up-last}
+use Rattle.lists.specs.Elements.{any-append}
 use Rattle.wires.specs.Rows.{wiresFrom}
 use Rattle.context.specs.Place.{wiresIn, placeOf}
 use Rattle.context.specs.Offsets.{Offsets}

@@ -18,9 +18,9 @@ use Rattle.tables.specs.declared.Row.{Row}
 use Rattle.numbers.specs.Kinds.{digitOf, bitOf, bitAt, signalOf}
 use Rattle.numbers.specs.KindLaws.{digit-code, code-digit, length-signal}
 use Rattle.numbers.specs.SignedLaws.{word-signed, signed-int32}
-use Rattle.scanner.specs.Lists.{same-at}
-use Rattle.scanner.specs.Laws.{and-true-left, and-true-right, never}
-use Rattle.scanner.specs.Elements.{all-map, all-each, each-of, map-back}
+use Rattle.lists.specs.Lists.{same-at}
+use Rattle.lists.specs.Tests.{and-true-left, and-true-right, never}
+use Rattle.lists.specs.Elements.{all-map, all-each, each-of, map-back}
 use Rattle.replay.specs.Parts.{span, whole, isDigit, digitsStand, textStands, signalStands}
 use Rattle.replay.specs.Reads.{constantOf, TellsConstant}
 use Rattle.replay.specs.declared.statements.Held.{Held}

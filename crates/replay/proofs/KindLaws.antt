@@ -19,9 +19,9 @@ use Rattle.admitted.specs.AdmitLaws.{fine-parts}
 use Rattle.tables.specs.Row.{words}
 use Rattle.tables.specs.declared.Row.{Row}
 use Rattle.numbers.specs.SignedLaws.{word-signed, signed-int32}
-use Rattle.scanner.specs.Lists.{same-at}
-use Rattle.scanner.specs.Laws.{and-true-left, and-true-right, never}
-use Rattle.scanner.specs.Elements.{test-at}
+use Rattle.lists.specs.Lists.{same-at}
+use Rattle.lists.specs.Tests.{and-true-left, and-true-right, never}
+use Rattle.lists.specs.Elements.{test-at}
 use Rattle.replay.specs.Parts.{span, nameStands}
 use Rattle.numbers.specs.Kinds.{sortOf}
 use Rattle.numbers.specs.KindLaws.{sort-code}

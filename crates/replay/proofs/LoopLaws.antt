@@ -12,7 +12,7 @@ use Rattle.rules.specs.Statements.{Statement}
 use Rattle.rules.specs.Judgement.{Past}
 use Rattle.admitted.specs.Admitted.{admits, admitted, closes}
 use Rattle.admitted.specs.AdmitLaws.{admits-last, admitted-few, admitted-within}
-use Rattle.scanner.specs.Laws.{never}
+use Rattle.lists.specs.Tests.{never}
 use Rattle.wires.specs.Rows.{wordAt}
 use Rattle.netlist.specs.Laid.{roomsOf}
 use Rattle.netlist.specs.LaidLaws.{length-rows}

@@ -17,9 +17,10 @@ use Rattle.admitted.specs.AdmitLaws.{fine-parts}
 use Rattle.tables.specs.Flat.{flat}
 use Rattle.tables.specs.Row.{words}
 use Rattle.tables.specs.declared.Row.{Row}
-use Rattle.scanner.specs.Lists.{same-at}
-use Rattle.scanner.specs.Laws.{by-test, same-refl, same-eq, and-true-left, and-true-right, never}
-use Rattle.scanner.specs.Elements.{all-first}
+use Rattle.lists.specs.Lists.{same-at}
+use Rattle.lists.specs.Tests.{by-test, and-true-left, and-true-right, never}
+use Rattle.scanner.specs.Laws.{same-refl, same-eq}
+use Rattle.lists.specs.Elements.{all-first}
 use Rattle.replay.specs.Parts.{span, whole, nameStands}
 use Rattle.netlist.specs.Spans.{Has}
 use Rattle.netlist.specs.Fronts.{Parts}

@@ -9,7 +9,7 @@ use lib.ListN.{length, take, drop, length-take, length-drop}
 use borrow.Author.Tests.{eq-eqb, ne-eqb, eqb-true}
 use Rattle.replay.specs.Parts.{span, whole}
 use Rattle.netlist.specs.Spans.{Has}
-use Rattle.scanner.specs.Parts.{slice-join, slice-span, take-taken}
+use Rattle.lists.specs.Parts.{slice-join, slice-span, take-taken}
 
 pub span-is : (t : List ℕ) (at n : ℕ) → span t at n ≡ take n (drop at t)
 unfolding span

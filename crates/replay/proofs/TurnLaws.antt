@@ -18,9 +18,9 @@ use Rattle.admitted.specs.Admitted.{stands, fineParts, admits, admitted}
 use Rattle.admitted.specs.AdmitLaws.{admits-all, admitted-offsets}
 use Rattle.tables.specs.Row.{words, rowAt}
 use Rattle.tables.specs.declared.Row.{Row}
-use Rattle.scanner.specs.Lists.{same-at}
-use Rattle.scanner.specs.Elements.{test-at}
-use Rattle.scanner.specs.Laws.{by-test, never}
+use Rattle.lists.specs.Lists.{same-at}
+use Rattle.lists.specs.Elements.{test-at}
+use Rattle.lists.specs.Tests.{by-test, never}
 use Rattle.wires.specs.Rows.{wiresFrom}
 use Rattle.wires.specs.RowLaws.{RowIs}
 use Rattle.netlist.specs.Rows.{nameAt, namesBetween}

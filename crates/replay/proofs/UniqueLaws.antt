@@ -10,7 +10,7 @@ use Rattle.rules.specs.Statements.{Statement, Constant, value, integer, string,
 use Rattle.rules.specs.Signals.{Wires}
 use Rattle.rules.specs.Layout.{Used, padded, row, constantColumns, sortCode, columns, statementRow}
 use Rattle.numbers.specs.Kinds.{signalOf}
-use Rattle.scanner.specs.Lists.{same-at}
+use Rattle.lists.specs.Lists.{same-at}
 use Rattle.tables.specs.Row.{words}
 use Rattle.tables.specs.declared.Row.{Row}
 use Rattle.wires.specs.Rows.{wordAt, column, spanAt}

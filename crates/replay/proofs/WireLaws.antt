@@ -22,8 +22,9 @@ use Rattle.tables.specs.Row.{words, rowAt}
 use Rattle.tables.specs.declared.Row.{Row}
 use Rattle.numbers.specs.Signed.{signedOf}
 use Rattle.numbers.specs.SignedLaws.{word-signed}
-use Rattle.scanner.specs.Lists.{same-at}
-use Rattle.scanner.specs.Laws.{by-test, same-refl, same-eq, and-true-left, and-true-right, never}
+use Rattle.lists.specs.Lists.{same-at}
+use Rattle.lists.specs.Tests.{by-test, and-true-left, and-true-right, never}
+use Rattle.scanner.specs.Laws.{same-refl, same-eq}
 use Rattle.wires.specs.Rows.{wordAt, column, portOf, wireOf, wiresFrom}
 use Rattle.wires.specs.RowLaws.{length-wire-row, flags-few, flags-back, port-number-back}
 use Rattle.replay.specs.Parts.{span, nameStands, signalStands}

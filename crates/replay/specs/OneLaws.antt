@@ -10,8 +10,8 @@ use lib.ListN.{length}
 use Rattle.rules.specs.Bytes.{within}
 use Rattle.rules.specs.Statements.{Statement, Kind, anAutoidx, anAttribute, aModule, aParameter, aWire, aMemory, aCell, aCellParameter, aCellConnection, aConnection, aProcess, anEnd, code, contents}
 use Rattle.rules.specs.Judgement.{Past}
-use Rattle.scanner.specs.Laws.{never}
-use Rattle.scanner.specs.Lists.{first-next, both-begin}
+use Rattle.lists.specs.Tests.{never}
+use Rattle.lists.specs.Lists.{first-next, both-begin}
 use Rattle.admitted.specs.Admitted.{admitted}
 use Rattle.admitted.specs.AdmitLaws.{admitted-before, admitted-past}
 use Rattle.wires.specs.Rows.{wordAt, column}

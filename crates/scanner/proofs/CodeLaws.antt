@@ -12,7 +12,8 @@ use borrow.Author.Tests.{eq-eqb, ne-eqb, eqb-true}
 use Rattle.rules.specs.Bytes.{same, all}
 use Rattle.rules.specs.Tokens.{keywords}
 use Rattle.scanner.specs.Words.{placeIn, keywordNumber, keywordAt, wordCode, codeIn, codeNumber}
-use Rattle.scanner.specs.Laws.{by-test, never, same-eq, same-refl, same-length}
+use Rattle.lists.specs.Tests.{by-test, never}
+use Rattle.scanner.specs.Laws.{same-eq, same-refl, same-length}
 use Rattle.scanner.proofs.Table.{both-left, both-right}
 use Rattle.scanner.proofs.WordLaws.{keyword-is}
 

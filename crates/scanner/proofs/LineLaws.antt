@@ -19,7 +19,7 @@ use Rattle.rules.specs.Reading.{lexed, outcome, finish, next, readLines}
 use Rattle.scanner.specs.Class.{inClass}
 use Rattle.scanner.specs.Runs.{endOf}
 use Rattle.scanner.specs.Lines.{lineFrom}
-use Rattle.scanner.specs.Laws.{by-test, by-lt}
+use Rattle.lists.specs.Tests.{by-test, by-lt}
 use Rattle.scanner.proofs.ClassLaws.{class-in-line}
 use Rattle.scanner.proofs.RunLaws.{endOf-low, endOf-high, endOf-slice, endOf-rest}
 

@@ -10,7 +10,8 @@ use lib.ListN.{length, getD}
 use borrow.Author.Tests.{eq-eqb, ne-eqb}
 use Rattle.rules.specs.Bytes.{all, within, run, isNameStart, isNameByte, legal}
 use Rattle.scanner.specs.Runs.{endOf}
-use Rattle.scanner.specs.Laws.{by-test, all-run, within-yes, within-below, within-above}
+use Rattle.lists.specs.Tests.{by-test}
+use Rattle.scanner.specs.Laws.{all-run, within-yes, within-below, within-above}
 use Rattle.scanner.proofs.RunLaws.{endOf-high, endOf-more, endOf-stop, endOf-end}
 
 behind : (f : ℕ → Bool) (b : ℕ) (bs : List ℕ) → endOf f (b ∷ bs) 1 ≡ suc (length (run f bs))

@@ -12,7 +12,7 @@ use lib.Seq.{drop-cons, drop-drop, slice}
 use Rattle.rules.specs.Bytes.{run, rest}
 use Rattle.scanner.specs.Runs.{endOf}
 use Rattle.scanner.specs.Laws.{run-le, take-run, drop-run}
-use Rattle.scanner.specs.Parts.{slice-part, slice-cut, slice-none}
+use Rattle.lists.specs.Parts.{slice-part, slice-cut, slice-none}
 
 module _ (f : ℕ → Bool) (s : List ℕ) (i : ℕ) where
   pub endOf-end : length s ≤ i → endOf f s i ≡ i

@@ -8,7 +8,7 @@ use native.Mathlib.Nat.{add-zero, zero-add, add-suc, suc-add, le-of-suc-le-suc, 
 use native.Mathlib.Omega.{arith}
 use lib.Dec.{T, eqb, ltb, eqb→eq, leb→le}
 use lib.ListN.{length, getD}
-use Rattle.scanner.specs.Laws.{by-cond, and-true-left, and-true-right}
+use Rattle.lists.specs.Tests.{by-cond, and-true-left, and-true-right}
 
 pub both-left : (a b : Bool) → T (a && b) → T a
 both-left true b t = tt

@@ -4,7 +4,3 @@ pub mod Lines
 pub mod Words
 pub mod Numbers
 pub mod Laws
-pub mod Lists
-pub mod Elements
-pub mod Parts
-pub mod Sums

@@ -26,7 +26,7 @@ use Rattle.wire_names.specs.Now as table
 use Rattle.wire_names.specs.declared.Module.{Module}
 use Rattle.netlist.specs.Results.{lent}
 use Rattle.rename_rules.specs.Judged.{moduleBy}
-use Rattle.scanner.specs.Lists.{up}
+use Rattle.lists.specs.Lists.{up}
 use Rattle.rename_rules.specs.LiesLaws.{names-are, there, missing}
 use Rattle.session.specs.Called.{Called, holding, answer}
 use Rattle.rename_rules.specs.Search.{searchNow}

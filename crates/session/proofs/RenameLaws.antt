@@ -18,7 +18,7 @@ use Rattle.netlist.specs.Results.{lent}
 use Rattle.netlist.specs.RoomLaws.{length-rename-row}
 use Rattle.canonical.specs.RenamedFine.{accepted-keeps}
 use Rattle.scanner.specs.Laws.{legal-short}
-use Rattle.scanner.specs.Lists.{flatMap-snoc}
+use Rattle.lists.specs.Lists.{flatMap-snoc}
 use Rattle.memory_check.specs.AllowedLaws.{number-accepted}
 use Rattle.memory_check.specs.RenameLaws.{file-last}
 

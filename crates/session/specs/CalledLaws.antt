@@ -7,7 +7,7 @@ use native.Mathlib.Omega.{arith}
 use Rattle.rules.specs.Statements.{Statement}
 use Rattle.rules.specs.Session.{Rename}
 use Rattle.rules.specs.Layout.{Memory}
-use Rattle.scanner.specs.Laws.{never}
+use Rattle.lists.specs.Tests.{never}
 use Rattle.netlist.specs.Lengths.{rightLengths}
 use Rattle.memory_check.specs.OneLaws.{holds-one}
 use Rattle.session.specs.Called.{Called, wrong-lengths, damaged, holding}

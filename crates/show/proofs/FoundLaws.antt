@@ -14,9 +14,9 @@ use Rattle.rules.specs.Judgement.{Past, until, sum, among, count, ofObject}
 use Rattle.rules.specs.Design.{Setting, settingIn}
 use Rattle.rules.specs.Session.{hdlname}
 use Rattle.rules.specs.Layout.{used, padded, row, stringBytes, constantColumns, columns, statementRow}
-use Rattle.scanner.specs.Laws.{by-test}
-use Rattle.scanner.specs.Lists.{flatMap-back}
-use Rattle.scanner.specs.Parts.{slice-span}
+use Rattle.lists.specs.Tests.{by-test}
+use Rattle.lists.specs.Lists.{flatMap-back}
+use Rattle.lists.specs.Parts.{slice-span}
 use Rattle.context.specs.Forms.{by-form}
 use Rattle.context.specs.Place.{wiresIn}
 use Rattle.wires.specs.Rows.{column, spanAt}

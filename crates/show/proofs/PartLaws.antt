@@ -13,7 +13,7 @@ use lib.Seq.{slice, drop-cons, length-take-le}
 use borrow.Author.Tests.{ltb-true, ltb-false, leb-true, leb-false}
 use Rattle.rules.specs.Bytes.{byte}
 use Rattle.rules.specs.Session.{plainName, orElse}
-use Rattle.scanner.specs.Laws.{by-cond, by-test}
+use Rattle.lists.specs.Tests.{by-cond, by-test}
 use Rattle.scanner.proofs.RunLaws.{cut-none, cut-part}
 use Rattle.wires.specs.Rows.{column, spanAt}
 use Rattle.wire_names.specs.Now.{lastRename, nameNow}

@@ -17,7 +17,7 @@ use Rattle.rules.specs.Session.{wiresAt, wireAt, now, hdlname, plainName, orEls
 use Rattle.rules.specs.Layout.{Memory}
 use Rattle.wires.specs.Rows.{nameOf, wireOf, wiresFrom}
 use Rattle.wires.specs.RowLaws.{length-wires, wire-numbered}
-use Rattle.scanner.specs.Lists.{at-map}
+use Rattle.lists.specs.Lists.{at-map}
 use Rattle.context.specs.Place.{wiresIn}
 use Rattle.context.specs.declared.place.Place.{Place}
 use Rattle.netlist.specs.Laid.{roomsOf}

@@ -12,8 +12,8 @@ use Rattle.rules.specs.Statements.{Sig, bundle}
 use Rattle.rules.specs.Signals.{Wires, width, widths, bits, bitsOf, parts, partsOf, declaredWire, goodSlice}
 use Rattle.rules.specs.Numbers.{goodNumbers}
 use Rattle.rules.specs.Shapes.{sigs, members, signal}
-use Rattle.scanner.specs.Laws.{and-true-left, and-true-right}
-use Rattle.scanner.specs.Parts.{slice-join, slice-kept, take-kept}
+use Rattle.lists.specs.Tests.{and-true-left, and-true-right}
+use Rattle.lists.specs.Parts.{slice-join, slice-kept, take-kept}
 use Rattle.tokens.specs.Rows.{line}
 use Rattle.tokens.proofs.TokenLaws.{line-long}
 use Rattle.signals.specs.Faults.{faults, fault, merge, tooWide, mild}

@@ -10,8 +10,8 @@ use Rattle.rules.specs.Statements.{Bit, bit, Signal}
 use Rattle.rules.specs.Signals.{wireBits}
 use Rattle.rules.specs.Layout.{bitCode}
 use Rattle.tables.specs.Store.{store, store-behind, filled}
-use Rattle.scanner.specs.Lists.{length-wire, map-at, getD-reverse}
-use Rattle.scanner.specs.Parts.{length-part}
+use Rattle.lists.specs.Lists.{length-wire, map-at, getD-reverse}
+use Rattle.lists.specs.Parts.{length-part}
 use Rattle.signals.specs.Held.{codes}
 
 -- ---- codes

@@ -17,8 +17,8 @@ use Rattle.rules.specs.Signals.{Wires, width, bits, inside, lower, span, declar
 use Rattle.rules.specs.Numbers.{int32, goodNumbers}
 use Rattle.numbers.specs.Signed.{signedOf}
 use Rattle.numbers.specs.SignedLaws.{by-half, signed-int32}
-use Rattle.scanner.specs.Laws.{by-test}
-use Rattle.scanner.specs.Parts.{slice-within}
+use Rattle.lists.specs.Tests.{by-test}
+use Rattle.lists.specs.Parts.{slice-within}
 use Rattle.tables.specs.Store.{store, store-slice}
 use Rattle.signals.specs.Faults.{faults, fault, merge, tooWide}
 use Rattle.signals.specs.Held.{codes, Held, Kept, CutIs}

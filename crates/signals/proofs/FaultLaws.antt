@@ -13,8 +13,8 @@ use Rattle.rules.specs.Statements.{Sig}
 use Rattle.rules.specs.Signals.{Wires, width, declaredWire, goodSlice}
 use Rattle.rules.specs.Numbers.{goodNumbers}
 use Rattle.rules.specs.Judgement.{lowest}
-use Rattle.scanner.specs.Laws.{by-cond, by-test, never, by-order}
-use Rattle.scanner.specs.Elements.{all-split}
+use Rattle.lists.specs.Tests.{by-cond, by-test, never, by-order}
+use Rattle.lists.specs.Elements.{all-split}
 use Rattle.signals.specs.Faults.{faults, merge, tooWide, mild}
 
 -- ---- merge

@@ -16,7 +16,7 @@ use Rattle.rules.specs.Signals.{Wires, find, wireBits, literalBits, literalWidt
 use Rattle.rules.specs.Numbers.{goodLiteral, goodNumbers}
 use Rattle.rules.specs.Layout.{bitCode}
 use Rattle.tables.specs.Store.{store, length-store, store-slice, store-take}
-use Rattle.scanner.specs.Laws.{by-cond, never}
+use Rattle.lists.specs.Tests.{by-cond, never}
 use Rattle.numbers.specs.declared.kinds.WireNumber.{WireNumber}
 use Rattle.wires.specs.Found.{widthFound, foundOf}
 use Rattle.wires.specs.FoundLaws.{found-declared, found-width, found-bits}

@@ -14,7 +14,7 @@ use Rattle.rules.specs.Bytes.{byte}
 use Rattle.rules.specs.Tokens as rules
 use Rattle.rules.specs.Statements.{Sig, bundle}
 use Rattle.rules.specs.Shapes.{Parse, isMark, nowhere, give, after, of₁, of₂, either, closedBy, repeat, several, int, low, bounds, sliced, sigs, withSlices, members, one, isAtom, atom, signal}
-use Rattle.scanner.specs.Laws.{by-order}
+use Rattle.lists.specs.Tests.{by-order}
 use Rattle.tokens.specs.Rows.{front, tokenIn, tokenAt, rowOf, line, Present}
 use Rattle.tokens.specs.declared.Token.{Token}
 use Rattle.tokens.specs.declared.Token.the-variants.{Name, Word, Constant as Constantly, Mark, End}

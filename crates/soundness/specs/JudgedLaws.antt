@@ -15,14 +15,14 @@ use Rattle.rules.specs.Numbers.{int32, goodLiteral, goodNumbers, goodWire, good
 use Rattle.rules.specs.Signals.{Wires, kept, width, bits, goodSlice}
 use Rattle.rules.specs.Judgement.{Past, context, wires, among, namesIn, nameSpaces, takesName, newPort, allParts, breaksNumber, equalWidths, breaksWidth, partTooWide, Verdict, meaning, judgeIn, judge}
 use Rattle.rules.specs.Reading.{shaped}
-use Rattle.scanner.specs.Laws.{and-true-left, and-true-right, or-false-right, or-false-left}
+use Rattle.lists.specs.Tests.{and-true-left, and-true-right, or-false-right, or-false-left}
 use Rattle.admitted.specs.Admitted.{kinds, stands, ownWire, newPorts, fineMemory, fineAlone, fineParts, admits}
 use Rattle.admitted.specs.JudgeLaws.{meaning-kind, meaning-among, judge-passed, by-verdict}
 use Rattle.written.specs.TokenLaws.{fineToken}
 use Rattle.soundness.specs.ShapeLaws.{FineShape, FineShaped, no-shape, fine-shape, shape-fine}
 use Rattle.context.specs.Forms.{translated, contents-translated}
 use Rattle.soundness.specs.PartLaws.{both, constants-fine, wire-fine, memory-fine, narrow, signals-fine, equal-lengths}
-use Rattle.scanner.specs.Elements.{all-through, each-test}
+use Rattle.lists.specs.Elements.{all-through, each-test}
 
 -- the tests of a shape that no number refuses
 record GoodShape (ws : Wires) (sh : Shape) : Type 0 where

@@ -9,9 +9,9 @@ use lib.IntN.{pos}
 use lib.ListN.{length}
 use Rattle.rules.specs.Bytes.{byte, all, within, isBlank, isNameStart, isLower, isDigit, isValueDigit, isMark, legal, rest}
 use Rattle.rules.specs.Tokens.{integer, Token, word, literal, isKeyword, plain, Quoted, closed, broken, quoted, Step, token, done, wrong, parted, separate, nameStep, wordStep, integerStep, valueStep, numberStep, minusStep, stringStep, stepAt, step, Lexed, good, bad, tokensOnto, tokensBy, tokensFrom, tokens}
-use Rattle.scanner.specs.Laws.{by-cond}
+use Rattle.lists.specs.Tests.{by-cond}
 use Rattle.strings.proofs.StringLaws.{quoted-bytes}
-use Rattle.scanner.specs.Elements.{all-cons}
+use Rattle.lists.specs.Elements.{all-cons}
 use Rattle.written.specs.TokenLaws.{fineLiteral, fineToken}
 
 -- ---- tokens

@@ -14,8 +14,9 @@ use Rattle.rules.specs.Statements.{Sig, constant, wire, slice, bundle, Opt, Dir
 use Rattle.rules.specs.Numbers.{inRange, goodLiteral, goodNumbers, numberOr, ports, portOf, wireOf, memoryOf, goodOptions, goodWire, goodMemory}
 use Rattle.rules.specs.Signals.{Wires, kept, valueBits, literalBits, literalWidth, width, bits, goodSlice, parts, partsOf}
 use Rattle.rules.specs.Judgement.{portNumbers, equalWidths}
-use Rattle.scanner.specs.Laws.{and-true-left, within-high}
-use Rattle.scanner.specs.Elements.{all-map, all-both, all-left, all-right, all-cons, all-first, each-test}
+use Rattle.lists.specs.Tests.{and-true-left}
+use Rattle.scanner.specs.Laws.{within-high}
+use Rattle.lists.specs.Elements.{all-map, all-both, all-left, all-right, all-cons, all-first, each-test}
 use Rattle.context.specs.Offsets.{good-offset, memory-offset}
 use Rattle.literals.proofs.CodeLaws.{literal-long}
 use Rattle.admitted.specs.Admitted.{fineConstant, ownWire, fineMemory, fineSignal, sameLength}

@@ -12,7 +12,7 @@ use Rattle.rules.specs.Lines.{Line, lines, place}
 use Rattle.rules.specs.Statements.{Statement}
 use Rattle.rules.specs.Judgement.{Past, context, Verdict}
 use Rattle.rules.specs.Reading.{Outcome, skipped, states, stated, judged, lexed, outcome, Answer, accepted, refused, isTop, finish, next, readLines, readAny, read}
-use Rattle.scanner.specs.Laws.{by-cond}
+use Rattle.lists.specs.Tests.{by-cond}
 use Rattle.admitted.specs.Admitted.{admits, admitted, closes}
 use Rattle.written.specs.TokenLaws.{fineToken}
 use Rattle.soundness.specs.LexedLaws.{FineLexed, fine-good, fine-bad, tokens-fine}

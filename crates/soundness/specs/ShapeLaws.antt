@@ -16,8 +16,8 @@ use Rattle.rules.specs.Tokens.{Name, Literal, Token, name, word, literal, mark}
 use Rattle.rules.specs.Statements.{Sig, bundle, Opt, Shape, autoidx-stmt, attr-stmt, module-stmt, param-stmt, wire-stmt, memory-stmt, cell-stmt, cell-param-stmt, cell-conn-stmt, conn-stmt, proc-stmt, end-stmt, Kind, anAutoidx, anAttribute, aModule, aParameter, aWire, aMemory, aCell, aCellParameter, aCellConnection, aConnection, aProcess, anEnd, code, contents, is, statementsOpen}
 use Rattle.rules.specs.Shapes.{Parse, Scope, top, inModule, inCell, Context, isWord, isMark, nowhere, give, one, after, of₁, of₂, of₃, either, choice, offers, closedBy, repeat, several, orEnd, isId, isConstant, isInteger, isAtom, id, const, int, atom, low, bounds, sliced, withSlices, sigs, members, signal, sigspec, numbered, flag, wireOptionForms, memoryOptionForms, options, sort, autoidxForm, attributeForm, topForms, objectForms, bodyForms, cellForms, forms, wholeBy, whole, shape}
 use Rattle.rules.specs.Judgement.{among}
-use Rattle.scanner.specs.Laws.{by-cond}
-use Rattle.scanner.specs.Elements.{all-cons, all-first, all-later, Each, _then_, each-append, all-one}
+use Rattle.lists.specs.Tests.{by-cond}
+use Rattle.lists.specs.Elements.{all-cons, all-first, all-later, Each, _then_, each-append, all-one}
 use Rattle.admitted.specs.Admitted.{kinds}
 use Rattle.written.specs.TokenLaws.{fineLiteral, fineToken, Fine}
 

@@ -15,12 +15,12 @@ use Rattle.rules.specs.Tokens.{Name, Literal}
 use Rattle.rules.specs.Statements.{Sig, Sigs, constant, wire, slice, bundle, nothing, _below_, digit, bit, Wire}
 use Rattle.rules.specs.Numbers.{goodNumbers}
 use Rattle.rules.specs.Signals.{Wires, find, literalBits, wireBits, inside, lower, span, width, widths, bits, bitsOf, goodSlice, parts, partsOf}
-use Rattle.scanner.specs.Parts.{length-part}
-use Rattle.scanner.specs.Laws.{by-cond, and-true-left, and-true-right}
+use Rattle.lists.specs.Parts.{length-part}
+use Rattle.lists.specs.Tests.{by-cond, and-true-left, and-true-right}
 use Rattle.literals.proofs.CodeLaws.{literal-long}
 use Rattle.admitted.specs.Admitted.{fineBit}
-use Rattle.scanner.specs.Elements.{all-cons, all-first, all-later, all-drop, all-append, all-left, all-right, all-map, all-each, all-take}
-use Rattle.scanner.specs.Lists.{length-wire, element-behind}
+use Rattle.lists.specs.Elements.{all-cons, all-first, all-later, all-drop, all-append, all-left, all-right, all-map, all-each, all-take}
+use Rattle.lists.specs.Lists.{length-wire, element-behind}
 
 -- ---- a wire that is found stands at its number
 

@@ -13,8 +13,8 @@ use lib.Seq.{drop-cons, slice}
 use borrow.Author.Tests.{not-true}
 use Rattle.rules.specs.Bytes.{byte, isStringByte, run, rest}
 use Rattle.rules.specs.Tokens.{Inside, plain, goes, ends, breaks, plainTurn, turn, Quoted, closed, broken, quotedOnto, quotedBy, quoted}
-use Rattle.scanner.specs.Lists.{onto-none}
-use Rattle.scanner.specs.Laws.{by-test, and-true-left, and-true-right, or-false-left, or-false-right}
+use Rattle.lists.specs.Lists.{onto-none}
+use Rattle.lists.specs.Tests.{by-test, and-true-left, and-true-right, or-false-left, or-false-right}
 use Rattle.scanner.specs.Runs.{endOf}
 use Rattle.scanner.proofs.RunLaws.{endOf-low, endOf-slice, endOf-rest}
 use Rattle.strings.specs.declared.Close.the-variants.{At, Broken}

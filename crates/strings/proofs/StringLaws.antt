@@ -11,7 +11,7 @@ use Rattle.rules.specs.Tokens.{Inside, plain, Turn, goes, ends, breaks, turn, Q
 use Rattle.strings.specs.declared.Close.{Close}
 use Rattle.strings.specs.declared.Close.the-variants.{At, Broken}
 use Rattle.strings.specs.Decoded.{bytesOf, isClosed, decodedBy, decoded, closes, closing, CloseIs}
-use Rattle.scanner.specs.Elements.{all-append}
+use Rattle.lists.specs.Elements.{all-append}
 use Rattle.strings.proofs.Turns.{held, AllBytes, Fine, turn-fine}
 
 -- the bytes given and those left behind the closing quote are fewer than n, and no byte given is 0

@@ -17,9 +17,9 @@ use Rattle.rules.specs.Statements as rules
 use Rattle.rules.specs.Signals.{Wires, find, lower, span, literalBits, wireBits, width, bits, bitsOf, parts, partsOf}
 use Rattle.rules.specs.Judgement.{lowest}
 use Rattle.rules.specs.Layout.{bitCode}
-use Rattle.scanner.specs.Laws.{and-true-left, and-true-right}
-use Rattle.scanner.specs.Elements.{all-left, all-right, Each, each-front, each-back, each-append, each-all, each-through}
-use Rattle.scanner.specs.Parts.{slice-kept}
+use Rattle.lists.specs.Tests.{and-true-left, and-true-right}
+use Rattle.lists.specs.Elements.{all-left, all-right, Each, each-front, each-back, each-append, each-all, each-through}
+use Rattle.lists.specs.Parts.{slice-kept}
 use Rattle.numbers.specs.Kinds.{bitOf, bitAt}
 use Rattle.numbers.specs.KindLaws as kinds
 use Rattle.numbers.specs.KindLaws.{Within, bit-back}

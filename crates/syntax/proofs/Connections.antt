@@ -12,7 +12,7 @@ use Rattle.rules.specs.Statements.{Sig, Shape, aProcess, is, contents, conn-stm
 use Rattle.rules.specs.Numbers.{goodNumbers}
 use Rattle.rules.specs.Signals.{Wires, parts, width, declaredWire, goodSlice}
 use Rattle.rules.specs.Judgement.{allParts, breaksNumber, lacksWire, breaksWidth, partTooWide, equalWidths, lowest, meaning}
-use Rattle.scanner.specs.Laws.{by-cond, and-true-left, and-true-right}
+use Rattle.lists.specs.Tests.{by-cond, and-true-left, and-true-right}
 use Rattle.line_forms.specs.Forms.{nameIn}
 use Rattle.line_forms.specs.declared.Span.{Span}
 use Rattle.signals.specs.Faults.{faults, fault, merge, mild}

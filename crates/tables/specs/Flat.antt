@@ -6,9 +6,9 @@ use Prim.Native.Nat.{ℕ, _+_, _*_, _≤_}
 use native.Mathlib.Omega.{arith}
 use lib.ListN.{length}
 use Rattle.rules.specs.Layout.{padded}
-use Rattle.scanner.specs.Lists.{flatMap-snoc}
-use Rattle.scanner.specs.Elements.{Each}
-use Rattle.scanner.specs.Sums.{length-equal}
+use Rattle.lists.specs.Lists.{flatMap-snoc}
+use Rattle.lists.specs.Elements.{Each}
+use Rattle.lists.specs.Sums.{length-equal}
 use Rattle.tables.specs.Store.{store}
 use Rattle.tables.specs.Padded.{store-padded}
 

@@ -9,7 +9,7 @@ use borrow.Author.Tests.{leb-true, not-true, le-ltb, ne-eqb}
 use lib.Dec.{leb, eqb}
 use Rattle.rules.specs.Bytes.{all}
 use Rattle.rules.specs.Text.{escaped}
-use Rattle.scanner.specs.Laws.{and-true-left, and-true-right}
+use Rattle.lists.specs.Tests.{and-true-left, and-true-right}
 
 unfoldable pub plain : ℕ → Bool
 plain b = leb 32 b && not (eqb b 34) && not (eqb b 92)

@@ -6,7 +6,7 @@ use Prim.Native.Nat.{ℕ, min, _+_, _-_, _<_, _≤_}
 use native.Mathlib.Omega.{arith}
 use lib.ListN.{length, take, length-append}
 use lib.Seq.{take-nil, take-all, take-append-le, take-append-add}
-use Rattle.scanner.specs.Laws.{by-order}
+use Rattle.lists.specs.Tests.{by-order}
 use Rattle.tables.specs.Store.{store, store-none, store-store}
 
 -- the place n bytes on; it stops at 32769, since a text of more than 32768 bytes is refused

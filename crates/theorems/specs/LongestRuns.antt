@@ -9,7 +9,7 @@ use lib.Dec.{eqb}
 use borrow.Author.Tests.{eqb-true}
 use Rattle.rules.specs.Statements.{Bit, digit, bit, Signal}
 use Rattle.rules.specs.Text.{Run, digits, span, join, runs}
-use Rattle.scanner.specs.Laws.{by-cond, and-true-left, and-true-right}
+use Rattle.lists.specs.Tests.{by-cond, and-true-left, and-true-right}
 
 -- two runs that could be one, the lower first: digits and digits; bits of a wire, and bits of it from where they end
 unfoldable pub couldJoin : Run → Run → Bool

@@ -15,7 +15,7 @@ use Rattle.rules.specs.Design.{Design, design, flatten}
 use Rattle.rules.specs.Session.{Rename, now}
 use Rattle.rules.specs.Layout.{Memory}
 use Rattle.rules.specs.Text.{textFrom, text, writeText, write}
-use Rattle.scanner.specs.Laws.{or-false-left}
+use Rattle.lists.specs.Tests.{or-false-left}
 use Rattle.admitted.specs.Admitted.{admitted, closes}
 use Rattle.admitted.specs.Holds.{Holds}
 use Rattle.admitted.specs.JudgeLaws.{no-tests}

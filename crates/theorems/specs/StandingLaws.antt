@@ -6,7 +6,7 @@ use Rattle.rules.specs.Bytes.{all}
 use Rattle.rules.specs.Judgement.{accepted}
 use Rattle.rules.specs.Design.{Design}
 use Rattle.rules.specs.Session.{Rename, Call, rename, undo, renameCall, undoCall, call, standing, plainSession}
-use Rattle.scanner.specs.Lists.{drop-last}
+use Rattle.lists.specs.Lists.{drop-last}
 use Rattle.admitted.specs.JudgeLaws.{by-verdict}
 use Rattle.admitted.specs.Holds.{Allowed, no-renames, one-rename}
 

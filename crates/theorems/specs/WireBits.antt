@@ -15,9 +15,9 @@ use Rattle.rules.specs.Reading.{accepted, readAny}
 use Rattle.rules.specs.Design.{Object, Cell, Module, Design, design}
 use Rattle.rules.specs.Session.{Rename, now}
 use Rattle.rules.specs.Layout.{Memory}
-use Rattle.scanner.specs.Laws.{and-true-right}
-use Rattle.scanner.specs.Lists.{elim-map}
-use Rattle.scanner.specs.Elements.{all-left, all-right, all-cons, all-first, all-later, all-implied, all-map, all-of, each-map}
+use Rattle.lists.specs.Tests.{and-true-right}
+use Rattle.lists.specs.Lists.{elim-map}
+use Rattle.lists.specs.Elements.{all-left, all-right, all-cons, all-first, all-later, all-implied, all-map, all-of, each-map}
 use Rattle.admitted.specs.Admitted.{fineBit, fineSignal}
 use Rattle.admitted.specs.Holds.{Holds}
 use Rattle.canonical.specs.Fine.{wiresIn, signalsIn, FineModule, FineDesign}

@@ -17,7 +17,7 @@ use Rattle.tokens.specs.declared.Constant.{Constant}
 use Rattle.tokens.specs.declared.Constant.the-variants as constant
 use Rattle.tokens.specs.declared.Token.{Token}
 use Rattle.tokens.specs.declared.Token.the-variants.{Name, Word, Constant as Constantly, Mark, End}
-use Rattle.scanner.specs.Laws.{by-test, by-order}
+use Rattle.lists.specs.Tests.{by-test, by-order}
 
 -- ---- a token in front
 

@@ -12,7 +12,7 @@ use Rattle.rules.specs.Bytes.{bytes, same}
 use Rattle.rules.specs.Tokens.{keywords, word}
 use Rattle.rules.specs.Shapes.{isWord}
 use Rattle.scanner.specs.Words.{keywordAt, keywordNumber, placeIn}
-use Rattle.scanner.specs.Laws.{by-test}
+use Rattle.lists.specs.Tests.{by-test}
 use Rattle.scanner.proofs.WordLaws.{keyword-is, keyword-numbered}
 
 -- no keyword has a number of 32 or more

@@ -8,7 +8,7 @@ use native.Mathlib.Omega.{arith}
 use lib.ListN.{length, drop}
 use lib.Seq.{drop-nil}
 use Rattle.rules.specs.Tokens.{Name}
-use Rattle.scanner.specs.Laws.{by-test}
+use Rattle.lists.specs.Tests.{by-test}
 use Rattle.wires.specs.Rows.{spanAt, nameOf, wireOf}
 use Rattle.netlist.specs.Rows.{nameFrom}
 use Rattle.wire_names.specs.declared.Module.{Module}

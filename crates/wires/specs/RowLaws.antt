@@ -15,9 +15,9 @@ use Rattle.rules.specs.Tokens.{Name}
 use Rattle.rules.specs.Statements.{Wire, Direction, input, output, inout}
 use Rattle.rules.specs.Numbers.{int32}
 use Rattle.rules.specs.Layout.{Used, padded, row, directionCode, flags, wireRow}
-use Rattle.scanner.specs.Laws.{by-order, cond-le}
-use Rattle.scanner.specs.Lists.{element-none, element-behind}
-use Rattle.scanner.specs.Parts.{slice-span}
+use Rattle.lists.specs.Tests.{by-order, cond-le}
+use Rattle.lists.specs.Lists.{element-none, element-behind}
+use Rattle.lists.specs.Parts.{slice-span}
 use Rattle.numbers.specs.SignedLaws.{signed-word}
 use Rattle.wires.specs.Rows.{wordAt, column, nameOf, portOf, wireOf, wiresFrom, spanAt}
 

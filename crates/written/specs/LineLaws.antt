@@ -13,9 +13,10 @@ use Rattle.rules.specs.Bytes.{all, isLineEnd, isNameStart, isNameByte, isLower,
 use Rattle.rules.specs.Tokens.{Digit, S0, S1, Sx, Sz, Sm, Sa, Literal, value, integer, string, Token, name, word, literal, mark}
 use Rattle.rules.specs.Lines.{Line, longer, linesFrom}
 use Rattle.rules.specs.Text.{decimalText, integerText, digitByte, escaped, literalText, tokenText, tight, behind, spaced}
-use Rattle.scanner.specs.Laws.{by-cond, by-lt, within-low}
+use Rattle.lists.specs.Tests.{by-cond, by-lt}
+use Rattle.scanner.specs.Laws.{within-low}
 use Rattle.scanner.proofs.LineLaws.{inLine}
-use Rattle.scanner.specs.Elements.{all-append, by-any, all-implied, all-cons, all-first, all-later, all-map, all-each, all-flatMap}
+use Rattle.lists.specs.Elements.{all-append, by-any, all-implied, all-cons, all-first, all-later, all-map, all-each, all-flatMap}
 use Rattle.written.specs.NumberLaws.{Digits, some-digits, decimal-digits}
 use Rattle.written.specs.TokenLaws.{fineToken, legal-start, legal-bytes, keyword-lower}
 

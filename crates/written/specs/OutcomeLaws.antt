@@ -16,7 +16,7 @@ use Rattle.rules.specs.Reading.{shaped, stated, judged, lexed, outcome}
 use Rattle.context.specs.Forms.{by-form}
 use Rattle.admitted.specs.Admitted.{fineParts, admitted}
 use Rattle.admitted.specs.AdmitLaws.{admitted-wires}
-use Rattle.scanner.specs.Elements.{all-zip-first}
+use Rattle.lists.specs.Elements.{all-zip-first}
 use Rattle.written.specs.TokenLaws.{tokens-spaced}
 use Rattle.scanner.proofs.LineLaws.{inLine}
 use Rattle.written.specs.LineLaws.{line-free, lineAt, lines-first}

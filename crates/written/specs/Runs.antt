@@ -5,7 +5,7 @@ use mathlib.Core.Bool.{Bool, true, false}
 use mathlib.Core.List.{List, [], _∷_, _++_}
 use Prim.Native.Nat.{ℕ}
 use Rattle.rules.specs.Bytes.{all, run, rest}
-use Rattle.scanner.specs.Elements.{all-first, all-later}
+use Rattle.lists.specs.Elements.{all-first, all-later}
 
 -- the list is empty, or its first byte fails
 abbrev pub Stops : (ℕ → Bool) → List ℕ → Type 0

@@ -10,9 +10,10 @@ use borrow.Author.Tests.{eqb-true, ne-eqb}
 use Rattle.rules.specs.Bytes.{all, within, isOctal, isStringByte, isLineEnd, bytesOpen}
 use Rattle.rules.specs.Tokens.{Inside, plain, escape, octal, goes, closed, turn, octalTurn, octalByte, onto, plainTurn, escapeTurn, quotedOnto, quotedBy, quoted}
 use Rattle.rules.specs.Text.{escaped}
-use Rattle.scanner.specs.Laws.{by-cond, by-lt, within-yes, within-low, within-high}
-use Rattle.scanner.specs.Lists.{onto-none}
-use Rattle.scanner.specs.Elements.{all-first, all-later}
+use Rattle.lists.specs.Tests.{by-cond, by-lt}
+use Rattle.scanner.specs.Laws.{within-yes, within-low, within-high}
+use Rattle.lists.specs.Lists.{onto-none}
+use Rattle.lists.specs.Elements.{all-first, all-later}
 
 -- a byte that gives bytes, and one that gives none
 module _ (i j : Inside) (b : ℕ) (l : List ℕ) where

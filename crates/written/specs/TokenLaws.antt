@@ -14,8 +14,9 @@ use Rattle.rules.specs.Bytes.{same, all, any, within, oneOf, isBlank, isNameSta
 use Rattle.rules.specs.Tokens.{Digit, S0, S1, Sx, Sz, Sm, Sa, Literal, value, integer, string, Token, name, word, literal, mark, keywords, isKeyword, decimal, digit, token, done, separate, parted, nameStep, wordStep, integerStep, valueStep, numberStep, minusStep, stringStep, stepAt, step, good, tokensOnto, tokensBy, tokensFrom, tokens}
 use Rattle.rules.specs.Shapes as shapes
 use Rattle.rules.specs.Text.{decimalText, integerText, digitByte, escaped, literalText, tokenText, tight, behind, spaced}
-use Rattle.scanner.specs.Laws.{same-eq, by-test, within-below, within-low, within-high}
-use Rattle.scanner.specs.Elements.{by-any, by-found, each-of, all-first, all-later, all-cons, all-map, all-each, each-all, map-back, test-at}
+use Rattle.lists.specs.Tests.{by-test}
+use Rattle.scanner.specs.Laws.{same-eq, within-below, within-low, within-high}
+use Rattle.lists.specs.Elements.{by-any, by-found, each-of, all-first, all-later, all-cons, all-map, all-each, each-all, map-back, test-at}
 use Rattle.written.specs.Runs.{Stops, run-upto, rest-upto}
 use Rattle.written.specs.NumberLaws.{decimal-text, Digits, some-digits, decimal-digits}
 use Rattle.written.specs.StringLaws.{quoted-string}

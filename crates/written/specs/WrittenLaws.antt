@@ -17,8 +17,8 @@ use Rattle.rules.specs.Signals.{Wires}
 use Rattle.rules.specs.Text.{Run, digits, span, runs, cut, runSig, runsSig, sig, literalOf, setting, directionWord, wireOptions, memoryOptions, written, numberToken, wordToken, lowTokens, sigTokens, sigsTokens, optionTokens, sortTokens, shapeTokens}
 use Rattle.admitted.specs.Admitted.{fineConstant, fineParts}
 use Rattle.admitted.specs.AdmitLaws.{fine-parts}
-use Rattle.scanner.specs.Laws.{by-cond}
-use Rattle.scanner.specs.Elements.{Each, all-append, all-cons, all-first, all-later, all-drop, all-map, all-each}
+use Rattle.lists.specs.Tests.{by-cond}
+use Rattle.lists.specs.Elements.{Each, all-append, all-cons, all-first, all-later, all-drop, all-map, all-each}
 use Rattle.meaning.specs.Options.{wire-each, memory-each}
 use Rattle.written.specs.TokenLaws.{fineLiteral, fineToken, Fine}
 

@@ -6,7 +6,7 @@ use denote.Ref.{now}
 use borrow.Author.Needs.{needs}
 use Rattle.literals.proofs.value_digits.Statement.{statement}
 use Rattle.literals.proofs.value_digits.Tie as tie
-use Rattle.scanner.specs.Parts.{slice-past}
+use Rattle.lists.specs.Parts.{slice-past}
 
 sub-result : tie.Need-sub-result
 sub-result c = search needs

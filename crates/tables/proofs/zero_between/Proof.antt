@@ -6,7 +6,7 @@ use denote.Ref.{now}
 use lib.Dec.{eqb}
 use lib.ListN.{drop}
 use Rattle.rules.specs.Bytes.{all}
-use Rattle.scanner.specs.Elements.{all-turn}
+use Rattle.lists.specs.Elements.{all-turn}
 use native.Mathlib.Omega.{arith}
 use Rattle.tables.proofs.zero_between.Statement.{statement}
 use Rattle.tables.proofs.zero_between.Tie as tie

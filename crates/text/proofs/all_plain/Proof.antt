@@ -7,7 +7,7 @@ use denote.Ref.{now}
 use lib.ListN.{length, drop}
 use Rattle.rules.specs.Bytes.{all}
 use Rattle.text.specs.Plain.{plain}
-use Rattle.scanner.specs.Elements.{all-turn, all-told}
+use Rattle.lists.specs.Elements.{all-turn, all-told}
 use Rattle.text.proofs.all_plain.Statement.{statement}
 use Rattle.text.proofs.all_plain.Tie as tie
 

@@ -8,7 +8,7 @@ use lib.ListN.{length, take}
 use lib.Seq.{take-length}
 use Rattle.rules.specs.Text.{escaped}
 use Rattle.text.specs.Written.{Written, written-none, written-most, written-then, written-as}
-use Rattle.scanner.specs.Lists.{flatMap-more}
+use Rattle.lists.specs.Lists.{flatMap-more}
 use Rattle.text.proofs.put_mixed.Statement.{statement}
 use Rattle.text.proofs.put_mixed.Tie as tie
 

@@ -5,7 +5,7 @@ use native.Mathlib.Omega.{arith}
 use lib.Dec.{eqb}
 use borrow.Author.Needs.{needs}
 use Rattle.context.specs.Place.{placeAfter}
-use Rattle.scanner.specs.Laws.{cond-le}
+use Rattle.lists.specs.Tests.{cond-le}
 use Rattle.context.proofs.place.after.Statement.{statement}
 use Rattle.context.proofs.place.after.Tie as tie
 

@@ -8,7 +8,7 @@ use native.Mathlib.Omega.{arith}
 use lib.Seq.{slice}
 use Rattle.rules.specs.Bytes.{all}
 use Rattle.replay.specs.Parts.{isDigit}
-use Rattle.scanner.specs.Parts.{part-turn, part-told}
+use Rattle.lists.specs.Parts.{part-turn, part-told}
 use Rattle.replay.proofs.parts.all_digits.Statement.{statement}
 use Rattle.replay.proofs.parts.all_digits.Tie as tie
 

@@ -8,7 +8,7 @@ use native.Mathlib.Omega.{arith}
 use lib.ListN.{getD}
 use lib.Seq.{slice}
 use Rattle.rules.specs.Bytes.{all, within}
-use Rattle.scanner.specs.Parts.{part-turn, part-told}
+use Rattle.lists.specs.Parts.{part-turn, part-told}
 use Rattle.replay.proofs.PartLaws.{given-byte}
 use Rattle.replay.proofs.parts.all_given.Statement.{statement}
 use Rattle.replay.proofs.parts.all_given.Tie as tie

@@ -11,7 +11,7 @@ use Rattle.rules.specs.Bytes.{all}
 use Rattle.admitted.specs.Admitted.{fineBit}
 use Rattle.numbers.specs.Kinds.{bitOf, bitAt}
 use Rattle.wires.specs.Rows.{wiresFrom}
-use Rattle.scanner.specs.Parts.{all-more, all-stop, all-end}
+use Rattle.lists.specs.Parts.{all-more, all-stop, all-end}
 use borrow.Author.Needs.{needs}
 use Rattle.replay.proofs.wiring.all_fit.Statement.{statement}
 use Rattle.replay.proofs.wiring.all_fit.Tie as tie

@@ -8,8 +8,8 @@ use native.Mathlib.Omega.{arith}
 use lib.ListN.{length, drop, length-append}
 use Rattle.rules.specs.Bytes.{any}
 use Rattle.rules.specs.Judgement.{sum, until}
-use Rattle.scanner.specs.Lists.{until-front}
-use Rattle.scanner.specs.Elements.{Each, each-map, each-all, any-none, none-any}
+use Rattle.lists.specs.Lists.{until-front}
+use Rattle.lists.specs.Elements.{Each, each-map, each-all, any-none, none-any}
 
 module _ {A : Type 0} (f : A → ℕ) where
   pub sum-more : (x : A) (xs : List A) → sum f (x ∷ xs) ≡ sum f xs + f x

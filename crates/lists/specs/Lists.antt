@@ -14,7 +14,7 @@ use lib.Seq.{getD-at, take-suc, take-append-seam}
 use Rattle.rules.specs.Tokens.{Quoted, closed, broken, quotedOnto}
 use Rattle.rules.specs.Signals.{wireBits}
 use Rattle.rules.specs.Judgement.{until, only}
-use Rattle.scanner.specs.Laws.{by-test, by-order}
+use Rattle.lists.specs.Tests.{by-test, by-order}
 
 module _ {A B : Type 0} (f : A → List B) where
   pub flatMap-append : (xs ys : List A) → flatMap f (xs ++ ys) ≡ flatMap f xs ++ flatMap f ys

@@ -9,7 +9,7 @@ use native.Mathlib.Omega.{arith}
 use lib.ListN.{length, getD, take, drop, length-take, length-drop, drop-of-length-le, take-append-drop}
 use lib.Seq.{slice, slice-cons, getD-take, take-all, take-length, take-nil, take-take, take-add, take-append-seam, drop-drop, drop-append-seam, length-take-le}
 use Rattle.rules.specs.Bytes.{all}
-use Rattle.scanner.specs.Elements.{all-turn, all-told}
+use Rattle.lists.specs.Elements.{all-turn, all-told}
 
 module _ {A : Type 0} where
   -- a part, as code cuts it and as `slice` does

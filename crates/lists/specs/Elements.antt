@@ -12,7 +12,7 @@ use lib.Seq.{drop-cons}
 use borrow.Author.Tests.{eqb-true, not-true}
 use Rattle.rules.specs.Bytes.{all, any}
 use Rattle.rules.specs.Judgement.{until, only}
-use Rattle.scanner.specs.Laws.{by-cond, by-test, and-true-left, and-true-right, or-false-left, or-false-right}
+use Rattle.lists.specs.Tests.{by-cond, by-test, and-true-left, and-true-right, or-false-left, or-false-right}
 
 module _ {A : Type 0} (f : A → Bool) where
   pub all-split : (xs ys : List A) → all f (xs ++ ys) ≡ all f xs && all f ys

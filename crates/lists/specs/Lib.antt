@@ -1,0 +1,5 @@
+pub mod Tests
+pub mod Lists
+pub mod Elements
+pub mod Parts
+pub mod Sums
