@@ -17,13 +17,13 @@ use Rattle.scanner.specs.Numbers.{capped}
 use Rattle.lists.specs.Parts.{slice-le}
 use Rattle.strings.proofs.StringLaws.{decoded-length}
 use Rattle.tokens.specs.Rows.{literalIn}
-use Rattle.tokens.specs.declared.Constant.the-variants as constant
-use Rattle.tokens.specs.declared.Literal.{Literal}
-use Rattle.tokens.specs.declared.Literal.the-variants as literal
+use Rattle.tokens.specs.declared.ConstantSpan.the-variants as constant
+use Rattle.tokens.specs.declared.ConstantSlot.{ConstantSlot}
+use Rattle.tokens.specs.declared.ConstantSlot.the-variants as literal
 use Rattle.literals.proofs.CodeLaws.{value-few, value-width}
 use Rattle.line_forms.specs.Forms.{nameIn, valueIn}
 use Rattle.line_forms.specs.declared.Span.{Span}
-use Rattle.syntax.specs.Statements.{numberOf, lateOf, statementIn, kindIn, namesIn, Sound, GoodOptional}
+use Rattle.syntax.specs.Statements.{numberOf, faultOf, statementIn, kindIn, namesIn, Sound, GoodOptional}
 use Rattle.syntax.specs.declared.Statement.{Statement}
 use Rattle.syntax.specs.declared.Statement.the-variants.{Autoidx, Attribute, Module, Parameter, Wire, Memory, Cell, CellParameter, CellConnection, Connection, End, NoShape, Process, BadNumber, MissingWire}
 use Rattle.context.specs.Sizes.{KindSizesAre, sizesOf, AtMost}
@@ -34,34 +34,34 @@ use Rattle.judgement.specs.Parts.{namedParts, refusalParts, connectionPa
 use Rattle.judgement.specs.declared.Parts.{Parts}
 
 unfoldable partsOpen : Unit {0}
-unfolding partsOf namedParts refusalParts connectionParts numberOf lateOf kindIn namesIn nameIn
+unfolding partsOf namedParts refusalParts connectionParts numberOf faultOf kindIn namesIn nameIn
 partsOpen = tt
 
 -- ---- the numbers, the kind and the own name of an answer
 
 pub record Tells (a : Statement) : Type 0 where
   pub number : numberOf a ≡ cond (eqb (partsOf a .number) 0) none (some (partsOf a .number))
-  pub late : partsOf a .late ≡ lateOf a
+  pub fault : partsOf a .fault ≡ faultOf a
   pub kind : partsOf a .kind ≡ code (kindIn a)
   pub own : (f : List ℕ) → nameIn f (partsOf a .name) ≡ ownName (namesIn f a)
 
 pub tells : (a : Statement) → Tells a
 unfolding partsOpen code ownName
-tells (Autoidx w) = record { number = refl; late = refl; kind = refl; own = λ f. refl }
-tells (Attribute n c) = record { number = refl; late = refl; kind = refl; own = λ f. refl }
-tells (Module n) = record { number = refl; late = refl; kind = refl; own = λ f. refl }
-tells (Parameter n c) = record { number = refl; late = refl; kind = refl; own = λ f. refl }
-tells (Wire n w t k p) = record { number = refl; late = refl; kind = refl; own = λ f. refl }
-tells (Memory n w z t) = record { number = refl; late = refl; kind = refl; own = λ f. refl }
-tells (Cell k n) = record { number = refl; late = refl; kind = refl; own = λ f. refl }
-tells (CellParameter o n c) = record { number = refl; late = refl; kind = refl; own = λ f. refl }
-tells (CellConnection n w l) = record { number = refl; late = refl; kind = refl; own = λ f. refl }
-tells (Connection l r k) = record { number = refl; late = refl; kind = refl; own = λ f. refl }
-tells End = record { number = refl; late = refl; kind = refl; own = λ f. refl }
-tells NoShape = record { number = refl; late = refl; kind = refl; own = λ f. refl }
-tells Process = record { number = refl; late = refl; kind = refl; own = λ f. refl }
-tells BadNumber = record { number = refl; late = refl; kind = refl; own = λ f. refl }
-tells MissingWire = record { number = refl; late = refl; kind = refl; own = λ f. refl }
+tells (Autoidx w) = record { number = refl; fault = refl; kind = refl; own = λ f. refl }
+tells (Attribute n c) = record { number = refl; fault = refl; kind = refl; own = λ f. refl }
+tells (Module n) = record { number = refl; fault = refl; kind = refl; own = λ f. refl }
+tells (Parameter n c) = record { number = refl; fault = refl; kind = refl; own = λ f. refl }
+tells (Wire n w t k p) = record { number = refl; fault = refl; kind = refl; own = λ f. refl }
+tells (Memory n w z t) = record { number = refl; fault = refl; kind = refl; own = λ f. refl }
+tells (Cell k n) = record { number = refl; fault = refl; kind = refl; own = λ f. refl }
+tells (CellParameter o n c) = record { number = refl; fault = refl; kind = refl; own = λ f. refl }
+tells (CellConnection n w l) = record { number = refl; fault = refl; kind = refl; own = λ f. refl }
+tells (Connection l r k) = record { number = refl; fault = refl; kind = refl; own = λ f. refl }
+tells End = record { number = refl; fault = refl; kind = refl; own = λ f. refl }
+tells NoShape = record { number = refl; fault = refl; kind = refl; own = λ f. refl }
+tells Process = record { number = refl; fault = refl; kind = refl; own = λ f. refl }
+tells BadNumber = record { number = refl; fault = refl; kind = refl; own = λ f. refl }
+tells MissingWire = record { number = refl; fault = refl; kind = refl; own = λ f. refl }
 
 -- ---- its constant keeps the number rules, and its signals are narrow
 
@@ -83,7 +83,7 @@ good-value f Process h = tt
 good-value f BadNumber h = tt
 good-value f MissingWire h = tt
 
-pub narrow : (f : List ℕ) (a : Statement) → Sound f a → lateOf a ≡ 0 → (partsOf a .left ≤ 2048) × (partsOf a .right ≤ 2048)
+pub narrow : (f : List ℕ) (a : Statement) → Sound f a → faultOf a ≡ 0 → (partsOf a .left ≤ 2048) × (partsOf a .right ≤ 2048)
 unfolding partsOpen
 narrow f (Autoidx w) h e = (omega arith, omega arith)
 narrow f (Attribute n c) h e = (omega arith, omega arith)
@@ -107,14 +107,14 @@ module _ (a : Statement) where
   pub no-number : partsOf a .number ≡ 0 → numberOf a ≡ none
   no-number e = tells a .number ∙ rw e
 
-  pub no-late : partsOf a .late ≡ 0 → lateOf a ≡ 0
-  no-late e = sym (tells a .late) ∙ e
+  pub no-fault : partsOf a .fault ≡ 0 → faultOf a ≡ 0
+  no-fault e = sym (tells a .fault) ∙ e
 
 module _ (f : List ℕ) (a : Statement) (p : Parts) (e : p ≡ partsOf a) (sound : Sound f a) where
   pub parts-good : GoodOptional f (p .value)
   parts-good = rw e (good-value f a sound)
 
-  pub parts-narrow : lateOf a ≡ 0 → (p .left ≤ 2048) × (p .right ≤ 2048)
+  pub parts-narrow : faultOf a ≡ 0 → (p .left ≤ 2048) × (p .right ≤ 2048)
   parts-narrow h = rw e (narrow f a sound h)
 
 -- ---- how long its parts are
@@ -132,14 +132,14 @@ pub value-digits :
     (n : ℕ) → n ≡ capped (literalWidth (literalIn f (constant.Value i j e))) → n ≡ digitsIn f (literal.Read (constant.Value i j e))
 value-digits f i j e good n r = value-width f i j e good n r ∙ sym (digits-are f i j e)
 
-digits-few : (f : List ℕ) (c : Literal) → GoodOptional f c → digitsIn f c ≤ 2048
+digits-few : (f : List ℕ) (c : ConstantSlot) → GoodOptional f c → digitsIn f c ≤ 2048
 unfolding digitsIn constantsIn valueIn literalIn kept sum statementsOpen
 digits-few f literal.Nothing h = omega arith
 digits-few f (literal.Read (constant.Integer z)) h = omega arith
 digits-few f (literal.Read (constant.Value i j e)) h = omega (arith, digits-are f i j e, value-few f i j e (h .good))
 digits-few f (literal.Read (constant.Text i)) h = omega arith
 
-bytes-few : (f : List ℕ) (c : Literal) → bytesIn f c ≤ length f
+bytes-few : (f : List ℕ) (c : ConstantSlot) → bytesIn f c ≤ length f
 unfolding bytesIn constantsIn valueIn literalIn kept sum statementsOpen
 bytes-few f literal.Nothing = omega arith
 bytes-few f (literal.Read (constant.Integer z)) = omega arith
@@ -166,7 +166,7 @@ unfoldable meantOpen : Unit {0}
 unfolding partsOpen statementsOpen statementIn sum signalSize valueSize stringSize nameSize digitsIn bytesIn constantsIn valueIn
 meantOpen = tt
 
-meant-all : (f s : List ℕ) (a : Statement) → Sound f a → lateOf a ≡ 0 → 4096 ≤ length s → On (Meant f a) (statementIn f s a)
+meant-all : (f s : List ℕ) (a : Statement) → Sound f a → faultOf a ≡ 0 → 4096 ≤ length s → On (Meant f a) (statementIn f s a)
 unfolding meantOpen
 meant-all f s (Autoidx w) h e b = record { kind-of = refl; signals = refl; values = refl; strings = refl; names = omega arith }
 meant-all f s (Attribute n c) h e b = record { kind-of = refl; signals = refl; values = refl; strings = refl; names = omega arith }
@@ -215,12 +215,12 @@ stands-for f s MissingWire e = let z : _≡_ {A = ℕ} 0 1 = cc in absurd (omega
 
 -- ---- the sizes that the code makes of the parts
 
-module _ (f : List ℕ) (a : Statement) (p : Parts) (v t m n : ℕ) (r : Sizes) (e : p ≡ partsOf a) (sound : Sound f a) (late : lateOf a ≡ 0)
+module _ (f : List ℕ) (a : Statement) (p : Parts) (v t m n : ℕ) (r : Sizes) (e : p ≡ partsOf a) (sound : Sound f a) (fault : faultOf a ≡ 0)
     (ev : v ≡ digitsIn f (p .value)) (et : t ≡ bytesIn f (p .value)) (em : m ≡ length (nameIn f (p .first))) (en : n ≡ length (nameIn f (p .name)))
     (sized : KindSizesAre (p .kind) (p .left + p .right) v t (m + n) r) where
   pub sizes-are : SizesAre f a r
   sizes-are s x room is =
-      let M : Meant f a x = on-some (Meant f a) (meant-all f s a sound late room) is in
+      let M : Meant f a x = on-some (Meant f a) (meant-all f s a sound fault room) is in
       sized x
       (ap (λ (q : Parts). q .kind) e ∙ M .kind-of)
       (ap (λ (q : Parts). q .left + q .right) e ∙ M .signals)
@@ -233,11 +233,11 @@ module _ (f : List ℕ) (a : Statement) (p : Parts) (v t m n : ℕ) (r : Sizes) 
       let s : List ℕ = replicate 4096 0 in
       let room : 4096 ≤ length s = omega (arith, length-replicate {A = ℕ} 4096 0) in
       let w = stands-for f s a ok in
-      let M : Meant f a (w .0) = on-some (Meant f a) (meant-all f s a sound late room) (w .1) in
+      let M : Meant f a (w .0) = on-some (Meant f a) (meant-all f s a sound fault room) (w .1) in
       let q : sizesOf (w .0) ≡ r = sizes-are s (w .0) room (w .1) in
       rw (← q)
       (sizes-small (w .0) 2147483647 (omega arith)
-      (omega (arith, M .signals, narrow f a sound late))
+      (omega (arith, M .signals, narrow f a sound fault))
       (omega (arith, M .values, digits-few f (partsOf a .value) (good-value f a sound)))
       (omega (arith, M .strings, bytes-few f (partsOf a .value)))
       (omega (arith, M .names, name-few f (partsOf a .first), name-few f (partsOf a .name))))

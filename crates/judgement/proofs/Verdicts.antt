@@ -16,7 +16,7 @@ use Rattle.rules.specs.Reading.{shaped}
 use Rattle.tokens.specs.Rows.{line}
 use Rattle.wires.specs.Rows.{wiresFrom}
 use Rattle.line_forms.specs.Forms.{nameIn}
-use Rattle.syntax.specs.Statements.{numberOf, lateOf, late, Sound, Judged, Says, no-shape, judged, StatementIs}
+use Rattle.syntax.specs.Statements.{numberOf, faultOf, widthFault, Sound, Judged, Says, no-shape, judged, StatementIs}
 use Rattle.syntax.specs.declared.Statement.{Statement}
 use Rattle.syntax.proofs.Verdicts.{behind, judged-early, judged-late, says-judged, says-sound}
 use Rattle.context.specs.Sizes.{sumsOf, plusOf, exceeds}
@@ -28,7 +28,7 @@ use Rattle.netlist.specs.Found.{foundIn}
 use Rattle.netlist.specs.FoundLaws.{takes-found}
 use Rattle.judgement.specs.Parts.{partsOf, takenIn, SizesAre}
 use Rattle.judgement.specs.Judged.{Stands, Accepts}
-use Rattle.judgement.proofs.PartLaws.{tells, no-number, no-late}
+use Rattle.judgement.proofs.PartLaws.{tells, no-number, no-fault}
 
 -- a refusal of 5 to 8
 refused-early : (ss : Past) (f s : List ℕ) (o : Option Shape) (a : Statement) (n : ℕ) → Says (wires ss) f s o a → numberOf a ≡ some n → shaped ss o ≡ Verdict.refused n
@@ -74,36 +74,36 @@ module _ (ss : Past) (f s names ws rows : List ℕ) (o : Option Shape) (a : Stat
         takes-found ss (J .sh) _ _ (st .laid) (J .kind (no-number a e)) (ap ownName (J .names (no-number a e)) ∙ sym (tells a .own f))
         ∙ ap₂ (λ (w : Place) (k : ℕ). foundIn names rows w k (nameIn f (partsOf a .name))) (st .place-is) (sym (tells a .kind))
 
-    left : shaped ss o ≡ verdict (meaning (wires ss) (J .sh)) (behind ss (J .sh) (meaning (wires ss) (J .sh)) (lateOf a))
+    left : shaped ss o ≡ verdict (meaning (wires ss) (J .sh)) (behind ss (J .sh) (meaning (wires ss) (J .sh)) (faultOf a))
     left = judged-late ss f s J (no-number a e)
 
     pub taken-refused : takenIn f names rows p a ≡ true → shaped ss o ≡ Verdict.refused 9
     unfolding behind
-    taken-refused t = left ∙ rw (taken-is, t) (first-taken _ (lateOf a) _)
+    taken-refused t = left ∙ rw (taken-is, t) (first-taken _ (faultOf a) _)
 
     module _ (t : takenIn f names rows p a ≡ false) where
-      pub late-refused : (partsOf a .late ≡ 0 → ⊥) → shaped ss o ≡ Verdict.refused (partsOf a .late)
-      unfolding behind late
-      late-refused h =
+      pub fault-refused : (partsOf a .fault ≡ 0 → ⊥) → shaped ss o ≡ Verdict.refused (partsOf a .fault)
+      unfolding behind widthFault
+      fault-refused h =
           left
-          ∙ rw (taken-is, t, tells a .late) (then-late _ _ _ _ (lateOf a) (J .late (no-number a e)) (λ z. h (tells a .late ∙ z)))
+          ∙ rw (taken-is, t, tells a .fault) (then-late _ _ _ _ (faultOf a) (J .fault (no-number a e)) (λ z. h (tells a .fault ∙ z)))
 
-      module _ (z : partsOf a .late ≡ 0) (d : Sizes) (room : 4096 ≤ length s) (sized : SizesAre f a d) where
+      module _ (z : partsOf a .fault ≡ 0) (d : Sizes) (room : 4096 ≤ length s) (sized : SizesAre f a d) where
         abbrev m : rules.Statement
         m = meaning (wires ss) (J .sh)
 
         sums : sumsOf (m ∷ ss) ≡ plusOf u d
-        sums = sums-step ss m ∙ rw (st .sums-are, sized s m room (J .means (no-number a e) (no-late a z)))
+        sums = sums-step ss m ∙ rw (st .sums-are, sized s m room (J .means (no-number a e) (no-fault a z)))
 
         by-sizes : shaped ss o ≡ cond (exceeds (plusOf u d)) (Verdict.refused 11) (Verdict.accepted m)
         unfolding behind
-        by-sizes = left ∙ rw (taken-is, t, no-late a z, ← exceeds-sums (m ∷ ss), sums) (last-sizes _ _)
+        by-sizes = left ∙ rw (taken-is, t, no-fault a z, ← exceeds-sums (m ∷ ss), sums) (last-sizes _ _)
 
         pub sizes-refused : exceeds (plusOf u d) ≡ true → shaped ss o ≡ Verdict.refused 11
         sizes-refused x = by-sizes ∙ rw x
 
         pub accepted : exceeds (plusOf u d) ≡ false → Accepts ss o f s a (plusOf u d)
-        accepted x = record { statement = m; accepts = by-sizes ∙ rw x; stated = J .means (no-number a e) (no-late a z); sums-are = sums }
+        accepted x = record { statement = m; accepts = by-sizes ∙ rw x; stated = J .means (no-number a e) (no-fault a z); sums-are = sums }
 
 -- ---- the line of these rows, where the statements so far stand so
 

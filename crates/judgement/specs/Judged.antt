@@ -13,7 +13,7 @@ use Rattle.rules.specs.Reading.{shaped}
 use Rattle.tokens.specs.Rows.{line}
 use Rattle.wires.specs.Rows.{wiresFrom}
 use Rattle.netlist.specs.Laid.{roomsOf, Laid}
-use Rattle.syntax.specs.Statements.{lateOf, statementIn, Sound, Says}
+use Rattle.syntax.specs.Statements.{faultOf, statementIn, Sound, Says}
 use Rattle.syntax.specs.declared.Statement.{Statement}
 use Rattle.context.specs.Place.{placeOf}
 use Rattle.context.specs.Sizes.{sumsOf, Within}
@@ -46,7 +46,7 @@ Verdicts ss f t s r = VerdictOn ss (shape (context ss) (line f t 0)) f s r
 
 -- what holds of an accepted one whatever stands before it
 abbrev pub Storable : List ℕ → Judged → Type 0
-Storable f (Stated a u) = Sound f a × (lateOf a ≡ 0) × Within u
+Storable f (Stated a u) = Sound f a × (faultOf a ≡ 0) × Within u
 Storable f (Refused n) = Unit {0}
 
 -- r is the verdict on each shape that the answer is about, and on the line, after any statements that stand so

@@ -9,8 +9,8 @@ use Rattle.rules.specs.Statements as rules
 use Rattle.rules.specs.Statements.{digitsOf, bytesOf}
 use Rattle.rules.specs.Signals.{kept}
 use Rattle.rules.specs.Judgement.{sum}
-use Rattle.tokens.specs.declared.Literal.{Literal}
-use Rattle.tokens.specs.declared.Literal.the-variants as literal
+use Rattle.tokens.specs.declared.ConstantSlot.{ConstantSlot}
+use Rattle.tokens.specs.declared.ConstantSlot.the-variants as literal
 use Rattle.line_forms.specs.Forms.{nameIn, valueIn}
 use Rattle.line_forms.specs.declared.Span.{Span}
 use Rattle.syntax.specs.Statements.{statementIn}
@@ -27,14 +27,14 @@ abbrev pub noName : Span
 noName = record { start = 0; end = 0 }
 
 -- the parts of a statement without signals, of a refusal, of a connection
-unfoldable pub namedParts : ℕ → Span → Span → Literal → Parts
-namedParts k m n c = record { number = 0; kind = k; first = m; name = n; value = c; left = 0; right = 0; late = 0 }
+unfoldable pub namedParts : ℕ → Span → Span → ConstantSlot → Parts
+namedParts k m n c = record { number = 0; kind = k; first = m; name = n; value = c; left = 0; right = 0; fault = 0 }
 
 unfoldable pub refusalParts : ℕ → Parts
-refusalParts n = record { number = n; kind = 11; first = noName; name = noName; value = literal.Nothing; left = 0; right = 0; late = 0 }
+refusalParts n = record { number = n; kind = 11; first = noName; name = noName; value = literal.Nothing; left = 0; right = 0; fault = 0 }
 
-unfoldable pub connectionParts : ℕ → Span → (left right late : ℕ) → Parts
-connectionParts k n a b l = record { number = 0; kind = k; first = noName; name = n; value = literal.Nothing; left = a; right = b; late = l }
+unfoldable pub connectionParts : ℕ → Span → (left right fault : ℕ) → Parts
+connectionParts k n a b l = record { number = 0; kind = k; first = noName; name = n; value = literal.Nothing; left = a; right = b; fault = l }
 
 -- of each answer about a line, with its kind's code
 unfoldable pub partsOf : Statement → Parts
@@ -59,13 +59,13 @@ unfoldable pub takenIn : (f names rows : List ℕ) → Place → Statement → B
 takenIn f names rows p a = foundIn names rows p (partsOf a .kind) (nameIn f (partsOf a .name))
 
 -- the constant that a statement keeps, if it has one; how many digits and how many bytes it has
-unfoldable pub constantsIn : List ℕ → Literal → List rules.Constant
+unfoldable pub constantsIn : List ℕ → ConstantSlot → List rules.Constant
 constantsIn f c = Option·toList (Option·map kept (valueIn f c))
 
-unfoldable pub digitsIn : List ℕ → Literal → ℕ
+unfoldable pub digitsIn : List ℕ → ConstantSlot → ℕ
 digitsIn f c = sum (λ d. length (digitsOf d)) (constantsIn f c)
 
-unfoldable pub bytesIn : List ℕ → Literal → ℕ
+unfoldable pub bytesIn : List ℕ → ConstantSlot → ℕ
 bytesIn f c = sum (λ d. length (bytesOf d)) (constantsIn f c)
 
 -- r is the sizes of the statement that an answer stands for, over any scratch table that has room for two signals

@@ -26,18 +26,18 @@ use netlist::results::NOT_THERE;
 use netlist::results::PORT_OR_PROCESS;
 use netlist::results::TOO_MANY;
 use scanner::parts::part;
-use signals::Scope;
+use signals::ModuleWires;
 use strings::string_size;
 use syntax::Statement;
 use syntax::line_statement;
-use tokens::Constant;
-use tokens::Literal;
+use tokens::ConstantSlot;
+use tokens::ConstantSpan;
 ghost use mathlib.Core.Path.{_≡_};
 ghost use mathlib.Core.Option.{none};
 ghost use Prim.Native.Nat.{_-_, _≤_};
 ghost use lib.ListN.{length};
 ghost use Rattle.line_forms.specs.Forms.{nameIn};
-ghost use Rattle.syntax.specs.Statements.{numberOf, lateOf, Sound, GoodOptional, Ready};
+ghost use Rattle.syntax.specs.Statements.{numberOf, faultOf, Sound, GoodOptional, Ready};
 ghost use Rattle.name_index.specs.Index.{keyAt, Indexed, LinesIndexed};
 ghost use Rattle.context.specs.Place.{Bounds};
 ghost use Rattle.context.specs.Sizes.{Within, AtMost};
@@ -51,10 +51,10 @@ struct Parts {
     kind: u32,
     first: Span,
     name: Span,
-    value: Literal,
+    value: ConstantSlot,
     left: usize,
     right: usize,
-    late: u32,
+    fault: u32,
 }
 
 // A line's statement, with the sums over it and all before it; or the number of its refusal.
@@ -70,7 +70,7 @@ fn no_name() -> Span
 }
 
 // A statement without signals.
-fn named(kind: u32, first: Span, name: Span, value: Literal) -> Parts
+fn named(kind: u32, first: Span, name: Span, value: ConstantSlot) -> Parts
     ensures { λ r. ⌜ r ≡ namedParts kind first name value ⌝ }
 {
     Parts {
@@ -81,7 +81,7 @@ fn named(kind: u32, first: Span, name: Span, value: Literal) -> Parts
         value,
         left: 0,
         right: 0,
-        late: 0,
+        fault: 0,
     }
 }
 
@@ -95,26 +95,26 @@ fn refusing(number: u32) -> Parts
         kind: PROCESS,
         first: name,
         name,
-        value: Literal::Nothing,
+        value: ConstantSlot::Nothing,
         left: 0,
         right: 0,
-        late: 0,
+        fault: 0,
     }
 }
 
 // A connection of a cell or of a module.
-fn connecting(kind: u32, name: Span, left: usize, right: usize, late: u32) -> Parts
-    ensures { λ r. ⌜ r ≡ connectionParts kind name left right late ⌝ }
+fn connecting(kind: u32, name: Span, left: usize, right: usize, fault: u32) -> Parts
+    ensures { λ r. ⌜ r ≡ connectionParts kind name left right fault ⌝ }
 {
     Parts {
         number: 0,
         kind,
         first: no_name(),
         name,
-        value: Literal::Nothing,
+        value: ConstantSlot::Nothing,
         left,
         right,
-        late,
+        fault,
     }
 }
 
@@ -123,34 +123,39 @@ fn parts_of(statement: Statement) -> Parts
 {
     let empty = no_name();
     match statement {
-        Statement::Autoidx(_) => named(AUTOIDX, empty, empty, Literal::Nothing),
-        Statement::Attribute { name, value } => named(ATTRIBUTE, empty, name, Literal::Read(value)),
-        Statement::Module(name) => named(MODULE, empty, name, Literal::Nothing),
+        Statement::Autoidx(_) => named(AUTOIDX, empty, empty, ConstantSlot::Nothing),
+        Statement::Attribute { name, value } => named(
+            ATTRIBUTE,
+            empty,
+            name,
+            ConstantSlot::Read(value),
+        ),
+        Statement::Module(name) => named(MODULE, empty, name, ConstantSlot::Nothing),
         Statement::Parameter { name, value } => named(PARAMETER, empty, name, value),
-        Statement::Wire { name, .. } => named(WIRE, empty, name, Literal::Nothing),
-        Statement::Memory { name, .. } => named(MEMORY, empty, name, Literal::Nothing),
-        Statement::Cell { kind, name } => named(CELL, kind, name, Literal::Nothing),
+        Statement::Wire { name, .. } => named(WIRE, empty, name, ConstantSlot::Nothing),
+        Statement::Memory { name, .. } => named(MEMORY, empty, name, ConstantSlot::Nothing),
+        Statement::Cell { kind, name } => named(CELL, kind, name, ConstantSlot::Nothing),
         Statement::CellParameter { name, value, .. } => named(
             CELL_PARAMETER,
             empty,
             name,
-            Literal::Read(value),
+            ConstantSlot::Read(value),
         ),
-        Statement::CellConnection { name, width, late } => connecting(
+        Statement::CellConnection { name, width, fault } => connecting(
             CELL_CONNECTION,
             name,
             width,
             0,
-            late,
+            fault,
         ),
-        Statement::Connection { left, right, late } => connecting(
+        Statement::Connection { left, right, fault } => connecting(
             CONNECTION,
             empty,
             left,
             right,
-            late,
+            fault,
         ),
-        Statement::End => named(END, empty, empty, Literal::Nothing),
+        Statement::End => named(END, empty, empty, ConstantSlot::Nothing),
         Statement::NoShape => refusing(NO_SHAPE),
         Statement::Process => refusing(PORT_OR_PROCESS),
         Statement::BadNumber => refusing(BAD_NUMBER),
@@ -166,32 +171,32 @@ fn span_size(f: &[u8], span: Span) -> u32
 }
 
 // The bits of a value; an integer and a string have none.
-fn value_bits(f: &[u8], value: Literal) -> u32
+fn value_bits(f: &[u8], value: ConstantSlot) -> u32
     requires { ⌜ GoodOptional (now f) value ⌝ }
     ensures { λ r. ⌜ r ≡ digitsIn (now (f .entry)) value ⌝ }
 {
-    let Literal::Read(c) = value else {
+    let ConstantSlot::Read(c) = value else {
         return 0;
     };
     match c {
-        Constant::Integer(_) => 0,
-        Constant::Value { .. } => literal_width(f, c) as u32,
-        Constant::Text(_) => 0,
+        ConstantSpan::Integer(_) => 0,
+        ConstantSpan::Value { .. } => literal_width(f, c) as u32,
+        ConstantSpan::Text(_) => 0,
     }
 }
 
 // The bytes of a string; an integer and a value have none.
-fn string_bytes(f: &[u8], value: Literal) -> u32
+fn string_bytes(f: &[u8], value: ConstantSlot) -> u32
     requires { ⌜ length (now f) ≤ 32768 ⌝ }
     ensures { λ r. ⌜ r ≡ bytesIn (now (f .entry)) value ⌝ }
 {
-    let Literal::Read(c) = value else {
+    let ConstantSlot::Read(c) = value else {
         return 0;
     };
     match c {
-        Constant::Integer(_) => 0,
-        Constant::Value { .. } => 0,
-        Constant::Text(start) => string_size(f, start) as u32,
+        ConstantSpan::Integer(_) => 0,
+        ConstantSpan::Value { .. } => 0,
+        ConstantSpan::Text(start) => string_size(f, start) as u32,
     }
 }
 
@@ -199,7 +204,7 @@ fn string_bytes(f: &[u8], value: Literal) -> u32
 fn statement_sizes(f: &[u8], statement: Statement) -> Sizes
     requires { ⌜ length (now f) ≤ 32768 ⌝ }
     requires { ⌜ numberOf statement ≡ none ⌝ }
-    requires { ⌜ lateOf statement ≡ 0 ⌝ }
+    requires { ⌜ faultOf statement ≡ 0 ⌝ }
     requires { ⌜ Sound (now f) statement ⌝ }
     ensures { λ r. ⌜ SizesAre (now (f .entry)) statement r ⌝ }
     ensures { λ r. ⌜ AtMost 2147483647 r ⌝ }
@@ -270,8 +275,8 @@ fn judge_statement(
     if name_is_taken(f, names, rows, place, statement, heads, chain) {
         return Judged::Refused(NAME_TAKEN);
     }
-    if parts.late != 0 {
-        return Judged::Refused(parts.late);
+    if parts.fault != 0 {
+        return Judged::Refused(parts.fault);
     }
     let sums = plus(sums, statement_sizes(f, statement));
     if within(sums) {
@@ -300,7 +305,7 @@ pub fn judge_line(
     ensures { λ r. ⌜ Storable (now (f .entry)) r ⌝ }
     ensures { λ r. ⌜ JudgedAs (now (f .entry)) (now (tokens .entry)) place sums (now (names .entry)) (now (wires .entry)) (now (rows .entry)) (now (scratch .exit)) r ⌝ }
 {
-    let scope = Scope {
+    let scope = ModuleWires {
         first: place.wires_from,
         count: place.wires - place.wires_from,
     };

@@ -16,16 +16,16 @@ use Rattle.rules.specs.Layout.{padded, row, digitCode, stringBytes, bitCodes, c
 use Rattle.tables.specs.Store.{store}
 use Rattle.numbers.specs.Signed.{signedOf}
 use Rattle.numbers.specs.SignedLaws.{word-signed}
-use Rattle.tokens.specs.declared.Constant.{Constant}
-use Rattle.tokens.specs.declared.Literal.{Literal}
-use Rattle.tokens.specs.declared.Literal.the-variants as literal
+use Rattle.tokens.specs.declared.ConstantSpan.{ConstantSpan}
+use Rattle.tokens.specs.declared.ConstantSlot.{ConstantSlot}
+use Rattle.tokens.specs.declared.ConstantSlot.the-variants as literal
 use Rattle.wires.specs.Rows.{wordAt, column, wireOf}
 use Rattle.wires.specs.RowLaws.{flags-back, port-number-back}
 use Rattle.numbers.specs.Kinds.{sortOf}
 use Rattle.numbers.specs.KindLaws.{sort-code}
 use Rattle.line_forms.specs.Forms.{nameIn, valueIn}
 use Rattle.line_forms.specs.declared.Span.{Span}
-use Rattle.syntax.specs.Statements.{lateOf, wireFrom, memoryFrom, signalIn, statementIn, GoodConstant, GoodOptional, Sound}
+use Rattle.syntax.specs.Statements.{faultOf, wireFrom, memoryFrom, signalIn, statementIn, GoodConstant, GoodOptional, Sound}
 use Rattle.syntax.specs.declared.Statement.{Statement}
 use Rattle.syntax.specs.declared.Statement.the-variants.{Autoidx, Attribute, Module, Parameter, Wire as WireOf, Memory as MemoryOf, Cell, CellParameter, CellConnection, Connection, End, NoShape, Process, BadNumber, MissingWire}
 use Rattle.syntax.proofs.Statement.{the-type}
@@ -89,27 +89,27 @@ module _ (f s : List ℕ) (r : Statement) (u : Used) (names bits wires rows : Li
   pub cell-connection-room :
       (n : Span) (w l : ℕ) → r ≡ CellConnection n w l →
       (Fits (u .names) (length (nameIn f n)) names) × ((w ≤ length s) × ((Fits (u .bits) w bits) × (8 * u .rows + 8 ≤ length rows)))
-  unfolding statementIn holds contents lateOf
+  unfolding statementIn holds contents faultOf
   cell-connection-room n w l e =
       let x : rules.Statement = cell-conn-stmt (nameIn f n) (signalIn s 0 w) in
       let q : statementIn f s r ≡ some x = ap (statementIn f s) e in
-      let late : l ≡ 0 = rw e at (h .settled) in
+      let fault : l ≡ 0 = rw e at (h .settled) in
       let sound : l ≡ 0 → w ≤ 2048 = rw e at (h .sound) in
-      let k : w ≤ length s = omega (arith, sound late, h .scratch) in
+      let k : w ≤ length s = omega (arith, sound fault, h .scratch) in
       let b : Fits (u .bits) (length (signalIn s 0 w)) bits = signal-fits (usedOf u) x (h .room x q) bits (signalIn s 0 w) refl refl (h .bits-long) in
       (name-fits (usedOf u) x (h .room x q) names (nameIn f n) refl (h .names-long), (k, (rw (signal-long s 0 w (omega arith)) at b, row-room x q)))
 
   pub connection-room :
       (a b l : ℕ) → r ≡ Connection a b l →
       ((a ≤ 2048) × (2048 + b ≤ length s)) × ((Fits (u .bits) (a + b) bits) × (8 * u .rows + 8 ≤ length rows))
-  unfolding statementIn holds contents lateOf
+  unfolding statementIn holds contents faultOf
   connection-room a b l e =
       let x : rules.Statement = conn-stmt (signalIn s 0 a) (signalIn s 2048 b) in
       let q : statementIn f s r ≡ some x = ap (statementIn f s) e in
-      let late : l ≡ 0 = rw e at (h .settled) in
+      let fault : l ≡ 0 = rw e at (h .settled) in
       let sound : l ≡ 0 → (a ≤ 2048) × (b ≤ 2048) = rw e at (h .sound) in
-      let ka : a ≤ 2048 = sound late .0 in
-      let kb : 2048 + b ≤ length s = omega (arith, sound late .1, h .scratch) in
+      let ka : a ≤ 2048 = sound fault .0 in
+      let kb : 2048 + b ≤ length s = omega (arith, sound fault .1, h .scratch) in
       let g : Fits (u .bits) (length (signalIn s 0 a) + length (signalIn s 2048 b)) bits =
       signals-fit (usedOf u) x (h .room x q) bits (signalIn s 0 a) (signalIn s 2048 b) refl refl (h .bits-long) in
       ((ka, kb), (rw (signal-long s 0 a (omega (arith, h .scratch)), signal-long s 2048 b kb) at g, row-room x q))
@@ -243,28 +243,28 @@ plain-rest MissingWire o = tt
 
 module _ (f s : List ℕ) where
   valued :
-      {r : Statement} {kind : ℕ} {n : Span} {c : Literal} {sort : ℕ} (x : rules.Statement) → statementIn f s r ≡ some x → contents x .names ≡ nameIn f n ∷ [] →
+      {r : Statement} {kind : ℕ} {n : Span} {c : ConstantSlot} {sort : ℕ} (x : rules.Statement) → statementIn f s r ≡ some x → contents x .names ≡ nameIn f n ∷ [] →
       contents x .constants ≡ Option·toList (optionalIn f c) → contents x .signals ≡ [] → contents x .wires ≡ [] → GoodOptional f c →
       ((u : rooms.Used) → statementRow u x ≡ valuedRow u kind (nameIn f n) (optionalIn f c) sort) → ValuedHas f s r kind n c sort
   valued x e n c k w g q = record { x = x; is = e; names-are = n; constants-are = c; no-signals = k; no-wires = w; good = g; row-is = q }
 
-  pub attribute-valued : (r : Statement) (n : Span) (c : Constant) → r ≡ Attribute n c → Sound f r → ValuedHas f s r 2 n (literal.Read c) 0
+  pub attribute-valued : (r : Statement) (n : Span) (c : ConstantSpan) → r ≡ Attribute n c → Sound f r → ValuedHas f s r 2 n (literal.Read c) 0
   unfolding statementIn holds contents valueIn Option·map Option·toList Option·elim statementRow columns code valuedRow optionalColumns
   attribute-valued r n c e g =
       valued (attr-stmt (nameIn f n) (constantIn f c)) (ap (statementIn f s) e) refl refl refl refl (rw e at g) (λ u. sym (row-zero u (constantIn f c) 2 (u .names) (length (nameIn f n))))
 
-  pub cell-parameter-valued : (r : Statement) (z : ℕ) (n : Span) (c : Constant) → r ≡ CellParameter z n c → Sound f r → ValuedHas f s r 8 n (literal.Read c) z
+  pub cell-parameter-valued : (r : Statement) (z : ℕ) (n : Span) (c : ConstantSpan) → r ≡ CellParameter z n c → Sound f r → ValuedHas f s r 8 n (literal.Read c) z
   unfolding statementIn holds contents valueIn Option·map Option·toList Option·elim statementRow columns code valuedRow optionalColumns
   cell-parameter-valued r z n c e g =
       let k : (z ≤ 2) × GoodConstant f c = rw e at g in
       valued (cell-param-stmt (sortOf z) (nameIn f n) (constantIn f c)) (ap (statementIn f s) e) refl refl refl refl (k .1) (λ u. rw (sort-code z (k .0)))
 
-  parameter-row : (u : rooms.Used) (n : Name) (c : Literal) → statementRow u (param-stmt n (optionalIn f c)) ≡ valuedRow u 4 n (optionalIn f c) 0
+  parameter-row : (u : rooms.Used) (n : Name) (c : ConstantSlot) → statementRow u (param-stmt n (optionalIn f c)) ≡ valuedRow u 4 n (optionalIn f c) 0
   unfolding holds contents valueIn Option·map Option·elim statementRow columns code valuedRow optionalColumns row padded
   parameter-row u n (literal.Read c) = sym (row-zero u (constantIn f c) 4 (u .names) (length n))
   parameter-row u n literal.Nothing = refl
 
-  pub parameter-valued : (r : Statement) (n : Span) (c : Literal) → r ≡ Parameter n c → Sound f r → ValuedHas f s r 4 n c 0
+  pub parameter-valued : (r : Statement) (n : Span) (c : ConstantSlot) → r ≡ Parameter n c → Sound f r → ValuedHas f s r 4 n c 0
   unfolding statementIn holds contents
   parameter-valued r n c e g = valued (param-stmt (nameIn f n) (optionalIn f c)) (ap (statementIn f s) e) refl refl refl refl (rw e at g) (λ u. parameter-row u (nameIn f n) c)
 
@@ -275,7 +275,7 @@ module _ (f s : List ℕ) where
 -- what they need
 module _ (f s : List ℕ) (r : Statement) (u : Used) (t : Tables) (h : Storable f s r u t) where
   constant-room :
-      (x : rules.Statement) (c : Literal) → statementIn f s r ≡ some x → contents x .constants ≡ Option·toList (optionalIn f c) → contents x .signals ≡ [] → GoodOptional f c →
+      (x : rules.Statement) (c : ConstantSlot) → statementIn f s r ≡ some x → contents x .constants ≡ Option·toList (optionalIn f c) → contents x .signals ≡ [] → GoodOptional f c →
       OptionalFits f c u (t .strings) (t .bits)
   unfolding valueIn Option·map Option·toList
   constant-room x (literal.Read c) e kc ks g =
@@ -288,7 +288,7 @@ module _ (f s : List ℕ) (r : Statement) (u : Used) (t : Tables) (h : Storable 
   constant-room x literal.Nothing e kc ks g = tt
 
   pub valued-room :
-      (kind : ℕ) (n : Span) (c : Literal) (sort : ℕ) → ValuedHas f s r kind n c sort →
+      (kind : ℕ) (n : Span) (c : ConstantSlot) (sort : ℕ) → ValuedHas f s r kind n c sort →
       (Fits (u .names) (length (nameIn f n)) (t .names)) × ((OptionalFits f c u (t .strings) (t .bits)) × ((2048 ≤ length s) × (8 * u .rows + 8 ≤ length (t .rows))))
   valued-room kind n c sort v =
       let room : RoomFor (usedOf u) (v .x) = h .room (v .x) (v .is) in (
@@ -324,7 +324,7 @@ digits-put x t at none e g = ap (store t at) (sym (no-bits x e g))
 
 module _ (f s : List ℕ) (r : Statement) (u : Used) (names names′ strings strings′ bits bits′ wires rows rows′ : List ℕ) where
   pub valued-put :
-      (kind : ℕ) (n : Span) (c : Literal) (sort : ℕ) → ValuedHas f s r kind n c sort →
+      (kind : ℕ) (n : Span) (c : ConstantSlot) (sort : ℕ) → ValuedHas f s r kind n c sort →
       names′ ≡ store names (u .names) (nameIn f n) → strings′ ≡ store strings (u .strings) (optionalBytes (optionalIn f c)) →
       bits′ ≡ store bits (u .bits) (map digitCode (optionalDigits (optionalIn f c))) → rows′ ≡ store rows (8 * u .rows) (valuedRow (usedOf u) kind (nameIn f n) (optionalIn f c) sort) →
       PutIs f s r u (tabled names strings bits wires rows) (tabled names′ strings′ bits′ wires rows′)

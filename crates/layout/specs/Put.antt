@@ -19,8 +19,8 @@ use Rattle.netlist.specs.Tables.{Tables, tablesIn}
 use Rattle.netlist.specs.Used.{usedOf}
 use Rattle.netlist.specs.declared.used.Used.{Used}
 use Rattle.tokens.specs.Rows.{literalIn}
-use Rattle.tokens.specs.declared.Constant.{Constant}
-use Rattle.tokens.specs.declared.Literal.{Literal}
+use Rattle.tokens.specs.declared.ConstantSpan.{ConstantSpan}
+use Rattle.tokens.specs.declared.ConstantSlot.{ConstantSlot}
 use Rattle.literals.specs.Codes.{Whole}
 use Rattle.line_forms.specs.Forms.{valueIn, ValueHolds}
 
@@ -76,10 +76,10 @@ abbrev pub Fits : ℕ → ℕ → List ℕ → Type 0
 Fits at n t = (at + n ≤ length t) × (length t < 4294967296)
 
 -- the constant of an attribute or a parameter, and of a parameter that may have none
-abbrev pub constantIn : List ℕ → Constant → rules.Constant
+abbrev pub constantIn : List ℕ → ConstantSpan → rules.Constant
 constantIn f c = kept (literalIn f c)
 
-abbrev pub optionalIn : List ℕ → Literal → Option rules.Constant
+abbrev pub optionalIn : List ℕ → ConstantSlot → Option rules.Constant
 optionalIn f c = Option·map kept (valueIn f c)
 
 -- the columns of such a constant, zeros where there is none; its string's bytes and its value's digits
@@ -97,13 +97,13 @@ unfoldable pub valuedRow : layout.Used → ℕ → Name → Option rules.Constan
 valuedRow u kind n c sort = row (kind ∷ u .names ∷ length n ∷ optionalColumns u c ++ sort ∷ [])
 
 -- it keeps the number rules, a string has its end, and there is room for what it puts
-pub record ConstantFits (f : List ℕ) (c : Constant) (u : Used) (strings bits : List ℕ) : Type 0 where
+pub record ConstantFits (f : List ℕ) (c : ConstantSpan) (u : Used) (strings bits : List ℕ) : Type 0 where
   pub good : goodLiteral (literalIn f c) ≡ true
   pub whole : Whole f c
   pub strings-fit : Fits (u .strings) (length (bytesOf (constantIn f c))) strings
   pub bits-fit : Fits (u .bits) (length (digitsOf (constantIn f c))) bits
 
-abbrev pub OptionalFits : List ℕ → Literal → Used → List ℕ → List ℕ → Type 0
+abbrev pub OptionalFits : List ℕ → ConstantSlot → Used → List ℕ → List ℕ → Type 0
 OptionalFits f c u strings bits = ValueHolds (λ k. ConstantFits f k u strings bits) c
 
 -- the numbers of a wire

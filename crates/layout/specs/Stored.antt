@@ -8,10 +8,10 @@ use Rattle.rules.specs.Statements as rules
 use Rattle.rules.specs.Statements.{contents}
 use Rattle.rules.specs.Layout as rooms
 use Rattle.rules.specs.Layout.{statementRow}
-use Rattle.tokens.specs.declared.Literal.{Literal}
+use Rattle.tokens.specs.declared.ConstantSlot.{ConstantSlot}
 use Rattle.line_forms.specs.Forms.{nameIn}
 use Rattle.line_forms.specs.declared.Span.{Span}
-use Rattle.syntax.specs.Statements.{lateOf, statementIn, GoodOptional, Sound}
+use Rattle.syntax.specs.Statements.{faultOf, statementIn, GoodOptional, Sound}
 use Rattle.syntax.specs.declared.Statement.{Statement}
 use Rattle.syntax.specs.declared.Statement.the-variants.{Autoidx, Attribute, Module, Parameter, Wire as WireOf, Memory as MemoryOf, Cell, CellParameter, CellConnection, Connection, End, NoShape, Process, BadNumber, MissingWire}
 use Rattle.netlist.specs.Tables.{Tables, tabled}
@@ -32,7 +32,7 @@ pub record Sized (t : Tables) : Type 0 where
 -- no number is left for later, and there is room for the statement
 pub record Storable (f s : List ℕ) (r : Statement) (u : Used) (t : Tables) : Type 0 where
   pub sound : Sound f r
-  pub settled : lateOf r ≡ 0
+  pub settled : faultOf r ≡ 0
   pub room : (x : rules.Statement) → statementIn f s r ≡ some x → RoomFor (usedOf u) x
   pub sized : Sized t
   pub scratch : 36864 ≤ length s
@@ -46,7 +46,7 @@ abbrev pub PutIs : (f s : List ℕ) → Statement → Used → (t t′ : Tables)
 PutIs f s r u t t′ = PutsAny (usedOf u) (statementIn f s r) t t′
 
 -- an answer of a kind, a name, a constant if it has one, and a sort's column, over a file and the scratch table
-pub record ValuedHas (f s : List ℕ) (r : Statement) (kind : ℕ) (n : Span) (c : Literal) (sort : ℕ) : Type 0 where
+pub record ValuedHas (f s : List ℕ) (r : Statement) (kind : ℕ) (n : Span) (c : ConstantSlot) (sort : ℕ) : Type 0 where
   pub x : rules.Statement
   pub is : statementIn f s r ≡ some x
   pub names-are : contents x .names ≡ nameIn f n ∷ []
@@ -81,7 +81,7 @@ ValuedIs r Nothing = Plain r
 -- storing those, whatever the table of strings is
 pub record PlainStorable (f s : List ℕ) (r : Statement) (u : Used) (names bits wires rows : List ℕ) : Type 0 where
   pub sound : Sound f r
-  pub settled : lateOf r ≡ 0
+  pub settled : faultOf r ≡ 0
   pub room : (x : rules.Statement) → statementIn f s r ≡ some x → RoomFor (usedOf u) x
   pub names-long : length names ≡ 16384
   pub bits-long : length bits ≡ 16384

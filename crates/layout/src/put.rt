@@ -29,9 +29,9 @@ use tables::Row;
 use tables::put_bytes;
 use tables::put_row;
 use tables::reverse_words;
-use tokens::Constant;
+use tokens::ConstantSlot;
+use tokens::ConstantSpan;
 use tokens::Integer;
-use tokens::Literal;
 ghost use mathlib.Core.Path.{_≡_};
 ghost use mathlib.Core.Bool.{true};
 ghost use mathlib.Core.List.{[], _∷_, map};
@@ -62,7 +62,7 @@ pub enum Valued {
     Named {
         kind: u32,
         name: Span,
-        value: Literal,
+        value: ConstantSlot,
         sort: u32,
     },
     Nothing,
@@ -75,7 +75,7 @@ pub fn as_valued(statement: Statement) -> Valued
         Statement::Attribute { name, value } => Valued::Named {
             kind: ATTRIBUTE,
             name,
-            value: Literal::Read(value),
+            value: ConstantSlot::Read(value),
             sort: 0,
         },
         Statement::Parameter { name, value } => Valued::Named {
@@ -87,13 +87,13 @@ pub fn as_valued(statement: Statement) -> Valued
         Statement::CellParameter { sort, name, value } => Valued::Named {
             kind: CELL_PARAMETER,
             name,
-            value: Literal::Read(value),
+            value: ConstantSlot::Read(value),
             sort,
         },
         Statement::Module(name) => Valued::Named {
             kind: MODULE,
             name,
-            value: Literal::Nothing,
+            value: ConstantSlot::Nothing,
             sort: 0,
         },
         _ => Valued::Nothing,
@@ -172,13 +172,13 @@ fn put_value(
     bits: &mut [u32],
     at: u32,
 ) -> u32
-    requires { ⌜ goodLiteral (literalIn (now f) (Constant.Value start quote end)) ≡ true ⌝ }
+    requires { ⌜ goodLiteral (literalIn (now f) (ConstantSpan.Value start quote end)) ≡ true ⌝ }
     requires { ⌜ 2048 ≤ length (now scratch) ⌝ }
-    requires { ⌜ Fits at (length (literalBits (literalIn (now f) (Constant.Value start quote end)))) (now bits) ⌝ }
-    ensures { λ r. ⌜ r ≡ length (literalBits (literalIn (now (f .entry)) (Constant.Value start quote end))) ⌝ }
-    ensures { λ _. ⌜ now (bits .exit) ≡ store (now (bits .entry)) at (map digitCode (literalBits (literalIn (now (f .entry)) (Constant.Value start quote end)))) ⌝ }
+    requires { ⌜ Fits at (length (literalBits (literalIn (now f) (ConstantSpan.Value start quote end)))) (now bits) ⌝ }
+    ensures { λ r. ⌜ r ≡ length (literalBits (literalIn (now (f .entry)) (ConstantSpan.Value start quote end))) ⌝ }
+    ensures { λ _. ⌜ now (bits .exit) ≡ store (now (bits .entry)) at (map digitCode (literalBits (literalIn (now (f .entry)) (ConstantSpan.Value start quote end)))) ⌝ }
 {
-    let c = Constant::Value { start, quote, end };
+    let c = ConstantSpan::Value { start, quote, end };
     put_literal(f, c, scratch, 0);
     let width = literal_width(f, c);
     reverse_words(scratch, 0, width, bits, at as usize);
@@ -199,7 +199,7 @@ fn put_text(f: &[u8], start: usize, strings: &mut [u8], at: u32) -> u32
 // Stores a constant of an attribute or a parameter, and answers its columns.
 fn put_constant(
     f: &[u8],
-    c: Constant,
+    c: ConstantSpan,
     u: Used,
     scratch: &mut [u32],
     strings: &mut [u8],
@@ -212,17 +212,17 @@ fn put_constant(
     ensures { λ _. ⌜ now (bits .exit) ≡ store (now (bits .entry)) (u .bits) (map digitCode (digitsOf (constantIn (now (f .entry)) c))) ⌝ }
 {
     match c {
-        Constant::Integer(z) => Columns {
+        ConstantSpan::Integer(z) => Columns {
             kind: INTEGER_CONSTANT,
             a: integer_word(f, z),
             b: 0,
         },
-        Constant::Value { start, quote, end } => Columns {
+        ConstantSpan::Value { start, quote, end } => Columns {
             kind: VALUE_CONSTANT,
             a: u.bits,
             b: put_value(f, start, quote, end, scratch, bits, u.bits),
         },
-        Constant::Text(start) => Columns {
+        ConstantSpan::Text(start) => Columns {
             kind: STRING_CONSTANT,
             a: u.strings,
             b: put_text(f, start, strings, u.strings),
@@ -233,7 +233,7 @@ fn put_constant(
 // The constant, if there is one.
 fn put_optional(
     f: &[u8],
-    c: Literal,
+    c: ConstantSlot,
     u: Used,
     scratch: &mut [u32],
     strings: &mut [u8],
@@ -246,8 +246,8 @@ fn put_optional(
     ensures { λ _. ⌜ now (bits .exit) ≡ store (now (bits .entry)) (u .bits) (map digitCode (optionalDigits (optionalIn (now (f .entry)) c))) ⌝ }
 {
     match c {
-        Literal::Read(k) => put_constant(f, k, u, scratch, strings, bits),
-        Literal::Nothing => Columns {
+        ConstantSlot::Read(k) => put_constant(f, k, u, scratch, strings, bits),
+        ConstantSlot::Nothing => Columns {
             kind: 0,
             a: 0,
             b: 0,
@@ -260,7 +260,7 @@ pub fn put_valued(
     f: &[u8],
     kind: u32,
     name: Span,
-    c: Literal,
+    c: ConstantSlot,
     sort: u32,
     u: Used,
     scratch: &mut [u32],

@@ -13,7 +13,7 @@ use Rattle.rules.specs.Tokens.{Inside, plain, Turn, goes, ends, breaks, turn, Q
 use Rattle.numbers.specs.Signed.{integerOf}
 use Rattle.strings.specs.Decoded.{bytesOf, isClosed, decodedBy, decoded, closes}
 use Rattle.tokens.specs.Rows.{front, tokenIn, literalIn, integerIn, Small, Present}
-use Rattle.tokens.specs.declared.Constant.the-variants as constant
+use Rattle.tokens.specs.declared.ConstantSpan.the-variants as constant
 use Rattle.tokens.specs.declared.Token.{Token}
 use Rattle.tokens.specs.declared.Token.the-variants as token
 use Rattle.lexer.specs.Lexemes.{Held}

@@ -29,7 +29,7 @@ use Rattle.strings.specs.declared.Close.{Close}
 use Rattle.strings.specs.declared.Close.the-variants.{At, Broken}
 use Rattle.strings.proofs.StringLaws.{close-broken, close-closed}
 use Rattle.tokens.specs.Rows.{front, tokenIn, literalIn, integerIn}
-use Rattle.tokens.specs.declared.Constant.the-variants as constant
+use Rattle.tokens.specs.declared.ConstantSpan.the-variants as constant
 use Rattle.tokens.specs.declared.Token.{Token}
 use Rattle.tokens.specs.declared.Token.the-variants as token
 use Rattle.lexer.specs.Lexemes.{Held, Lies, stepOf, Steps, StepIs, Starts}

@@ -10,15 +10,15 @@ use Rattle.rules.specs.Tokens as rules
 use Rattle.scanner.specs.Class.{classOf}
 use Rattle.strings.specs.Decoded.{closes}
 use Rattle.tokens.specs.Rows.{tokenIn}
-use Rattle.tokens.specs.declared.Constant.{Constant}
-use Rattle.tokens.specs.declared.Constant.the-variants as constant
+use Rattle.tokens.specs.declared.ConstantSpan.{ConstantSpan}
+use Rattle.tokens.specs.declared.ConstantSpan.the-variants as constant
 use Rattle.tokens.specs.declared.Token.{Token}
 use Rattle.tokens.specs.declared.Token.the-variants as token
 use Rattle.lexer.specs.declared.Lexeme.{Lexeme}
 use Rattle.lexer.specs.declared.Lexeme.the-variants as lexeme
 
 -- a token's places are in order and inside the bytes; a name is legal, a string closes, a word has a keyword's number
-abbrev pub HeldConstant : List ℕ → Constant → Type 0
+abbrev pub HeldConstant : List ℕ → ConstantSpan → Type 0
 HeldConstant s (constant.Integer z) = (z .start ≤ z .end) × (z .end ≤ length s)
 HeldConstant s (constant.Value a b c) = (a ≤ b) × (b < c) × (c ≤ length s)
 HeldConstant s (constant.Text a) = (a ≤ length s) × (closes (drop a s) ≡ true)

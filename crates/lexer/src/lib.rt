@@ -18,7 +18,7 @@ use scanner::words::NO_KEYWORD;
 use scanner::words::keyword;
 use strings::Close;
 use strings::string_end;
-use tokens::Constant;
+use tokens::ConstantSpan;
 use tokens::Integer;
 use tokens::Token;
 use tokens::put_token;
@@ -127,7 +127,7 @@ fn value_step(class: &[u8; 256], s: &[u8], p: usize, q: usize) -> Lexeme
     ensures { λ r. ⌜ Steps (now (s .entry)) p (valueStep (drop p (now (s .entry))) (decimal (slice p q (now (s .entry)))) (drop (q + 1) (now (s .entry)))) r ⌝ }
 {
     let e = run_end(class, s, q + 1, VALUE_DIGIT, VALUE_LETTER);
-    let c = Constant::Value {
+    let c = ConstantSpan::Value {
         start: p,
         quote: q,
         end: e,
@@ -147,7 +147,7 @@ fn number_step(class: &[u8; 256], s: &[u8], p: usize) -> Lexeme
         start: p,
         end: e,
     };
-    let t = Token::Constant(Constant::Integer(z));
+    let t = Token::Constant(ConstantSpan::Integer(z));
     if s.len() <= e {
         return separate(class, s, p, t, e);
     }
@@ -173,7 +173,7 @@ fn minus_step(class: &[u8; 256], s: &[u8], p: usize) -> Lexeme
         start: d,
         end: e,
     };
-    separate(class, s, p, Token::Constant(Constant::Integer(z)), e)
+    separate(class, s, p, Token::Constant(ConstantSpan::Integer(z)), e)
 }
 
 // A string: its opening quote at p. The token has the place behind it.
@@ -184,7 +184,7 @@ fn string_step(class: &[u8; 256], s: &[u8], p: usize) -> Lexeme
 {
     let d = p + 1;
     match string_end(s, d) {
-        Close::At(e) => separate(class, s, p, Token::Constant(Constant::Text(d)), e),
+        Close::At(e) => separate(class, s, p, Token::Constant(ConstantSpan::Text(d)), e),
         Close::Broken => Lexeme::Wrong(p),
     }
 }

@@ -11,10 +11,10 @@ use Rattle.rules.specs.Shapes as shapes
 use Rattle.rules.specs.Shapes.{Parse, of₂, id, sigspec, options, wireOptionForms, memoryOptionForms, top, inModule, inCell, whole, wholeBy, shape}
 use Rattle.numbers.specs.Kinds.{sortOf}
 use Rattle.tokens.specs.Rows.{integerIn, literalIn, line, tokenAt}
-use Rattle.tokens.specs.declared.Constant.{Constant}
+use Rattle.tokens.specs.declared.ConstantSpan.{ConstantSpan}
 use Rattle.tokens.specs.declared.Token.the-variants.{Constant as Constantly}
-use Rattle.tokens.specs.declared.Literal.{Literal}
-use Rattle.tokens.specs.declared.Literal.the-variants as literal
+use Rattle.tokens.specs.declared.ConstantSlot.{ConstantSlot}
+use Rattle.tokens.specs.declared.ConstantSlot.the-variants as literal
 use Rattle.line_forms.specs.Words.{announced}
 use Rattle.line_forms.specs.declared.Span.{Span}
 use Rattle.line_forms.specs.declared.Form.{Form}
@@ -29,7 +29,7 @@ unfoldable pub nameIn : List ℕ → Span → rules.Name
 nameIn f s = slice (s .start) (s .end) f
 
 -- a parameter's constant, if it has one
-unfoldable pub valueIn : List ℕ → Literal → Option rules.Literal
+unfoldable pub valueIn : List ℕ → ConstantSlot → Option rules.Literal
 valueIn f (literal.Read c) = some (literalIn f c)
 valueIn f literal.Nothing = none
 
@@ -62,11 +62,11 @@ ended none ts = none
 ended (some s) ts = wholeBy s ts
 
 -- what holds of a parameter's constant, if it has one; of a form's constant, and its sort is one of three
-abbrev pub ValueHolds : (Constant → Type 0) → Literal → Type 0
+abbrev pub ValueHolds : (ConstantSpan → Type 0) → ConstantSlot → Type 0
 ValueHolds P (literal.Read c) = P c
 ValueHolds P literal.Nothing = Unit {0}
 
-abbrev pub FormHolds : (Constant → Type 0) → Form → Type 0
+abbrev pub FormHolds : (ConstantSpan → Type 0) → Form → Type 0
 FormHolds P (Autoidx z) = Unit {0}
 FormHolds P (Attribute n c) = P c
 FormHolds P (Module n) = Unit {0}
@@ -78,7 +78,7 @@ FormHolds P End = Unit {0}
 FormHolds P NoShape = Unit {0}
 
 -- a constant of one of the rows
-abbrev pub InRows : List ℕ → Constant → Type 0
+abbrev pub InRows : List ℕ → ConstantSpan → Type 0
 InRows t c = (i : ℕ) × (tokenAt t i ≡ Constantly c)
 
 abbrev pub FormFrom : List ℕ → Form → Type 0

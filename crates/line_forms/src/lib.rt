@@ -12,10 +12,10 @@ use scanner::words::PROCESS;
 use scanner::words::REAL;
 use scanner::words::SIGNED;
 use scanner::words::WIRE;
-use tokens::Constant;
+use tokens::ConstantSlot;
+use tokens::ConstantSpan;
 use tokens::Id;
 use tokens::Integer;
-use tokens::Literal;
 use tokens::ROW_WORDS;
 use tokens::Slot;
 use tokens::Token;
@@ -48,12 +48,12 @@ pub enum Form {
     Autoidx(Integer),
     Attribute {
         name: Span,
-        value: Constant,
+        value: ConstantSpan,
     },
     Module(Span),
     Parameter {
         name: Span,
-        value: Literal,
+        value: ConstantSlot,
     },
     Cell {
         kind: Span,
@@ -62,7 +62,7 @@ pub enum Form {
     CellParameter {
         sort: u32,
         name: Span,
-        value: Constant,
+        value: ConstantSpan,
     },
     Process(Span),
     End,
@@ -110,7 +110,7 @@ fn valued_line(tokens: &[u32], i: usize, attribute: bool, sort: u32) -> Form
         return Form::NoShape;
     };
     let j = i + 1;
-    let Literal::Read(value) = literal_at(tokens, j) else {
+    let ConstantSlot::Read(value) = literal_at(tokens, j) else {
         return Form::NoShape;
     };
     let name = Span { start, end };
@@ -147,13 +147,13 @@ fn parameter_line(tokens: &[u32], i: usize) -> Form
     let j = i + 1;
     let name = Span { start, end };
     if tokens.len() / ROW_WORDS <= j {
-        let value = Literal::Nothing;
+        let value = ConstantSlot::Nothing;
         return Form::Parameter { name, value };
     }
-    let Literal::Read(c) = literal_at(tokens, j) else {
+    let ConstantSlot::Read(c) = literal_at(tokens, j) else {
         return Form::NoShape;
     };
-    let value = Literal::Read(c);
+    let value = ConstantSlot::Read(c);
     finished(tokens, j + 1, Form::Parameter { name, value })
 }
 

@@ -25,8 +25,8 @@ use Rattle.strings.specs.Decoded.{decoded}
 use Rattle.strings.proofs.StringLaws.{decoded-length}
 use Rattle.tokens.specs.Rows.{integerIn, literalIn}
 use Rattle.tokens.specs.declared.Integer.{Integer}
-use Rattle.tokens.specs.declared.Constant.{Constant}
-use Rattle.tokens.specs.declared.Constant.the-variants as constant
+use Rattle.tokens.specs.declared.ConstantSpan.{ConstantSpan}
+use Rattle.tokens.specs.declared.ConstantSpan.the-variants as constant
 use Rattle.literals.specs.Codes.{codes, wordCodes, filledCodes, fillerCode}
 use Rattle.lists.specs.Lists.{flatMap-snoc, getD-reverse, map-at, map-replicate, map-reverse, flatMap-more}
 use Rattle.lists.specs.Sums.{length-equal}
@@ -64,7 +64,7 @@ module _ (f : List ℕ) (a b e : ℕ) (h : goodLiteral (literalIn f (constant.Va
   value-width n r = r ∙ value-capped ∙ sym (literal-long (literalIn f (constant.Value a b e)) h)
 
 -- the width of a constant in a file that is not too long is below the cap
-pub width-small : (f : List ℕ) (c : Constant) → length f ≤ 268435456 → goodLiteral (literalIn f c) ≡ true → capped (literalWidth (literalIn f c)) ≡ literalWidth (literalIn f c)
+pub width-small : (f : List ℕ) (c : ConstantSpan) → length f ≤ 268435456 → goodLiteral (literalIn f c) ≡ true → capped (literalWidth (literalIn f c)) ≡ literalWidth (literalIn f c)
 unfolding literalIn goodLiteral literalWidth
 width-small f (constant.Integer z) k h = capped-small 32 (omega arith)
 width-small f (constant.Value a b e) k h = value-capped f a b e h

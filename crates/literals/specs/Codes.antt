@@ -10,8 +10,8 @@ use Rattle.rules.specs.Numbers.{int32}
 use Rattle.rules.specs.Signals.{twosComplement, binary, literalBits, topFiller}
 use Rattle.rules.specs.Layout.{digitCode}
 use Rattle.strings.specs.Decoded.{closes}
-use Rattle.tokens.specs.declared.Constant.{Constant}
-use Rattle.tokens.specs.declared.Constant.the-variants as constant
+use Rattle.tokens.specs.declared.ConstantSpan.{ConstantSpan}
+use Rattle.tokens.specs.declared.ConstantSpan.the-variants as constant
 use Rattle.literals.specs.declared.Number.{Number}
 use Rattle.literals.specs.declared.Number.the-variants.{Fits, Outside}
 
@@ -21,7 +21,7 @@ NumberIs i (Fits w) = (int32 i ≡ true) × (twosComplement i ≡ w)
 NumberIs i Outside = int32 i ≡ false
 
 -- a string has its closing quote
-abbrev pub Whole : List ℕ → Constant → Type 0
+abbrev pub Whole : List ℕ → ConstantSpan → Type 0
 Whole f (constant.Integer z) = Unit {0}
 Whole f (constant.Value a b c) = Unit {0}
 Whole f (constant.Text a) = closes (drop a f) ≡ true

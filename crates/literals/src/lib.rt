@@ -6,7 +6,7 @@ use scanner::decimals::decimal;
 use scanner::parts::part;
 use strings::put_string;
 use strings::string_size;
-use tokens::Constant;
+use tokens::ConstantSpan;
 use tokens::Integer;
 ghost use mathlib.Core.Path.{_≡_};
 ghost use mathlib.Core.Bool.{true};
@@ -97,7 +97,7 @@ fn value_digits<'a>(f: &'a [u8], quote: usize, end: usize) -> &'a [u8]
 
 // A value is at most 2,048 bits wide, and has no more digits than bits.
 fn good_value(f: &[u8], start: usize, quote: usize, end: usize) -> bool
-    ensures { λ r. ⌜ r ≡ goodLiteral (literalIn (now (f .entry)) (Constant.Value start quote end)) ⌝ }
+    ensures { λ r. ⌜ r ≡ goodLiteral (literalIn (now (f .entry)) (ConstantSpan.Value start quote end)) ⌝ }
 {
     let width = decimal(part(f, start, quote));
     if MOST_WIDTH < width {
@@ -107,13 +107,13 @@ fn good_value(f: &[u8], start: usize, quote: usize, end: usize) -> bool
 }
 
 // Whether a constant keeps the number rules.
-pub fn good_literal(f: &[u8], c: Constant) -> bool
+pub fn good_literal(f: &[u8], c: ConstantSpan) -> bool
     ensures { λ r. ⌜ r ≡ goodLiteral (literalIn (now (f .entry)) c) ⌝ }
 {
     match c {
-        Constant::Integer(z) => fits(z.negative, decimal(part(f, z.start, z.end))),
-        Constant::Value { start, quote, end } => good_value(f, start, quote, end),
-        Constant::Text(_) => true,
+        ConstantSpan::Integer(z) => fits(z.negative, decimal(part(f, z.start, z.end))),
+        ConstantSpan::Value { start, quote, end } => good_value(f, start, quote, end),
+        ConstantSpan::Text(_) => true,
     }
 }
 
@@ -129,17 +129,17 @@ fn text_width(f: &[u8], start: usize) -> usize
 }
 
 // How many bits a constant has; 2147483649 where there are more, so that the widths of a line add up.
-pub fn literal_width(f: &[u8], c: Constant) -> usize
+pub fn literal_width(f: &[u8], c: ConstantSpan) -> usize
     ensures { λ r. ⌜ (r ≡ capped (literalWidth (literalIn (now (f .entry)) c))) × (r ≤ 2147483649) ⌝ }
 {
     match c {
-        Constant::Integer(_) => INTEGER_BITS,
-        Constant::Value {
+        ConstantSpan::Integer(_) => INTEGER_BITS,
+        ConstantSpan::Value {
             start,
             quote,
             end: _,
         } => decimal(part(f, start, quote)) as usize,
-        Constant::Text(start) => text_width(f, start),
+        ConstantSpan::Text(start) => text_width(f, start),
     }
 }
 
@@ -206,9 +206,9 @@ fn put_digits(width: usize, ds: &[u8], out: &mut [u32], at: usize)
 
 // The bits of a value.
 fn put_value(f: &[u8], start: usize, quote: usize, end: usize, out: &mut [u32], at: usize)
-    requires { ⌜ goodLiteral (literalIn (now f) (Constant.Value start quote end)) ≡ true ⌝ }
-    requires { ⌜ at + literalWidth (literalIn (now f) (Constant.Value start quote end)) ≤ length (now out) ⌝ }
-    ensures { λ _. ⌜ now (out .exit) ≡ store (now (out .entry)) at (codes (literalIn (now (f .entry)) (Constant.Value start quote end))) ⌝ }
+    requires { ⌜ goodLiteral (literalIn (now f) (ConstantSpan.Value start quote end)) ≡ true ⌝ }
+    requires { ⌜ at + literalWidth (literalIn (now f) (ConstantSpan.Value start quote end)) ≤ length (now out) ⌝ }
+    ensures { λ _. ⌜ now (out .exit) ≡ store (now (out .entry)) at (codes (literalIn (now (f .entry)) (ConstantSpan.Value start quote end))) ⌝ }
 {
     let width = decimal(part(f, start, quote)) as usize;
     put_digits(width, value_digits(f, quote, end), out, at);
@@ -239,7 +239,7 @@ fn put_text(f: &[u8], start: usize, out: &mut [u32], at: usize)
 }
 
 // The codes of a constant's bits, highest first, from `at` on. A string of 2,048 bits is 256 bytes.
-pub fn put_literal(f: &[u8], c: Constant, out: &mut [u32], at: usize)
+pub fn put_literal(f: &[u8], c: ConstantSpan, out: &mut [u32], at: usize)
     requires { ⌜ goodLiteral (literalIn (now f) c) ≡ true ⌝ }
     requires { ⌜ literalWidth (literalIn (now f) c) ≤ 2048 ⌝ }
     requires { ⌜ at + literalWidth (literalIn (now f) c) ≤ length (now out) ⌝ }
@@ -247,8 +247,8 @@ pub fn put_literal(f: &[u8], c: Constant, out: &mut [u32], at: usize)
     ensures { λ _. ⌜ now (out .exit) ≡ store (now (out .entry)) at (reverse (map digitCode (literalBits (literalIn (now (f .entry)) c)))) ⌝ }
 {
     match c {
-        Constant::Integer(z) => put_integer(f, z, out, at),
-        Constant::Value { start, quote, end } => put_value(f, start, quote, end, out, at),
-        Constant::Text(start) => put_text(f, start, out, at),
+        ConstantSpan::Integer(z) => put_integer(f, z, out, at),
+        ConstantSpan::Value { start, quote, end } => put_value(f, start, quote, end, out, at),
+        ConstantSpan::Text(start) => put_text(f, start, out, at),
     }
 }

@@ -17,7 +17,7 @@ use Rattle.context.specs.declared.place.Place.{Place}
 use Rattle.context.specs.declared.sizes.Sizes.{Sizes}
 use Rattle.admitted.specs.AdmitLaws.{admitted-within}
 use Rattle.admitted.specs.Holds.{Holds}
-use Rattle.replay.specs.Reads.{Tables}
+use Rattle.replay.specs.Reads.{PartTables}
 use Rattle.replay.specs.Begins.{Stored, Replays, IndexLeft}
 use Rattle.name_index.specs.Index.{keyAt, Indexed}
 use Rattle.replay.specs.OneLaws.{stored-one}
@@ -41,7 +41,7 @@ pub index-kept :
 unfolding IndexLeft
 index-kept heads chain names rows o x e = rw e at x
 
-pub few-wires : (t : Tables) (rows : List ℕ) (o : Replayed) (p : Place) (u : Sizes) → Replays t rows o → o ≡ Replayed.Holding p u → p .wires ≤ 512
+pub few-wires : (t : PartTables) (rows : List ℕ) (o : Replayed) (p : Place) (u : Sizes) → Replays t rows o → o ≡ Replayed.Holding p u → p .wires ≤ 512
 unfolding Replays placeOf wiresIn sumsOf sizesBy
 few-wires t rows o p u r e =
     let f = rw e at r in

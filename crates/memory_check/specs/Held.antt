@@ -16,8 +16,8 @@ use Rattle.context.specs.declared.sizes.Sizes.{Sizes}
 use Rattle.admitted.specs.Holds.{Holds}
 use Rattle.memory_check.specs.declared.Held.{Held}
 
-abbrev pub tabled : (names strings bits wires rows : List ℕ) → (renames room : ℕ) → Memory
-tabled names strings bits wires rows renames room =
+abbrev pub memoryIn : (names strings bits wires rows : List ℕ) → (renames room : ℕ) → Memory
+memoryIn names strings bits wires rows renames room =
     record { names = names; strings = strings; bits = bits; wires = wires; rows = rows; renames = renames; room = room }
 
 unfoldable pub zeroFrom : List ℕ → ℕ → Bool

@@ -50,8 +50,8 @@ use Rattle.memory_check.specs.AllowedLaws.{allowed-few, allowed-room}
 use Rattle.memory_check.specs.RenameLaws.{RowOf, words-rename, laid-next, eights-file, length-file}
 
 -- the tables of a memory as the replay takes them
-abbrev pub partsOf : layouts.Memory → tables.Tables
-partsOf m = tables.tabled (m .names) (m .strings) (m .bits) (m .wires)
+abbrev pub partsOf : layouts.Memory → tables.PartTables
+partsOf m = tables.partTables (m .names) (m .strings) (m .bits) (m .wires)
 
 -- WHAT RENAMES LEAVE as it is
 file-keeps : (ss : List Statement) (rs : List Rename) → Kept (roomsOf (reverse ss)) (rooms ss rs)

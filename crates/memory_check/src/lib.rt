@@ -23,7 +23,7 @@ ghost use lib.ListN.{length};
 ghost use Rattle.netlist.specs.Lengths.{rightSizes};
 ghost use Rattle.name_index.specs.Index.{keyAt, wireKey, rowRoom, Indexed};
 ghost use Rattle.memory_check.specs.Renamed.{isRename, RenameIs, RenamesAre};
-ghost use Rattle.memory_check.specs.Held.{tabled, restZero, HeldIs};
+ghost use Rattle.memory_check.specs.Held.{memoryIn, restZero, HeldIs};
 
 // The chain of an index of wires: a place for each wire of a design.
 const WIRE_CHAIN: usize = 512;
@@ -205,7 +205,7 @@ fn rest_is_zero(
     place: Place,
     sums: Sizes,
 ) -> bool
-    ensures { λ r. ⌜ r ≡ restZero (tabled (now (names .entry)) (now (strings .entry)) (now (bits .entry)) (now (wires .entry)) (now (rows .entry)) renames room) place sums ⌝ }
+    ensures { λ r. ⌜ r ≡ restZero (memoryIn (now (names .entry)) (now (strings .entry)) (now (bits .entry)) (now (wires .entry)) (now (rows .entry)) renames room) place sums ⌝ }
 {
     let behind = ROW_WORDS * (place.rows as usize + renames as usize);
     if !zero_bytes_from(names, room as usize) {
@@ -250,7 +250,7 @@ fn judge_indexed(
 ) -> Held
     requires { ⌜ Indexed (now heads) (now chain) (keyAt (now names) (now rows)) 0 ⌝ }
     requires { ⌜ rowRoom ≤ length (now chain) ⌝ }
-    ensures { λ r. ⌜ HeldIs (tabled (now (names .entry)) (now (strings .entry)) (now (bits .entry)) (now (wires .entry)) (now (rows .entry)) renames room) r ⌝ }
+    ensures { λ r. ⌜ HeldIs (memoryIn (now (names .entry)) (now (strings .entry)) (now (bits .entry)) (now (wires .entry)) (now (rows .entry)) renames room) r ⌝ }
 {
     if !right_tables(names, strings, bits, wires, rows) {
         return Held::Damaged;
@@ -301,7 +301,7 @@ pub fn judge_memory(
     renames: u32,
     room: u32,
 ) -> Held
-    ensures { λ r. ⌜ HeldIs (tabled (now (names .entry)) (now (strings .entry)) (now (bits .entry)) (now (wires .entry)) (now (rows .entry)) renames room) r ⌝ }
+    ensures { λ r. ⌜ HeldIs (memoryIn (now (names .entry)) (now (strings .entry)) (now (bits .entry)) (now (wires .entry)) (now (rows .entry)) renames room) r ⌝ }
 {
     let mut heads = [0u32; ROW_HEADS];
     let mut chain = [0u32; ROW_CHAIN];

@@ -19,7 +19,7 @@ use Rattle.rules.specs.Reading.{shaped, stated, judged, lexed, outcome, skipped
 use Rattle.lists.specs.Tests.{by-test}
 use Rattle.scanner.specs.declared.lines.Line.{Line}
 use Rattle.tokens.specs.Rows.{rowOf, tokenAt, rowsFrom, line}
-use Rattle.tokens.specs.declared.Constant.the-variants as constant
+use Rattle.tokens.specs.declared.ConstantSpan.the-variants as constant
 use Rattle.tokens.specs.declared.Token as row
 use Rattle.tokens.specs.declared.Token.the-variants.{Name, Word, Constant as Constantly, Mark, End}
 use Rattle.tokens.proofs.TokenLaws.{present, row-before, front-token}

@@ -31,7 +31,7 @@ use Rattle.name_index.specs.Index.{LinesIndexed}
 use Rattle.name_index.specs.LaidLaws.{lines-grown}
 use Rattle.netlist.specs.LaidLaws.{laid-padded, eights-rows}
 use Rattle.netlist.specs.WireLaws.{eights-wires, wires-past, wired-padded}
-use Rattle.syntax.specs.Statements.{lateOf, statementIn, kindIn, Sound}
+use Rattle.syntax.specs.Statements.{faultOf, statementIn, kindIn, Sound}
 use Rattle.syntax.specs.declared.Statement.{Statement}
 use Rattle.syntax.specs.declared.Statement.the-variants.{Autoidx, Attribute, Module, Parameter, Wire, Memory, Cell, CellParameter, CellConnection, Connection, End, NoShape, Process, BadNumber, MissingWire}
 use Rattle.netlist.specs.Tables.{Tables}
@@ -143,7 +143,7 @@ module _ {ss : Past} {p : Place} {u : Sizes} {t : Tables} (d : Done ss p u t) (l
   states : States ss l f s r more
   states = subst (OutcomeIs ss l f s) is st
 
-  storable : Sound f r × (lateOf r ≡ 0) × Within more
+  storable : Sound f r × (faultOf r ≡ 0) × Within more
   storable = subst (Storable f) is sound
 
   -- what is used by the place and the sums is what the rooms hold

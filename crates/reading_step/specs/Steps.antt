@@ -20,7 +20,7 @@ use Rattle.context.specs.declared.place.Place.{Place}
 use Rattle.context.specs.declared.sizes.Sizes.{Sizes}
 use Rattle.admitted.specs.Admitted.{admitted}
 use Rattle.netlist.specs.Laid.{roomsOf}
-use Rattle.syntax.specs.Statements.{lateOf, statementIn, Sound}
+use Rattle.syntax.specs.Statements.{faultOf, statementIn, Sound}
 use Rattle.syntax.specs.declared.Statement.{Statement}
 use Rattle.netlist.specs.Tables.{Tables}
 use Rattle.layout.specs.Put.{tablesOf}
@@ -74,7 +74,7 @@ OutcomeAs f s l p u names wires rows r = (ss : Past) → Stands ss p u names wir
 -- what holds of a stated one whatever stands before it
 abbrev pub Storable : List ℕ → Outcome → Type 0
 Storable f Skipped = Unit {0}
-Storable f (Stated r u) = Sound f r × (lateOf r ≡ 0) × Within u
+Storable f (Stated r u) = Sound f r × (faultOf r ≡ 0) × Within u
 Storable f (Refused n) = Unit {0}
 
 -- THE LINES SO FAR. These statements are admitted and lie in the tables; the next line stands behind them

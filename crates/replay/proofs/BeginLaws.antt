@@ -13,10 +13,10 @@ use Rattle.tables.specs.Row.{rowAt}
 use Rattle.netlist.specs.RowLaws.{length-statement-row}
 use Rattle.netlist.specs.Spans.{row-has, has-row, has-long}
 use Rattle.netlist.specs.Fronts.{Stands}
-use Rattle.replay.specs.Reads.{Tables, Reads}
+use Rattle.replay.specs.Reads.{PartTables, Reads}
 use Rattle.replay.specs.Begins.{withRows}
 
-module _ (t : Tables) (rows : List ℕ) (u : Used) (ws : Wires) (s : Statement) where
+module _ (t : PartTables) (rows : List ℕ) (u : Used) (ws : Wires) (s : Statement) where
   pub stand-long : Stands (withRows t rows) u s → 8 * u .rows + 8 ≤ length rows
   stand-long h = has-long rows (u .rows) (statementRow u s) (length-statement-row u s) (h .row)
 

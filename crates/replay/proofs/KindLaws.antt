@@ -26,7 +26,7 @@ use Rattle.replay.specs.Parts.{span, nameStands}
 use Rattle.numbers.specs.Kinds.{sortOf}
 use Rattle.numbers.specs.KindLaws.{sort-code}
 use Rattle.netlist.specs.RowLaws.{row-zero}
-use Rattle.replay.specs.Reads.{Tables, tabled, constantOf, optionalOf, memoryOf, statementBy, statementOf, Reads, Tells, TellsNamed, TellsValued, TellsAutoidx, TellsEnd, TellsMemory, TellsCell, TellsParameter, TellsCellParameter}
+use Rattle.replay.specs.Reads.{PartTables, partTables, constantOf, optionalOf, memoryOf, statementBy, statementOf, Reads, Tells, TellsNamed, TellsValued, TellsAutoidx, TellsEnd, TellsMemory, TellsCell, TellsParameter, TellsCellParameter}
 use Rattle.replay.specs.declared.statements.Found.{Found}
 use Rattle.replay.proofs.Spans.{has-none, has-span, spans}
 use Rattle.replay.proofs.CodeLaws.{constant-read}
@@ -47,7 +47,7 @@ module _ (u : Used) (r x : Row) (f : Found) (ef : f ≡ cond (same (words r) (wo
 
 module _ (names : List ℕ) (u : Used) (r : Row) where
   memory-facts :
-      {strings bits wires : List ℕ} {ws : Wires} → Reads (tabled names strings bits wires) u ws r (memory-stmt (memoryOf r) (span names (u .names) (r .b))) →
+      {strings bits wires : List ℕ} {ws : Wires} → Reads (partTables names strings bits wires) u ws r (memory-stmt (memoryOf r) (span names (u .names) (r .b))) →
       (i : ℕ) → getD (within 1 2048 (r .c) ∷ leb (r .d) 2147483647 ∷ []) i true ≡ true
   unfolding contents holds all fineMemory memoryOf
   memory-facts {ws = ws} d = test-at _ (_ ∷ []) (and-true-left _ _ (and-true-left _ _ (fine-parts ws _ (d .fine) .memories)))
@@ -71,7 +71,7 @@ module _ (names : List ℕ) (u : Used) (r : Row) where
   unfolding statementRow columns code contents holds fineAlone fineParts all sameLength fineMemory memoryOf nameBytes wireRows flatMap zip zipWith signalSize nameSize sum
   memory-settled h w z o x ex f ef strings bits wires ws =
       let l : r .b ≡ length (span names (u .names) (r .b)) = name-long names (u .names) (r .b) h in
-      laid (tabled names strings bits wires) u ws r x _ refl (rw (← l, word-signed (r .e) o) ex) (rw append-nil (has-span names (u .names) (r .b))) (has-none _ _) (has-none _ _)
+      laid (partTables names strings bits wires) u ws r x _ refl (rw (← l, word-signed (r .e) o) ex) (rw append-nil (has-span names (u .names) (r .b))) (has-none _ _) (has-none _ _)
       (rw (name-legal names (u .names) (r .b) h, w, z, signed-int32 (r .e))) refl (omega arith) f ef
 
 -- ---- a cell
@@ -94,7 +94,7 @@ module _ (names : List ℕ) (u : Used) (r : Row) where
   cell-settled h k x ex f ef strings bits wires ws =
       let l : r .b ≡ length (span names (u .names) (r .b)) = name-long names (u .names) (r .b) h in
       let m : r .d ≡ length (span names (u .names + r .b) (r .d)) = name-long names (u .names + r .b) (r .d) k in
-      laid (tabled names strings bits wires) u ws r x _ refl (rw (← l, ← m) ex) (rw (append-nil, spans) (has-span names (u .names) (r .b + r .d))) (has-none _ _) (has-none _ _)
+      laid (partTables names strings bits wires) u ws r x _ refl (rw (← l, ← m) ex) (rw (append-nil, spans) (has-span names (u .names) (r .b + r .d))) (has-none _ _) (has-none _ _)
       (rw (name-legal names (u .names) (r .b) h, name-legal names (u .names + r .b) (r .d) k)) refl (omega arith) f ef
 
 -- ---- parameters
@@ -108,7 +108,7 @@ sort-few real = omega arith
 module _ (names strings bits : List ℕ) (u : Used) (r : Row) (f : Found) where
   pub attribute-told :
       TellsValued names strings bits u r 2 0 f → (wires : List ℕ) (ws : Wires) →
-      Tells (tabled names strings bits wires) u ws r (attr-stmt (span names (u .names) (r .b)) (constantOf strings bits u (r .c) (r .d) (r .e))) f
+      Tells (partTables names strings bits wires) u ws r (attr-stmt (span names (u .names) (r .b)) (constantOf strings bits u (r .c) (r .d) (r .e))) f
   unfolding statementRow columns code contents holds
   attribute-told h wires ws = h wires ws _ _ _ refl (sym (row-zero u (constantOf strings bits u (r .c) (r .d) (r .e)) 2 (u .names) (length (span names (u .names) (r .b)))))
 
@@ -134,7 +134,7 @@ cell-parameter-not names strings bits u r h wires ws d =
 
 -- ---- by the row's kind
 
-module _ (t : Tables) (u : Used) (ws : Wires) (r : Row) (f : Found) where
+module _ (t : PartTables) (u : Used) (ws : Wires) (r : Row) (f : Found) where
   pub by-kind : (k : ℕ) → r .kind ≡ k → Tells t u ws r (statementBy t u r k) f → Tells t u ws r (statementOf t u r) f
   unfolding statementOf
   by-kind k e h = subst (λ (s : Statement). Tells t u ws r s f) (ap (statementBy t u r) (sym e)) h
@@ -149,11 +149,11 @@ module _ (t : Tables) (u : Used) (ws : Wires) (r : Row) (f : Found) where
 
 module _ (names : List ℕ) (u : Used) (r : Row) (f : Found) where
   pub module-told :
-      TellsNamed names u r 3 f → (strings bits wires : List ℕ) (ws : Wires) → Tells (tabled names strings bits wires) u ws r (module-stmt (span names (u .names) (r .b))) f
+      TellsNamed names u r 3 f → (strings bits wires : List ℕ) (ws : Wires) → Tells (partTables names strings bits wires) u ws r (module-stmt (span names (u .names) (r .b))) f
   unfolding statementRow columns code contents holds
   module-told h strings bits wires ws = h strings bits wires ws _ _ refl refl
 
   pub process-told :
-      TellsNamed names u r 11 f → (strings bits wires : List ℕ) (ws : Wires) → Tells (tabled names strings bits wires) u ws r (proc-stmt (span names (u .names) (r .b))) f
+      TellsNamed names u r 11 f → (strings bits wires : List ℕ) (ws : Wires) → Tells (partTables names strings bits wires) u ws r (proc-stmt (span names (u .names) (r .b))) f
   unfolding statementRow columns code contents holds
   process-told h strings bits wires ws = h strings bits wires ws _ _ refl refl

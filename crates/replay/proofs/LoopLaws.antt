@@ -21,18 +21,18 @@ use Rattle.context.specs.Sizes.{sumsOf, Within}
 use Rattle.context.specs.declared.place.Place.{Place}
 use Rattle.context.specs.declared.sizes.Sizes.{Sizes}
 use Rattle.context.proofs.PlaceLaws.{bounds, closes-place, place-rows}
-use Rattle.replay.specs.Reads.{Tables}
+use Rattle.replay.specs.Reads.{PartTables}
 use Rattle.replay.specs.OneLaws.{next-kind, stored-next}
 use Rattle.replay.specs.Begins.{isStatement, Replays}
 use Rattle.replay.specs.Turns.{Ready, Reached, TurnIs}
 use Rattle.replay.specs.declared.Replayed.{Replayed}
 use Rattle.replay.specs.declared.turns.Turn.{Turn}
 
-pub record Done (t : Tables) (rows : List ℕ) (p : Place) (u : Sizes) : Type 0 where
+pub record Done (t : PartTables) (rows : List ℕ) (p : Place) (u : Sizes) : Type 0 where
   pub past : Past
   pub reached : Reached t rows past p u
 
-pub done-start : (t : Tables) (rows : List ℕ) (p : Place) (u : Sizes) → p ≡ placeOf [] → u ≡ sumsOf [] → Done t rows p u
+pub done-start : (t : PartTables) (rows : List ℕ) (p : Place) (u : Sizes) → p ≡ placeOf [] → u ≡ sumsOf [] → Done t rows p u
 unfolding roomsOf admitted flatMap
 done-start t rows p u ep eu =
     record {
@@ -47,7 +47,7 @@ done-start t rows p u ep eu =
 
 -- ---- the turns of the loop
 
-module _ (t : Tables) (rows : List ℕ) (p : Place) (u : Sizes) (d : Done t rows p u) where
+module _ (t : PartTables) (rows : List ℕ) (p : Place) (u : Sizes) (d : Done t rows p u) where
   abbrev ss : Past
   ss = d .past
 

@@ -24,7 +24,7 @@ use Rattle.lists.specs.Elements.{all-first}
 use Rattle.replay.specs.Parts.{span, whole, nameStands}
 use Rattle.netlist.specs.Spans.{Has}
 use Rattle.netlist.specs.Fronts.{Parts}
-use Rattle.replay.specs.Reads.{Tables, tabled, constantOf, ReadsConstant, TellsConstant, Reads, Counts, Tells, TellsNamed, TellsValued}
+use Rattle.replay.specs.Reads.{PartTables, partTables, constantOf, ReadsConstant, TellsConstant, Reads, Counts, Tells, TellsNamed, TellsValued}
 use Rattle.replay.specs.declared.statements.Found.{Found}
 use Rattle.replay.specs.declared.statements.Held.{Held}
 use Rattle.replay.proofs.Spans.{whole-long, long-whole, has-none, has-span}
@@ -32,7 +32,7 @@ use Rattle.replay.proofs.CodeLaws.{constant-read}
 
 -- with the parts there, the row decides
 pub settled :
-    {u : Used} {s : Statement} (t : Tables) (ws : Wires) (r x : Row) {g v z n : ℕ} → words x ≡ statementRow u s → Parts (t .names) (t .strings) (t .bits) (t .wires) u s → fineParts ws s ≡ true → Counts s g v z n →
+    {u : Used} {s : Statement} (t : PartTables) (ws : Wires) (r x : Row) {g v z n : ℕ} → words x ≡ statementRow u s → Parts (t .names) (t .strings) (t .bits) (t .wires) u s → fineParts ws s ≡ true → Counts s g v z n →
     (f : Found) → f ≡ cond (same (words r) (words x)) (Found.Statement g v z n) Found.Nothing → Tells t u ws r s f
 unfolding Tells
 settled t ws r x ex p w q f e =
@@ -55,7 +55,7 @@ name-not names at n h e l = never (whole names at n && legal (span names at n)) 
 
 -- a statement whose first name does not stand is not there
 pub first-not :
-    {P : Type 0} {t : Tables} {u : Used} {ws : Wires} {r : Row} {s : Statement} {ns : List Name} → Reads t u ws r s → nameStands (t .names) (u .names) (r .b) ≡ false →
+    {P : Type 0} {t : PartTables} {u : Used} {ws : Wires} {r : Row} {s : Statement} {ns : List Name} → Reads t u ws r s → nameStands (t .names) (u .names) (r .b) ≡ false →
     contents s .names ≡ span (t .names) (u .names) (r .b) ∷ ns → getD (statementRow u s) 2 0 ≡ length (span (t .names) (u .names) (r .b)) → P
 unfolding words
 first-not {ws = ws} {s = s} d h e q =
@@ -63,7 +63,7 @@ first-not {ws = ws} {s = s} d h e q =
 
 -- the same of a statement without constants
 pub laid :
-    (t : Tables) (u : Used) (ws : Wires) (r x : Row) (s : Statement) → contents s .constants ≡ [] → words x ≡ statementRow u s →
+    (t : PartTables) (u : Used) (ws : Wires) (r x : Row) (s : Statement) → contents s .constants ≡ [] → words x ≡ statementRow u s →
     Has (t .names) (u .names) (nameBytes s) → Has (t .bits) (u .bits) (flatMap (map bitCode) (contents s .signals)) → Has (t .wires) (8 * u .wires) (flat (wireRows u s)) →
     fineParts ws s ≡ true → {g n : ℕ} → g ≡ signalSize s → n ≡ nameSize s → (f : Found) → f ≡ cond (same (words r) (words x)) (Found.Statement g 0 0 n) Found.Nothing → Tells t u ws r s f
 unfolding stringBytes bitCodes flatMap valueSize stringSize sum
@@ -87,7 +87,7 @@ module _ (names : List ℕ) (u : Used) (r : Row) (kind : ℕ) where
   unfolding fineAlone fineParts all holds nameBytes wireRows flatMap zip zipWith sameLength signalSize nameSize sum
   named-settled h x ex f ef strings bits wires ws s k e q =
       let l : r .b ≡ length (span names (u .names) (r .b)) = name-long names (u .names) (r .b) h in
-      laid (tabled names strings bits wires) u ws r x s (rw e) (rw (q, ← l) ex) (rw (e, append-nil) (has-span names (u .names) (r .b))) (rw e (has-none _ _)) (rw e (has-none _ _))
+      laid (partTables names strings bits wires) u ws r x s (rw e) (rw (q, ← l) ex) (rw (e, append-nil) (has-span names (u .names) (r .b))) (rw e (has-none _ _)) (rw e (has-none _ _))
       (rw (e, name-legal names (u .names) (r .b) h)) (rw e) (rw e (omega arith)) f ef
 
 -- ---- a name and a constant
@@ -98,7 +98,7 @@ module _ (names strings bits : List ℕ) (u : Used) (r : Row) (kind sort : ℕ) 
     unfolding fineAlone fineParts all holds sameLength
     valued-fine = rw e (simp and-true)
 
-    read-constant : statementRow u s ≡ row (kind ∷ u .names ∷ length n ∷ constantColumns u c ++ sort ∷ []) → Reads (tabled names strings bits wires) u ws r s → ReadsConstant strings bits u (r .c) (r .d) (r .e) c
+    read-constant : statementRow u s ≡ row (kind ∷ u .names ∷ length n ∷ constantColumns u c ++ sort ∷ []) → Reads (partTables names strings bits wires) u ws r s → ReadsConstant strings bits u (r .c) (r .d) (r .e) c
     unfolding holds stringBytes bitCodes flatMap
     read-constant q d =
         record {
@@ -142,7 +142,7 @@ module _ (names strings bits : List ℕ) (u : Used) (r : Row) (kind sort : ℕ) 
       let c = constantOf strings bits u (r .c) (r .d) (r .e) in
       let l : r .b ≡ length n = name-long names (u .names) (r .b) h in
       let g = rw eh at d in
-      settled (tabled names strings bits wires) ws r x
+      settled (partTables names strings bits wires) ws r x
       (ex
       ∙ ap₂ (λ (m : ℕ) (cs : List ℕ). row (kind ∷ u .names ∷ m ∷ cs ++ sort ∷ [])) l (sym (g .0 .columns))
       ∙ sym q)

@@ -38,7 +38,7 @@ use Rattle.context.proofs.PlaceLaws.{context-is, place-rows}
 use Rattle.context.proofs.SizeLaws.{sums-step, exceeds-sums, within-past, sizes-small}
 use Rattle.netlist.specs.Used.{usedBy}
 use Rattle.netlist.specs.Spans.{Has}
-use Rattle.replay.specs.Reads.{Tables, tabled, Reads, Counts, Tells, statementOf, Small}
+use Rattle.replay.specs.Reads.{PartTables, partTables, Reads, Counts, Tells, statementOf, Small}
 use Rattle.netlist.specs.Fronts.{Fronts, Stands}
 use Rattle.netlist.specs.FrontLaws.{fronts-laid, fronts-wired, fronts-stand, stand-fronts, stand-row}
 use Rattle.replay.specs.Begins.{withRows}
@@ -119,7 +119,7 @@ told-small k g v x n d h z e =
     (sizes-small s 2147483647 (omega arith) (omega (arith, q .0, c .signals)) (omega (arith, q .1, c .values)) (omega (arith, q .2, c .strings)) (omega (arith, q .3, c .names)))
 
 module _ (names rows : List ℕ) (p : Place) (u : Sizes) (k g v x n : ℕ) (m : Name) (em : m ≡ nameAt names rows (p .rows)) {b : Bool} (eb : b ≡ foundIn names rows p k m) where
-  module _ {strings bits wires : List ℕ} (ss : Past) (s : Statement) (at : Reached (tabled names strings bits wires) rows ss p u) (w : Rowed (tabled names strings bits wires) rows ss s k g v x n) where
+  module _ {strings bits wires : List ℕ} (ss : Past) (s : Statement) (at : Reached (partTables names strings bits wires) rows ss p u) (w : Rowed (partTables names strings bits wires) rows ss s k g v x n) where
     taken-is : takesName ss s ≡ b
     taken-is =
         takes-row ss s (fronts-laid (at .fronts)) (w .row) (w .names)
@@ -161,7 +161,7 @@ module _ (names rows : List ℕ) (p : Place) (u : Sizes) (k g v x n : ℕ) (m : 
 
 -- ---- the turn
 
-module _ (t : Tables) (rows : List ℕ) (p : Place) (u : Sizes) where
+module _ (t : PartTables) (rows : List ℕ) (p : Place) (u : Sizes) where
   abbrev here : Wires
   here = wiresFrom (t .names) (t .wires) (p .«wires_from») (p .wires - p .«wires_from»)
 

@@ -21,11 +21,11 @@ use Rattle.netlist.specs.Statements.{constantAt, optionalAt, signalAt, memoryAt
 use Rattle.modules.specs.CodeLaws.{narrow}
 use Rattle.modules.specs.DecodeLaws.{decodes}
 use Rattle.replay.specs.Parts.{span}
-use Rattle.replay.specs.Reads.{Tables, constantOf, optionalOf, memoryOf, statementBy, statementOf, Reads}
+use Rattle.replay.specs.Reads.{PartTables, constantOf, optionalOf, memoryOf, statementBy, statementOf, Reads}
 use Rattle.replay.proofs.CodeLaws.{constant-read}
 
 -- where a row's columns are those of a statement, its parts are where the row says
-module _ (t : Tables) (u : Used) (r : Row) where
+module _ (t : PartTables) (u : Used) (r : Row) where
   constant-placed : (c : Constant) → constantColumns u c ≡ r .c ∷ r .d ∷ r .e ∷ [] → constantAt (t .strings) (t .bits) (words r) 0 3 ≡ constantOf (t .strings) (t .bits) u (r .c) (r .d) (r .e)
   unfolding constantAt constantOf constantColumns column wordAt words spanAt span
   constant-placed (value ds) e = rw (sym (same-at 0 e), sym (same-at 1 e))
@@ -56,7 +56,7 @@ module _ (t : Tables) (u : Used) (r : Row) where
   placed (proc-stmt n) e p = absurd (false≢true (sym p))
   placed end-stmt e p = rw (same-at 0 e)
 
-pub read-only : (t : Tables) (u : Used) (ws : Wires) → narrow ws ≡ true → (r : Row) (s : Statement) → Reads t u ws r s → is aProcess s ≡ false → statementOf t u r ≡ s
+pub read-only : (t : PartTables) (u : Used) (ws : Wires) → narrow ws ≡ true → (r : Row) (s : Statement) → Reads t u ws r s → is aProcess s ≡ false → statementOf t u r ≡ s
 unfolding column wordAt
 read-only t u ws wide r s d p =
     let e : statementAt (t .names) (t .strings) (t .bits) (t .wires) (words r) 0 ≡ some s =

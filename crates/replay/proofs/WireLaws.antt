@@ -29,7 +29,7 @@ use Rattle.wires.specs.Rows.{wordAt, column, portOf, wireOf, wiresFrom}
 use Rattle.wires.specs.RowLaws.{length-wire-row, flags-few, flags-back, port-number-back}
 use Rattle.replay.specs.Parts.{span, nameStands, signalStands}
 use Rattle.netlist.specs.Spans.{Has, row-has, has-row, has-long}
-use Rattle.replay.specs.Reads.{tabled, Decides, Tells, TellsWire, TellsCellConnection, TellsConnection, WireRowStands}
+use Rattle.replay.specs.Reads.{partTables, Decides, Tells, TellsWire, TellsCellConnection, TellsConnection, WireRowStands}
 use Rattle.replay.specs.declared.statements.Found.{Found}
 use Rattle.replay.proofs.Spans.{whole-long, has-none, has-span, spans}
 use Rattle.numbers.specs.KindLaws.{codes-back, length-signal}
@@ -69,7 +69,7 @@ module _ (names bits wires : List ℕ) (u : Used) (first : ℕ) (r : Row) where
   port-settled h k x ex f ef strings =
       let l : r .b ≡ length (span names (u .names) (r .b)) = name-long names (u .names) (r .b) h in
       let m : r .d ≡ length (signalOf (span bits (u .bits) (r .d))) = signal-bits here bits (u .bits) (r .d) k in
-      laid (tabled names strings bits wires) u here r x _ refl (rw (← l, ← m) ex) (rw append-nil (has-span names (u .names) (r .b))) (rw (append-nil, codes-back) (has-span bits (u .bits) (r .d))) (has-none _ _)
+      laid (partTables names strings bits wires) u here r x _ refl (rw (← l, ← m) ex) (rw append-nil (has-span names (u .names) (r .b))) (rw (append-nil, codes-back) (has-span bits (u .bits) (r .d))) (has-none _ _)
       (rw (name-legal names (u .names) (r .b) h, signal-good here bits (u .bits) (r .d) k)) (omega arith) (omega arith) f ef
 
 -- ---- a connection of a module
@@ -100,7 +100,7 @@ module _ (bits wires : List ℕ) (u : Used) (first : ℕ) (r : Row) where
   connection-settled h k e x ex f ef names strings =
       let l : r .b ≡ length (signalOf (span bits (u .bits) (r .b))) = signal-bits (inside names) bits (u .bits) (r .b) (h names) in
       let m : r .d ≡ length (signalOf (span bits (u .bits + r .b) (r .d))) = signal-bits (inside names) bits (u .bits + r .b) (r .d) (k names) in
-      laid (tabled names strings bits wires) u (inside names) r x _ refl (rw (← l, ← m) ex) (has-none _ _) (rw (append-nil, codes-back, codes-back, spans) (has-span bits (u .bits) (r .b + r .d))) (has-none _ _)
+      laid (partTables names strings bits wires) u (inside names) r x _ refl (rw (← l, ← m) ex) (has-none _ _) (rw (append-nil, codes-back, codes-back, spans) (has-span bits (u .bits) (r .b + r .d))) (has-none _ _)
       (rw (signal-good (inside names) bits (u .bits) (r .b) (h names), signal-good (inside names) bits (u .bits + r .b) (r .d) (k names), ← l, ← m, eq-eqb (r .b) (r .d) e)) (omega arith) refl f ef
 
 -- ---- a wire
@@ -136,7 +136,7 @@ module _ (names wires : List ℕ) (u : Used) (first : ℕ) (r : Row) where
   wire-settled h b q e k x ex f ef strings bits =
       let l : r .b ≡ length named = name-long names (u .names) (r .b) h in
       let w = rw e at (q named (sym l)) in
-      laid (tabled names strings bits wires) u before r x _ refl (rw (← l) ex) (rw append-nil (has-span names (u .names) (r .b))) (has-none _ _) (rw append-nil w)
+      laid (partTables names strings bits wires) u before r x _ refl (rw (← l) ex) (rw append-nil (has-span names (u .names) (r .b))) (has-none _ _) (rw append-nil w)
       (rw (name-legal names (u .names) (r .b) h, and-true-left (ownWire (wireOf wires (u .wires))) _ k, and-true-right (ownWire (wireOf wires (u .wires))) _ k)) refl (omega arith) f ef
 
 -- ---- the row of a wire in the table of wires

@@ -15,11 +15,11 @@ use Rattle.context.specs.Sizes.{sumsOf}
 use Rattle.netlist.specs.Tables as netlist
 use Rattle.netlist.specs.Fronts.{Fronts}
 use Rattle.name_index.specs.Index.{keyAt, Indexed}
-use Rattle.replay.specs.Reads.{Tables}
+use Rattle.replay.specs.Reads.{PartTables}
 use Rattle.replay.specs.declared.Replayed.{Replayed}
 
 -- the tables of parts and the table of rows
-abbrev pub withRows : Tables → List ℕ → netlist.Tables
+abbrev pub withRows : PartTables → List ℕ → netlist.Tables
 withRows t rows = netlist.tabled (t .names) (t .strings) (t .bits) (t .wires) rows
 
 -- the kinds of statements are 1 to 12
@@ -27,18 +27,18 @@ unfoldable pub isStatement : ℕ → Bool
 isStatement k = within 1 12 k
 
 -- each table begins with what the rooms hold, and the row behind the last one is no statement's
-pub record Begins (R : Rooms) (t : Tables) (rows : List ℕ) : Type 0 where
+pub record Begins (R : Rooms) (t : PartTables) (rows : List ℕ) : Type 0 where
   pub fronts : Fronts R (withRows t rows)
   pub ends : isStatement (wordAt rows (8 * length (R .rows))) ≡ false
 
 -- these statements may stand one after another, the last one ends a file, and the tables hold them
-pub record Stored (t : Tables) (rows : List ℕ) (ss : Past) : Type 0 where
+pub record Stored (t : PartTables) (rows : List ℕ) (ss : Past) : Type 0 where
   pub admits : admitted ss ≡ true
   pub closed : closes ss ≡ true
   pub begins : Begins (roomsOf ss) t rows
 
 -- the answer, both ways: there are such statements, with this place and these sums behind them; or there are none. There are no others (OneLaws)
-unfoldable pub Replays : Tables → List ℕ → Replayed → Type 0
+unfoldable pub Replays : PartTables → List ℕ → Replayed → Type 0
 Replays t rows (Replayed.Holding p u) =
     (ss : Past) × Stored t rows ss × (placeOf ss ≡ p) × (sumsOf ss ≡ u)
 Replays t rows Replayed.Damaged = (ss : Past) → Stored t rows ss → ⊥

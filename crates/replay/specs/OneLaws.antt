@@ -1,4 +1,4 @@
--- Tables hold one list of statements only: it begins with all admitted statements that the tables begin with.
+-- PartTables hold one list of statements only: it begins with all admitted statements that the tables begin with.
 -- Assumes nothing.
 use Prim.Native.Nat.{ℕ, _+_, _*_}
 use mathlib.Core.Path.{_≡_, refl, sym, ap, _∙_, subst}
@@ -21,7 +21,7 @@ use Rattle.netlist.specs.LaidLaws.{length-rows}
 use Rattle.netlist.specs.Fronts.{Fronts}
 use Rattle.netlist.specs.FrontLaws.{fronts-before, fronts-behind, fronts-kind}
 use Rattle.modules.specs.DecodeLaws.{decodes-last}
-use Rattle.replay.specs.Reads.{Tables}
+use Rattle.replay.specs.Reads.{PartTables}
 use Rattle.replay.specs.Begins.{withRows, isStatement, Stored}
 
 statement-kind : (k : Kind) → isStatement (code k) ≡ true
@@ -40,11 +40,11 @@ statement-kind aProcess = refl
 statement-kind anEnd = refl
 
 -- a list is these statements, or goes on with one more that the tables begin with too
-abbrev pub GoesOn : Tables → List ℕ → (qs ss : Past) → Type 0
+abbrev pub GoesOn : PartTables → List ℕ → (qs ss : Past) → Type 0
 GoesOn t rows qs ss =
     (qs ≡ ss) ⊎ ((init : Past) × (x : Statement) × (qs ≡ init ++ x ∷ ss) × Fronts (roomsOf (x ∷ ss)) (withRows t rows) × (admitted (x ∷ ss) ≡ true))
 
-module _ {t : Tables} {rows : List ℕ} where
+module _ {t : PartTables} {rows : List ℕ} where
   -- behind the statements stands the row of the next
   pub next-kind : (x : Statement) (ss : Past) → Fronts (roomsOf (x ∷ ss)) (withRows t rows) → isStatement (wordAt rows (8 * length (roomsOf ss .rows))) ≡ true
   unfolding kindAt column

@@ -24,14 +24,14 @@ use Rattle.replay.specs.declared.statements.Found.{Found}
 use Rattle.replay.specs.declared.statements.Held.{Held}
 
 -- the tables of parts
-pub record Tables : Type 0 where
+pub record PartTables : Type 0 where
   pub names : List ℕ
   pub strings : List ℕ
   pub bits : List ℕ
   pub wires : List ℕ
 
-abbrev pub tabled : (names strings bits wires : List ℕ) → Tables
-tabled names strings bits wires = record { names = names; strings = strings; bits = bits; wires = wires }
+abbrev pub partTables : (names strings bits wires : List ℕ) → PartTables
+partTables names strings bits wires = record { names = names; strings = strings; bits = bits; wires = wires }
 
 -- whether something is so
 unfoldable pub Decides : Bool → Type 0 → Type 0
@@ -64,7 +64,7 @@ optionalOf strings bits u kind a b = cond (eqb kind 0) none (some (constantOf st
 unfoldable pub memoryOf : Row → Memory
 memoryOf r = record { width = r .c; size = r .d; offset = signedOf (r .e) }
 
-module _ (t : Tables) (u : Used) (r : Row) where
+module _ (t : PartTables) (u : Used) (r : Row) where
   -- its name, or the first of two; its constant
   abbrev pub firstName : Name
   firstName = span (t .names) (u .names) (r .b)
@@ -91,7 +91,7 @@ module _ (t : Tables) (u : Used) (r : Row) where
   statementOf = statementBy (r .kind)
 
 -- the row is the statement's, its parts stand behind what is used, and they keep the rules
-pub record Reads (t : Tables) (u : Used) (ws : Wires) (r : Row) (s : Statement) : Type 0 where
+pub record Reads (t : PartTables) (u : Used) (ws : Wires) (r : Row) (s : Statement) : Type 0 where
   pub parts : Parts (t .names) (t .strings) (t .bits) (t .wires) u s
   pub row : words r ≡ statementRow u s
   pub fine : fineParts ws s ≡ true
@@ -103,7 +103,7 @@ pub record Counts (s : Statement) (g v x n : ℕ) : Type 0 where
   pub names : n ≡ nameSize s
 
 -- how many bits and bytes it holds; or that it isn't there
-unfoldable pub Tells : Tables → Used → Wires → Row → Statement → Found → Type 0
+unfoldable pub Tells : PartTables → Used → Wires → Row → Statement → Found → Type 0
 Tells t u ws r s (Found.Statement g v x n) = Reads t u ws r s × Counts s g v x n
 Tells t u ws r s Found.Nothing = Reads t u ws r s → ⊥
 
@@ -111,7 +111,7 @@ Tells t u ws r s Found.Nothing = Reads t u ws r s → ⊥
 abbrev pub TellsNamed : (names : List ℕ) → Used → Row → (kind : ℕ) → Found → Type 0
 TellsNamed names u r kind f =
     (strings bits wires : List ℕ) (ws : Wires) (s : Statement) (k : Kind) → let n = span names (u .names) (r .b) in
-    contents s ≡ holds k (n ∷ []) [] [] [] [] [] [] → statementRow u s ≡ row (kind ∷ u .names ∷ length n ∷ []) → Tells (tabled names strings bits wires) u ws r s f
+    contents s ≡ holds k (n ∷ []) [] [] [] [] [] [] → statementRow u s ≡ row (kind ∷ u .names ∷ length n ∷ []) → Tells (partTables names strings bits wires) u ws r s f
 
 abbrev pub TellsValued : (names strings bits : List ℕ) → Used → Row → (kind sort : ℕ) → Found → Type 0
 TellsValued names strings bits u r kind sort f =
@@ -119,49 +119,49 @@ TellsValued names strings bits u r kind sort f =
     let n = span names (u .names) (r .b) in
     let c = constantOf strings bits u (r .c) (r .d) (r .e) in
     contents s ≡ holds k (n ∷ []) (c ∷ []) [] [] [] [] os → statementRow u s ≡ row (kind ∷ u .names ∷ length n ∷ constantColumns u c ++ sort ∷ []) →
-    Tells (tabled names strings bits wires) u ws r s f
+    Tells (partTables names strings bits wires) u ws r s f
 
 -- for any other tables, the statement of this kind
 abbrev pub TellsAutoidx : Used → Row → Found → Type 0
-TellsAutoidx u r f = (t : Tables) (ws : Wires) → Tells t u ws r (autoidx-stmt (signedOf (r .a))) f
+TellsAutoidx u r f = (t : PartTables) (ws : Wires) → Tells t u ws r (autoidx-stmt (signedOf (r .a))) f
 
 abbrev pub TellsEnd : Used → Row → Found → Type 0
-TellsEnd u r f = (t : Tables) (ws : Wires) → Tells t u ws r end-stmt f
+TellsEnd u r f = (t : PartTables) (ws : Wires) → Tells t u ws r end-stmt f
 
 abbrev pub TellsMemory : (names : List ℕ) → Used → Row → Found → Type 0
 TellsMemory names u r f =
-    (strings bits wires : List ℕ) (ws : Wires) → Tells (tabled names strings bits wires) u ws r (memory-stmt (memoryOf r) (span names (u .names) (r .b))) f
+    (strings bits wires : List ℕ) (ws : Wires) → Tells (partTables names strings bits wires) u ws r (memory-stmt (memoryOf r) (span names (u .names) (r .b))) f
 
 abbrev pub TellsCell : (names : List ℕ) → Used → Row → Found → Type 0
 TellsCell names u r f =
     (strings bits wires : List ℕ) (ws : Wires) →
-    Tells (tabled names strings bits wires) u ws r (cell-stmt (span names (u .names) (r .b)) (span names (u .names + r .b) (r .d))) f
+    Tells (partTables names strings bits wires) u ws r (cell-stmt (span names (u .names) (r .b)) (span names (u .names + r .b) (r .d))) f
 
 abbrev pub TellsParameter : (names strings bits : List ℕ) → Used → Row → Found → Type 0
 TellsParameter names strings bits u r f =
     (wires : List ℕ) (ws : Wires) →
-    Tells (tabled names strings bits wires) u ws r (param-stmt (span names (u .names) (r .b)) (optionalOf strings bits u (r .c) (r .d) (r .e))) f
+    Tells (partTables names strings bits wires) u ws r (param-stmt (span names (u .names) (r .b)) (optionalOf strings bits u (r .c) (r .d) (r .e))) f
 
 abbrev pub TellsCellParameter : (names strings bits : List ℕ) → Used → Row → Found → Type 0
 TellsCellParameter names strings bits u r f =
     (wires : List ℕ) (ws : Wires) →
-    Tells (tabled names strings bits wires) u ws r (cell-param-stmt (sortOf (r .f)) (span names (u .names) (r .b)) (constantOf strings bits u (r .c) (r .d) (r .e))) f
+    Tells (partTables names strings bits wires) u ws r (cell-param-stmt (sortOf (r .f)) (span names (u .names) (r .b)) (constantOf strings bits u (r .c) (r .d) (r .e))) f
 
 abbrev pub TellsWire : (names wires : List ℕ) → Used → ℕ → Row → Found → Type 0
 TellsWire names wires u first r f =
     (strings bits : List ℕ) →
-    Tells (tabled names strings bits wires) u (wiresFrom names wires first (u .wires - first)) r (wire-stmt (wireOf wires (u .wires)) (span names (u .names) (r .b))) f
+    Tells (partTables names strings bits wires) u (wiresFrom names wires first (u .wires - first)) r (wire-stmt (wireOf wires (u .wires)) (span names (u .names) (r .b))) f
 
 abbrev pub TellsCellConnection : (names bits wires : List ℕ) → Used → ℕ → Row → Found → Type 0
 TellsCellConnection names bits wires u first r f =
     (strings : List ℕ) →
-    Tells (tabled names strings bits wires) u (wiresFrom names wires first (u .wires - first)) r
+    Tells (partTables names strings bits wires) u (wiresFrom names wires first (u .wires - first)) r
     (cell-conn-stmt (span names (u .names) (r .b)) (signalOf (span bits (u .bits) (r .d)))) f
 
 abbrev pub TellsConnection : (bits wires : List ℕ) → Used → ℕ → Row → Found → Type 0
 TellsConnection bits wires u first r f =
     (names strings : List ℕ) →
-    Tells (tabled names strings bits wires) u (wiresFrom names wires first (u .wires - first)) r
+    Tells (partTables names strings bits wires) u (wiresFrom names wires first (u .wires - first)) r
     (conn-stmt (signalOf (span bits (u .bits) (r .b))) (signalOf (span bits (u .bits + r .b) (r .d)))) f
 
 -- the row of the wire behind those that stand: it is the row of the wire that it holds, with a name of this length

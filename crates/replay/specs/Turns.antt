@@ -17,7 +17,7 @@ use Rattle.context.specs.Sizes.{sumsOf, Within}
 use Rattle.context.specs.declared.place.Place.{Place}
 use Rattle.context.specs.declared.sizes.Sizes.{Sizes}
 use Rattle.netlist.specs.Spans.{Has}
-use Rattle.replay.specs.Reads.{Tables, Counts}
+use Rattle.replay.specs.Reads.{PartTables, Counts}
 use Rattle.netlist.specs.Fronts.{Fronts}
 use Rattle.replay.specs.Begins.{withRows}
 use Rattle.replay.specs.declared.turns.Turn.{Turn}
@@ -33,14 +33,14 @@ pub record Ready (p : Place) (u : Sizes) : Type 0 where
   pub within : Within u
 
 -- the tables begin with these statements, behind which stand this place and these sums
-pub record Reached (t : Tables) (rows : List ℕ) (ss : Past) (p : Place) (u : Sizes) : Type 0 where
+pub record Reached (t : PartTables) (rows : List ℕ) (ss : Past) (p : Place) (u : Sizes) : Type 0 where
   pub admits : admitted ss ≡ true
   pub fronts : Fronts (roomsOf ss) (withRows t rows)
   pub place : placeOf ss ≡ p
   pub sums : sumsOf ss ≡ u
 
 -- one statement more: the place and the sums behind it; or none can stand there
-unfoldable pub TurnIs : Tables → List ℕ → Place → Sizes → Turn → Type 0
+unfoldable pub TurnIs : PartTables → List ℕ → Place → Sizes → Turn → Type 0
 TurnIs t rows p u (Turn.Next q v) =
     (ss : Past) → Reached t rows ss p u → (s : Statement) × Reached t rows (s ∷ ss) q v
 TurnIs t rows p u Turn.Nothing =
@@ -53,13 +53,13 @@ pub record Told (k g v x n : ℕ) : Type 0 where
   pub counts : Counts statement g v x n
 
 -- a statement whose row and names stand there: whether its name is new and no size is exceeded
-pub record Rowed (t : Tables) (rows : List ℕ) (ss : Past) (s : Statement) (k g v x n : ℕ) : Type 0 where
+pub record Rowed (t : PartTables) (rows : List ℕ) (ss : Past) (s : Statement) (k g v x n : ℕ) : Type 0 where
   pub row : RowIs rows (length ss) (statementRow (used (roomsOf ss)) s)
   pub names : Has (t .names) (used (roomsOf ss) .names) (nameBytes s)
   pub kind : k ≡ code (contents s .kind)
   pub counts : Counts s g v x n
 
-unfoldable pub CountsAs : Tables → List ℕ → Place → Sizes → (k g v x n : ℕ) → Turn → Type 0
+unfoldable pub CountsAs : PartTables → List ℕ → Place → Sizes → (k g v x n : ℕ) → Turn → Type 0
 CountsAs t rows p u k g v x n (Turn.Next q w) =
     (ss : Past) (s : Statement) → Reached t rows ss p u → Rowed t rows ss s k g v x n →
     (takesName ss s ≡ false) × (exceedsSize (s ∷ ss) ≡ false) × (placeOf (s ∷ ss) ≡ q) × (sumsOf (s ∷ ss) ≡ w)

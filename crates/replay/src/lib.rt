@@ -21,7 +21,7 @@ ghost use mathlib.Core.Path.{_≡_};
 ghost use Prim.Native.Nat.{_≤_};
 ghost use lib.ListN.{length};
 ghost use Rattle.name_index.specs.Index.{keyAt, rowRoom, Indexed};
-ghost use Rattle.replay.specs.Reads.{tabled};
+ghost use Rattle.replay.specs.Reads.{partTables};
 ghost use Rattle.replay.specs.Begins.{isStatement, Replays, IndexLeft};
 
 // The place and the sums behind the statements that the tables hold.
@@ -51,7 +51,7 @@ pub fn replay(
 ) -> Replayed
     requires { ⌜ Indexed (now heads) (now chain) (keyAt (now names) (now rows)) 0 ⌝ }
     requires { ⌜ rowRoom ≤ length (now chain) ⌝ }
-    ensures { λ r. ⌜ Replays (tabled (now (names .entry)) (now (strings .entry)) (now (bits .entry)) (now (wires .entry))) (now (rows .entry)) r ⌝ }
+    ensures { λ r. ⌜ Replays (partTables (now (names .entry)) (now (strings .entry)) (now (bits .entry)) (now (wires .entry))) (now (rows .entry)) r ⌝ }
     ensures { λ r. ⌜ IndexLeft (now (heads .exit)) (now (chain .exit)) (now (names .entry)) (now (rows .entry)) r ⌝ }
 {
     let mut place = start();

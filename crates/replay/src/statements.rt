@@ -33,7 +33,7 @@ ghost use Rattle.rules.specs.Bytes.{same};
 ghost use Rattle.tables.specs.Row.{words};
 ghost use Rattle.wires.specs.Rows.{wiresFrom};
 ghost use Rattle.netlist.specs.Used.{usedOf};
-ghost use Rattle.replay.specs.Reads.{tabled, constantOf, statementOf, TellsConstant, Tells, TellsNamed, TellsValued, TellsAutoidx, TellsEnd, TellsMemory, TellsCell, TellsParameter, TellsCellParameter, TellsWire, TellsCellConnection, TellsConnection, WireRowStands, Small};
+ghost use Rattle.replay.specs.Reads.{partTables, constantOf, statementOf, TellsConstant, Tells, TellsNamed, TellsValued, TellsAutoidx, TellsEnd, TellsMemory, TellsCell, TellsParameter, TellsCellParameter, TellsWire, TellsCellConnection, TellsConnection, WireRowStands, Small};
 
 // The highest size of a memory.
 const MOST_MEMORY_SIZE: u32 = 2147483647;
@@ -453,7 +453,7 @@ pub fn statement_at(
 ) -> Found
     requires { ⌜ Small (usedOf u) ⌝ }
     requires { ⌜ first ≤ u .wires ⌝ }
-    ensures { λ f. ⌜ Tells (tabled (now (names .entry)) (now (strings .entry)) (now (bits .entry)) (now (wires .entry))) (usedOf u) (wiresFrom (now (names .entry)) (now (wires .entry)) first (u .wires - first)) r (statementOf (tabled (now (names .entry)) (now (strings .entry)) (now (bits .entry)) (now (wires .entry))) (usedOf u) r) f ⌝ }
+    ensures { λ f. ⌜ Tells (partTables (now (names .entry)) (now (strings .entry)) (now (bits .entry)) (now (wires .entry))) (usedOf u) (wiresFrom (now (names .entry)) (now (wires .entry)) first (u .wires - first)) r (statementOf (partTables (now (names .entry)) (now (strings .entry)) (now (bits .entry)) (now (wires .entry))) (usedOf u) r) f ⌝ }
 {
     let kind = r.kind;
     match kind {

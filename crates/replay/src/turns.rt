@@ -34,7 +34,7 @@ ghost use Rattle.rules.specs.Shapes.{top, inModule};
 ghost use Rattle.admitted.specs.Admitted.{kinds};
 ghost use Rattle.netlist.specs.Kinds.{ofKinds};
 ghost use Rattle.name_index.specs.Index.{keyAt, Indexed};
-ghost use Rattle.replay.specs.Reads.{tabled};
+ghost use Rattle.replay.specs.Reads.{partTables};
 ghost use Rattle.replay.specs.Turns.{standsAt, Ready, Told, TurnIs, Counted, smallParts};
 ghost use Rattle.replay.specs.Objects.{objectKinds};
 
@@ -190,7 +190,7 @@ pub fn one_more(
 ) -> Turn
     requires { ⌜ Ready p u ⌝ }
     requires { ⌜ Indexed (now heads) (now chain) (keyAt (now names) (now rows)) (p .rows) ⌝ }
-    ensures { λ r. ⌜ TurnIs (tabled (now (names .entry)) (now (strings .entry)) (now (bits .entry)) (now (wires .entry))) (now (rows .entry)) p u r ⌝ }
+    ensures { λ r. ⌜ TurnIs (partTables (now (names .entry)) (now (strings .entry)) (now (bits .entry)) (now (wires .entry))) (now (rows .entry)) p u r ⌝ }
 {
     let at = ROW_WORDS * (p.rows as usize);
     if rows.len() < at + ROW_WORDS {

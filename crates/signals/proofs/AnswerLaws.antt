@@ -12,7 +12,7 @@ use Rattle.rules.specs.Statements.{Sig, constant, wire}
 use Rattle.rules.specs.Signals.{Wires}
 use Rattle.rules.specs.Shapes.{one, isAtom, atom, signal}
 use Rattle.tokens.specs.Rows.{front, literalIn, tokenAt, line, Present}
-use Rattle.tokens.specs.declared.Constant.{Constant}
+use Rattle.tokens.specs.declared.ConstantSpan.{ConstantSpan}
 use Rattle.tokens.specs.declared.Token.{Token}
 use Rattle.tokens.specs.declared.Token.the-variants.{Name, Constant as Constantly}
 use Rattle.tokens.proofs.TokenLaws.{line-read, below}
@@ -48,7 +48,7 @@ module _ (f t : List ℕ) (ws : Wires) (i o : ℕ) (out out′ : List ℕ) (r : 
   unfolding atom one isAtom front
   atom-name a b n e q P = atom-put f t ws i o out (Name a b) e (wire n) out′ r tt (ap (λ (y : List ℕ). some (wire y, line f t (i + 1))) (sym q)) P
 
-  pub atom-constant : (c : Constant) → Constantly c ≡ tokenAt t i → Put ws (constant (literalIn f c)) o out out′ r → AtomIs f t ws i o out out′ (Read (i + 1) r)
+  pub atom-constant : (c : ConstantSpan) → Constantly c ≡ tokenAt t i → Put ws (constant (literalIn f c)) o out out′ r → AtomIs f t ws i o out out′ (Read (i + 1) r)
   unfolding atom one isAtom front
   atom-constant c e P = atom-put f t ws i o out (Constantly c) e (constant (literalIn f c)) out′ r tt refl P
 

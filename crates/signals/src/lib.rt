@@ -8,7 +8,7 @@ use netlist::results::NOT_THERE;
 use netlist::results::TOO_MANY;
 use numbers::kinds::SignalBit;
 use numbers::kinds::WireNumber;
-use tokens::Constant;
+use tokens::ConstantSpan;
 use tokens::Integer;
 use tokens::Slot;
 use tokens::Token;
@@ -46,7 +46,7 @@ const BUNDLE_OPENS: usize = 123;
 const BUNDLE_CLOSES: usize = 125;
 
 // The wires of a module: their first row, and how many there are.
-pub struct Scope {
+pub struct ModuleWires {
     pub first: u32,
     pub count: u32,
 }
@@ -109,7 +109,7 @@ fn put_wire(scratch: &mut [u32], o: usize, number: u32, width: usize)
 fn wire_bits(
     names: &[u8],
     wires: &[u32],
-    scope: Scope,
+    scope: ModuleWires,
     name: &[u8],
     scratch: &mut [u32],
     o: usize,
@@ -233,7 +233,7 @@ fn cut(bits: Bits, high: u32, low: u32, scratch: &mut [u32], o: usize) -> Bits
     }
 }
 
-fn literal_bits(f: &[u8], c: Constant, scratch: &mut [u32], o: usize) -> Bits
+fn literal_bits(f: &[u8], c: ConstantSpan, scratch: &mut [u32], o: usize) -> Bits
     requires { ⌜ (length (now f) ≤ 32768) × (o + 2048 ≤ length (now scratch)) × Whole (now f) c ⌝ }
     ensures { λ r. ⌜ PutAny (rules.constant (literalIn (now (f .entry)) c)) o (now (scratch .entry)) (now (scratch .exit)) r ⌝ }
 {
@@ -261,7 +261,7 @@ fn atom(
     i: usize,
     names: &[u8],
     wires: &[u32],
-    scope: Scope,
+    scope: ModuleWires,
     scratch: &mut [u32],
     o: usize,
     heads: &[u32],
@@ -348,7 +348,7 @@ pub fn signal(
     depth: usize,
     names: &[u8],
     wires: &[u32],
-    scope: Scope,
+    scope: ModuleWires,
     scratch: &mut [u32],
     o: usize,
     heads: &[u32],
@@ -396,7 +396,7 @@ fn bundle(
     depth: usize,
     names: &[u8],
     wires: &[u32],
-    scope: Scope,
+    scope: ModuleWires,
     scratch: &mut [u32],
     o: usize,
     heads: &[u32],

@@ -19,7 +19,7 @@ use Rattle.signals.specs.Faults.{faults, fault, merge, mild}
 use Rattle.signals.specs.Held.{Held}
 use Rattle.signals.specs.declared.Bits.{Bits}
 use Rattle.signals.proofs.FaultLaws.{faults-none, faults-append, merge-none, merge-zero, mild-merge, late-merge}
-use Rattle.syntax.specs.Statements.{numberOf, lateOf, early, late, statementIn, kindIn, namesIn, Judged, Says, judged, faulted}
+use Rattle.syntax.specs.Statements.{numberOf, faultOf, early, widthFault, statementIn, kindIn, namesIn, Judged, Says, judged, faulted}
 use Rattle.syntax.specs.declared.Statement.{Statement}
 use Rattle.syntax.specs.declared.Statement.the-variants as statement
 use Rattle.syntax.proofs.ShapeLaws.{refused}
@@ -57,8 +57,8 @@ module _ (ws : Wires) (sh : Shape) (p : is aProcess sh ≡ false) (q : breaksNum
   unfolding early lacksWire faults
   early-faults = rw (p, q) (early-first _ _ _ _)
 
-  late-faults : earlyOf (faults ws (allParts sh)) ≡ none → late ws sh ≡ merge (cond (equalWidths ws (contents sh .signals)) 0 10) (faults ws (allParts sh))
-  unfolding late breaksWidth partTooWide faults
+  late-faults : earlyOf (faults ws (allParts sh)) ≡ none → widthFault ws sh ≡ merge (cond (equalWidths ws (contents sh .signals)) 0 10) (faults ws (allParts sh))
+  unfolding widthFault breaksWidth partTooWide faults
   late-faults h =
       let ps = allParts sh in
       late-first (not (all goodNumbers ps)) (not (all (declaredWire ws) ps)) (all (goodSlice ws) ps) (not (all (λ x. leb (width ws x) 2048) ps))
@@ -101,7 +101,7 @@ module _ (ws : Wires) (f s : List ℕ) (n : Span) (a : Sig) (b : Bits) (H : Held
   cell-early = early-faults ws cellShape refl cell-numbers ∙ ap earlyOf cell-fault
 
   pub cell-connected : Says ws f s (some cellShape) (faulted (b .fault) (statement.CellConnection n (b .width) (b .fault)))
-  unfolding statementsOpen equalWidths merge numberOf lateOf statementIn kindIn namesIn meaning
+  unfolding statementsOpen equalWidths merge numberOf faultOf statementIn kindIn namesIn meaning
   cell-connected =
       by-fault ws f s cellShape (b .fault) (statement.CellConnection n (b .width) (b .fault)) cell-early
       (λ h.
@@ -112,7 +112,7 @@ module _ (ws : Wires) (f s : List ℕ) (n : Span) (a : Sig) (b : Bits) (H : Held
         kind = λ _. refl;
         names = λ _. refl;
         sound = H .small;
-        late = λ _. late-faults ws cellShape refl cell-numbers (ap earlyOf cell-fault ∙ h) ∙ cell-fault;
+        widthFault = λ _. late-faults ws cellShape refl cell-numbers (ap earlyOf cell-fault ∙ h) ∙ cell-fault;
         means = λ _ z. rw (signal-back ws a 0 s b H z);
       })
 
@@ -152,7 +152,7 @@ module _ (ws : Wires) (f s : List ℕ) (a b : Sig) (l r : Bits) (A : Held ws a 0
   pub both-connected :
       (u : ℕ) → u ≡ cond (eqb (l .width) (r .width)) 0 10 →
       Says ws f s (some shape) (faulted (merge (l .fault) (r .fault)) (statement.Connection (l .width) (r .width) (merge u (merge (l .fault) (r .fault)))))
-  unfolding statementsOpen equalWidths numberOf lateOf statementIn kindIn namesIn meaning
+  unfolding statementsOpen equalWidths numberOf faultOf statementIn kindIn namesIn meaning
   both-connected u e =
       by-fault ws f s shape (merge (l .fault) (r .fault)) _ both-early
       (λ h.
@@ -163,7 +163,7 @@ module _ (ws : Wires) (f s : List ℕ) (a b : Sig) (l r : Bits) (A : Held ws a 0
         kind = λ _. refl;
         names = λ _. refl;
         sound = λ z. let m = unfaulted u z in (A .small (m .0), B .small (m .1));
-        late = λ _.
+        widthFault = λ _.
             late-faults ws shape refl numbers (ap earlyOf both-fault ∙ h)
             ∙ ap (merge _) both-fault
             ∙ uneven (eqb (width ws a) (width ws b)) (eqb (l .width) (r .width)) _ widths

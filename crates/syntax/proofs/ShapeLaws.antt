@@ -13,17 +13,17 @@ use Rattle.rules.specs.Judgement.{breaksNumber, lowest, meaning, allParts, lack
 use Rattle.line_forms.specs.Forms.{formOf, valueIn, InRows, FormFrom}
 use Rattle.line_forms.specs.declared.Form.{Form}
 use Rattle.line_forms.specs.declared.Form.the-variants as form
-use Rattle.tokens.specs.declared.Constant.{Constant}
-use Rattle.tokens.specs.declared.Literal.the-variants as literal
+use Rattle.tokens.specs.declared.ConstantSpan.{ConstantSpan}
+use Rattle.tokens.specs.declared.ConstantSlot.the-variants as literal
 use Rattle.literals.specs.Codes.{Whole}
 use Rattle.signals.specs.Reads.{Closed}
-use Rattle.syntax.specs.Statements.{numberOf, lateOf, early, late, statementIn, kindIn, namesIn, Sound, WholeForm, Judged}
+use Rattle.syntax.specs.Statements.{numberOf, faultOf, early, widthFault, statementIn, kindIn, namesIn, Sound, WholeForm, Judged}
 use Rattle.syntax.specs.declared.Statement.{Statement}
 use Rattle.syntax.specs.declared.Statement.the-variants.{BadNumber}
 
 -- what the judgement of a line without signals computes
 unfoldable pub plainOpen : Unit {0}
-unfolding formOf valueIn numberOf early lateOf statementIn kindIn namesIn statementsOpen judgementOpen all
+unfolding formOf valueIn numberOf early faultOf statementIn kindIn namesIn statementsOpen judgementOpen all
 plainOpen = tt
 
 module _ (ws : Wires) (f s : List ℕ) {sh : Shape} where
@@ -37,7 +37,7 @@ module _ (ws : Wires) (f s : List ℕ) {sh : Shape} where
         kind = λ g. let z : _≡_ {A = ℕ} 0 1 = cc in absurd (omega arith);
         names = λ g. let z : _≡_ {A = ℕ} 0 1 = cc in absurd (omega arith);
         sound = q;
-        late = λ g. let z : _≡_ {A = ℕ} 0 1 = cc in absurd (omega arith);
+        widthFault = λ g. let z : _≡_ {A = ℕ} 0 1 = cc in absurd (omega arith);
         means = λ g l. let z : _≡_ {A = ℕ} 0 1 = cc in absurd (omega arith);
       }
 
@@ -47,10 +47,10 @@ module _ (ws : Wires) (f s : List ℕ) {sh : Shape} where
 
   -- without signals no wire is missing and no width is wrong
   pub stated :
-      (r : Statement) → numberOf r ≡ none → lateOf r ≡ 0 → contents sh .signals ≡ [] → is aProcess sh ≡ false → breaksNumber ws sh ≡ false →
+      (r : Statement) → numberOf r ≡ none → faultOf r ≡ 0 → contents sh .signals ≡ [] → is aProcess sh ≡ false → breaksNumber ws sh ≡ false →
       contents sh .kind ≡ kindIn r → contents sh .names ≡ namesIn f r → Sound f r → statementIn f s r ≡ some (meaning ws sh) →
       Judged ws f s (some sh) r
-  unfolding early late lowest lacksWire breaksWidth partTooWide equalWidths allParts judgementOpen all
+  unfolding early widthFault lowest lacksWire breaksWidth partTooWide equalWidths allParts judgementOpen all
   stated r g l e p h k n q m =
       record {
         sh = sh;
@@ -59,13 +59,13 @@ module _ (ws : Wires) (f s : List ℕ) {sh : Shape} where
         kind = λ _. k;
         names = λ _. n;
         sound = q;
-        late = λ _. rw (e, l);
+        widthFault = λ _. rw (e, l);
         means = λ _ _. m;
       }
 
 -- a constant of rows whose strings have their ends, and a form of such rows
 module _ (f t : List ℕ) (C : Closed f t) where
-  in-rows : (c : Constant) → InRows t c → Whole f c
+  in-rows : (c : ConstantSpan) → InRows t c → Whole f c
   in-rows c (i, e) = rw e at (C .whole i)
 
   pub form-whole : (x : Form) → FormFrom t x → WholeForm f x

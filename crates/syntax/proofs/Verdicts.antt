@@ -12,7 +12,7 @@ use Rattle.rules.specs.Statements.{Shape}
 use Rattle.rules.specs.Signals.{Wires}
 use Rattle.rules.specs.Judgement.{Past, wires, Verdict, verdict, lowest, meaning, takesName, exceedsSize, judgeIn, judge}
 use Rattle.rules.specs.Reading.{shaped}
-use Rattle.syntax.specs.Statements.{numberOf, lateOf, early, late, Sound, Judged, Says, no-shape, judged}
+use Rattle.syntax.specs.Statements.{numberOf, faultOf, early, widthFault, Sound, Judged, Says, no-shape, judged}
 use Rattle.syntax.specs.declared.Statement.{Statement}
 
 -- three tests, and those behind them
@@ -54,9 +54,9 @@ module _ (ss : Past) (f s : List ℕ) {o : Option Shape} {r : Statement} (J : Ju
 
   -- or judged by its name, by what its signals leave, and by the sizes
   pub judged-late :
-      numberOf r ≡ none → shaped ss o ≡ verdict (meaning (wires ss) (J .sh)) (behind ss (J .sh) (meaning (wires ss) (J .sh)) (lateOf r))
-  unfolding shaped judge judgeIn early three late behind
-  judged-late e = rw (J .is, tests-late _ _ _ _ (J .early ∙ e), ← J .late e, tests-behind)
+      numberOf r ≡ none → shaped ss o ≡ verdict (meaning (wires ss) (J .sh)) (behind ss (J .sh) (meaning (wires ss) (J .sh)) (faultOf r))
+  unfolding shaped judge judgeIn early three widthFault behind
+  judged-late e = rw (J .is, tests-late _ _ _ _ (J .early ∙ e), ← J .widthFault e, tests-behind)
 
 -- an answer without a number is judged, and any answer is sound
 module _ (ws : Wires) (f s : List ℕ) (o : Option Shape) where

@@ -19,8 +19,8 @@ use Rattle.numbers.specs.Kinds.{signalOf, sortOf}
 use Rattle.context.specs.Place.{contextOf}
 use Rattle.context.specs.declared.place.Place.{Place}
 use Rattle.tokens.specs.Rows.{literalIn, line}
-use Rattle.tokens.specs.declared.Constant.{Constant}
-use Rattle.tokens.specs.declared.Literal.{Literal}
+use Rattle.tokens.specs.declared.ConstantSpan.{ConstantSpan}
+use Rattle.tokens.specs.declared.ConstantSlot.{ConstantSlot}
 use Rattle.literals.specs.Codes.{Whole}
 use Rattle.wires.specs.Rows.{wireOf, wiresFrom}
 use Rattle.line_forms.specs.Forms.{nameIn, valueIn, formOf, kindOf, ValueHolds, FormHolds}
@@ -51,29 +51,29 @@ numberOf BadNumber = some 7
 numberOf MissingWire = some 8
 
 -- the number that comes behind a taken name: of the statements with signals
-unfoldable pub lateOf : Statement → ℕ
-lateOf (Autoidx w) = 0
-lateOf (Attribute n c) = 0
-lateOf (Module n) = 0
-lateOf (Parameter n c) = 0
-lateOf (WireOf n w t k p) = 0
-lateOf (MemoryOf n w z t) = 0
-lateOf (Cell k n) = 0
-lateOf (CellParameter s n c) = 0
-lateOf (CellConnection n w l) = l
-lateOf (Connection a b l) = l
-lateOf End = 0
-lateOf NoShape = 0
-lateOf Process = 0
-lateOf BadNumber = 0
-lateOf MissingWire = 0
+unfoldable pub faultOf : Statement → ℕ
+faultOf (Autoidx w) = 0
+faultOf (Attribute n c) = 0
+faultOf (Module n) = 0
+faultOf (Parameter n c) = 0
+faultOf (WireOf n w t k p) = 0
+faultOf (MemoryOf n w z t) = 0
+faultOf (Cell k n) = 0
+faultOf (CellParameter s n c) = 0
+faultOf (CellConnection n w l) = l
+faultOf (Connection a b l) = l
+faultOf End = 0
+faultOf NoShape = 0
+faultOf Process = 0
+faultOf BadNumber = 0
+faultOf MissingWire = 0
 
 -- of a shape: the number before a taken name, and the one behind it but for the sizes of the design
 unfoldable pub early : Wires → Shape → Option ℕ
 early ws sh = lowest ((6, is aProcess sh) ∷ (7, breaksNumber ws sh) ∷ (8, lacksWire ws sh) ∷ [])
 
-unfoldable pub late : Wires → Shape → ℕ
-late ws sh = Option·getD (lowest ((10, breaksWidth ws sh) ∷ (11, partTooWide ws sh) ∷ [])) 0
+unfoldable pub widthFault : Wires → Shape → ℕ
+widthFault ws sh = Option·getD (lowest ((10, breaksWidth ws sh) ∷ (11, partTooWide ws sh) ∷ [])) 0
 
 -- a wire by its columns, as in a row of the table of wires
 unfoldable pub wireFrom : (width offset flags port : ℕ) → Wire
@@ -140,11 +140,11 @@ namesIn f BadNumber = []
 namesIn f MissingWire = []
 
 -- What storing needs of an answer: a constant keeps the number rules and a string has its end; flags, sorts and widths are those that a row can hold
-pub record GoodConstant (f : List ℕ) (c : Constant) : Type 0 where
+pub record GoodConstant (f : List ℕ) (c : ConstantSpan) : Type 0 where
   pub good : goodLiteral (literalIn f c) ≡ true
   pub whole : Whole f c
 
-abbrev pub GoodOptional : List ℕ → Literal → Type 0
+abbrev pub GoodOptional : List ℕ → ConstantSlot → Type 0
 GoodOptional f c = ValueHolds (GoodConstant f) c
 
 abbrev pub Sound : List ℕ → Statement → Type 0
@@ -173,8 +173,8 @@ pub record Judged (ws : Wires) (f s : List ℕ) (o : Option Shape) (r : Statemen
   pub kind : numberOf r ≡ none → contents sh .kind ≡ kindIn r
   pub names : numberOf r ≡ none → contents sh .names ≡ namesIn f r
   pub sound : Sound f r
-  pub late : numberOf r ≡ none → late ws sh ≡ lateOf r
-  pub means : numberOf r ≡ none → lateOf r ≡ 0 → statementIn f s r ≡ some (meaning ws sh)
+  pub widthFault : numberOf r ≡ none → widthFault ws sh ≡ faultOf r
+  pub means : numberOf r ≡ none → faultOf r ≡ 0 → statementIn f s r ≡ some (meaning ws sh)
 
 -- an answer about a line: it has no shape, or it is judged
 pub data Says (ws : Wires) (f s : List ℕ) (o : Option Shape) : Statement → Type 0 where

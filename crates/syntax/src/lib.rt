@@ -25,12 +25,12 @@ use options::memory_line;
 use options::wire_line;
 use signals::Answer;
 use signals::Bits;
-use signals::Scope;
+use signals::ModuleWires;
 use signals::merge;
 use signals::signal;
-use tokens::Constant;
+use tokens::ConstantSlot;
+use tokens::ConstantSpan;
 use tokens::Id;
-use tokens::Literal;
 use tokens::id_at;
 use wires::port_taken;
 ghost use mathlib.Core.Path.{_≡_};
@@ -60,12 +60,12 @@ pub enum Statement {
     Autoidx(u32),
     Attribute {
         name: Span,
-        value: Constant,
+        value: ConstantSpan,
     },
     Module(Span),
     Parameter {
         name: Span,
-        value: Literal,
+        value: ConstantSlot,
     },
     Wire {
         name: Span,
@@ -87,17 +87,17 @@ pub enum Statement {
     CellParameter {
         sort: u32,
         name: Span,
-        value: Constant,
+        value: ConstantSpan,
     },
     CellConnection {
         name: Span,
         width: usize,
-        late: u32,
+        fault: u32,
     },
     Connection {
         left: usize,
         right: usize,
-        late: u32,
+        fault: u32,
     },
     End,
     NoShape,
@@ -106,10 +106,10 @@ pub enum Statement {
     MissingWire,
 }
 
-fn parameter_statement(f: &[u8], name: Span, value: Literal) -> Statement
+fn parameter_statement(f: &[u8], name: Span, value: ConstantSlot) -> Statement
     ensures { λ r. ⌜ FormIs (now (f .entry)) (form.Parameter name value) r ⌝ }
 {
-    let Literal::Read(c) = value else {
+    let ConstantSlot::Read(c) = value else {
         return Statement::Parameter { name, value };
     };
     if good_literal(f, c) {
@@ -231,19 +231,19 @@ fn refused(fault: u32, statement: Statement) -> Statement
 fn connected(left: Bits, right: Bits) -> Statement
     ensures { λ r. ⌜ ConnectedIs left right r ⌝ }
 {
-    let fault = merge(left.fault, right.fault);
+    let signals = merge(left.fault, right.fault);
     let uneven = if left.width == right.width {
         0
     } else {
         BAD_WIDTH
     };
-    let late = merge(uneven, fault);
+    let fault = merge(uneven, signals);
     refused(
-        fault,
+        signals,
         Statement::Connection {
             left: left.width,
             right: right.width,
-            late,
+            fault,
         },
     )
 }
@@ -254,7 +254,7 @@ fn connection_statement(
     tokens: &[u32],
     names: &[u8],
     wires: &[u32],
-    scope: Scope,
+    scope: ModuleWires,
     scratch: &mut [u32],
     heads: &[u32],
     chain: &[u32],
@@ -308,7 +308,7 @@ fn cell_connection_statement(
     tokens: &[u32],
     names: &[u8],
     wires: &[u32],
-    scope: Scope,
+    scope: ModuleWires,
     scratch: &mut [u32],
     heads: &[u32],
     chain: &[u32],
@@ -344,7 +344,7 @@ fn cell_connection_statement(
         Statement::CellConnection {
             name,
             width: bits.width,
-            late: bits.fault,
+            fault: bits.fault,
         },
     )
 }
@@ -355,7 +355,7 @@ fn module_statement(
     attributed: bool,
     names: &[u8],
     wires: &[u32],
-    scope: Scope,
+    scope: ModuleWires,
     scratch: &mut [u32],
     heads: &[u32],
     chain: &[u32],
@@ -386,7 +386,7 @@ fn cell_statement(
     tokens: &[u32],
     names: &[u8],
     wires: &[u32],
-    scope: Scope,
+    scope: ModuleWires,
     scratch: &mut [u32],
     heads: &[u32],
     chain: &[u32],
@@ -417,7 +417,7 @@ pub fn line_statement(
     place: Place,
     names: &[u8],
     wires: &[u32],
-    scope: Scope,
+    scope: ModuleWires,
     scratch: &mut [u32],
     heads: &[u32],
     chain: &[u32],

@@ -13,8 +13,8 @@ use borrow.Author.Tests.{ltb-true, ltb-false}
 use Rattle.rules.specs.Tokens as rules
 use Rattle.tables.specs.Store.{store, store-eq}
 use Rattle.tokens.specs.Rows.{front, tokenIn, tokenOf, rowOf, tokenAt, signWord, constantWords, rowWords, rowsFrom, line, Present}
-use Rattle.tokens.specs.declared.Constant.{Constant}
-use Rattle.tokens.specs.declared.Constant.the-variants as constant
+use Rattle.tokens.specs.declared.ConstantSpan.{ConstantSpan}
+use Rattle.tokens.specs.declared.ConstantSpan.the-variants as constant
 use Rattle.tokens.specs.declared.Token.{Token}
 use Rattle.tokens.specs.declared.Token.the-variants.{Name, Word, Constant as Constantly, Mark, End}
 use Rattle.lists.specs.Tests.{by-test, by-order}
@@ -33,7 +33,7 @@ front-append : (f : List ℕ) (x : Token) (ts us : List rules.Token) → Present
 front-append f x ts us h = front-token f x (ts ++ us) h ∙ ap (λ (l : List rules.Token). l ++ us) (sym (front-token f x ts h))
 
 -- every row holds a token
-row-present : (p q r s u : Bool) (a b : ℕ) (x y z : Constant) → Present (cond p (Name a b) (cond q (Word a) (cond r (Constantly x) (cond s (Constantly y) (cond u (Constantly z) (Mark a))))))
+row-present : (p q r s u : Bool) (a b : ℕ) (x y z : ConstantSpan) → Present (cond p (Name a b) (cond q (Word a) (cond r (Constantly x) (cond s (Constantly y) (cond u (Constantly z) (Mark a))))))
 row-present true q r s u a b x y z = tt
 row-present false true r s u a b x y z = tt
 row-present false false true s u a b x y z = tt

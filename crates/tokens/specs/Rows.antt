@@ -11,8 +11,8 @@ use Rattle.numbers.specs.Signed.{integerOf}
 use Rattle.scanner.specs.Words.{keywordAt}
 use Rattle.strings.specs.Decoded.{decoded}
 use Rattle.tokens.specs.declared.Integer.{Integer}
-use Rattle.tokens.specs.declared.Constant.{Constant}
-use Rattle.tokens.specs.declared.Constant.the-variants as constant
+use Rattle.tokens.specs.declared.ConstantSpan.{ConstantSpan}
+use Rattle.tokens.specs.declared.ConstantSpan.the-variants as constant
 use Rattle.tokens.specs.declared.Token.{Token}
 use Rattle.tokens.specs.declared.Token.the-variants.{Name, Word, Constant as Constantly, Mark, End}
 
@@ -20,7 +20,7 @@ use Rattle.tokens.specs.declared.Token.the-variants.{Name, Word, Constan
 unfoldable pub integerIn : List ℕ → Integer → ℤ
 integerIn f z = integerOf (z .negative) (rules.decimal (slice (z .start) (z .end) f))
 
-unfoldable pub literalIn : List ℕ → Constant → rules.Literal
+unfoldable pub literalIn : List ℕ → ConstantSpan → rules.Literal
 literalIn f (constant.Integer z) = rules.integer (integerIn f z)
 literalIn f (constant.Value a b c) = rules.value (rules.decimal (slice a b f)) (map rules.digit (slice (b + 1) c f))
 literalIn f (constant.Text a) = rules.string (decoded (drop a f))
@@ -65,7 +65,7 @@ unfoldable pub signWord : Bool → ℕ
 signWord true = 1
 signWord false = 0
 
-unfoldable pub constantWords : Constant → List ℕ
+unfoldable pub constantWords : ConstantSpan → List ℕ
 constantWords (constant.Integer z) = 2 ∷ z .start ∷ z .end ∷ signWord (z .negative) ∷ []
 constantWords (constant.Value a b c) = 3 ∷ a ∷ b ∷ c ∷ []
 constantWords (constant.Text a) = 4 ∷ a ∷ 0 ∷ 0 ∷ []
@@ -78,7 +78,7 @@ rowWords (Mark b) = 5 ∷ b ∷ 0 ∷ 0 ∷ []
 rowWords End = 5 ∷ 0 ∷ 0 ∷ 0 ∷ []
 
 -- each number fits a word
-abbrev pub SmallConstant : Constant → Type 0
+abbrev pub SmallConstant : ConstantSpan → Type 0
 SmallConstant (constant.Integer z) = (z .start < 4294967296) × (z .end < 4294967296)
 SmallConstant (constant.Value a b c) = (a < 4294967296) × (b < 4294967296) × (c < 4294967296)
 SmallConstant (constant.Text a) = a < 4294967296

@@ -47,7 +47,7 @@ pub struct Integer {
 
 // A constant: an integer; a value, by the span of its width, its quote mark and the end of its digits; a string, by the place behind its
 // opening quote.
-pub enum Constant {
+pub enum ConstantSpan {
     Integer(Integer),
     Value {
         start: usize,
@@ -61,7 +61,7 @@ pub enum Constant {
 pub enum Token {
     Name { start: usize, end: usize },
     Word(usize),
-    Constant(Constant),
+    Constant(ConstantSpan),
     Mark(usize),
     End,
 }
@@ -79,8 +79,8 @@ pub enum Slot {
 }
 
 // A constant, where one stands.
-pub enum Literal {
-    Read(Constant),
+pub enum ConstantSlot {
+    Read(ConstantSpan),
     Nothing,
 }
 
@@ -107,17 +107,17 @@ pub fn token_at(tokens: &[u32], i: usize) -> Token
             start: a,
             end: b,
         };
-        return Token::Constant(Constant::Integer(z));
+        return Token::Constant(ConstantSpan::Integer(z));
     }
     if k == VALUE_READ {
-        return Token::Constant(Constant::Value {
+        return Token::Constant(ConstantSpan::Value {
             start: a,
             quote: b,
             end: c,
         });
     }
     if k == TEXT_READ {
-        return Token::Constant(Constant::Text(a));
+        return Token::Constant(ConstantSpan::Text(a));
     }
     Token::Mark(a)
 }
@@ -131,19 +131,19 @@ fn put_row(table: &mut [u32], at: usize, kind: u32, a: usize, b: usize, c: usize
     put_words(table, at, &columns);
 }
 
-fn put_constant(table: &mut [u32], at: usize, c: Constant)
+fn put_constant(table: &mut [u32], at: usize, c: ConstantSpan)
     requires { ⌜ (at + 4 ≤ length (now table)) × SmallConstant c ⌝ }
     ensures { λ _. ⌜ now (table .exit) ≡ store (now (table .entry)) at (constantWords c) ⌝ }
 {
     match c {
-        Constant::Integer(z) => {
+        ConstantSpan::Integer(z) => {
             let sign: usize = if z.negative { NEGATIVE } else { 0 };
             put_row(table, at, INTEGER_KIND, z.start, z.end, sign);
         }
-        Constant::Value { start, quote, end } => {
+        ConstantSpan::Value { start, quote, end } => {
             put_row(table, at, VALUE_KIND, start, quote, end);
         }
-        Constant::Text(start) => {
+        ConstantSpan::Text(start) => {
             put_row(table, at, TEXT_KIND, start, 0, 0);
         }
     }
@@ -185,15 +185,15 @@ pub fn id_at(tokens: &[u32], i: usize) -> Id
     }
 }
 
-pub fn literal_at(tokens: &[u32], i: usize) -> Literal
+pub fn literal_at(tokens: &[u32], i: usize) -> ConstantSlot
     ensures { λ r. ⌜ LiteralIs (now (tokens .entry)) i r ⌝ }
 {
     match token_at(tokens, i) {
-        Token::Name { start: _, end: _ } => Literal::Nothing,
-        Token::Word(_) => Literal::Nothing,
-        Token::Constant(c) => Literal::Read(c),
-        Token::Mark(_) => Literal::Nothing,
-        Token::End => Literal::Nothing,
+        Token::Name { start: _, end: _ } => ConstantSlot::Nothing,
+        Token::Word(_) => ConstantSlot::Nothing,
+        Token::Constant(c) => ConstantSlot::Read(c),
+        Token::Mark(_) => ConstantSlot::Nothing,
+        Token::End => ConstantSlot::Nothing,
     }
 }
 
@@ -204,13 +204,13 @@ pub fn integer_at(tokens: &[u32], i: usize) -> Slot
         Token::Name { start: _, end: _ } => Slot::Absent,
         Token::Word(_) => Slot::Absent,
         Token::Constant(c) => match c {
-            Constant::Integer(z) => Slot::Given(z),
-            Constant::Value {
+            ConstantSpan::Integer(z) => Slot::Given(z),
+            ConstantSpan::Value {
                 start: _,
                 quote: _,
                 end: _,
             } => Slot::Absent,
-            Constant::Text(_) => Slot::Absent,
+            ConstantSpan::Text(_) => Slot::Absent,
         },
         Token::Mark(_) => Slot::Absent,
         Token::End => Slot::Absent,

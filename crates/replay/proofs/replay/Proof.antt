@@ -10,7 +10,7 @@ use Rattle.name_index.specs.IndexLaws.{indexed-upto}
 use Rattle.context.specs.Place.{placeOf}
 use Rattle.context.specs.declared.place.Place.{Place}
 use Rattle.replay.specs.Begins.{IndexLeft}
-use Rattle.replay.specs.Reads.{tabled}
+use Rattle.replay.specs.Reads.{partTables}
 use Rattle.replay.proofs.LoopLaws.{Done, done-start, done-ready, done-closed, done-open, done-stuck, done-next, next-rows}
 use borrow.Author.Needs.{needs}
 use Rattle.replay.proofs.replay.Statement.{statement}
@@ -18,7 +18,7 @@ use Rattle.replay.proofs.replay.Tie as tie
 
 abbrev Inv-loop : tie.InvT-loop
 Inv-loop names strings bits wires rows heads₀ chain₀ place₀ sums₀ heads chain place sums =
-    Done (tabled names strings bits wires) rows place sums × Indexed heads chain (keyAt names rows) (place .rows) × (length heads ≡ length heads₀) × (length chain ≡ length chain₀)
+    Done (partTables names strings bits wires) rows place sums × Indexed heads chain (keyAt names rows) (place .rows) × (length heads ≡ length heads₀) × (length chain ≡ length chain₀)
     × (4706 ≤ length chain)
 
 abbrev μ-loop : tie.MeasureT-loop

@@ -4,7 +4,7 @@ use Rattle.syntax.proofs.ShapeLaws.{plainOpen, bad-number, stated}
 use borrow.Author.Needs.{needs}
 use Rattle.syntax.proofs.parameter_statement.Statement.{statement}
 use Rattle.syntax.proofs.parameter_statement.Tie as tie
-use Rattle.tokens.specs.declared.Literal.the-variants.{Read}
+use Rattle.tokens.specs.declared.ConstantSlot.the-variants.{Read}
 use Rattle.syntax.specs.declared.Statement.the-variants.{Parameter}
 use Rattle.syntax.specs.Statements.{judged}
 

@@ -2,7 +2,7 @@ use Rattle.netlist.specs.Used.{usedOf}
 use denote.Ref.{now}
 use mathlib.Core.Path.{sym, _∙_}
 use borrow.Author.Tests.{not-true, not-false}
-use Rattle.replay.specs.Reads.{tabled}
+use Rattle.replay.specs.Reads.{partTables}
 use Rattle.replay.proofs.TurnLaws.{small-used, wires-fit, turn-short, turn-kind, turn-not, turn-told, turn-counted}
 use borrow.Author.Needs.{needs}
 use Rattle.replay.proofs.turns.one_more.Statement.{statement}
@@ -42,7 +42,7 @@ enum-known-f : tie.Need-enum-known-f
 enum-known-f c = search needs
 
 counted-requires : tie.Need-counted-requires
-counted-requires c κs = (c .before .before .before .before .before .before .before .before .before .before .before .before .before .before .before .before .before .pre .0, (turn-told (tabled (now (c .before .before .before .before .before .before .before .before .before .before .before .before .before .before .before .before .before .args .names)) (now (c .before .before .before .before .before .before .before .before .before .before .before .before .before .before .before .before .before .args .strings)) (now (c .before .before .before .before .before .before .before .before .before .before .before .before .before .before .before .before .before .args .bits)) (now (c .before .before .before .before .before .before .before .before .before .before .before .before .before .before .before .before .before .args .wires))) (now (c .before .before .before .before .before .before .before .before .before .before .before .before .before .before .before .before .before .args .rows)) (c .before .before .before .before .before .before .before .before .before .before .before .before .before .before .before .before .before .args .p) (c .before .before .before .before .before .before .before .before .before .before .before .before .before .before .before .before .before .args .u) (c .before .before .before .before .before .before .before .get-row .result) (c .before .before .before .before .before .before .before .get-row .ensures) (usedOf (c .before .before .before .before .used-from .result)) (c .before .before .before .before .used-from .ensures) (c .before .before .before .statement-at .result) (c .before .before .before .statement-at .ensures) _ _ _ _ (c .before .f .given .1), c .before .before .before .before .before .before .before .before .before .before .before .before .before .before .before .before .before .pre .1))
+counted-requires c κs = (c .before .before .before .before .before .before .before .before .before .before .before .before .before .before .before .before .before .pre .0, (turn-told (partTables (now (c .before .before .before .before .before .before .before .before .before .before .before .before .before .before .before .before .before .args .names)) (now (c .before .before .before .before .before .before .before .before .before .before .before .before .before .before .before .before .before .args .strings)) (now (c .before .before .before .before .before .before .before .before .before .before .before .before .before .before .before .before .before .args .bits)) (now (c .before .before .before .before .before .before .before .before .before .before .before .before .before .before .before .before .before .args .wires))) (now (c .before .before .before .before .before .before .before .before .before .before .before .before .before .before .before .before .before .args .rows)) (c .before .before .before .before .before .before .before .before .before .before .before .before .before .before .before .before .before .args .p) (c .before .before .before .before .before .before .before .before .before .before .before .before .before .before .before .before .before .args .u) (c .before .before .before .before .before .before .before .get-row .result) (c .before .before .before .before .before .before .before .get-row .ensures) (usedOf (c .before .before .before .before .used-from .result)) (c .before .before .before .before .used-from .ensures) (c .before .before .before .statement-at .result) (c .before .before .before .statement-at .ensures) _ _ _ _ (c .before .f .given .1), c .before .before .before .before .before .before .before .before .before .before .before .before .before .before .before .before .before .pre .1))
 
 enum-told : tie.Need-enum-told
 enum-told c = search needs
