@@ -9,6 +9,7 @@ use lib.Dec.{leb, eqb}
 use lib.IntN.{pos, _+ℤ_}
 use lib.ListN.{length}
 use borrow.Author.Tests.{not-true}
+use Rattle.rules.specs.Limits.{mostStatements}
 use Rattle.rules.specs.Bytes.{all, within, legal}
 use Rattle.rules.specs.Tokens.{Name}
 use Rattle.rules.specs.Statements.{Statement, Wire, aModule, contents, is}
@@ -118,5 +119,5 @@ pub admitted-within : (ss : Past) → admitted ss ≡ true → Within (sumsOf ss
 admitted-within [] e = within-none
 admitted-within (s ∷ ss) e = within-past (s ∷ ss) (admitted-last s ss e .room)
 
-pub admitted-few : (ss : Past) → admitted ss ≡ true → length ss ≤ 4705
+pub admitted-few : (ss : Past) → admitted ss ≡ true → length ss ≤ mostStatements
 admitted-few ss e = rows-few (admitted-standing ss e) (admitted-within ss e)

@@ -6,6 +6,7 @@ use mathlib.Core.Bool.{Bool, true, false, not, cond, _&&_, _||_}
 use lib.ListN.{length, getElem?}
 use lib.IntN.{pos, _+ℤ_}
 use lib.Dec.{leb, ltb, eqb}
+use Rattle.rules.specs.Limits.{mostWidth}
 use Rattle.rules.specs.Bytes.{any, all, within, legal}
 use Rattle.rules.specs.Statements.{Constant, value, integer, string, Bit, digit, bit, Signal, Wire, Memory, Statement, Kind, anAutoidx, anAttribute, aModule, aParameter, aWire, aMemory, aCell, aCellParameter, aCellConnection, aConnection, anEnd, contents}
 use Rattle.rules.specs.Shapes.{Scope, top, inModule, inCell}
@@ -26,14 +27,14 @@ stands ss s = among (kinds (context ss .scope) (context ss .first) (context ss .
 
 -- Integers are limited to 32 bits, values to 2,048; a string has no byte 0
 unfoldable pub fineConstant : Constant → Bool
-fineConstant (value ds) = leb (length ds) 2048
+fineConstant (value ds) = leb (length ds) mostWidth
 fineConstant (integer i) = int32 i
 fineConstant (string s) = all (within 1 255) s
 
 -- Wire: width 0 to 2,048, at most one port number from 1 to 1,023, no two alike in a module; offset + width - 1 is at most 2,147,483,647
 unfoldable pub ownWire : Wire → Bool
 ownWire w =
-    leb (w .width) 2048
+    leb (w .width) mostWidth
     && int32 (w .offset)
     && (eqb (w .width) 0 || int32 (w .offset +ℤ pos (w .width - 1)))
     && all (within 1 1023) (portNumbers w)
@@ -46,7 +47,7 @@ fineWire ws w = ownWire w && newPorts ws w
 
 -- Memory: width 1 to 2,048, size 0 or more
 unfoldable pub fineMemory : Memory → Bool
-fineMemory m = within 1 2048 (m .width) && leb (m .size) 2147483647 && int32 (m .offset)
+fineMemory m = within 1 mostWidth (m .width) && leb (m .size) 2147483647 && int32 (m .offset)
 
 -- each wire bit inside its wire, which is declared earlier in the same module; 2,048 bits in any signal
 unfoldable pub fineBit : Wires → Bit → Bool
@@ -54,7 +55,7 @@ fineBit ws (digit d) = true
 fineBit ws (bit w i) = Option·elim (getElem? (reverse ws) w) false (λ v. ltb i (v .1 .width))
 
 unfoldable pub fineSignal : Wires → Signal → Bool
-fineSignal ws bs = leb (length bs) 2048 && all (fineBit ws) bs
+fineSignal ws bs = leb (length bs) mostWidth && all (fineBit ws) bs
 
 -- both sides of a module's `connect` have equal width
 unfoldable pub sameLength : List Signal → Bool

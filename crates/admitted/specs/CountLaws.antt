@@ -9,6 +9,7 @@ use native.Mathlib.Omega.{arith}
 use lib.Dec.{eqb, leb}
 use lib.ListN.{length}
 use borrow.Author.Tests.{eqb-true, leb-true, not-true}
+use Rattle.rules.specs.Limits.{mostStatements}
 use Rattle.rules.specs.Bytes.{any, all}
 use Rattle.rules.specs.Statements.{Statement, Kind, anAutoidx, anAttribute, aModule, aParameter, aWire, aMemory, aCell, aCellParameter, aCellConnection, aConnection, aProcess, anEnd, code, contents, is}
 use Rattle.rules.specs.Shapes.{Scope, top, inModule, inCell}
@@ -152,6 +153,6 @@ unfolding number parameters sum context scope scopeCode
 counted none-stand = record { all = refl; firsts = omega arith; ends = refl }
 counted (one-stands {s} {ss} e h) = count-step s ss e (counted h)
 
-pub rows-few : {ss : Past} → Standing ss → Within (sumsOf ss) → length ss ≤ 4705
+pub rows-few : {ss : Past} → Standing ss → Within (sumsOf ss) → length ss ≤ mostStatements
 unfolding number parameters sumsOf sizesBy
 rows-few h w = let c = counted h in omega arith

@@ -12,6 +12,7 @@ ghost use mathlib.Core.Path.{_≡_};
 ghost use mathlib.Core.Bool.{true};
 ghost use Prim.Native.Nat.{_≤_};
 ghost use lib.ListN.{length};
+ghost use Rattle.rules.specs.Limits.{longestFile};
 ghost use Rattle.rules.specs.Text.{program};
 ghost use Rattle.netlist.specs.Results.{lent};
 ghost use Rattle.netlist.specs.Lengths.{rightLengths};
@@ -29,7 +30,7 @@ fn put_held(
     out: &mut [u8],
 ) -> usize
     ensures { λ r. ⌜ PrintedAs (lent (now (names .entry)) (now (strings .entry)) (now (bits .entry)) (now (wires .entry)) (now (rows .entry)) renames room) (now (out .entry)) (now (out .exit)) r ⌝ }
-    ensures { λ r. ⌜ r ≤ 32768 ⌝ }
+    ensures { λ r. ⌜ r ≤ longestFile ⌝ }
 {
     let written = write(names, strings, bits, wires, rows, renames, room, out);
     if written.number != 0 {
@@ -49,9 +50,9 @@ fn answer_in(
     out: &mut [u8],
 ) -> usize
     requires { ⌜ rightLengths (lent (now names) (now strings) (now bits) (now wires) (now rows) 0 0) ≡ true ⌝ }
-    requires { ⌜ length (now out) ≡ 32768 ⌝ }
+    requires { ⌜ length (now out) ≡ longestFile ⌝ }
     ensures { λ r. ⌜ (r, now (out .exit)) ≡ putting (now (out .entry)) (program (now (f .entry))) ⌝ }
-    ensures { λ r. ⌜ r ≤ 32768 ⌝ }
+    ensures { λ r. ⌜ r ≤ longestFile ⌝ }
 {
     let left = read(f, names, strings, bits, wires, rows, 0, 0);
     if left.number != 0 {
@@ -72,7 +73,7 @@ fn answer_in(
 // What the program writes for a file, at the start of the room lent, and its length.
 pub fn answer(f: &[u8], out: &mut [u8; TEXT_LENGTH]) -> usize
     ensures { λ r. ⌜ (r, now (out .exit)) ≡ putting (now (out .entry)) (program (now (f .entry))) ⌝ }
-    ensures { λ r. ⌜ r ≤ 32768 ⌝ }
+    ensures { λ r. ⌜ r ≤ longestFile ⌝ }
 {
     let mut names = [0u8; NAMES_LENGTH];
     let mut strings = [0u8; STRINGS_LENGTH];

@@ -8,6 +8,7 @@ use native.Mathlib.Omega.{arith}
 use lib.Dec.{ltb}
 use lib.ListN.{length}
 use borrow.Author.Tests.{leb-true}
+use Rattle.rules.specs.Limits.{longestFile}
 use Rattle.rules.specs.Statements.{Statement}
 use Rattle.rules.specs.Judgement as judgement
 use Rattle.rules.specs.Judgement.{Verdict}
@@ -70,7 +71,7 @@ any-accepted false a ss e = e
 
 read-any : (file : List ℕ) (ss : List Statement) → read file ≡ accepted ss → readAny file ≡ accepted ss
 unfolding read
-read-any file ss e = any-accepted (ltb 32768 (length file)) (readAny file) ss e
+read-any file ss e = any-accepted (ltb longestFile (length file)) (readAny file) ss e
 
 module _ (file : List ℕ) {x : Result} {ss : List Statement} (a : read file ≡ accepted ss) where
   -- into tables of the right lengths

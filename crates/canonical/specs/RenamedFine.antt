@@ -10,6 +10,7 @@ use native.Mathlib.Omega.{arith}
 use borrow.Author.Tests.{not-false, leb-false, ltb-false}
 use lib.Dec.{leb, ltb}
 use lib.ListN.{length, getElem?}
+use Rattle.rules.specs.Limits.{nameRoom, mostRenames, mostWidth}
 use Rattle.rules.specs.Bytes.{same, any, all, legal}
 use Rattle.rules.specs.Tokens.{Name}
 use Rattle.rules.specs.Statements.{Signal, Bit, digit, bit, Wire, Statement, aModule, aParameter, aWire, aMemory, aCell, aCellParameter, aCellConnection, aConnection, anAttribute, wire-stmt, statementsOpen}
@@ -99,7 +100,7 @@ module _ (r : Rename) (d : Design) where
   unfolding nameSize sum statementsOpen
   names-renamed = renamed-sum nameSize r (length (r .newName)) (λ w n. omega arith) d
 
-  sizes-renamed : sum nameSize (flatten (renamed r d)) ≤ 16384 → exceedsSize (flatten d) ≡ false → exceedsSize (flatten (renamed r d)) ≡ false
+  sizes-renamed : sum nameSize (flatten (renamed r d)) ≤ nameRoom → exceedsSize (flatten d) ≡ false → exceedsSize (flatten (renamed r d)) ≡ false
   unfolding sumsOf sizesBy count among signalSize valueSize stringSize statementsOpen
   sizes-renamed h e =
       let b = within-past (flatten d) e in
@@ -179,7 +180,7 @@ bit-in m (bit w i) =
 signal-renamed : (r : Rename) (m : Module) (x : Signal) → fineSignal (wiresIn (renameWire r m)) x ≡ fineSignal (wiresIn m) x
 unfolding fineSignal
 signal-renamed r m x =
-    ap (λ (b : Bool). leb (length x) 2048 && b)
+    ap (λ (b : Bool). leb (length x) mostWidth && b)
     (all-same _ _ (λ b. bit-in (renameWire r m) b ∙ ap (λ (ws : List Wire). bitIn ws b) (bodies-same r m) ∙ sym (bit-in m b)) x)
 
 module-renamed :
@@ -206,7 +207,7 @@ unfolding taken Option·elim
 taken-none r d o q t = rw q at t
 
 pub fine-step :
-    (r : Rename) (d : Design) → FineDesign d → legal (r .newName) ≡ true → taken d (r .moduleNumber) (r .newName) ≡ false → sum nameSize (flatten (renamed r d)) ≤ 16384 →
+    (r : Rename) (d : Design) → FineDesign d → legal (r .newName) ≡ true → taken d (r .moduleNumber) (r .newName) ≡ false → sum nameSize (flatten (renamed r d)) ≤ nameRoom →
     FineDesign (renamed r d)
 unfolding renamed
 fine-step r d f l t h =
@@ -241,8 +242,8 @@ pub record Kept (d : Design) (rs qs : List Rename) (r : Rename) : Type 0 where
   pub legal : legal (r .newName) ≡ true
   pub there : (o : Object Wire) × (wireAt d (r .moduleNumber) (r .wireNumber) ≡ some o)
   pub free : taken (now d rs) (r .moduleNumber) (r .newName) ≡ false
-  pub few : length rs < 64
-  pub room : roomUsed d rs + length (r .newName) ≤ 16384
+  pub few : length rs < mostRenames
+  pub room : roomUsed d rs + length (r .newName) ≤ nameRoom
   pub listed : rs ++ r ∷ [] ≡ qs
 
 is-there : {A : Type 0} (x : Option A) → Option·elim x true (λ a. false) ≡ false → (a : A) × (x ≡ some a)
@@ -259,8 +260,8 @@ accepted-keeps d rs qs r e =
       legal = not-false (legal (r .newName)) (h .1 .0);
       there = is-there (wireAt d (r .moduleNumber) (r .wireNumber)) (h .1 .1 .1 .0);
       free = h .1 .1 .1 .1 .0;
-      few = leb-false 64 (length rs) (or-false-left (leb 64 (length rs)) _ full);
-      room = ltb-false 16384 (roomUsed d rs + length (r .newName)) (or-false-right (leb 64 (length rs)) _ full);
+      few = leb-false mostRenames (length rs) (or-false-left (leb mostRenames (length rs)) _ full);
+      room = ltb-false nameRoom (roomUsed d rs + length (r .newName)) (or-false-right (leb mostRenames (length rs)) _ full);
       listed = h .0;
     }
 

@@ -9,6 +9,7 @@ use native.Mathlib.Omega.{arith}
 use borrow.Author.Tests.{not-true}
 use lib.Dec.{leb, ltb}
 use lib.ListN.{length}
+use Rattle.rules.specs.Limits.{mostWidth}
 use Rattle.rules.specs.Bytes.{any, all}
 use Rattle.rules.specs.Tokens.{Name}
 use Rattle.rules.specs.Statements.{Constant, Signal, Bit, digit, bit, Wire, Statement, module-stmt, param-stmt, wire-stmt, memory-stmt, cell-param-stmt, cell-conn-stmt, conn-stmt, end-stmt, aModule, aWire, is, contents, statementsOpen}
@@ -90,7 +91,7 @@ bit-more later ws (bit w i) e = rw (reverse-append later ws) (element-stays (λ 
 signal-more : (later ws : Wires) (x : Signal) → fineSignal ws x ≡ true → fineSignal (later ++ ws) x ≡ true
 unfolding fineSignal
 signal-more later ws x e =
-    rw (and-true-left (leb (length x) 2048) _ e, all-implied (fineBit ws) (fineBit (later ++ ws)) (bit-more later ws) x (and-true-right (leb (length x) 2048) _ e))
+    rw (and-true-left (leb (length x) mostWidth) _ e, all-implied (fineBit ws) (fineBit (later ++ ws)) (bit-more later ws) x (and-true-right (leb (length x) mostWidth) _ e))
 
 -- the wires behind lines of a module are those before them and more
 pub record Grown (ws vs : Wires) : Type 0 where

@@ -4,6 +4,7 @@ use mathlib.Core.Path.{_≡_}
 use mathlib.Core.Bool.{Bool, cond, _||_}
 use mathlib.Core.List.{List, [], _∷_}
 use lib.Dec.{eqb, ltb}
+use Rattle.rules.specs.Limits.{mostModules, mostWires, mostMemories, mostCells, mostParameters, mostAttributes, mostCellConnections, mostConnections, mostSignalBits, mostValueBits, mostStringBytes, nameRoom}
 use Rattle.rules.specs.Bytes.{any}
 use Rattle.rules.specs.Statements.{Statement, anAttribute, aModule, aParameter, aWire, aMemory, aCell, aCellParameter, aCellConnection, aConnection, code, contents}
 use Rattle.rules.specs.Judgement.{Past, sum, count, signalSize, valueSize, stringSize, nameSize}
@@ -55,18 +56,18 @@ plusOf u d =
 -- each limit, and what it limits
 unfoldable pub limits : Sizes → List (ℕ × ℕ)
 limits u =
-    (32, u .modules)
-    ∷ (512, u .wires)
-    ∷ (32, u .memories)
-    ∷ (256, u .cells)
-    ∷ (1024, u .parameters)
-    ∷ (1024, u .attributes)
-    ∷ (1024, u .ports)
-    ∷ (512, u .connections)
-    ∷ (8192, u .«signal_bits»)
-    ∷ (8192, u .«value_bits»)
-    ∷ (8192, u .«string_bytes»)
-    ∷ (16384, u .«name_bytes»)
+    (mostModules, u .modules)
+    ∷ (mostWires, u .wires)
+    ∷ (mostMemories, u .memories)
+    ∷ (mostCells, u .cells)
+    ∷ (mostParameters, u .parameters)
+    ∷ (mostAttributes, u .attributes)
+    ∷ (mostCellConnections, u .ports)
+    ∷ (mostConnections, u .connections)
+    ∷ (mostSignalBits, u .«signal_bits»)
+    ∷ (mostValueBits, u .«value_bits»)
+    ∷ (mostStringBytes, u .«string_bytes»)
+    ∷ (nameRoom, u .«name_bytes»)
     ∷ []
 
 -- whether a size is above its limit
@@ -75,18 +76,18 @@ exceeds u = any (λ z. ltb (z .0) (z .1)) (limits u)
 
 -- each size is at most its limit
 pub record Within (u : Sizes) : Type 0 where
-  pub modules : u .modules ≤ 32
-  pub wires : u .wires ≤ 512
-  pub memories : u .memories ≤ 32
-  pub cells : u .cells ≤ 256
-  pub parameters : u .parameters ≤ 1024
-  pub attributes : u .attributes ≤ 1024
-  pub ports : u .ports ≤ 1024
-  pub connections : u .connections ≤ 512
-  pub signal-bits : u .«signal_bits» ≤ 8192
-  pub value-bits : u .«value_bits» ≤ 8192
-  pub string-bytes : u .«string_bytes» ≤ 8192
-  pub name-bytes : u .«name_bytes» ≤ 16384
+  pub modules : u .modules ≤ mostModules
+  pub wires : u .wires ≤ mostWires
+  pub memories : u .memories ≤ mostMemories
+  pub cells : u .cells ≤ mostCells
+  pub parameters : u .parameters ≤ mostParameters
+  pub attributes : u .attributes ≤ mostAttributes
+  pub ports : u .ports ≤ mostCellConnections
+  pub connections : u .connections ≤ mostConnections
+  pub signal-bits : u .«signal_bits» ≤ mostSignalBits
+  pub value-bits : u .«value_bits» ≤ mostValueBits
+  pub string-bytes : u .«string_bytes» ≤ mostStringBytes
+  pub name-bytes : u .«name_bytes» ≤ nameRoom
 
 -- each size is at most n
 pub record AtMost (n : ℕ) (u : Sizes) : Type 0 where

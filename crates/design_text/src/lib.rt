@@ -21,6 +21,7 @@ ghost use mathlib.Core.Bool.{cond};
 ghost use Prim.Native.Nat.{_+_, _-_, _≤_, _<_};
 ghost use lib.Dec.{eqb};
 ghost use lib.ListN.{length};
+ghost use Rattle.rules.specs.Limits.{bitsLength, pastText};
 ghost use Rattle.text.specs.Written.{Written};
 ghost use Rattle.netlist.specs.Tables.{tabled};
 ghost use Rattle.design_text.specs.Rows.{nextRow, waitingFrom, lineIf, kindRows, cellRows, objectIf, objectRows, bodyRows, moduleAt, moduleIf, moduleRows, textRows};
@@ -87,7 +88,7 @@ fn put_row(
     out: &mut [u8],
     at: usize,
 ) -> usize
-    requires { ⌜ (at ≤ 32769) × (length (now bits) ≤ 16384) × (level ≤ 2) ⌝ }
+    requires { ⌜ (at ≤ pastText) × (length (now bits) ≤ bitsLength) × (level ≤ 2) ⌝ }
     ensures { λ r. ⌜ Written at (lineIf (tabled (now (names .entry)) (now (strings .entry)) (now (bits .entry)) (now (wires .entry)) (now (rows .entry))) m kind level k) (now (out .entry)) (now (out .exit)) r ⌝ }
 {
     if row_kind(rows, k) != kind {
@@ -110,7 +111,7 @@ fn put_kind(
     out: &mut [u8],
     at: usize,
 ) -> usize
-    requires { ⌜ (at ≤ 32769) × (length (now bits) ≤ 16384) × (level ≤ 2) ⌝ }
+    requires { ⌜ (at ≤ pastText) × (length (now bits) ≤ bitsLength) × (level ≤ 2) ⌝ }
     ensures { λ r. ⌜ Written at (kindRows (tabled (now (names .entry)) (now (strings .entry)) (now (bits .entry)) (now (wires .entry)) (now (rows .entry))) m kind level (span .from) (span .to - span .from)) (now (out .entry)) (now (out .exit)) r ⌝ }
 {
     let mut end = at;
@@ -147,7 +148,7 @@ fn put_cell(
     out: &mut [u8],
     at: usize,
 ) -> usize
-    requires { ⌜ (at ≤ 32769) × (length (now bits) ≤ 16384) × (k < to) ⌝ }
+    requires { ⌜ (at ≤ pastText) × (length (now bits) ≤ bitsLength) × (k < to) ⌝ }
     ensures { λ r. ⌜ Written at (cellRows (tabled (now (names .entry)) (now (strings .entry)) (now (bits .entry)) (now (wires .entry)) (now (rows .entry))) m k (to - (k + 1))) (now (out .entry)) (now (out .exit)) r ⌝ }
 {
     let from = k + 1;
@@ -199,7 +200,7 @@ fn put_object(
     out: &mut [u8],
     at: usize,
 ) -> usize
-    requires { ⌜ (at ≤ 32769) × (length (now bits) ≤ 16384) × (object .row < object .to) ⌝ }
+    requires { ⌜ (at ≤ pastText) × (length (now bits) ≤ bitsLength) × (object .row < object .to) ⌝ }
     ensures { λ r. ⌜ Written at (objectIf (tabled (now (names .entry)) (now (strings .entry)) (now (bits .entry)) (now (wires .entry)) (now (rows .entry))) m kind (object .first) (object .row) (object .to - (object .row + 1))) (now (out .entry)) (now (out .exit)) r ⌝ }
 {
     let k = object.row;
@@ -243,7 +244,7 @@ fn put_objects(
     out: &mut [u8],
     at: usize,
 ) -> usize
-    requires { ⌜ (at ≤ 32769) × (length (now bits) ≤ 16384) ⌝ }
+    requires { ⌜ (at ≤ pastText) × (length (now bits) ≤ bitsLength) ⌝ }
     ensures { λ r. ⌜ Written at (objectRows (tabled (now (names .entry)) (now (strings .entry)) (now (bits .entry)) (now (wires .entry)) (now (rows .entry))) m kind (span .from) (span .from) (span .to - span .from)) (now (out .entry)) (now (out .exit)) r ⌝ }
 {
     let mut end = at;
@@ -284,7 +285,7 @@ fn put_body(
     out: &mut [u8],
     at: usize,
 ) -> usize
-    requires { ⌜ (at ≤ 32769) × (length (now bits) ≤ 16384) ⌝ }
+    requires { ⌜ (at ≤ pastText) × (length (now bits) ≤ bitsLength) ⌝ }
     ensures { λ r. ⌜ Written at (bodyRows (tabled (now (names .entry)) (now (strings .entry)) (now (bits .entry)) (now (wires .entry)) (now (rows .entry))) m (span .from) (span .to - span .from)) (now (out .entry)) (now (out .exit)) r ⌝ }
 {
     let set = put_kind(
@@ -368,7 +369,7 @@ fn put_module(
     out: &mut [u8],
     at: usize,
 ) -> usize
-    requires { ⌜ (at ≤ 32769) × (length (now bits) ≤ 16384) × (k < counts .statements) ⌝ }
+    requires { ⌜ (at ≤ pastText) × (length (now bits) ≤ bitsLength) × (k < counts .statements) ⌝ }
     ensures { λ r. ⌜ Written at (moduleIf (tabled (now (names .entry)) (now (strings .entry)) (now (bits .entry)) (now (wires .entry)) (now (rows .entry))) counts number first k (counts .statements - (k + 1))) (now (out .entry)) (now (out .exit)) r ⌝ }
 {
     if row_kind(rows, k) != KIND_MODULE {
@@ -417,7 +418,7 @@ fn put_modules(
     out: &mut [u8],
     at: usize,
 ) -> usize
-    requires { ⌜ (at ≤ 32769) × (length (now bits) ≤ 16384) ⌝ }
+    requires { ⌜ (at ≤ pastText) × (length (now bits) ≤ bitsLength) ⌝ }
     ensures { λ r. ⌜ Written at (moduleRows (tabled (now (names .entry)) (now (strings .entry)) (now (bits .entry)) (now (wires .entry)) (now (rows .entry))) counts 0 0 0 (counts .statements)) (now (out .entry)) (now (out .exit)) r ⌝ }
 {
     let mut end = at;
@@ -465,7 +466,7 @@ pub fn put_text(
     counts: Counts,
     out: &mut [u8],
 ) -> usize
-    requires { ⌜ length (now bits) ≤ 16384 ⌝ }
+    requires { ⌜ length (now bits) ≤ bitsLength ⌝ }
     ensures { λ r. ⌜ Written 0 (textRows (tabled (now (names .entry)) (now (strings .entry)) (now (bits .entry)) (now (wires .entry)) (now (rows .entry))) counts) (now (out .entry)) (now (out .exit)) r ⌝ }
 {
     let m = module_of(wires, counts, 0);

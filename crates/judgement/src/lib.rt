@@ -36,6 +36,7 @@ ghost use mathlib.Core.Path.{_≡_};
 ghost use mathlib.Core.Option.{none};
 ghost use Prim.Native.Nat.{_-_, _≤_};
 ghost use lib.ListN.{length};
+ghost use Rattle.rules.specs.Limits.{longestFile};
 ghost use Rattle.line_forms.specs.Forms.{nameIn};
 ghost use Rattle.syntax.specs.Statements.{numberOf, faultOf, Sound, GoodOptional, Ready};
 ghost use Rattle.name_index.specs.Index.{keyAt, Indexed, LinesIndexed};
@@ -164,7 +165,7 @@ fn parts_of(statement: Statement) -> Parts
 }
 
 fn span_size(f: &[u8], span: Span) -> u32
-    requires { ⌜ length (now f) ≤ 32768 ⌝ }
+    requires { ⌜ length (now f) ≤ longestFile ⌝ }
     ensures { λ r. ⌜ r ≡ length (nameIn (now (f .entry)) span) ⌝ }
 {
     part(f, span.start, span.end).len() as u32
@@ -187,7 +188,7 @@ fn value_bits(f: &[u8], value: ConstantSlot) -> u32
 
 // The bytes of a string; an integer and a value have none.
 fn string_bytes(f: &[u8], value: ConstantSlot) -> u32
-    requires { ⌜ length (now f) ≤ 32768 ⌝ }
+    requires { ⌜ length (now f) ≤ longestFile ⌝ }
     ensures { λ r. ⌜ r ≡ bytesIn (now (f .entry)) value ⌝ }
 {
     let ConstantSlot::Read(c) = value else {
@@ -202,7 +203,7 @@ fn string_bytes(f: &[u8], value: ConstantSlot) -> u32
 
 // The sizes of one statement whose signals leave no number.
 fn statement_sizes(f: &[u8], statement: Statement) -> Sizes
-    requires { ⌜ length (now f) ≤ 32768 ⌝ }
+    requires { ⌜ length (now f) ≤ longestFile ⌝ }
     requires { ⌜ numberOf statement ≡ none ⌝ }
     requires { ⌜ faultOf statement ≡ 0 ⌝ }
     requires { ⌜ Sound (now f) statement ⌝ }
@@ -260,7 +261,7 @@ fn judge_statement(
     heads: &[u32],
     chain: &[u32],
 ) -> Judged
-    requires { ⌜ length (now f) ≤ 32768 ⌝ }
+    requires { ⌜ length (now f) ≤ longestFile ⌝ }
     requires { ⌜ Sound (now f) statement ⌝ }
     requires { ⌜ Within sums ⌝ }
     requires { ⌜ Bounds place ⌝ }

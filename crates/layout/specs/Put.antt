@@ -5,6 +5,7 @@ use mathlib.Core.List.{List, [], _∷_, _++_}
 use mathlib.Core.Option.{Option, Option·elim, Option·map}
 use mathlib.Core.Bool.{true}
 use lib.ListN.{length}
+use Rattle.rules.specs.Limits.{mostWires, namesLength, stringsLength, bitsLength, mostRows}
 use Rattle.rules.specs.Tokens.{Name, Digit}
 use Rattle.rules.specs.Statements as rules
 use Rattle.rules.specs.Statements.{Statement, aModule, Wire, digitsOf, bytesOf, wire-stmt}
@@ -65,11 +66,11 @@ usedAfter u s =
     }
 
 pub record RoomFor (u : layout.Used) (s : Statement) : Type 0 where
-  pub names : u .names + length (nameBytes s) ≤ 16384
-  pub strings : u .strings + length (stringBytes s) ≤ 8192
-  pub bits : u .bits + length (bitCodes s) ≤ 16384
-  pub wires : u .wires + length (wireRows u s) ≤ 512
-  pub rows : u .rows + 1 ≤ 4769
+  pub names : u .names + length (nameBytes s) ≤ namesLength
+  pub strings : u .strings + length (stringBytes s) ≤ stringsLength
+  pub bits : u .bits + length (bitCodes s) ≤ bitsLength
+  pub wires : u .wires + length (wireRows u s) ≤ mostWires
+  pub rows : u .rows + 1 ≤ mostRows
 
 -- a table has room for n values from a place on, and its places are words
 abbrev pub Fits : ℕ → ℕ → List ℕ → Type 0

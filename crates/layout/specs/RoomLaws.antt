@@ -5,6 +5,7 @@ use mathlib.Core.Path.{_≡_, refl, sym, ap, _∙_}
 use mathlib.Core.List.{List, [], _∷_, _++_, flatMap, zip}
 use native.Mathlib.Omega.{arith}
 use lib.ListN.{length, length-append, length-map}
+use Rattle.rules.specs.Limits.{mostWires, namesLength, stringsLength, bitsLength, wiresLength, rowsLength}
 use Rattle.rules.specs.Tokens.{Name}
 use Rattle.rules.specs.Statements.{Statement, Constant, Signal, Wire, contents, digitsOf, bytesOf}
 use Rattle.rules.specs.Layout.{Rooms, Used, padded, used, nameBytes, stringBytes, bitCodes, wireRow, wireRows, statementRow, put, memory}
@@ -50,18 +51,18 @@ module _ (R : Rooms) (s : Statement) (k : ℕ) (h : Rowed R) (room : RoomFor (us
   puts-used : (t t′ : Tables) → t ≡ tablesOf (memory R k) → Puts (used R) s t t′ → t′ ≡ tablesOf (memory (put R s) k)
   unfolding tablesOf memory used put
   puts-used t t′ e p =
-      let names : t′ .names ≡ padded 16384 (R .names ++ nameBytes s) =
-      p .names-put ∙ store-padded 16384 (R .names) (nameBytes s) (t .names) (length (R .names)) (ap (λ (x : Tables). x .names) e) refl (room .names) in
-      let strings : t′ .strings ≡ padded 8192 (R .strings ++ stringBytes s) =
-      p .strings-put ∙ store-padded 8192 (R .strings) (stringBytes s) (t .strings) (length (R .strings)) (ap (λ (x : Tables). x .strings) e) refl (room .strings) in
-      let bits : t′ .bits ≡ padded 16384 (R .bits ++ bitCodes s) =
-      p .bits-put ∙ store-padded 16384 (R .bits) (bitCodes s) (t .bits) (length (R .bits)) (ap (λ (x : Tables). x .bits) e) refl (room .bits) in
-      let wires : t′ .wires ≡ padded (8 * 512) (flat (R .wires ++ wireRows (used R) s)) =
+      let names : t′ .names ≡ padded namesLength (R .names ++ nameBytes s) =
+      p .names-put ∙ store-padded namesLength (R .names) (nameBytes s) (t .names) (length (R .names)) (ap (λ (x : Tables). x .names) e) refl (room .names) in
+      let strings : t′ .strings ≡ padded stringsLength (R .strings ++ stringBytes s) =
+      p .strings-put ∙ store-padded stringsLength (R .strings) (stringBytes s) (t .strings) (length (R .strings)) (ap (λ (x : Tables). x .strings) e) refl (room .strings) in
+      let bits : t′ .bits ≡ padded bitsLength (R .bits ++ bitCodes s) =
+      p .bits-put ∙ store-padded bitsLength (R .bits) (bitCodes s) (t .bits) (length (R .bits)) (ap (λ (x : Tables). x .bits) e) refl (room .bits) in
+      let wires : t′ .wires ≡ padded wiresLength (flat (R .wires ++ wireRows (used R) s)) =
       p .wires-put
-      ∙ wires-padded (8 * 512) (R .wires) (wireRows (used R) s) (t .wires) (8 * length (R .wires)) (ap (λ (x : Tables). x .wires) e) refl (h .wires) (eights-wires (used R) s) (omega (arith, room .wires)) in
-      let rows : t′ .rows ≡ padded (8 * 4769) (flat (R .rows ++ statementRow (used R) s ∷ [])) =
+      ∙ wires-padded wiresLength (R .wires) (wireRows (used R) s) (t .wires) (8 * length (R .wires)) (ap (λ (x : Tables). x .wires) e) refl (h .wires) (eights-wires (used R) s) (omega (arith, room .wires)) in
+      let rows : t′ .rows ≡ padded rowsLength (flat (R .rows ++ statementRow (used R) s ∷ [])) =
       p .rows-put
-      ∙ store-row (8 * 4769) (R .rows) (statementRow (used R) s) (t .rows) (8 * length (R .rows)) (ap (λ (x : Tables). x .rows) e) refl (h .rows) (length-statement-row (used R) s) (omega (arith, room .rows)) in
+      ∙ store-row rowsLength (R .rows) (statementRow (used R) s) (t .rows) (8 * length (R .rows)) (ap (λ (x : Tables). x .rows) e) refl (h .rows) (length-statement-row (used R) s) (omega (arith, room .rows)) in
       λ i. record { names = names i; strings = strings i; bits = bits i; wires = wires i; rows = rows i }
 
 pub tables-put :
@@ -83,27 +84,27 @@ module _ (t : List ℕ) (at : ℕ) where
 -- ---- room for a statement's parts in tables of the stated lengths
 
 module _ (u : Used) (s : Statement) (room : RoomFor u s) (t : List ℕ) where
-  pub name-fits : (n : Name) → contents s .names ≡ n ∷ [] → length t ≡ 16384 → Fits (u .names) (length n) t
-  name-fits n e l = let h : u .names + length n ≤ 16384 = rw (one-name s n e) at (room .names) in omega arith
+  pub name-fits : (n : Name) → contents s .names ≡ n ∷ [] → length t ≡ namesLength → Fits (u .names) (length n) t
+  name-fits n e l = let h : u .names + length n ≤ namesLength = rw (one-name s n e) at (room .names) in omega arith
 
-  pub names-fit : (m n : Name) → contents s .names ≡ m ∷ n ∷ [] → length t ≡ 16384 → Fits (u .names) (length m + length n) t
-  names-fit m n e l = let h : u .names + (length m + length n) ≤ 16384 = rw (two-names s m n e, length-append) at (room .names) in omega arith
+  pub names-fit : (m n : Name) → contents s .names ≡ m ∷ n ∷ [] → length t ≡ namesLength → Fits (u .names) (length m + length n) t
+  names-fit m n e l = let h : u .names + (length m + length n) ≤ namesLength = rw (two-names s m n e, length-append) at (room .names) in omega arith
 
-  pub string-fits : (c : Constant) → contents s .constants ≡ c ∷ [] → length t ≡ 8192 → Fits (u .strings) (length (bytesOf c)) t
-  string-fits c e l = let h : u .strings + length (bytesOf c) ≤ 8192 = rw (one-string s c e) at (room .strings) in omega arith
+  pub string-fits : (c : Constant) → contents s .constants ≡ c ∷ [] → length t ≡ stringsLength → Fits (u .strings) (length (bytesOf c)) t
+  string-fits c e l = let h : u .strings + length (bytesOf c) ≤ stringsLength = rw (one-string s c e) at (room .strings) in omega arith
 
-  pub value-fits : (c : Constant) → contents s .constants ≡ c ∷ [] → contents s .signals ≡ [] → length t ≡ 16384 → Fits (u .bits) (length (digitsOf c)) t
-  value-fits c e g l = let h : u .bits + length (digitsOf c) ≤ 16384 = rw (one-value s c e g, length-map) at (room .bits) in omega arith
+  pub value-fits : (c : Constant) → contents s .constants ≡ c ∷ [] → contents s .signals ≡ [] → length t ≡ bitsLength → Fits (u .bits) (length (digitsOf c)) t
+  value-fits c e g l = let h : u .bits + length (digitsOf c) ≤ bitsLength = rw (one-value s c e g, length-map) at (room .bits) in omega arith
 
-  pub signal-fits : (x : Signal) → contents s .constants ≡ [] → contents s .signals ≡ x ∷ [] → length t ≡ 16384 → Fits (u .bits) (length x) t
-  signal-fits x e g l = let h : u .bits + length x ≤ 16384 = rw (one-signal s x e g, length-map) at (room .bits) in omega arith
+  pub signal-fits : (x : Signal) → contents s .constants ≡ [] → contents s .signals ≡ x ∷ [] → length t ≡ bitsLength → Fits (u .bits) (length x) t
+  signal-fits x e g l = let h : u .bits + length x ≤ bitsLength = rw (one-signal s x e g, length-map) at (room .bits) in omega arith
 
-  pub signals-fit : (x y : Signal) → contents s .constants ≡ [] → contents s .signals ≡ x ∷ y ∷ [] → length t ≡ 16384 → Fits (u .bits) (length x + length y) t
+  pub signals-fit : (x y : Signal) → contents s .constants ≡ [] → contents s .signals ≡ x ∷ y ∷ [] → length t ≡ bitsLength → Fits (u .bits) (length x + length y) t
   signals-fit x y e g l =
-      let h : u .bits + (length x + length y) ≤ 16384 = simp (two-signals s x y e g, length-append, length-map) at (room .bits) in omega arith
+      let h : u .bits + (length x + length y) ≤ bitsLength = simp (two-signals s x y e g, length-append, length-map) at (room .bits) in omega arith
 
-  pub wire-fits : (n : Name) (w : Wire) → contents s .names ≡ n ∷ [] → contents s .wires ≡ w ∷ [] → length t ≡ 8 * 512 → 8 * u .wires + 8 ≤ length t
-  wire-fits n w e g l = let h : u .wires + 1 ≤ 512 = rw (one-wire s u n w e g) at (room .wires) in omega arith
+  pub wire-fits : (n : Name) (w : Wire) → contents s .names ≡ n ∷ [] → contents s .wires ≡ w ∷ [] → length t ≡ wiresLength → 8 * u .wires + 8 ≤ length t
+  wire-fits n w e g l = let h : u .wires + 1 ≤ mostWires = rw (one-wire s u n w e g) at (room .wires) in omega arith
 
-  pub row-fits : length t ≡ 8 * 4769 → 8 * u .rows + 8 ≤ length t
+  pub row-fits : length t ≡ rowsLength → 8 * u .rows + 8 ≤ length t
   row-fits l = omega (arith, room .rows)

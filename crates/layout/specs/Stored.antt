@@ -4,6 +4,7 @@ use mathlib.Core.Path.{_≡_}
 use mathlib.Core.List.{List, [], _∷_, Option·toList}
 use mathlib.Core.Option.{Option, none, some}
 use lib.ListN.{length}
+use Rattle.rules.specs.Limits.{namesLength, stringsLength, bitsLength, wiresLength, rowsLength, scratchLength}
 use Rattle.rules.specs.Statements as rules
 use Rattle.rules.specs.Statements.{contents}
 use Rattle.rules.specs.Layout as rooms
@@ -23,11 +24,11 @@ use Rattle.layout.specs.declared.put.Valued.the-variants.{Named, Nothing
 
 -- the stated lengths
 pub record Sized (t : Tables) : Type 0 where
-  pub names : length (t .names) ≡ 16384
-  pub strings : length (t .strings) ≡ 8192
-  pub bits : length (t .bits) ≡ 16384
-  pub wires : length (t .wires) ≡ 8 * 512
-  pub rows : length (t .rows) ≡ 8 * 4769
+  pub names : length (t .names) ≡ namesLength
+  pub strings : length (t .strings) ≡ stringsLength
+  pub bits : length (t .bits) ≡ bitsLength
+  pub wires : length (t .wires) ≡ wiresLength
+  pub rows : length (t .rows) ≡ rowsLength
 
 -- no number is left for later, and there is room for the statement
 pub record Storable (f s : List ℕ) (r : Statement) (u : Used) (t : Tables) : Type 0 where
@@ -35,7 +36,7 @@ pub record Storable (f s : List ℕ) (r : Statement) (u : Used) (t : Tables) : T
   pub settled : faultOf r ≡ 0
   pub room : (x : rules.Statement) → statementIn f s r ≡ some x → RoomFor (usedOf u) x
   pub sized : Sized t
-  pub scratch : 36864 ≤ length s
+  pub scratch : scratchLength ≤ length s
 
 -- the tables with the statement that the answer stands for; as they were, where it stands for none
 abbrev pub PutsAny : rooms.Used → Option rules.Statement → (t t′ : Tables) → Type 0
@@ -83,11 +84,11 @@ pub record PlainStorable (f s : List ℕ) (r : Statement) (u : Used) (names bits
   pub sound : Sound f r
   pub settled : faultOf r ≡ 0
   pub room : (x : rules.Statement) → statementIn f s r ≡ some x → RoomFor (usedOf u) x
-  pub names-long : length names ≡ 16384
-  pub bits-long : length bits ≡ 16384
-  pub wires-long : length wires ≡ 8 * 512
-  pub rows-long : length rows ≡ 8 * 4769
-  pub scratch : 36864 ≤ length s
+  pub names-long : length names ≡ namesLength
+  pub bits-long : length bits ≡ bitsLength
+  pub wires-long : length wires ≡ wiresLength
+  pub rows-long : length rows ≡ rowsLength
+  pub scratch : scratchLength ≤ length s
 
 abbrev pub PlainPut : (f s : List ℕ) → Statement → Used → (names names′ bits bits′ wires wires′ rows rows′ : List ℕ) → Type 0
 PlainPut f s r u names names′ bits bits′ wires wires′ rows rows′ =

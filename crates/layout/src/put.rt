@@ -37,6 +37,7 @@ ghost use mathlib.Core.Bool.{true};
 ghost use mathlib.Core.List.{[], _∷_, map};
 ghost use Prim.Native.Nat.{_+_, _*_, _≤_};
 ghost use lib.ListN.{length, drop};
+ghost use Rattle.rules.specs.Limits.{mostWidth};
 ghost use Rattle.rules.specs.Statements.{digitsOf, bytesOf, cell-stmt, cell-conn-stmt, conn-stmt};
 ghost use Rattle.rules.specs.Numbers.{int32, goodLiteral};
 ghost use Rattle.rules.specs.Signals.{twosComplement, literalBits};
@@ -173,7 +174,7 @@ fn put_value(
     at: u32,
 ) -> u32
     requires { ⌜ goodLiteral (literalIn (now f) (ConstantSpan.Value start quote end)) ≡ true ⌝ }
-    requires { ⌜ 2048 ≤ length (now scratch) ⌝ }
+    requires { ⌜ mostWidth ≤ length (now scratch) ⌝ }
     requires { ⌜ Fits at (length (literalBits (literalIn (now f) (ConstantSpan.Value start quote end)))) (now bits) ⌝ }
     ensures { λ r. ⌜ r ≡ length (literalBits (literalIn (now (f .entry)) (ConstantSpan.Value start quote end))) ⌝ }
     ensures { λ _. ⌜ now (bits .exit) ≡ store (now (bits .entry)) at (map digitCode (literalBits (literalIn (now (f .entry)) (ConstantSpan.Value start quote end)))) ⌝ }
@@ -206,7 +207,7 @@ fn put_constant(
     bits: &mut [u32],
 ) -> Columns
     requires { ⌜ ConstantFits (now f) c u (now strings) (now bits) ⌝ }
-    requires { ⌜ 2048 ≤ length (now scratch) ⌝ }
+    requires { ⌜ mostWidth ≤ length (now scratch) ⌝ }
     ensures { λ r. ⌜ constantColumns (usedOf u) (constantIn (now (f .entry)) c) ≡ r .kind ∷ r .a ∷ r .b ∷ [] ⌝ }
     ensures { λ _. ⌜ now (strings .exit) ≡ store (now (strings .entry)) (u .strings) (bytesOf (constantIn (now (f .entry)) c)) ⌝ }
     ensures { λ _. ⌜ now (bits .exit) ≡ store (now (bits .entry)) (u .bits) (map digitCode (digitsOf (constantIn (now (f .entry)) c))) ⌝ }
@@ -240,7 +241,7 @@ fn put_optional(
     bits: &mut [u32],
 ) -> Columns
     requires { ⌜ OptionalFits (now f) c u (now strings) (now bits) ⌝ }
-    requires { ⌜ 2048 ≤ length (now scratch) ⌝ }
+    requires { ⌜ mostWidth ≤ length (now scratch) ⌝ }
     ensures { λ r. ⌜ optionalColumns (usedOf u) (optionalIn (now (f .entry)) c) ≡ r .kind ∷ r .a ∷ r .b ∷ [] ⌝ }
     ensures { λ _. ⌜ now (strings .exit) ≡ store (now (strings .entry)) (u .strings) (optionalBytes (optionalIn (now (f .entry)) c)) ⌝ }
     ensures { λ _. ⌜ now (bits .exit) ≡ store (now (bits .entry)) (u .bits) (map digitCode (optionalDigits (optionalIn (now (f .entry)) c))) ⌝ }
@@ -271,7 +272,7 @@ pub fn put_valued(
 )
     requires { ⌜ Fits (u .names) (length (nameIn (now f) name)) (now names) ⌝ }
     requires { ⌜ OptionalFits (now f) c u (now strings) (now bits) ⌝ }
-    requires { ⌜ 2048 ≤ length (now scratch) ⌝ }
+    requires { ⌜ mostWidth ≤ length (now scratch) ⌝ }
     requires { ⌜ 8 * u .rows + 8 ≤ length (now rows) ⌝ }
     ensures { λ _. ⌜ now (names .exit) ≡ store (now (names .entry)) (u .names) (nameIn (now (f .entry)) name) ⌝ }
     ensures { λ _. ⌜ now (strings .exit) ≡ store (now (strings .entry)) (u .strings) (optionalBytes (optionalIn (now (f .entry)) c)) ⌝ }
@@ -399,11 +400,11 @@ fn put_connection(
     bits: &mut [u32],
     rows: &mut [u32],
 )
-    requires { ⌜ (left ≤ 2048) × (2048 + right ≤ length (now scratch)) ⌝ }
+    requires { ⌜ (left ≤ mostWidth) × (mostWidth + right ≤ length (now scratch)) ⌝ }
     requires { ⌜ Fits (u .bits) (left + right) (now bits) ⌝ }
     requires { ⌜ 8 * u .rows + 8 ≤ length (now rows) ⌝ }
-    ensures { λ _. ⌜ now (bits .exit) ≡ bitsPut (usedOf u) (conn-stmt (signalIn (now (scratch .entry)) 0 left) (signalIn (now (scratch .entry)) 2048 right)) (now (bits .entry)) ⌝ }
-    ensures { λ _. ⌜ now (rows .exit) ≡ rowsPut (usedOf u) (conn-stmt (signalIn (now (scratch .entry)) 0 left) (signalIn (now (scratch .entry)) 2048 right)) (now (rows .entry)) ⌝ }
+    ensures { λ _. ⌜ now (bits .exit) ≡ bitsPut (usedOf u) (conn-stmt (signalIn (now (scratch .entry)) 0 left) (signalIn (now (scratch .entry)) mostWidth right)) (now (bits .entry)) ⌝ }
+    ensures { λ _. ⌜ now (rows .exit) ≡ rowsPut (usedOf u) (conn-stmt (signalIn (now (scratch .entry)) 0 left) (signalIn (now (scratch .entry)) mostWidth right)) (now (rows .entry)) ⌝ }
 {
     let at = u.bits as usize;
     reverse_words(scratch, 0, left, bits, at);

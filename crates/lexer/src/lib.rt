@@ -26,6 +26,7 @@ ghost use mathlib.Core.Path.{_≡_};
 ghost use Prim.Native.Nat.{_+_, _-_, _*_, _≤_, _<_};
 ghost use lib.ListN.{length, drop};
 ghost use lib.Seq.{slice};
+ghost use Rattle.rules.specs.Limits.{longestFile};
 ghost use Rattle.rules.specs.Tokens.{parted, separate, decimal, valueStep};
 ghost use Rattle.scanner.specs.Class.{inClass, classTable};
 ghost use Rattle.scanner.specs.Runs.{endOf};
@@ -229,7 +230,7 @@ fn step(class: &[u8; 256], s: &[u8], at: usize) -> Lexeme
 
 // The line from start to end of the file f, each token in a row of the table. The table of classes is made here, once for the line.
 pub fn lex_line(f: &[u8], start: usize, end: usize, table: &mut [u32]) -> Lexed
-    requires { ⌜ (start ≤ end) × (end ≤ length (now f)) × (length (now f) ≤ 32768) × (4 * (end - start) ≤ length (now table)) ⌝ }
+    requires { ⌜ (start ≤ end) × (end ≤ length (now f)) × (length (now f) ≤ longestFile) × (4 * (end - start) ≤ length (now table)) ⌝ }
     ensures { λ r. ⌜ LexedIs (now (f .entry)) start end (now (table .entry)) (now (table .exit)) r ⌝ }
 {
     let class = classes();

@@ -37,6 +37,7 @@ ghost use lib.Dec.{eqb};
 ghost use lib.IntN.{pos};
 ghost use lib.ListN.{length, drop};
 ghost use lib.Seq.{slice};
+ghost use Rattle.rules.specs.Limits.{mostWidth, bitsLength, pastText, manyRows};
 ghost use Rattle.rules.specs.Tokens.{literal, mark};
 ghost use Rattle.rules.specs.Statements.{autoidx-stmt, attr-stmt, module-stmt, param-stmt, wire-stmt, memory-stmt, cell-stmt, cell-param-stmt, cell-conn-stmt, conn-stmt};
 ghost use Rattle.rules.specs.Text.{cut, runSig, sig, literalOf, setting, unless, portOptions, wireOptions, memoryOptions, numberToken, lowTokens, sigTokens, optionTokens, sortTokens, shapeTokens, decimalText, integerText, spaced};
@@ -119,7 +120,7 @@ fn words<'a>(t: &'a [u32], start: usize, end: usize) -> &'a [u32]
 }
 
 fn words_at<'a>(t: &'a [u32], rows: &[u32], row: usize, c: usize) -> &'a [u32]
-    requires { ⌜ (row < 8589934592) × (c < 7) ⌝ }
+    requires { ⌜ (row < manyRows) × (c < 7) ⌝ }
     ensures { λ r. ⌜ now r ≡ spanAt (now (t .entry)) (now (rows .entry)) row c ⌝ }
 {
     let start = column(rows, row, c) as usize;
@@ -129,7 +130,7 @@ fn words_at<'a>(t: &'a [u32], rows: &[u32], row: usize, c: usize) -> &'a [u32]
 
 // A token behind a space.
 fn put_token(out: &mut [u8], at: usize, s: &[u8]) -> usize
-    requires { ⌜ at ≤ 32769 ⌝ }
+    requires { ⌜ at ≤ pastText ⌝ }
     ensures { λ r. ⌜ Written at (32 ∷ now (s .entry)) (now (out .entry)) (now (out .exit)) r ⌝ }
 {
     let space = put_byte(out, at, b' ');
@@ -137,7 +138,7 @@ fn put_token(out: &mut [u8], at: usize, s: &[u8]) -> usize
 }
 
 fn put_number(out: &mut [u8], at: usize, n: u32) -> usize
-    requires { ⌜ at ≤ 32769 ⌝ }
+    requires { ⌜ at ≤ pastText ⌝ }
     ensures { λ r. ⌜ Written at (32 ∷ decimalText n) (now (out .entry)) (now (out .exit)) r ⌝ }
 {
     let space = put_byte(out, at, b' ');
@@ -145,7 +146,7 @@ fn put_number(out: &mut [u8], at: usize, n: u32) -> usize
 }
 
 fn put_signed(out: &mut [u8], at: usize, word: u32) -> usize
-    requires { ⌜ at ≤ 32769 ⌝ }
+    requires { ⌜ at ≤ pastText ⌝ }
     ensures { λ r. ⌜ Written at (32 ∷ integerText (signedOf word)) (now (out .entry)) (now (out .exit)) r ⌝ }
 {
     let space = put_byte(out, at, b' ');
@@ -161,7 +162,7 @@ fn put_constant(
     out: &mut [u8],
     at: usize,
 ) -> usize
-    requires { ⌜ (at ≤ 32769) × (row < 8589934592) × (c < 6) × (length (now bits) ≤ 16384) ⌝ }
+    requires { ⌜ (at ≤ pastText) × (row < manyRows) × (c < 6) × (length (now bits) ≤ bitsLength) ⌝ }
     ensures { λ r. ⌜ Written at (spread (literal (literalOf (constantAt (now (strings .entry)) (now (bits .entry)) (now (rows .entry)) row c)) ∷ [])) (now (out .entry)) (now (out .exit)) r ⌝ }
 {
     let space = put_byte(out, at, b' ');
@@ -209,7 +210,7 @@ fn run_low(s: &[u32], i: usize) -> usize
 
 // `[i]` or `[h:l]`.
 fn put_bounds(out: &mut [u8], at: usize, low: u32, count: u32) -> usize
-    requires { ⌜ (at ≤ 32769) × (low < 2048) × (0 < count) × (count ≤ 16384) ⌝ }
+    requires { ⌜ (at ≤ pastText) × (low < mostWidth) × (0 < count) × (count ≤ bitsLength) ⌝ }
     ensures { λ r. ⌜ Written at (spread (mark 91 ∷ numberToken (pos (low + count - 1)) ∷ lowTokens (cond (eqb count 1) none (some (pos low))) ++ mark 93 ∷ [])) (now (out .entry)) (now (out .exit)) r ⌝ }
 {
     let open = put_bytes(out, at, b" [");
@@ -234,7 +235,7 @@ fn put_cut(
     out: &mut [u8],
     at: usize,
 ) -> usize
-    requires { ⌜ (at ≤ 32769) × (low < 2048) × (0 < count) × (count ≤ 16384) ⌝ }
+    requires { ⌜ (at ≤ pastText) × (low < mostWidth) × (0 < count) × (count ≤ bitsLength) ⌝ }
     ensures { λ r. ⌜ Written at (spread (sigTokens (cut (drop (m .wires - (wire + 1)) (wiresIn (now (names .entry)) (now (wires .entry)) (now (rows .entry)) m)) low count))) (now (out .entry)) (now (out .exit)) r ⌝ }
 {
     let many = m.wires;
@@ -262,7 +263,7 @@ fn put_run(
     out: &mut [u8],
     at: usize,
 ) -> usize
-    requires { ⌜ (at ≤ 32769) × (j < i) × (i ≤ length (now s)) × (length (now s) ≤ 16384) ⌝ }
+    requires { ⌜ (at ≤ pastText) × (j < i) × (i ≤ length (now s)) × (length (now s) ≤ bitsLength) ⌝ }
     ensures { λ r. ⌜ Written at (spread (sigTokens (runSig (wiresIn (now (names .entry)) (now (wires .entry)) (now (rows .entry)) m) (firstRun (drop j (now (s .entry))) (i - j))))) (now (out .entry)) (now (out .exit)) r ⌝ }
 {
     let code = s[j];
@@ -294,7 +295,7 @@ fn put_runs(
     out: &mut [u8],
     at: usize,
 ) -> usize
-    requires { ⌜ (at ≤ 32769) × (length (now s) ≤ 16384) ⌝ }
+    requires { ⌜ (at ≤ pastText) × (length (now s) ≤ bitsLength) ⌝ }
     ensures { λ r. ⌜ Written at (runsText (wiresIn (now (names .entry)) (now (wires .entry)) (now (rows .entry)) m) (now (s .entry))) (now (out .entry)) (now (out .exit)) r ⌝ }
 {
     let mut end = at;
@@ -317,7 +318,7 @@ fn put_signal(
     out: &mut [u8],
     at: usize,
 ) -> usize
-    requires { ⌜ (at ≤ 32769) × (length (now s) ≤ 16384) ⌝ }
+    requires { ⌜ (at ≤ pastText) × (length (now s) ≤ bitsLength) ⌝ }
     ensures { λ r. ⌜ Written at (spread (sigTokens (sig (wiresIn (now (names .entry)) (now (wires .entry)) (now (rows .entry)) m) (signalOf (now (s .entry)))))) (now (out .entry)) (now (out .exit)) r ⌝ }
 {
     let n = s.len();
@@ -334,7 +335,7 @@ fn put_signal(
 
 // An option with its number, left out where it is the default.
 fn put_setting(out: &mut [u8], at: usize, w: &[u8], n: u32, usual: u32) -> usize
-    requires { ⌜ at ≤ 32769 ⌝ }
+    requires { ⌜ at ≤ pastText ⌝ }
     ensures { λ r. ⌜ Written at (spread (optionTokens (unless (eqb n usual) (now (w .entry), some (pos n))))) (now (out .entry)) (now (out .exit)) r ⌝ }
 {
     if n == usual {
@@ -345,7 +346,7 @@ fn put_setting(out: &mut [u8], at: usize, w: &[u8], n: u32, usual: u32) -> usize
 }
 
 fn put_offset(out: &mut [u8], at: usize, word: u32) -> usize
-    requires { ⌜ at ≤ 32769 ⌝ }
+    requires { ⌜ at ≤ pastText ⌝ }
     ensures { λ r. ⌜ Written at (spread (optionTokens (unless (inRange 0 0 (signedOf word)) (setting "offset" (signedOf word))))) (now (out .entry)) (now (out .exit)) r ⌝ }
 {
     if word == 0 {
@@ -356,7 +357,7 @@ fn put_offset(out: &mut [u8], at: usize, word: u32) -> usize
 }
 
 fn put_flag(out: &mut [u8], at: usize, set: bool, w: &[u8]) -> usize
-    requires { ⌜ at ≤ 32769 ⌝ }
+    requires { ⌜ at ≤ pastText ⌝ }
     ensures { λ r. ⌜ Written at (spread (optionTokens (unless (not set) (now (w .entry), none)))) (now (out .entry)) (now (out .exit)) r ⌝ }
 {
     if set {
@@ -367,7 +368,7 @@ fn put_flag(out: &mut [u8], at: usize, set: bool, w: &[u8]) -> usize
 
 // The port of a direction's code, 1 to 3; any other is none.
 fn put_port(out: &mut [u8], at: usize, direction: u32, n: u32) -> usize
-    requires { ⌜ at ≤ 32769 ⌝ }
+    requires { ⌜ at ≤ pastText ⌝ }
     ensures { λ r. ⌜ Written at (spread (optionTokens (portOptions (portOf direction n)))) (now (out .entry)) (now (out .exit)) r ⌝ }
 {
     if direction == PORT_INPUT {
@@ -386,7 +387,7 @@ fn put_port(out: &mut [u8], at: usize, direction: u32, n: u32) -> usize
 }
 
 fn put_wire_options(wires: &[u32], row: usize, out: &mut [u8], at: usize) -> usize
-    requires { ⌜ (at ≤ 32769) × (row < 8589934592) ⌝ }
+    requires { ⌜ (at ≤ pastText) × (row < manyRows) ⌝ }
     ensures { λ r. ⌜ Written at (spread (optionTokens (wireOptions (wireOf (now (wires .entry)) row)))) (now (out .entry)) (now (out .exit)) r ⌝ }
 {
     let flags = column(wires, row, WIRE_FLAGS);
@@ -403,7 +404,7 @@ fn put_wire_options(wires: &[u32], row: usize, out: &mut [u8], at: usize) -> usi
 }
 
 fn put_memory_options(rows: &[u32], row: usize, out: &mut [u8], at: usize) -> usize
-    requires { ⌜ (at ≤ 32769) × (row < 8589934592) ⌝ }
+    requires { ⌜ (at ≤ pastText) × (row < manyRows) ⌝ }
     ensures { λ r. ⌜ Written at (spread (optionTokens (memoryOptions (memoryAt (now (rows .entry)) row)))) (now (out .entry)) (now (out .exit)) r ⌝ }
 {
     let width = put_setting(out, at, b"width", column(rows, row, MEMORY_WIDTH), 1);
@@ -412,7 +413,7 @@ fn put_memory_options(rows: &[u32], row: usize, out: &mut [u8], at: usize) -> us
 }
 
 fn put_sort(rows: &[u32], row: usize, c: usize, out: &mut [u8], at: usize) -> usize
-    requires { ⌜ (at ≤ 32769) × (row < 8589934592) × (c < 8) ⌝ }
+    requires { ⌜ (at ≤ pastText) × (row < manyRows) × (c < 8) ⌝ }
     ensures { λ r. ⌜ Written at (spread (sortTokens (sortAt (now (rows .entry)) row c))) (now (out .entry)) (now (out .exit)) r ⌝ }
 {
     let sort = column(rows, row, c);
@@ -426,7 +427,7 @@ fn put_sort(rows: &[u32], row: usize, c: usize, out: &mut [u8], at: usize) -> us
 }
 
 fn put_autoidx(rows: &[u32], row: usize, out: &mut [u8], at: usize) -> usize
-    requires { ⌜ (at ≤ 32769) × (row < 8589934592) ⌝ }
+    requires { ⌜ (at ≤ pastText) × (row < manyRows) ⌝ }
     ensures { λ r. ⌜ Written at (spaced (shapeTokens (autoidx-stmt (signedOf (column (now (rows .entry)) row 1))))) (now (out .entry)) (now (out .exit)) r ⌝ }
 {
     let end = put_bytes(out, at, b"autoidx");
@@ -442,7 +443,7 @@ fn put_attribute(
     out: &mut [u8],
     at: usize,
 ) -> usize
-    requires { ⌜ (at ≤ 32769) × (row < 8589934592) × (length (now bits) ≤ 16384) ⌝ }
+    requires { ⌜ (at ≤ pastText) × (row < manyRows) × (length (now bits) ≤ bitsLength) ⌝ }
     ensures { λ r. ⌜ Written at (spaced (shapeTokens (attr-stmt (nameFrom (now (names .entry)) (now (rows .entry)) row 1) (literalOf (constantAt (now (strings .entry)) (now (bits .entry)) (now (rows .entry)) row 3))))) (now (out .entry)) (now (out .exit)) r ⌝ }
 {
     let first = put_bytes(out, at, b"attribute");
@@ -451,7 +452,7 @@ fn put_attribute(
 }
 
 fn put_module(names: &[u8], rows: &[u32], row: usize, out: &mut [u8], at: usize) -> usize
-    requires { ⌜ (at ≤ 32769) × (row < 8589934592) ⌝ }
+    requires { ⌜ (at ≤ pastText) × (row < manyRows) ⌝ }
     ensures { λ r. ⌜ Written at (spaced (shapeTokens (module-stmt (nameFrom (now (names .entry)) (now (rows .entry)) row 1)))) (now (out .entry)) (now (out .exit)) r ⌝ }
 {
     let first = put_bytes(out, at, b"module");
@@ -467,7 +468,7 @@ fn put_parameter(
     out: &mut [u8],
     at: usize,
 ) -> usize
-    requires { ⌜ (at ≤ 32769) × (row < 8589934592) × (length (now bits) ≤ 16384) ⌝ }
+    requires { ⌜ (at ≤ pastText) × (row < manyRows) × (length (now bits) ≤ bitsLength) ⌝ }
     ensures { λ r. ⌜ Written at (spaced (shapeTokens (param-stmt (nameFrom (now (names .entry)) (now (rows .entry)) row 1) (Option·map literalOf (optionalAt (now (strings .entry)) (now (bits .entry)) (now (rows .entry)) row 3))))) (now (out .entry)) (now (out .exit)) r ⌝ }
 {
     let first = put_bytes(out, at, b"parameter");
@@ -479,7 +480,7 @@ fn put_parameter(
 }
 
 fn put_memory(names: &[u8], rows: &[u32], row: usize, out: &mut [u8], at: usize) -> usize
-    requires { ⌜ (at ≤ 32769) × (row < 8589934592) ⌝ }
+    requires { ⌜ (at ≤ pastText) × (row < manyRows) ⌝ }
     ensures { λ r. ⌜ Written at (spaced (shapeTokens (memory-stmt (memoryOptions (memoryAt (now (rows .entry)) row)) (nameFrom (now (names .entry)) (now (rows .entry)) row 1)))) (now (out .entry)) (now (out .exit)) r ⌝ }
 {
     let first = put_bytes(out, at, b"memory");
@@ -488,7 +489,7 @@ fn put_memory(names: &[u8], rows: &[u32], row: usize, out: &mut [u8], at: usize)
 }
 
 fn put_cell(names: &[u8], rows: &[u32], row: usize, out: &mut [u8], at: usize) -> usize
-    requires { ⌜ (at ≤ 32769) × (row < 8589934592) ⌝ }
+    requires { ⌜ (at ≤ pastText) × (row < manyRows) ⌝ }
     ensures { λ r. ⌜ Written at (spaced (shapeTokens (cell-stmt (nameFrom (now (names .entry)) (now (rows .entry)) row 1) (nameFrom (now (names .entry)) (now (rows .entry)) row 3)))) (now (out .entry)) (now (out .exit)) r ⌝ }
 {
     let first = put_bytes(out, at, b"cell");
@@ -505,7 +506,7 @@ fn put_cell_parameter(
     out: &mut [u8],
     at: usize,
 ) -> usize
-    requires { ⌜ (at ≤ 32769) × (row < 8589934592) × (length (now bits) ≤ 16384) ⌝ }
+    requires { ⌜ (at ≤ pastText) × (row < manyRows) × (length (now bits) ≤ bitsLength) ⌝ }
     ensures { λ r. ⌜ Written at (spaced (shapeTokens (cell-param-stmt (sortAt (now (rows .entry)) row 6) (nameFrom (now (names .entry)) (now (rows .entry)) row 1) (literalOf (constantAt (now (strings .entry)) (now (bits .entry)) (now (rows .entry)) row 3))))) (now (out .entry)) (now (out .exit)) r ⌝ }
 {
     let first = put_bytes(out, at, b"parameter");
@@ -524,7 +525,7 @@ fn put_wire(
     out: &mut [u8],
     at: usize,
 ) -> usize
-    requires { ⌜ (at ≤ 32769) × (row < 8589934592) ⌝ }
+    requires { ⌜ (at ≤ pastText) × (row < manyRows) ⌝ }
     ensures { λ r. ⌜ Written at (spaced (shapeTokens (wire-stmt (wireOptions (wireOf (now (wires .entry)) (column (now (rows .entry)) row 3))) (ownNow (now (names .entry)) (now (wires .entry)) (now (rows .entry)) m (column (now (rows .entry)) row 3))))) (now (out .entry)) (now (out .exit)) r ⌝ }
 {
     let k = column(rows, row, ROW_WIRE);
@@ -548,7 +549,7 @@ fn put_cell_connection(
     out: &mut [u8],
     at: usize,
 ) -> usize
-    requires { ⌜ (at ≤ 32769) × (row < 8589934592) × (length (now bits) ≤ 16384) ⌝ }
+    requires { ⌜ (at ≤ pastText) × (row < manyRows) × (length (now bits) ≤ bitsLength) ⌝ }
     ensures { λ r. ⌜ Written at (spaced (shapeTokens (cell-conn-stmt (nameFrom (now (names .entry)) (now (rows .entry)) row 1) (sig (wiresIn (now (names .entry)) (now (wires .entry)) (now (rows .entry)) m) (signalAt (now (bits .entry)) (now (rows .entry)) row 3))))) (now (out .entry)) (now (out .exit)) r ⌝ }
 {
     let first = put_bytes(out, at, b"connect");
@@ -574,7 +575,7 @@ fn put_connection(
     out: &mut [u8],
     at: usize,
 ) -> usize
-    requires { ⌜ (at ≤ 32769) × (row < 8589934592) × (length (now bits) ≤ 16384) ⌝ }
+    requires { ⌜ (at ≤ pastText) × (row < manyRows) × (length (now bits) ≤ bitsLength) ⌝ }
     ensures { λ r. ⌜ Written at (spaced (shapeTokens (conn-stmt (sig (wiresIn (now (names .entry)) (now (wires .entry)) (now (rows .entry)) m) (signalAt (now (bits .entry)) (now (rows .entry)) row 1)) (sig (wiresIn (now (names .entry)) (now (wires .entry)) (now (rows .entry)) m) (signalAt (now (bits .entry)) (now (rows .entry)) row 3))))) (now (out .entry)) (now (out .exit)) r ⌝ }
 {
     let first = put_bytes(out, at, b"connect");
@@ -609,7 +610,7 @@ fn put_plain(
     out: &mut [u8],
     at: usize,
 ) -> usize
-    requires { ⌜ (at ≤ 32769) × (row < 8589934592) × (length (now bits) ≤ 16384) ⌝ }
+    requires { ⌜ (at ≤ pastText) × (row < manyRows) × (length (now bits) ≤ bitsLength) ⌝ }
     ensures { λ r. ⌜ PlainIs (now (names .entry)) (now (strings .entry)) (now (bits .entry)) (now (rows .entry)) row kind at (now (out .entry)) (now (out .exit)) r ⌝ }
 {
     if kind == AUTOIDX {
@@ -650,7 +651,7 @@ fn put_statement(
     out: &mut [u8],
     at: usize,
 ) -> usize
-    requires { ⌜ (at ≤ 32769) × (row < 8589934592) × (length (now bits) ≤ 16384) ⌝ }
+    requires { ⌜ (at ≤ pastText) × (row < manyRows) × (length (now bits) ≤ bitsLength) ⌝ }
     ensures { λ r. ⌜ Written at (bodyText (wiresIn (now (names .entry)) (now (wires .entry)) (now (rows .entry)) m) (statementNow (now (names .entry)) (now (strings .entry)) (now (bits .entry)) (now (wires .entry)) (now (rows .entry)) m row)) (now (out .entry)) (now (out .exit)) r ⌝ }
 {
     let kind = column(rows, row, ROW_KIND);
@@ -679,7 +680,7 @@ pub fn put_line(
     out: &mut [u8],
     at: usize,
 ) -> usize
-    requires { ⌜ (at ≤ 32769) × (level ≤ 2) × (length (now bits) ≤ 16384) ⌝ }
+    requires { ⌜ (at ≤ pastText) × (level ≤ 2) × (length (now bits) ≤ bitsLength) ⌝ }
     ensures { λ r. ⌜ Written at (lineOf level (wiresIn (now (names .entry)) (now (wires .entry)) (now (rows .entry)) m) (statementNow (now (names .entry)) (now (strings .entry)) (now (bits .entry)) (now (wires .entry)) (now (rows .entry)) m k)) (now (out .entry)) (now (out .exit)) r ⌝ }
 {
     let body = put_spaces(out, at, LEVEL_SPACES * level);

@@ -14,6 +14,7 @@ ghost use mathlib.Core.List.{map, reverse};
 ghost use Prim.Native.Nat.{_+_, _*_, _≤_, _<_};
 ghost use lib.ListN.{length, drop, getD};
 ghost use lib.Seq.{slice};
+ghost use Rattle.rules.specs.Limits.{mostWidth};
 ghost use Rattle.rules.specs.Tokens.{digit, value, integer, string};
 ghost use Rattle.rules.specs.Numbers.{int32, goodLiteral};
 ghost use Rattle.rules.specs.Signals.{literalBits, literalWidth};
@@ -241,7 +242,7 @@ fn put_text(f: &[u8], start: usize, out: &mut [u32], at: usize)
 // The codes of a constant's bits, highest first, from `at` on. A string of 2,048 bits is 256 bytes.
 pub fn put_literal(f: &[u8], c: ConstantSpan, out: &mut [u32], at: usize)
     requires { ⌜ goodLiteral (literalIn (now f) c) ≡ true ⌝ }
-    requires { ⌜ literalWidth (literalIn (now f) c) ≤ 2048 ⌝ }
+    requires { ⌜ literalWidth (literalIn (now f) c) ≤ mostWidth ⌝ }
     requires { ⌜ at + literalWidth (literalIn (now f) c) ≤ length (now out) ⌝ }
     requires { ⌜ Whole (now f) c ⌝ }
     ensures { λ _. ⌜ now (out .exit) ≡ store (now (out .entry)) at (reverse (map digitCode (literalBits (literalIn (now (f .entry)) c)))) ⌝ }

@@ -6,6 +6,7 @@ use mathlib.Core.List.{List, [], _∷_, _++_, reverse, reverse-cons, reverse-rev
 use native.Mathlib.Omega.{arith}
 use lib.ListN.{length, length-append}
 use borrow.Author.Tests.{leb-true}
+use Rattle.rules.specs.Limits.{nameRoom, mostRenames}
 use Rattle.rules.specs.Bytes.{all}
 use Rattle.rules.specs.Judgement.{accepted}
 use Rattle.rules.specs.Design.{Design}
@@ -59,11 +60,11 @@ module _ (d : Design) (rs : List Rename) (r : Rename) where
   accepted-number e = ap numberOf e
 
 module _ {d : Design} where
-  pub allowed-few : {qs : List Rename} → Allowed d qs → length qs ≤ 64
+  pub allowed-few : {qs : List Rename} → Allowed d qs → length qs ≤ mostRenames
   allowed-few no-renames = omega arith
   allowed-few (one-rename rs r a e q) =
       rw q (omega (arith, length-append rs (r ∷ []), accepted-keeps d rs (rs ++ r ∷ []) r e .few))
 
-  pub allowed-room : {qs : List Rename} → roomUsed d [] ≤ 16384 → Allowed d qs → roomUsed d qs ≤ 16384
+  pub allowed-room : {qs : List Rename} → roomUsed d [] ≤ nameRoom → Allowed d qs → roomUsed d qs ≤ nameRoom
   allowed-room h no-renames = h
   allowed-room h (one-rename rs r a e q) = rw q (omega (arith, room-more d rs r, accepted-keeps d rs (rs ++ r ∷ []) r e .room))

@@ -9,6 +9,7 @@ use lib.Dec.{eqb}
 use lib.ListN.{length, take, getD}
 use lib.Seq.{take-append-seam}
 use borrow.Author.Tests.{eqb-true}
+use Rattle.rules.specs.Limits.{mostWires, namesLength, stringsLength, bitsLength, wiresLength, rowsLength}
 use Rattle.rules.specs.Bytes.{within}
 use Rattle.rules.specs.Statements.{Statement}
 use Rattle.rules.specs.Judgement.{Past}
@@ -116,26 +117,26 @@ module _ {m : layouts.Memory} {ss : List Statement} {rs : List Rename} (h : Hold
   in-place : Sized S (placeOf (reverse ss)) (sumsOf (reverse ss)) (length rs)
   in-place = sized ss rs (placeOf (reverse ss)) (sumsOf (reverse ss)) (length rs) refl refl refl
 
-  names-fit : length (S .names) ≤ 16384
+  names-fit : length (S .names) ≤ namesLength
   names-fit =
       let e : roomUsed (design ss) [] ≡ sumsOf (reverse ss) .«name_bytes» =
       room-used ss [] (h .admitted) (h .closes) ∙ names-used ss [] (placeOf (reverse ss)) (sumsOf (reverse ss)) 0 refl refl in
-      let b : roomUsed (design ss) rs ≤ 16384 = allowed-room (omega (arith, sums-fit .name-bytes)) (h .allowed) in
+      let b : roomUsed (design ss) rs ≤ bitsLength = allowed-room (omega (arith, sums-fit .name-bytes)) (h .allowed) in
       omega (arith, room-used ss rs (h .admitted) (h .closes))
 
-  wires-fit : placeOf (reverse ss) .wires ≤ 512
+  wires-fit : placeOf (reverse ss) .wires ≤ mostWires
   unfolding placeOf wiresIn sumsOf sizesBy
   wires-fit = sums-fit .wires
 
   pub holds-sizes : rightLengths m ≡ true
   unfolding layout memory rightLengths rightSizes placeOf
   holds-sizes =
-      let a : length (m .names) ≡ 16384 = sym (holds-as (λ x. length (x .names))) ∙ length-padded 16384 (S .names) names-fit in
-      let b : length (m .strings) ≡ 8192 = sym (holds-as (λ x. length (x .strings))) ∙ length-padded 8192 (S .strings) (omega (arith, in-place .strings, sums-fit .string-bytes)) in
-      let c : length (m .bits) ≡ 16384 = sym (holds-as (λ x. length (x .bits))) ∙ length-padded 16384 (S .bits) (omega (arith, in-place .bits, sums-fit .value-bits, sums-fit .signal-bits)) in
-      let d : length (m .wires) ≡ 4096 = sym (holds-as (λ x. length (x .wires))) ∙ length-padded (8 * 512) (flat (S .wires)) (omega (arith, in-place .wires, wires-fit)) in
+      let a : length (m .names) ≡ namesLength = sym (holds-as (λ x. length (x .names))) ∙ length-padded namesLength (S .names) names-fit in
+      let b : length (m .strings) ≡ stringsLength = sym (holds-as (λ x. length (x .strings))) ∙ length-padded stringsLength (S .strings) (omega (arith, in-place .strings, sums-fit .string-bytes)) in
+      let c : length (m .bits) ≡ bitsLength = sym (holds-as (λ x. length (x .bits))) ∙ length-padded bitsLength (S .bits) (omega (arith, in-place .bits, sums-fit .value-bits, sums-fit .signal-bits)) in
+      let d : length (m .wires) ≡ 4096 = sym (holds-as (λ x. length (x .wires))) ∙ length-padded wiresLength (flat (S .wires)) (omega (arith, in-place .wires, wires-fit)) in
       let e : length (m .rows) ≡ 38152 =
-      sym (holds-as (λ x. length (x .rows))) ∙ length-padded (8 * 4769) (flat (S .rows)) (omega (arith, in-place .rows, admitted-few (reverse ss) (h .admitted), allowed-few (h .allowed))) in
+      sym (holds-as (λ x. length (x .rows))) ∙ length-padded rowsLength (flat (S .rows)) (omega (arith, in-place .rows, admitted-few (reverse ss) (h .admitted), allowed-few (h .allowed))) in
       rw (a, b, c, d, e)
 
   -- what is not used is zero
@@ -148,11 +149,11 @@ module _ {m : layouts.Memory} {ss : List Statement} {rs : List Rename} (h : Hold
   holds-rest p u ep eu =
       let z = sized ss rs p u (m .renames) ep eu holds-many in
       rw (
-        rest (m .names) (S .names) 16384 (m .room) (holds-as (λ x. x .names)) holds-room,
-        rest (m .strings) (S .strings) 8192 (u .«string_bytes») (holds-as (λ x. x .strings)) (z .strings),
-        rest (m .bits) (S .bits) 16384 (u .«value_bits» + u .«signal_bits») (holds-as (λ x. x .bits)) (z .bits),
-        rest (m .wires) (flat (S .wires)) (8 * 512) (8 * p .wires) (holds-as (λ x. x .wires)) (z .wires),
-        rest (m .rows) (flat (S .rows)) (8 * 4769) (8 * (p .rows + m .renames)) (holds-as (λ x. x .rows)) (z .rows),
+        rest (m .names) (S .names) namesLength (m .room) (holds-as (λ x. x .names)) holds-room,
+        rest (m .strings) (S .strings) stringsLength (u .«string_bytes») (holds-as (λ x. x .strings)) (z .strings),
+        rest (m .bits) (S .bits) bitsLength (u .«value_bits» + u .«signal_bits») (holds-as (λ x. x .bits)) (z .bits),
+        rest (m .wires) (flat (S .wires)) wiresLength (8 * p .wires) (holds-as (λ x. x .wires)) (z .wires),
+        rest (m .rows) (flat (S .rows)) rowsLength (8 * (p .rows + m .renames)) (holds-as (λ x. x .rows)) (z .rows),
       )
 
   -- its statements are stored, and behind them stands no other
@@ -170,12 +171,12 @@ kind-ends rows at k = rw k
 -- behind the statements stands a rename's row or nothing
 rows-end :
     (q : Past) (rs : List Rename) (names rows : List ℕ) → Laid (putRenames (roomsOf q) rs) names rows →
-    padded (8 * 4769) (flat (putRenames (roomsOf q) rs .rows)) ≡ rows →
+    padded rowsLength (flat (putRenames (roomsOf q) rs .rows)) ≡ rows →
     isStatement (wordAt rows (8 * length (roomsOf q .rows))) ≡ false
 unfolding putRenames wordAt isStatement within
 rows-end q [] names rows l e =
     let z : getD rows (8 * length (roomsOf q .rows)) 0 ≡ 0 =
-    rw (← e) (padded-behind (8 * 4769) (flat (roomsOf q .rows)) (8 * length (roomsOf q .rows)) (omega (arith, length-flat (roomsOf q .rows) (eights-rows q)))) in
+    rw (← e) (padded-behind rowsLength (flat (roomsOf q .rows)) (8 * length (roomsOf q .rows)) (omega (arith, length-flat (roomsOf q .rows) (eights-rows q)))) in
     rw z
 rows-end q (r ∷ rs) names rows l e =
     let R : Rooms = roomsOf q in
@@ -233,16 +234,16 @@ module _ (m : layouts.Memory) (ss : List Statement) (p : Place) (u : Sizes)
       let r₁ = and-true-right (zeroFrom (m .names) (m .room)) _ r in
       let r₂ = and-true-right (zeroFrom (m .strings) (u .«string_bytes»)) _ r₁ in
       let r₃ = and-true-right (zeroFrom (m .bits) (u .«value_bits» + u .«signal_bits»)) _ r₂ in
-      let en : padded 16384 (R .names) ≡ m .names =
-      table-is (m .names) (R .names) 16384 (m .room) (l .room) (e .0) (l .laid .names-start) (and-true-left _ _ r) in
-      let es : padded 8192 (R .strings) ≡ m .strings =
-      table-is (m .strings) (R .strings) 8192 (u .«string_bytes») (z .strings) (e .1) (rw (k .strings) (f .strings-start)) (and-true-left _ _ r₁) in
-      let eb : padded 16384 (R .bits) ≡ m .bits =
-      table-is (m .bits) (R .bits) 16384 (u .«value_bits» + u .«signal_bits») (z .bits) (e .2) (rw (k .bits) (f .bits-start)) (and-true-left _ _ r₂) in
-      let ew : padded (8 * 512) (flat (R .wires)) ≡ m .wires =
-      table-is (m .wires) (flat (R .wires)) (8 * 512) (8 * p .wires) (z .wires) (e .3) (l .wired .wires-start) (and-true-left _ _ r₃) in
-      let er : padded (8 * 4769) (flat (R .rows)) ≡ m .rows =
-      table-is (m .rows) (flat (R .rows)) (8 * 4769) (8 * (p .rows + m .renames)) (z .rows) (e .4) (l .laid .rows-start) (and-true-right (zeroFrom (m .wires) (8 * p .wires)) _ r₃) in
+      let en : padded namesLength (R .names) ≡ m .names =
+      table-is (m .names) (R .names) namesLength (m .room) (l .room) (e .0) (l .laid .names-start) (and-true-left _ _ r) in
+      let es : padded stringsLength (R .strings) ≡ m .strings =
+      table-is (m .strings) (R .strings) stringsLength (u .«string_bytes») (z .strings) (e .1) (rw (k .strings) (f .strings-start)) (and-true-left _ _ r₁) in
+      let eb : padded bitsLength (R .bits) ≡ m .bits =
+      table-is (m .bits) (R .bits) bitsLength (u .«value_bits» + u .«signal_bits») (z .bits) (e .2) (rw (k .bits) (f .bits-start)) (and-true-left _ _ r₂) in
+      let ew : padded wiresLength (flat (R .wires)) ≡ m .wires =
+      table-is (m .wires) (flat (R .wires)) wiresLength (8 * p .wires) (z .wires) (e .3) (l .wired .wires-start) (and-true-left _ _ r₃) in
+      let er : padded rowsLength (flat (R .rows)) ≡ m .rows =
+      table-is (m .rows) (flat (R .rows)) rowsLength (8 * (p .rows + m .renames)) (z .rows) (e .4) (l .laid .rows-start) (and-true-right (zeroFrom (m .wires) (8 * p .wires)) _ r₃) in
       record {
         admitted = h .admits;
         closes = h .closed;

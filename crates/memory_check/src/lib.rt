@@ -20,6 +20,7 @@ use tables::zero_from;
 ghost use mathlib.Core.Path.{_≡_};
 ghost use Prim.Native.Nat.{_≤_};
 ghost use lib.ListN.{length};
+ghost use Rattle.rules.specs.Limits.{mostWires, namesLength};
 ghost use Rattle.netlist.specs.Lengths.{rightSizes};
 ghost use Rattle.name_index.specs.Index.{keyAt, wireKey, rowRoom, Indexed};
 ghost use Rattle.memory_check.specs.Renamed.{isRename, RenameIs, RenamesAre};
@@ -72,7 +73,7 @@ fn one_rename(
     i: u32,
     used: u32,
 ) -> Renamed
-    requires { ⌜ length (now names) ≤ 16384 ⌝ }
+    requires { ⌜ length (now names) ≤ namesLength ⌝ }
     requires { ⌜ Indexed (now heads) (now chain) (keyAt (now names) (now rows)) (place .rows) ⌝ }
     requires { ⌜ Indexed (now «wire_heads») (now «wire_chain») (wireKey (now names) (now wires)) (place .wires) ⌝ }
     ensures { λ r. ⌜ RenameIs (now (names .entry)) (now (wires .entry)) (now (rows .entry)) place i used r ⌝ }
@@ -125,7 +126,7 @@ fn all_renames(
     renames: u32,
     used: u32,
 ) -> Renamed
-    requires { ⌜ length (now names) ≤ 16384 ⌝ }
+    requires { ⌜ length (now names) ≤ namesLength ⌝ }
     requires { ⌜ Indexed (now heads) (now chain) (keyAt (now names) (now rows)) (place .rows) ⌝ }
     requires { ⌜ Indexed (now «wire_heads») (now «wire_chain») (wireKey (now names) (now wires)) (place .wires) ⌝ }
     ensures { λ r. ⌜ RenamesAre (now (names .entry)) (now (wires .entry)) (now (rows .entry)) place renames used r ⌝ }
@@ -169,7 +170,7 @@ fn standing_renames(
     renames: u32,
     used: u32,
 ) -> Renamed
-    requires { ⌜ (length (now names) ≤ 16384) × (place .wires ≤ 512) ⌝ }
+    requires { ⌜ (length (now names) ≤ namesLength) × (place .wires ≤ mostWires) ⌝ }
     requires { ⌜ Indexed (now heads) (now chain) (keyAt (now names) (now rows)) (place .rows) ⌝ }
     ensures { λ r. ⌜ RenamesAre (now (names .entry)) (now (wires .entry)) (now (rows .entry)) place renames used r ⌝ }
 {

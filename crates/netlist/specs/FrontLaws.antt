@@ -5,6 +5,7 @@ use mathlib.Core.Path.{_≡_, refl, sym}
 use mathlib.Core.List.{List, _∷_, _++_, zip, zipWith, flatMap, append-nil}
 use native.Mathlib.Omega.{arith}
 use lib.ListN.{length}
+use Rattle.rules.specs.Limits.{namesLength, stringsLength, bitsLength, wiresLength, rowsLength}
 use Rattle.rules.specs.Tokens.{Name}
 use Rattle.rules.specs.Statements.{Statement, Wire, wire-stmt, contents, code, statementsOpen}
 use Rattle.rules.specs.Judgement.{Past}
@@ -118,11 +119,11 @@ unfolding layout memory
 fronts-layout ss rs =
     let R = rooms ss rs in
     record {
-      names-start = starts-padded 16384 (R .names);
-      strings-start = starts-padded 8192 (R .strings);
-      bits-start = starts-padded 16384 (R .bits);
-      wires-start = starts-padded (8 * 512) (flat (R .wires));
-      rows-start = starts-padded (8 * 4769) (flat (R .rows));
+      names-start = starts-padded namesLength (R .names);
+      strings-start = starts-padded stringsLength (R .strings);
+      bits-start = starts-padded bitsLength (R .bits);
+      wires-start = starts-padded wiresLength (flat (R .wires));
+      rows-start = starts-padded rowsLength (flat (R .rows));
     }
 
 -- the row of a wire in the table of wires

@@ -6,6 +6,7 @@ use mathlib.Core.List.{List, [], _∷_, flatMap, zip, zipWith, append-nil}
 use mathlib.Core.Bool.{true}
 use native.Mathlib.Omega.{arith}
 use lib.ListN.{length, take, drop}
+use Rattle.rules.specs.Limits.{namesLength, wiresLength}
 use Rattle.rules.specs.Bytes.{all}
 use Rattle.rules.specs.Tokens.{Name}
 use Rattle.rules.specs.Statements.{Statement, Wire, wire-stmt, contents, statementsOpen}
@@ -124,4 +125,4 @@ module _ (names t : List ℕ) where
 -- so in design memory, with renames or without
 pub wires-past : (ss : Past) (k : ℕ) → Offsets ss → let m = memory (roomsOf ss) k in let p = placeOf ss in wiresFrom (m .names) (m .wires) (p .«wires_from») (p .wires - p .«wires_from») ≡ wires ss
 unfolding memory
-wires-past ss k o = wires-laid _ _ ss o (wired-padded 16384 (8 * 512) (roomsOf ss))
+wires-past ss k o = wires-laid _ _ ss o (wired-padded namesLength wiresLength (roomsOf ss))

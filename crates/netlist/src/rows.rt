@@ -7,6 +7,7 @@ use wires::column;
 ghost use mathlib.Core.Path.{_≡_};
 ghost use mathlib.Core.Bool.{_&&_};
 ghost use Prim.Native.Nat.{_<_};
+ghost use Rattle.rules.specs.Limits.{manyRows};
 ghost use Rattle.rules.specs.Bytes.{same, any};
 ghost use Rattle.netlist.specs.Rows.{nameColumn, kindAt, nameAt, namesBetween};
 ghost use Rattle.netlist.specs.Kinds.{isKind};
@@ -33,7 +34,7 @@ pub struct Kinds {
 }
 
 fn kind_at(rows: &[u32], row: usize) -> u32
-    requires { ⌜ row < 8589934592 ⌝ }
+    requires { ⌜ row < manyRows ⌝ }
     ensures { λ r. ⌜ r ≡ kindAt (now (rows .entry)) row ⌝ }
 {
     column(rows, row, KIND)
@@ -50,7 +51,7 @@ fn name_column(kind: u32) -> usize
 }
 
 fn name_at<'a>(names: &'a [u8], rows: &[u32], row: usize) -> &'a [u8]
-    requires { ⌜ row < 8589934592 ⌝ }
+    requires { ⌜ row < manyRows ⌝ }
     ensures { λ r. ⌜ now r ≡ nameAt (now (names .entry)) (now (rows .entry)) row ⌝ }
 {
     let c = name_column(kind_at(rows, row));
@@ -84,7 +85,7 @@ fn is_kind(kinds: Kinds, kind: u32) -> bool
 
 // The kind first, which is one word; then the name.
 pub fn has_name(names: &[u8], rows: &[u32], row: usize, kinds: Kinds, name: &[u8]) -> bool
-    requires { ⌜ row < 8589934592 ⌝ }
+    requires { ⌜ row < manyRows ⌝ }
     ensures { λ r. ⌜ r ≡ isKind kinds (kindAt (now (rows .entry)) row) && same (now (name .entry)) (nameAt (now (names .entry)) (now (rows .entry)) row) ⌝ }
 {
     if is_kind(kinds, kind_at(rows, row)) {

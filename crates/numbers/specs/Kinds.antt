@@ -3,6 +3,7 @@ use Prim.Native.Nat.{ℕ, _-_, _/_, _%_, _<_}
 use mathlib.Core.Bool.{cond}
 use mathlib.Core.List.{List, map}
 use lib.Dec.{eqb, ltb}
+use Rattle.rules.specs.Limits.{mostWires, mostWidth}
 use Rattle.rules.specs.Tokens.{Digit, S0, S1, Sx, Sz, Sm, Sa}
 use Rattle.rules.specs.Statements.{Bit, digit, bit, Signal, Sort}
 use Rattle.numbers.specs.declared.kinds.SignalBit.{SignalBit}
@@ -25,7 +26,7 @@ signalOf cs = map (λ c. bitOf (bitAt c)) cs
 -- a bit that has a code: a digit's, or a wire's that the sizes allow
 unfoldable pub Valid : SignalBit → Type 0
 Valid (SignalBit.Digit c) = c < 6
-Valid (SignalBit.Wire w i) = (w .0 < 512) × (i < 2048)
+Valid (SignalBit.Wire w i) = (w .0 < mostWires) × (i < mostWidth)
 
 -- the sort of a cell parameter's code; one above 2 is taken for 2
 unfoldable pub sortOf : ℕ → Sort

@@ -4,6 +4,7 @@ use mathlib.Core.Path.{_≡_}
 use mathlib.Core.Bool.{cond}
 use mathlib.Core.List.{List}
 use lib.ListN.{length, drop}
+use Rattle.rules.specs.Limits.{longestFile, scratchLength}
 use Rattle.rules.specs.Lines.{linesFrom, place}
 use Rattle.rules.specs.Judgement.{Past}
 use Rattle.rules.specs.Reading as reading
@@ -42,8 +43,8 @@ Landed (reading.refused n p) t r = r ≡ answer.Refused n p
 -- the lines before this place are read
 pub record Reached (f scratch : List ℕ) (p : Place) (u : Sizes) (t : Tables) (at : ℕ) : Type 0 where
   pub inside : at ≤ length f
-  pub file : length f ≤ 32768
-  pub scratch-long : length scratch ≡ 36864
+  pub file : length f ≤ longestFile
+  pub scratch-long : length scratch ≡ scratchLength
   pub past : Past
   pub done : Done past p u t
   pub rest : readAny f ≡ readLines (length f) (linesFrom at (drop at f)) past

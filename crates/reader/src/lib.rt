@@ -21,6 +21,7 @@ use tables::clear_words;
 ghost use mathlib.Core.Path.{_≡_};
 ghost use Prim.Native.Nat.{_-_, _*_, _≤_};
 ghost use lib.ListN.{length};
+ghost use Rattle.rules.specs.Limits.{longestFile};
 ghost use Rattle.rules.specs.Reading.{readAny, read};
 ghost use Rattle.rules.specs.Layout.{empty, memory};
 ghost use Rattle.name_index.specs.Index.{LinesIndexed};
@@ -67,7 +68,7 @@ enum Reach {
 
 // A refusal at the line's first byte that is neither space nor tab.
 fn refusal(f: &[u8], line: Line, step: Step) -> Answer
-    requires { ⌜ (line .end ≤ length (now f)) × (length (now f) ≤ 32768) × (line .start ≤ line .end) ⌝ }
+    requires { ⌜ (line .end ≤ length (now f)) × (length (now f) ≤ longestFile) × (line .start ≤ line .end) ⌝ }
     ensures { λ r. ⌜ r ≡ refusalOf (now (f .entry)) line step ⌝ }
 {
     match step {
@@ -84,7 +85,7 @@ fn refusal(f: &[u8], line: Line, step: Step) -> Answer
 
 // The file ends inside a module or after attributes: its length is the place.
 fn finish(size: usize, place: Place, sums: Sizes) -> Answer
-    requires { ⌜ size ≤ 32768 ⌝ }
+    requires { ⌜ size ≤ longestFile ⌝ }
     ensures { λ r. ⌜ r ≡ finishOf size place sums ⌝ }
 {
     if is_closed(place) {
@@ -275,7 +276,7 @@ fn read_file(
     wires: &mut [u32],
     rows: &mut [u32],
 ) -> Answer
-    requires { ⌜ length (now f) ≤ 32768 ⌝ }
+    requires { ⌜ length (now f) ≤ longestFile ⌝ }
     requires { ⌜ tabled (now names) (now strings) (now bits) (now wires) (now rows) ≡ tablesOf (memory empty 0) ⌝ }
     ensures { λ r. ⌜ Landed (readAny (now (f .entry))) (tabled (now (names .exit)) (now (strings .exit)) (now (bits .exit)) (now (wires .exit)) (now (rows .exit))) r ⌝ }
 {

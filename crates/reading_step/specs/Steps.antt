@@ -6,6 +6,7 @@ use mathlib.Core.Option.{some}
 use mathlib.Core.List.{List, _∷_}
 use lib.ListN.{length}
 use lib.Seq.{slice}
+use Rattle.rules.specs.Limits.{mostWires, longestFile, scratchLength}
 use Rattle.rules.specs.Lines as rules
 use Rattle.rules.specs.Lines.{place}
 use Rattle.rules.specs.Statements as statements
@@ -41,14 +42,14 @@ lineOf f l = record { start = l .start; text = slice (l .start) (l .end) f; ende
 pub record LineFits (f : List ℕ) (l : Line) (scratch : List ℕ) : Type 0 where
   pub low : l .start ≤ l .end
   pub high : l .end ≤ length f
-  pub file : length f ≤ 32768
-  pub scratch-long : length scratch ≡ 36864
+  pub file : length f ≤ longestFile
+  pub scratch-long : length scratch ≡ scratchLength
 
 -- what is told of the statements so far is small
 pub record PlaceFits (p : Place) (u : Sizes) : Type 0 where
   pub within : Within u
   pub bounds : Bounds p
-  pub few : p .wires - p .«wires_from» ≤ 512
+  pub few : p .wires - p .«wires_from» ≤ mostWires
 
 -- ONE LINE. The verdict as an outcome
 unfoldable pub judgedAs : Judged → Outcome

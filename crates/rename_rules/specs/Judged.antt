@@ -5,6 +5,7 @@ use mathlib.Core.List.{List, reverse}
 use mathlib.Core.Bool.{Bool, true, not, cond, _||_}
 use lib.Dec.{leb, ltb}
 use lib.ListN.{length}
+use Rattle.rules.specs.Limits.{nameRoom, mostRenames}
 use Rattle.rules.specs.Bytes.{same, any, legal}
 use Rattle.rules.specs.Tokens.{Name}
 use Rattle.rules.specs.Statements.{Statement, aMemory, aCell}
@@ -34,7 +35,7 @@ nameTaken names wires rows m n =
 
 -- 64 renames stand, or the names and the new one pass 16,384 bytes
 unfoldable pub exceedsRoom : (standing room size : ℕ) → Bool
-exceedsRoom standing room size = leb 64 standing || ltb 16384 (room + size)
+exceedsRoom standing room size = leb mostRenames standing || ltb nameRoom (room + size)
 
 -- module m as code holds it: the rows of its wires, and the rows of the renames, which stand behind the statements
 abbrev pub moduleBy : (wires : List ℕ) → Place → (standing m : ℕ) → Module

@@ -7,6 +7,7 @@ use mathlib.Core.Bool.{Bool, true, false, cond, _||_}
 use lib.Dec.{leb, ltb}
 use lib.ListN.{length}
 use borrow.Author.Tests.{leb-true, leb-false}
+use Rattle.rules.specs.Limits.{nameRoom, mostRenames}
 use Rattle.rules.specs.Tokens.{Name}
 use Rattle.rules.specs.Statements.{Statement}
 use Rattle.rules.specs.Judgement.{lowest, verdict}
@@ -48,7 +49,7 @@ module _ {names wires rows : List ℕ} {p : Place} {standing room : ℕ} {ss : L
       rw (← l .place, ← l .standing) (taken-laid m (reverse ss) (headed l) (offsets l) rs (laid l) (wired l) n)
       ∙ ap (λ (qs : List Statement). taken (now (design qs) rs) m n) (reverse-reverse ss)
 
-  room-is : exceedsRoom standing room (length n) ≡ leb 64 (length rs) || ltb 16384 (roomUsed (design ss) rs + length n)
+  room-is : exceedsRoom standing room (length n) ≡ leb mostRenames (length rs) || ltb nameRoom (roomUsed (design ss) rs + length n)
   unfolding exceedsRoom
   room-is = rw (← l .standing, ← l .room, room-used ss rs (l .admitted) (l .closes))
 

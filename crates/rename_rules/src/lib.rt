@@ -30,6 +30,7 @@ use wires::bytes_at;
 use wires::column;
 ghost use mathlib.Core.Path.{_≡_};
 ghost use Prim.Native.Nat.{_+_, _<_, _≤_};
+ghost use Rattle.rules.specs.Limits.{longestName, manyRows};
 ghost use Rattle.rules.specs.Bytes.{same, any};
 ghost use Rattle.rules.specs.Session.{isPort};
 ghost use Rattle.wires.specs.Rows.{wireOf};
@@ -60,7 +61,7 @@ pub enum Named {
 
 // Whether the wire in a row is a port.
 fn is_port(wires: &[u32], row: usize) -> bool
-    requires { ⌜ row < 8589934592 ⌝ }
+    requires { ⌜ row < manyRows ⌝ }
     ensures { λ r. ⌜ r ≡ isPort (wireOf (now (wires .entry)) row) ⌝ }
 {
     let direction = word(wires, ROW_WORDS * row + WIRE_FLAGS) / DIRECTION_FLAG;
@@ -292,7 +293,7 @@ fn indexed_is_taken(
 
 // 64 renames stand, or the names pass 16,384 bytes.
 fn exceeds_room(standing: u32, room: u32, size: usize) -> bool
-    requires { ⌜ size ≤ 255 ⌝ }
+    requires { ⌜ size ≤ longestName ⌝ }
     ensures { λ r. ⌜ r ≡ exceedsRoom standing room size ⌝ }
 {
     if MOST_RENAMES <= standing {

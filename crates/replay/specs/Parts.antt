@@ -6,6 +6,7 @@ use mathlib.Core.Bool.{Bool, _&&_}
 use lib.Dec.{eqb, leb, ltb}
 use lib.ListN.{length}
 use lib.Seq.{slice}
+use Rattle.rules.specs.Limits.{mostWidth}
 use Rattle.rules.specs.Bytes.{all, within, legal}
 use Rattle.rules.specs.Signals.{Wires}
 use Rattle.admitted.specs.Admitted.{fineBit, fineWire}
@@ -28,7 +29,7 @@ nameStands names at n = whole names at n && legal (span names at n)
 
 -- at most 2,048 values, each of which passes a test
 abbrev pub partStands : (ℕ → Bool) → List ℕ → (at n : ℕ) → Bool
-partStands f t at n = whole t at n && (leb n 2048 && all f (span t at n))
+partStands f t at n = whole t at n && (leb n mostWidth && all f (span t at n))
 
 -- the digits of a value by their codes, which are below 6
 unfoldable pub isDigit : ℕ → Bool

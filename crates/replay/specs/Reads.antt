@@ -6,6 +6,7 @@ use mathlib.Core.Option.{Option, none, some}
 use mathlib.Core.Bool.{Bool, true, false, cond}
 use lib.Dec.{eqb}
 use lib.ListN.{length}
+use Rattle.rules.specs.Limits.{namesLength, bitsLength}
 use Rattle.rules.specs.Tokens.{Name}
 use Rattle.rules.specs.Statements.{Sort, Constant, value, integer, string, digitsOf, bytesOf, Statement, Memory, autoidx-stmt, attr-stmt, module-stmt, param-stmt, wire-stmt, memory-stmt, cell-stmt, cell-param-stmt, cell-conn-stmt, conn-stmt, proc-stmt, end-stmt, Kind, contents, holds}
 use Rattle.rules.specs.Signals.{Wires}
@@ -170,5 +171,5 @@ WireRowStands wires u size r = (n : Name) → length n ≡ size → Decides r (H
 
 -- nothing is used past the sizes of a design, so that sums of words don't wrap
 pub record Small (u : Used) : Type 0 where
-  pub names : u .names ≤ 16384
-  pub bits : u .bits ≤ 16384
+  pub names : u .names ≤ namesLength
+  pub bits : u .bits ≤ bitsLength

@@ -5,6 +5,7 @@ use mathlib.Core.List.{List, _∷_}
 use mathlib.Core.Bool.{Bool, true, false, _&&_}
 use lib.Dec.{leb}
 use lib.ListN.{length}
+use Rattle.rules.specs.Limits.{mostSignalBits, mostValueBits, mostStringBytes, nameRoom, mostStatements}
 use Rattle.rules.specs.Statements.{Statement, code, contents}
 use Rattle.rules.specs.Judgement.{Past, wires, takesName, exceedsSize}
 use Rattle.rules.specs.Layout.{used, statementRow, nameBytes}
@@ -29,7 +30,7 @@ standsAt p k = ofKinds (kinds (scopeOf (p .scope)) (p .first) (p .attributed)) k
 -- nothing exceeds its size, so that sums don't wrap
 pub record Ready (p : Place) (u : Sizes) : Type 0 where
   pub bounds : Bounds p
-  pub few : p .rows ≤ 4705
+  pub few : p .rows ≤ mostStatements
   pub within : Within u
 
 -- the tables begin with these statements, behind which stand this place and these sums
@@ -72,4 +73,4 @@ Counted names rows p u k g v x n r =
 
 -- no part alone exceeds its size
 unfoldable pub smallParts : (g v x n : ℕ) → Bool
-smallParts g v x n = leb g 8192 && (leb v 8192 && (leb x 8192 && leb n 16384))
+smallParts g v x n = leb g mostValueBits && (leb v mostStringBytes && (leb x mostSignalBits && leb n nameRoom))

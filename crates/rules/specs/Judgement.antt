@@ -7,6 +7,7 @@ use mathlib.Core.Option.{Option, none, some}
 use mathlib.Core.Bool.{Bool, true, false, not, cond, _&&_, _||_}
 use lib.ListN.{length}
 use lib.Dec.{leb, ltb, eqb}
+use Rattle.rules.specs.Limits.{mostModules, mostWires, mostMemories, mostCells, mostParameters, mostAttributes, mostCellConnections, mostConnections, mostSignalBits, mostValueBits, mostStringBytes, nameRoom, mostWidth}
 use Rattle.rules.specs.Bytes.{same, any, all}
 use Rattle.rules.specs.Tokens.{Name}
 use Rattle.rules.specs.Statements.{Sig, digitsOf, bytesOf, Wire, Statement, Shape, Opt, Kind, anAttribute, aModule, aParameter, aWire, aMemory, aCell, aCellParameter, aCellConnection, aConnection, aProcess, anEnd, Stmt, contents, is, ownName, translate}
@@ -106,18 +107,18 @@ nameSize s = sum length (contents s .names)
 
 unfoldable pub sizes : List (ℕ × (Statement → ℕ))
 sizes =
-    (32, count (aModule ∷ []))
-    ∷ (512, count (aWire ∷ []))
-    ∷ (32, count (aMemory ∷ []))
-    ∷ (256, count (aCell ∷ []))
-    ∷ (1024, count (aParameter ∷ aCellParameter ∷ []))
-    ∷ (1024, count (anAttribute ∷ []))
-    ∷ (1024, count (aCellConnection ∷ []))
-    ∷ (512, count (aConnection ∷ []))
-    ∷ (8192, signalSize)
-    ∷ (8192, valueSize)
-    ∷ (8192, stringSize)
-    ∷ (16384, nameSize)
+    (mostModules, count (aModule ∷ []))
+    ∷ (mostWires, count (aWire ∷ []))
+    ∷ (mostMemories, count (aMemory ∷ []))
+    ∷ (mostCells, count (aCell ∷ []))
+    ∷ (mostParameters, count (aParameter ∷ aCellParameter ∷ []))
+    ∷ (mostAttributes, count (anAttribute ∷ []))
+    ∷ (mostCellConnections, count (aCellConnection ∷ []))
+    ∷ (mostConnections, count (aConnection ∷ []))
+    ∷ (mostSignalBits, signalSize)
+    ∷ (mostValueBits, valueSize)
+    ∷ (mostStringBytes, stringSize)
+    ∷ (nameRoom, nameSize)
     ∷ []
 
 -- THE TESTS OF A LINE.
@@ -162,7 +163,7 @@ unfoldable pub exceedsSize : Past → Bool
 exceedsSize ss = any (λ z. ltb (z .0) (sum (z .1) ss)) sizes
 
 unfoldable pub partTooWide : Wires → Shape → Bool
-partTooWide ws sh = not (all (λ s. leb (width ws s) 2048) (allParts sh))
+partTooWide ws sh = not (all (λ s. leb (width ws s) mostWidth) (allParts sh))
 
 -- the first test that holds gives the number
 unfoldable pub lowest : List (ℕ × Bool) → Option ℕ

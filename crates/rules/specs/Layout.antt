@@ -7,6 +7,7 @@ use mathlib.Core.List.{List, [], _∷_, _++_, map, flatMap, zip, foldl}
 use mathlib.Core.Option.{Option·elim}
 use mathlib.Core.Bool.{cond}
 use lib.ListN.{length, replicate}
+use Rattle.rules.specs.Limits.{namesLength, stringsLength, bitsLength, wiresLength, rowsLength}
 use Rattle.rules.specs.Tokens.{Name, Digit, S0, S1, Sx, Sz, Sm, Sa}
 use Rattle.rules.specs.Statements.{Sort, plain, signed, real, Constant, value, integer, string, digitsOf, bytesOf, Bit, digit, bit, Direction, input, output, inout, Wire, Statement, autoidx-stmt, attr-stmt, module-stmt, param-stmt, wire-stmt, memory-stmt, cell-stmt, cell-param-stmt, cell-conn-stmt, conn-stmt, proc-stmt, end-stmt, aModule, code, contents}
 use Rattle.rules.specs.Signals.{twosComplement}
@@ -179,11 +180,11 @@ rooms ss rs = putRenames (putAll empty ss) rs
 unfoldable pub memory : Rooms → ℕ → Memory
 memory R standing =
     record {
-      names = padded 16384 (R .names);
-      strings = padded 8192 (R .strings);
-      bits = padded 16384 (R .bits);
-      wires = padded (8 * 512) (flatMap (λ r. r) (R .wires));
-      rows = padded (8 * 4769) (flatMap (λ r. r) (R .rows));
+      names = padded namesLength (R .names);
+      strings = padded stringsLength (R .strings);
+      bits = padded bitsLength (R .bits);
+      wires = padded wiresLength (flatMap (λ r. r) (R .wires));
+      rows = padded rowsLength (flatMap (λ r. r) (R .rows));
       renames = standing;
       room = length (R .names);
     }

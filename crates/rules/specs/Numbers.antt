@@ -9,6 +9,7 @@ use mathlib.Core.Bool.{Bool, true, false, not, cond, _&&_, _||_}
 use lib.ListN.{length}
 use lib.IntN.{ℤ, pos, negsuc, natAbs, _+ℤ_}
 use lib.Dec.{leb, ltb, eqb}
+use Rattle.rules.specs.Limits.{mostWidth}
 use Rattle.rules.specs.Bytes.{bytes, same, any, all, within}
 use Rattle.rules.specs.Tokens.{Literal, value, integer, string}
 use Rattle.rules.specs.Statements.{Sig, constant, wire, slice, bundle, Opt, Wire, Memory, Direction, input, output, inout}
@@ -24,7 +25,7 @@ inRange lo hi (negsuc n) = false
 
 -- integer outside 32 bits, value over 2,048 wide or with too many digits
 unfoldable pub goodLiteral : Literal → Bool
-goodLiteral (value w ds) = leb w 2048 && leb (length ds) w
+goodLiteral (value w ds) = leb w mostWidth && leb (length ds) w
 goodLiteral (integer i) = int32 i
 goodLiteral (string s) = true
 
@@ -90,7 +91,7 @@ unfoldable pub goodWire : List Opt → Bool
 goodWire os =
     let w = wireOf os in
     goodOptions os
-    && inRange 0 2048 (numberOr (pos 1) "width" os)
+    && inRange 0 mostWidth (numberOr (pos 1) "width" os)
     && leb (length (ports os)) 1
     && all (λ p. inRange 1 1023 (p .1)) (ports os)
     && (eqb (w .width) 0 || int32 (w .offset +ℤ pos (w .width - 1)))
@@ -98,7 +99,7 @@ goodWire os =
 -- Memory: width 1 to 2,048, size 0 or more
 unfoldable pub goodMemory : List Opt → Bool
 goodMemory os =
-    goodOptions os && inRange 1 2048 (numberOr (pos 1) "width" os) && inRange 0 2147483647 (numberOr (pos 0) "size" os)
+    goodOptions os && inRange 1 mostWidth (numberOr (pos 1) "width" os) && inRange 0 2147483647 (numberOr (pos 0) "size" os)
 
 unfoldable pub numbersOpen : Unit {0}
 unfolding Option·toList int32 inRange goodLiteral goodNumbers has numberOr portsAmong ports portOf wireOf memoryOf once goodOptions goodWire goodMemory

@@ -7,6 +7,7 @@ use mathlib.Core.Option.{Option, none, some}
 use mathlib.Core.Bool.{Bool, true, false, not, cond, _&&_}
 use lib.ListN.{length}
 use lib.Dec.{ltb}
+use Rattle.rules.specs.Limits.{longestFile}
 use Rattle.rules.specs.Lines.{Line, lines, place}
 use Rattle.rules.specs.Tokens.{Token, Lexed, bad, good, tokens}
 use Rattle.rules.specs.Statements.{Statement, Shape}
@@ -70,7 +71,7 @@ readAny file = readLines (length file) (lines file) []
 
 -- 2: file over 32,768 bytes; place: 0
 unfoldable pub read : List ℕ → Answer
-read file = cond (ltb 32768 (length file)) (refused 2 0) (readAny file)
+read file = cond (ltb longestFile (length file)) (refused 2 0) (readAny file)
 
 unfoldable pub readingOpen : Unit {0}
 unfolding shaped stated judged lexed outcome isTop finish next readLines readAny read

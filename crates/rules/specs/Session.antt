@@ -8,6 +8,7 @@ use mathlib.Core.Bool.{Bool, true, false, not, cond, _||_}
 use lib.ListN.{length, getElem?}
 use lib.IntN.{ℤ, pos, _+ℤ_}
 use lib.Dec.{leb, ltb, eqb}
+use Rattle.rules.specs.Limits.{nameRoom, mostRenames}
 use Rattle.rules.specs.Bytes.{bytes, byte, same, any, legal}
 use Rattle.rules.specs.Tokens.{Name}
 use Rattle.rules.specs.Statements.{bytesOf, Wire}
@@ -82,7 +83,7 @@ renameCall d rs r =
     ∷ (6, Option·elim wire false (λ w. isPort (w .body)))
     ∷ (8, Option·elim wire true (λ w. false))
     ∷ (9, taken (now d rs) (r .moduleNumber) (r .newName))
-    ∷ (11, leb 64 (length rs) || ltb 16384 (roomUsed d rs + length (r .newName)))
+    ∷ (11, leb mostRenames (length rs) || ltb nameRoom (roomUsed d rs + length (r .newName)))
     ∷ []))
 
 -- Undo: 13 if none is listed. Otherwise the last is taken off

@@ -8,6 +8,7 @@ use mathlib.Core.Bool.{Bool, true, false, not, cond, _&&_, _||_}
 use lib.ListN.{length, replicate, drop}
 use lib.IntN.{ℤ, pos, negsuc}
 use lib.Dec.{ltb, eqb}
+use Rattle.rules.specs.Limits.{longestFile}
 use Rattle.rules.specs.Bytes.{bytes, byte}
 use Rattle.rules.specs.Tokens.{Digit, S0, S1, Sx, Sz, Sm, Sa, Literal, value, integer, string, Token, name, word, literal, mark}
 use Rattle.rules.specs.Statements.{Sig, Sigs, constant, wire, slice, bundle, nothing, _below_, Opt, Sort, plain, signed, real, Shape, Constant, Bit, digit, bit, Signal, Direction, input, output, inout, Wire, Memory, Statement, autoidx-stmt, attr-stmt, module-stmt, param-stmt, wire-stmt, memory-stmt, cell-stmt, cell-param-stmt, cell-conn-stmt, conn-stmt, proc-stmt, end-stmt, anEnd, is, translate}
@@ -226,13 +227,13 @@ text d = textFrom [] (flatten d)
 
 -- 12: text over 32,768 bytes or over the room lent. Measuring refuses as writing does, but for the room lent
 unfoldable pub writeText : ℕ → List ℕ → Verdict (List ℕ)
-writeText room t = verdict t (lowest ((12, ltb 32768 (length t) || ltb room (length t)) ∷ []))
+writeText room t = verdict t (lowest ((12, ltb longestFile (length t) || ltb room (length t)) ∷ []))
 
 unfoldable pub write : ℕ → Design → Verdict (List ℕ)
 write room d = writeText room (text d)
 
 unfoldable pub measureText : List ℕ → Verdict ℕ
-measureText t = verdict (length t) (lowest ((12, ltb 32768 (length t)) ∷ []))
+measureText t = verdict (length t) (lowest ((12, ltb longestFile (length t)) ∷ []))
 
 unfoldable pub measure : Design → Verdict ℕ
 measure d = measureText (text d)
@@ -246,7 +247,7 @@ printed (Verdict.accepted t) = t
 printed (Verdict.refused n) = refusal n 0
 
 unfoldable pub programBy : Answer → List ℕ
-programBy (accepted ss) = printed (write 32768 (design ss))
+programBy (accepted ss) = printed (write longestFile (design ss))
 programBy (refused n p) = refusal n p
 
 unfoldable pub program : List ℕ → List ℕ

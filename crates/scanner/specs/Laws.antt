@@ -10,6 +10,7 @@ use lib.Dec.{eqb, eqb·zero-suc, eqb·suc-suc, leb}
 use lib.ListN.{length, getD, take, drop, length-append, drop-of-length-le}
 use lib.Seq.{drop-cons, take-append-seam, drop-append-seam}
 use borrow.Author.Tests.{eq-eqb, eqb-true, le-leb, lt-leb, leb-true}
+use Rattle.rules.specs.Limits.{longestName}
 use Rattle.rules.specs.Bytes.{same, all, run, rest, within, isNameStart, isNameByte, legal}
 use Rattle.lists.specs.Tests.{by-test, and-true-left, and-true-right}
 
@@ -35,7 +36,7 @@ module _ (lo hi b : ℕ) where
   within-high e = leb-true b hi (and-true-right (leb lo b) (leb b hi) e)
 
 -- a legal name is short
-pub legal-short : (n : List ℕ) → legal n ≡ true → length n ≤ 255
+pub legal-short : (n : List ℕ) → legal n ≡ true → length n ≤ longestName
 unfolding legal
 legal-short [] e = omega arith
 legal-short (b ∷ bs) e = omega (arith, within-high 1 254 (length bs) (and-true-right (isNameStart b && all isNameByte bs) (within 1 254 (length bs)) e))

@@ -29,6 +29,7 @@ ghost use mathlib.Core.Path.{_≡_};
 ghost use Prim.Native.Nat.{_+_, _-_, _*_, _≤_};
 ghost use lib.ListN.{length, replicate};
 ghost use lib.IntN.{pos};
+ghost use Rattle.rules.specs.Limits.{longestName};
 ghost use Rattle.rules.specs.Session.{Call, indexIn};
 ghost use Rattle.rules.specs.Layout.{renameRow};
 ghost use Rattle.tables.specs.Store.{store};
@@ -97,7 +98,7 @@ fn put_rename(
     w: WireNumber,
     new: &[u8],
 )
-    requires { ⌜ (room + length (now new) ≤ length (now names)) × (8 * row + 8 ≤ length (now rows)) × (length (now new) ≤ 255) ⌝ }
+    requires { ⌜ (room + length (now new) ≤ length (now names)) × (8 * row + 8 ≤ length (now rows)) × (length (now new) ≤ longestName) ⌝ }
     ensures { λ _. ⌜ now (names .exit) ≡ store (now (names .entry)) room (now (new .entry)) ⌝ }
     ensures { λ _. ⌜ now (rows .exit) ≡ store (now (rows .entry)) (8 * row) (renameRow room (record { moduleNumber = m .0; wireNumber = w .0; newName = now (new .entry) })) ⌝ }
 {

@@ -18,6 +18,7 @@ ghost use mathlib.Core.Path.{_≡_};
 ghost use Prim.Native.Nat.{_≤_, _<_};
 ghost use lib.ListN.{length};
 ghost use denote.Ref.{ptr};
+ghost use Rattle.rules.specs.Limits.{manyRows};
 ghost use Rattle.netlist.specs.Results.{lent};
 ghost use Rattle.show.specs.Rows.{declares, wireLine, isHdlname, hdlnameRow};
 ghost use Rattle.show.specs.Parts.{cutOf, spanPart, textPart, namePart, plainPart, shownPart, numberOf, bytesIn, InRange, ShownAs, ShownAt, LiesAt};
@@ -64,7 +65,7 @@ fn cut(s: &[u8], start: usize, end: usize) -> Part
 
 // The bytes whose start stands in column c, and their number behind it.
 fn span(s: &[u8], t: &[u32], row: usize, c: usize) -> Part
-    requires { ⌜ (row < 8589934592) × (c < 7) ⌝ }
+    requires { ⌜ (row < manyRows) × (c < 7) ⌝ }
     ensures { λ r. ⌜ r ≡ spanPart (now (s .entry)) (now (t .entry)) row c ⌝ }
 {
     let start = column(t, row, c) as usize;

@@ -4,6 +4,7 @@ use mathlib.Core.List.{List, [], _∷_}
 use mathlib.Core.Option.{Option·getD}
 use mathlib.Core.Bool.{Bool, not, cond, _||_}
 use lib.Dec.{leb, ltb, eqb}
+use Rattle.rules.specs.Limits.{mostWidth}
 use Rattle.rules.specs.Bytes.{all}
 use Rattle.rules.specs.Statements.{Sig}
 use Rattle.rules.specs.Signals.{Wires, width, declaredWire, goodSlice, parts}
@@ -18,7 +19,7 @@ faults ws ps =
     ((7, not (all goodNumbers ps))
     ∷ (8, not (all (declaredWire ws) ps))
     ∷ (10, not (all (goodSlice ws) ps))
-    ∷ (11, not (all (λ p. leb (width ws p) 2048) ps))
+    ∷ (11, not (all (λ p. leb (width ws p) mostWidth) ps))
     ∷ []))
     0
 
@@ -31,7 +32,7 @@ merge a b = cond (eqb a 0) b (cond (eqb b 0) a (cond (ltb a b) a b))
 
 -- the number of a part of this width
 unfoldable pub tooWide : ℕ → ℕ
-tooWide w = cond (ltb 2048 w) 11 0
+tooWide w = cond (ltb mostWidth w) 11 0
 
 -- no rule is broken but that of the width, so that the signal has a width
 unfoldable pub mild : ℕ → Bool

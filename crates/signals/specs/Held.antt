@@ -7,6 +7,7 @@ use mathlib.Core.Bool.{true}
 use lib.ListN.{length, take}
 use lib.Seq.{slice}
 use lib.IntN.{ℤ}
+use Rattle.rules.specs.Limits.{mostWidth}
 use Rattle.rules.specs.Bytes.{all}
 use Rattle.rules.specs.Numbers.{int32}
 use Rattle.rules.specs.Statements.{Sig, Signal}
@@ -24,7 +25,7 @@ codes xs = reverse (map bitCode xs)
 pub record Held (ws : Wires) (s : Sig) (o : ℕ) (out : List ℕ) (b : Bits) : Type 0 where
   pub refused : fault ws s ≡ b .fault
   pub wide : mild (b .fault) ≡ true → width ws s ≡ b .width
-  pub small : b .fault ≡ 0 → b .width ≤ 2048
+  pub small : b .fault ≡ 0 → b .width ≤ mostWidth
   pub coded : b .fault ≡ 0 → slice o (o + b .width) out ≡ codes (bits ws s)
 
 -- what stands below o stays, and so does the table's length
@@ -50,4 +51,4 @@ pub record CutIs (b : Bits) (high low o : ℕ) (out out′ : List ℕ) (r : Bits
       Held ws s o out b → Held ws (Sig.slice s (signedOf high) z) o out′ r
   pub kept : Kept o out out′
   pub few : r .width ≤ b .width
-  pub small : r .fault ≡ 0 → r .width ≤ 2048
+  pub small : r .fault ≡ 0 → r .width ≤ mostWidth

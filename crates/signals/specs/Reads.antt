@@ -7,6 +7,7 @@ use mathlib.Core.Bool.{Bool, false, not}
 use lib.ListN.{length}
 use lib.IntN.{ℤ}
 use lib.Dec.{eqb}
+use Rattle.rules.specs.Limits.{longestFile, mostWidth, tokensLength}
 use Rattle.rules.specs.Tokens as rules
 use Rattle.rules.specs.Shapes.{Parse, closedBy, of₁, of₂, int, low, bounds, sliced, sigs, repeat, isMark, atom, members, signal}
 use Rattle.rules.specs.Statements.{Sig, bundle}
@@ -63,7 +64,7 @@ pub record SliceIs (b : Bits) (h : ℤ) (z : Option ℤ) (o : ℕ) (out out′ :
   pub held : (ws : Wires) (s : Sig) → Held ws s o out b → Held ws (Sig.slice s h z) o out′ r
   pub kept : Kept o out out′
   pub few : r .width ≤ b .width
-  pub small : r .fault ≡ 0 → r .width ≤ 2048
+  pub small : r .fault ≡ 0 → r .width ≤ mostWidth
 
 -- a parse that was read up to row n, and what is promised of its signal
 pub record Gives (f t : List ℕ) (ws : Wires) (parse : Option (Sig × List rules.Token)) (n o : ℕ) (out : List ℕ) (b : Bits) : Type 0 where
@@ -118,7 +119,7 @@ pub record Closed (f t : List ℕ) : Type 0 where
 
 -- a table of rows from which a signal can be read: its strings are closed, and its size and the file's are those that the rules allow
 pub record Readable (f t : List ℕ) (i : ℕ) : Type 0 where
-  pub file : length f ≤ 32768
-  pub rows : length t ≤ 131072
+  pub file : length f ≤ longestFile
+  pub rows : length t ≤ tokensLength
   pub here : i ≤ length t / 4
   pub closed : Closed f t

@@ -17,6 +17,7 @@ ghost use mathlib.Core.Path.{_≡_};
 ghost use Prim.Native.Nat.{_+_, _*_, _/_, _≤_, _<_};
 ghost use lib.ListN.{length};
 ghost use lib.Seq.{slice};
+ghost use Rattle.rules.specs.Limits.{mostWires, longestFile, mostWidth, tokensLength};
 ghost use Rattle.rules.specs.Statements as rules;
 ghost use Rattle.rules.specs.Signals.{wireBits};
 ghost use Rattle.tables.specs.Store.{store};
@@ -95,7 +96,7 @@ fn too_wide(width: usize) -> u32
 
 // The bits of a wire, from the top.
 fn put_wire(scratch: &mut [u32], o: usize, number: u32, width: usize)
-    requires { ⌜ (o + width ≤ length (now scratch)) × (number < 512) × (width ≤ 2048) ⌝ }
+    requires { ⌜ (o + width ≤ length (now scratch)) × (number < mostWires) × (width ≤ mostWidth) ⌝ }
     ensures { λ _. ⌜ now (scratch .exit) ≡ store (now (scratch .entry)) o (codes (wireBits number 0 width)) ⌝ }
 {
     let mut k = 0;
@@ -116,7 +117,7 @@ fn wire_bits(
     heads: &[u32],
     chain: &[u32],
 ) -> Bits
-    requires { ⌜ (o + 2048 ≤ length (now scratch)) × (scope .count ≤ 512) × WiresIndexed (now heads) (now chain) (now names) (now wires) (scope .first + scope .count) ⌝ }
+    requires { ⌜ (o + mostWidth ≤ length (now scratch)) × (scope .count ≤ mostWires) × WiresIndexed (now heads) (now chain) (now names) (now wires) (scope .first + scope .count) ⌝ }
     ensures { λ r. ⌜ Put (wiresFrom (now (names .entry)) (now (wires .entry)) (scope .first) (scope .count)) (rules.wire (now (name .entry))) o (now (scratch .entry)) (now (scratch .exit)) r ⌝ }
 {
     match indexed_wire(names, wires, heads, chain, scope.first, scope.count, name) {
@@ -166,7 +167,7 @@ fn is_mark(tokens: &[u32], i: usize, b: usize) -> bool
 
 // Behind `[`: the high bound, the low one if it is given, and `]`.
 fn bounds_at(tokens: &[u32], i: usize) -> Bounds
-    requires { ⌜ (length (now tokens) ≤ 131072) × (i ≤ length (now tokens) / 4) ⌝ }
+    requires { ⌜ (length (now tokens) ≤ tokensLength) × (i ≤ length (now tokens) / 4) ⌝ }
     ensures { λ r. ⌜ BoundsIs (now (tokens .entry)) i r ⌝ }
 {
     let Slot::Given(high) = tokens::integer_at(tokens, i) else {
@@ -197,7 +198,7 @@ fn bounds_at(tokens: &[u32], i: usize) -> Bounds
 
 // The signal of these bits, whose bounds keep the number rules, sliced: a bound from 2 ^ 31 on is negative.
 fn cut(bits: Bits, high: u32, low: u32, scratch: &mut [u32], o: usize) -> Bits
-    requires { ⌜ (o + 2048 ≤ length (now scratch)) × (bits .fault ≡ 0 → bits .width ≤ 2048) ⌝ }
+    requires { ⌜ (o + mostWidth ≤ length (now scratch)) × (bits .fault ≡ 0 → bits .width ≤ mostWidth) ⌝ }
     ensures { λ r. ⌜ CutIs bits high low o (now (scratch .entry)) (now (scratch .exit)) r ⌝ }
 {
     let width = bits.width;
@@ -234,7 +235,7 @@ fn cut(bits: Bits, high: u32, low: u32, scratch: &mut [u32], o: usize) -> Bits
 }
 
 fn literal_bits(f: &[u8], c: ConstantSpan, scratch: &mut [u32], o: usize) -> Bits
-    requires { ⌜ (length (now f) ≤ 32768) × (o + 2048 ≤ length (now scratch)) × Whole (now f) c ⌝ }
+    requires { ⌜ (length (now f) ≤ longestFile) × (o + mostWidth ≤ length (now scratch)) × Whole (now f) c ⌝ }
     ensures { λ r. ⌜ PutAny (rules.constant (literalIn (now (f .entry)) c)) o (now (scratch .entry)) (now (scratch .exit)) r ⌝ }
 {
     if !literals::good_literal(f, c) {
@@ -268,7 +269,7 @@ fn atom(
     chain: &[u32],
 ) -> Answer
     requires { ⌜ Readable (now f) (now tokens) i ⌝ }
-    requires { ⌜ (o + 2048 ≤ length (now scratch)) × (scope .count ≤ 512) × WiresIndexed (now heads) (now chain) (now names) (now wires) (scope .first + scope .count) ⌝ }
+    requires { ⌜ (o + mostWidth ≤ length (now scratch)) × (scope .count ≤ mostWires) × WiresIndexed (now heads) (now chain) (now names) (now wires) (scope .first + scope .count) ⌝ }
     ensures { λ r. ⌜ AtomIs (now (f .entry)) (now (tokens .entry)) (wiresFrom (now (names .entry)) (now (wires .entry)) (scope .first) (scope .count)) i o (now (scratch .entry)) (now (scratch .exit)) r ⌝ }
 {
     match tokens::token_at(tokens, i) {
@@ -297,7 +298,7 @@ fn atom(
 
 // One slice of a signal, by its bounds in the file.
 fn slice(f: &[u8], bits: Bits, high: Integer, low: Slot, scratch: &mut [u32], o: usize) -> Bits
-    requires { ⌜ (o + 2048 ≤ length (now scratch)) × (bits .fault ≡ 0 → bits .width ≤ 2048) ⌝ }
+    requires { ⌜ (o + mostWidth ≤ length (now scratch)) × (bits .fault ≡ 0 → bits .width ≤ mostWidth) ⌝ }
     ensures { λ r. ⌜ SliceIs bits (integerIn (now (f .entry)) high) (slotIn (now (f .entry)) low) o (now (scratch .entry)) (now (scratch .exit)) r ⌝ }
 {
     let width = bits.width;
@@ -324,8 +325,8 @@ fn slice(f: &[u8], bits: Bits, high: Integer, low: Slot, scratch: &mut [u32], o:
 
 // Slices may follow any signal, also a slice.
 fn slices(f: &[u8], tokens: &[u32], i: usize, bits: Bits, scratch: &mut [u32], o: usize) -> Answer
-    requires { ⌜ (length (now tokens) ≤ 131072) × (i ≤ length (now tokens) / 4) ⌝ }
-    requires { ⌜ (o + 2048 ≤ length (now scratch)) × (bits .fault ≡ 0 → bits .width ≤ 2048) ⌝ }
+    requires { ⌜ (length (now tokens) ≤ tokensLength) × (i ≤ length (now tokens) / 4) ⌝ }
+    requires { ⌜ (o + mostWidth ≤ length (now scratch)) × (bits .fault ≡ 0 → bits .width ≤ mostWidth) ⌝ }
     ensures { λ r. ⌜ SlicesIs (now (f .entry)) (now (tokens .entry)) i o (now (scratch .entry)) bits (now (scratch .exit)) r ⌝ }
 {
     let mut at = i;
@@ -355,7 +356,7 @@ pub fn signal(
     chain: &[u32],
 ) -> Answer
     requires { ⌜ Readable (now f) (now tokens) i ⌝ }
-    requires { ⌜ (o + 2048 * (depth + 1) ≤ length (now scratch)) × (scope .count ≤ 512) × WiresIndexed (now heads) (now chain) (now names) (now wires) (scope .first + scope .count) ⌝ }
+    requires { ⌜ (o + mostWidth * (depth + 1) ≤ length (now scratch)) × (scope .count ≤ mostWires) × WiresIndexed (now heads) (now chain) (now names) (now wires) (scope .first + scope .count) ⌝ }
     ensures { λ r. ⌜ SignalIs (now (f .entry)) (now (tokens .entry)) (wiresFrom (now (names .entry)) (now (wires .entry)) (scope .first) (scope .count)) i depth o (now (scratch .entry)) (now (scratch .exit)) r ⌝ }
 {
     if is_mark(tokens, i, BUNDLE_OPENS) {
@@ -403,7 +404,7 @@ fn bundle(
     chain: &[u32],
 ) -> Answer
     requires { ⌜ Readable (now f) (now tokens) i ⌝ }
-    requires { ⌜ (o + 2048 * (depth + 2) ≤ length (now scratch)) × (scope .count ≤ 512) × WiresIndexed (now heads) (now chain) (now names) (now wires) (scope .first + scope .count) ⌝ }
+    requires { ⌜ (o + mostWidth * (depth + 2) ≤ length (now scratch)) × (scope .count ≤ mostWires) × WiresIndexed (now heads) (now chain) (now names) (now wires) (scope .first + scope .count) ⌝ }
     ensures { λ r. ⌜ BundleIs (now (f .entry)) (now (tokens .entry)) (wiresFrom (now (names .entry)) (now (wires .entry)) (scope .first) (scope .count)) i depth o (now (scratch .entry)) (now (scratch .exit)) r ⌝ }
 {
     let mut at = i;

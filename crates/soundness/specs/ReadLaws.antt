@@ -6,6 +6,7 @@ use mathlib.Core.List.{List, [], _∷_, reverse, reverse-reverse}
 use mathlib.Core.Bool.{Bool, true, not, _&&_}
 use lib.Dec.{leb, ltb}
 use lib.ListN.{length}
+use Rattle.rules.specs.Limits.{longestFile}
 use Rattle.rules.specs.Bytes.{all}
 use Rattle.rules.specs.Tokens.{Token, Lexed, good}
 use Rattle.rules.specs.Lines.{Line, lines, place}
@@ -104,4 +105,4 @@ fine-numbered (FineAnswer.fine-refused h) = h
 
 pub read-numbered : (file : List ℕ) → numbered (read file) ≡ true
 unfolding read numbered
-read-numbered file = by-cond (λ (a : Answer). numbered a ≡ true) (ltb 32768 (length file)) (λ e. refl) (λ e. fine-numbered (read-fine file))
+read-numbered file = by-cond (λ (a : Answer). numbered a ≡ true) (ltb longestFile (length file)) (λ e. refl) (λ e. fine-numbered (read-fine file))

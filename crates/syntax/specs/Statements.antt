@@ -7,6 +7,7 @@ use mathlib.Core.Bool.{Bool, true, cond}
 use lib.Dec.{eqb}
 use lib.ListN.{length}
 use lib.Seq.{slice}
+use Rattle.rules.specs.Limits.{mostWires, mostWidth, scratchLength}
 use Rattle.rules.specs.Statements as rules
 use Rattle.rules.specs.Statements.{Shape, Signal, Wire, Memory, aProcess, is, contents}
 use Rattle.rules.specs.Tokens.{Name}
@@ -156,8 +157,8 @@ Sound f (WireOf n w t k p) = (k < 16) × (k < 4 → p ≡ 0)
 Sound f (MemoryOf n w z t) = Unit {0}
 Sound f (Cell k n) = Unit {0}
 Sound f (CellParameter s n c) = (s ≤ 2) × GoodConstant f c
-Sound f (CellConnection n w l) = l ≡ 0 → w ≤ 2048
-Sound f (Connection a b l) = l ≡ 0 → (a ≤ 2048) × (b ≤ 2048)
+Sound f (CellConnection n w l) = l ≡ 0 → w ≤ mostWidth
+Sound f (Connection a b l) = l ≡ 0 → (a ≤ mostWidth) × (b ≤ mostWidth)
 Sound f End = Unit {0}
 Sound f NoShape = Unit {0}
 Sound f Process = Unit {0}
@@ -220,5 +221,5 @@ ConnectedIs a b r =
 -- what a line with signals needs: its rows, of which the first stands, room for two signals of 2,048 bits with bundles 16 deep, and few wires
 pub record Ready (f t s : List ℕ) (count : ℕ) : Type 0 where
   pub rows : Readable f t 1
-  pub room : 36864 ≤ length s
-  pub few : count ≤ 512
+  pub room : scratchLength ≤ length s
+  pub few : count ≤ mostWires

@@ -7,6 +7,7 @@ ghost use mathlib.Core.Path.{_≡_};
 ghost use mathlib.Core.List.{[], _∷_, map, flatMap, reverse};
 ghost use Prim.Native.Nat.{_≤_};
 ghost use lib.ListN.{length, replicate};
+ghost use Rattle.rules.specs.Limits.{bitsLength, pastText};
 ghost use Rattle.rules.specs.Bytes.{all};
 ghost use Rattle.rules.specs.Tokens.{value, string};
 ghost use Rattle.rules.specs.Text.{decimalText, integerText, digitByte, escaped, literalText, refusal};
@@ -29,7 +30,7 @@ const DIGIT_Z: u32 = 3;
 const DIGIT_M: u32 = 4;
 
 pub fn put_byte(out: &mut [u8], at: usize, b: u8) -> usize
-    requires { ⌜ at ≤ 32769 ⌝ }
+    requires { ⌜ at ≤ pastText ⌝ }
     ensures { λ r. ⌜ Written at (b ∷ []) (now (out .entry)) (now (out .exit)) r ⌝ }
 {
     if at >= TEXT_LENGTH {
@@ -43,7 +44,7 @@ pub fn put_byte(out: &mut [u8], at: usize, b: u8) -> usize
 
 // Byte by byte, for a text that the room ends in or that ends past 32,768.
 fn put_each(out: &mut [u8], at: usize, s: &[u8]) -> usize
-    requires { ⌜ at ≤ 32769 ⌝ }
+    requires { ⌜ at ≤ pastText ⌝ }
     ensures { λ r. ⌜ Written at (now (s .entry)) (now (out .entry)) (now (out .exit)) r ⌝ }
 {
     let mut end = at;
@@ -57,7 +58,7 @@ fn put_each(out: &mut [u8], at: usize, s: &[u8]) -> usize
 
 // Where all of it has a place it is stored by one copy, and where none has, it is only counted.
 pub fn put_bytes(out: &mut [u8], at: usize, s: &[u8]) -> usize
-    requires { ⌜ at ≤ 32769 ⌝ }
+    requires { ⌜ at ≤ pastText ⌝ }
     ensures { λ r. ⌜ Written at (now (s .entry)) (now (out .entry)) (now (out .exit)) r ⌝ }
 {
     let end = at + s.len();
@@ -75,7 +76,7 @@ pub fn put_bytes(out: &mut [u8], at: usize, s: &[u8]) -> usize
 }
 
 pub fn put_spaces(out: &mut [u8], at: usize, n: usize) -> usize
-    requires { ⌜ at ≤ 32769 ⌝ }
+    requires { ⌜ at ≤ pastText ⌝ }
     ensures { λ r. ⌜ Written at (replicate n 32) (now (out .entry)) (now (out .exit)) r ⌝ }
 {
     let mut end = at;
@@ -89,7 +90,7 @@ pub fn put_spaces(out: &mut [u8], at: usize, n: usize) -> usize
 
 // The digits in front of the last, then the last. There are at most ten, so the calls are at most ten deep.
 pub fn put_decimal(out: &mut [u8], at: usize, n: u32) -> usize
-    requires { ⌜ at ≤ 32769 ⌝ }
+    requires { ⌜ at ≤ pastText ⌝ }
     ensures { λ r. ⌜ Written at (decimalText n) (now (out .entry)) (now (out .exit)) r ⌝ }
 {
     let last = b'0' + (n % 10) as u8;
@@ -102,7 +103,7 @@ pub fn put_decimal(out: &mut [u8], at: usize, n: u32) -> usize
 
 // The integer that a word of 32 bits stands for, in two's complement.
 pub fn put_integer(out: &mut [u8], at: usize, word: u32) -> usize
-    requires { ⌜ at ≤ 32769 ⌝ }
+    requires { ⌜ at ≤ pastText ⌝ }
     ensures { λ r. ⌜ Written at (integerText (signedOf word)) (now (out .entry)) (now (out .exit)) r ⌝ }
 {
     if word < FIRST_NEGATIVE {
@@ -114,7 +115,7 @@ pub fn put_integer(out: &mut [u8], at: usize, word: u32) -> usize
 
 // A byte as it stands in a string.
 fn put_escaped(out: &mut [u8], at: usize, b: u8) -> usize
-    requires { ⌜ at ≤ 32769 ⌝ }
+    requires { ⌜ at ≤ pastText ⌝ }
     ensures { λ r. ⌜ Written at (escaped b) (now (out .entry)) (now (out .exit)) r ⌝ }
 {
     if b == b'"' {
@@ -157,7 +158,7 @@ fn all_plain(s: &[u8]) -> bool
 
 // The bytes of a string byte by byte.
 fn put_mixed(out: &mut [u8], at: usize, s: &[u8]) -> usize
-    requires { ⌜ at ≤ 32769 ⌝ }
+    requires { ⌜ at ≤ pastText ⌝ }
     ensures { λ r. ⌜ Written at (flatMap escaped (now (s .entry))) (now (out .entry)) (now (out .exit)) r ⌝ }
 {
     let mut end = at;
@@ -171,7 +172,7 @@ fn put_mixed(out: &mut [u8], at: usize, s: &[u8]) -> usize
 
 // The bytes of a string, without the quotes.
 fn put_inside(out: &mut [u8], at: usize, s: &[u8]) -> usize
-    requires { ⌜ at ≤ 32769 ⌝ }
+    requires { ⌜ at ≤ pastText ⌝ }
     ensures { λ r. ⌜ Written at (flatMap escaped (now (s .entry))) (now (out .entry)) (now (out .exit)) r ⌝ }
 {
     if all_plain(s) {
@@ -181,7 +182,7 @@ fn put_inside(out: &mut [u8], at: usize, s: &[u8]) -> usize
 }
 
 pub fn put_string(out: &mut [u8], at: usize, s: &[u8]) -> usize
-    requires { ⌜ at ≤ 32769 ⌝ }
+    requires { ⌜ at ≤ pastText ⌝ }
     ensures { λ r. ⌜ Written at (literalText (string (now (s .entry)))) (now (out .entry)) (now (out .exit)) r ⌝ }
 {
     let open = put_byte(out, at, b'"');
@@ -212,7 +213,7 @@ fn digit_byte(code: u32) -> u8
 
 // The digits of a value, the highest bit first.
 fn put_digits(out: &mut [u8], at: usize, bits: &[u32]) -> usize
-    requires { ⌜ at ≤ 32769 ⌝ }
+    requires { ⌜ at ≤ pastText ⌝ }
     ensures { λ r. ⌜ Written at (map digitByte (reverse (map digitOf (now (bits .entry))))) (now (out .entry)) (now (out .exit)) r ⌝ }
 {
     let mut end = at;
@@ -226,8 +227,8 @@ fn put_digits(out: &mut [u8], at: usize, bits: &[u32]) -> usize
 
 // A value of these digit codes, the lowest bit first.
 pub fn put_value(out: &mut [u8], at: usize, bits: &[u32]) -> usize
-    requires { ⌜ at ≤ 32769 ⌝ }
-    requires { ⌜ length (now bits) ≤ 16384 ⌝ }
+    requires { ⌜ at ≤ pastText ⌝ }
+    requires { ⌜ length (now bits) ≤ bitsLength ⌝ }
     ensures { λ r. ⌜ Written at (literalText (value (length (now (bits .entry))) (reverse (map digitOf (now (bits .entry)))))) (now (out .entry)) (now (out .exit)) r ⌝ }
 {
     let width = put_decimal(out, at, bits.len() as u32);
@@ -237,7 +238,7 @@ pub fn put_value(out: &mut [u8], at: usize, bits: &[u32]) -> usize
 
 // The program's answer to a file that it refuses.
 pub fn put_refusal(out: &mut [u8], at: usize, number: u32, place: u32) -> usize
-    requires { ⌜ at ≤ 32769 ⌝ }
+    requires { ⌜ at ≤ pastText ⌝ }
     ensures { λ r. ⌜ Written at (refusal number place) (now (out .entry)) (now (out .exit)) r ⌝ }
 {
     let first = put_decimal(out, at, number);

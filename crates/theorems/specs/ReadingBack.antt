@@ -8,6 +8,7 @@ use mathlib.Core.List.{List, [], reverse}
 use lib.Dec.{ltb}
 use lib.ListN.{length}
 use borrow.Author.Tests.{ltb-false}
+use Rattle.rules.specs.Limits.{longestFile}
 use Rattle.rules.specs.Statements.{Statement}
 use Rattle.rules.specs.Judgement.{Verdict}
 use Rattle.rules.specs.Reading.{accepted, readAny, read}
@@ -46,7 +47,7 @@ module _ {m : Memory} {ss : List Statement} {rs : List Rename} (h : Holds m ss r
   unfolding text
   text-back = any-read (flatten held) (canonical .admitted) (canonical .closes)
 
-  pub file-back : length (text held) ≤ 32768 → read (text held) ≡ accepted (flatten held)
+  pub file-back : length (text held) ≤ longestFile → read (text held) ≡ accepted (flatten held)
   unfolding text
   file-back few = text-read (flatten held) (canonical .admitted) (canonical .closes) few
 
@@ -59,5 +60,5 @@ module _ {m : Memory} {ss : List Statement} {rs : List Rename} (h : Holds m ss r
   unfolding write writeText
   write-read room t e =
       let w = no-tests (text held) t _ e in
-      let few : length (text held) ≤ 32768 = ltb-false 32768 (length (text held)) (or-false-left (ltb 32768 (length (text held))) _ (w .1 .0)) in
+      let few : length (text held) ≤ longestFile = ltb-false longestFile (length (text held)) (or-false-left (ltb longestFile (length (text held))) _ (w .1 .0)) in
       record { statements = flatten held; reads = rw (← w .0) (file-back few); defines = same-design }

@@ -8,6 +8,7 @@ use mathlib.Core.Option.{Option·elim}
 use mathlib.Core.Bool.{Bool, true, false, _&&_}
 use lib.Dec.{leb, ltb}
 use lib.ListN.{length, getElem?}
+use Rattle.rules.specs.Limits.{mostWidth}
 use Rattle.rules.specs.Bytes.{all}
 use Rattle.rules.specs.Tokens.{Name}
 use Rattle.rules.specs.Statements.{Bit, digit, bit, Signal, Wire, Statement}
@@ -57,7 +58,7 @@ module _ (m : Module) where
 
   signal-inside : (s : Signal) → fineSignal (wiresIn m) s ≡ true → signalInside m s ≡ true
   unfolding fineSignal signalInside
-  signal-inside s e = all-implied (fineBit (wiresIn m)) (bitInside m) bit-inside s (and-true-right (leb (length s) 2048) _ e)
+  signal-inside s e = all-implied (fineBit (wiresIn m)) (bitInside m) bit-inside s (and-true-right (leb (length s) mostWidth) _ e)
 
   abbrev fine : Signal → Bool
   fine = fineSignal (wiresIn m)

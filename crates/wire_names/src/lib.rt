@@ -7,6 +7,7 @@ use wires::bytes_at;
 use wires::column;
 ghost use mathlib.Core.Path.{_≡_};
 ghost use Prim.Native.Nat.{_<_};
+ghost use Rattle.rules.specs.Limits.{manyRows};
 ghost use Rattle.wire_names.specs.Now.{renames, lastRename, nameNow};
 
 // The columns of a rename's row: where the new name starts, and the numbers of the module and the wire.
@@ -27,7 +28,7 @@ pub struct Module {
 
 // Whether a rename's row is of this wire.
 fn renames(rows: &[u32], row: usize, number: u32, wire: u32) -> bool
-    requires { ⌜ row < 8589934592 ⌝ }
+    requires { ⌜ row < manyRows ⌝ }
     ensures { λ r. ⌜ r ≡ renames (now (rows .entry)) row number wire ⌝ }
 {
     if column(rows, row, RENAME_MODULE) != number {
@@ -60,7 +61,7 @@ pub fn name_now<'a>(
     wire: WireNumber,
     k: usize,
 ) -> &'a [u8]
-    requires { ⌜ k < 8589934592 ⌝ }
+    requires { ⌜ k < manyRows ⌝ }
     ensures { λ r. ⌜ now r ≡ nameNow (now (names .entry)) (now (wires .entry)) (now (rows .entry)) (m .from) (m .renames) (m .number .0) (wire .0) k ⌝ }
 {
     let last = last_rename(rows, m.from, m.renames, m.number, wire);

@@ -7,6 +7,7 @@ use scanner::parts::part;
 use tables::word;
 ghost use mathlib.Core.Path.{_≡_};
 ghost use Prim.Native.Nat.{_<_};
+ghost use Rattle.rules.specs.Limits.{manyRows};
 ghost use Rattle.rules.specs.Session.{indexIn};
 ghost use Rattle.numbers.specs.Signed.{verdictOf};
 ghost use Rattle.wires.specs.Rows.{column, spanAt, wireOf, hasPort, TakenIs};
@@ -31,7 +32,7 @@ pub enum Found {
 
 // A column of a row in any table of rows. A row's number is the sum of two words at most, so that it may pass 32 bits.
 pub fn column(table: &[u32], row: usize, c: usize) -> u32
-    requires { ⌜ (row < 8589934592) × (c < 8) ⌝ }
+    requires { ⌜ (row < manyRows) × (c < 8) ⌝ }
     ensures { λ r. ⌜ r ≡ column (now (table .entry)) row c ⌝ }
 {
     word(table, 8 * row + c)
@@ -39,7 +40,7 @@ pub fn column(table: &[u32], row: usize, c: usize) -> u32
 
 // The bytes whose start stands in column c, and their number behind it.
 pub fn bytes_at<'a>(bytes: &'a [u8], table: &[u32], row: usize, c: usize) -> &'a [u8]
-    requires { ⌜ (row < 8589934592) × (c < 7) ⌝ }
+    requires { ⌜ (row < manyRows) × (c < 7) ⌝ }
     ensures { λ r. ⌜ now r ≡ spanAt (now (bytes .entry)) (now (table .entry)) row c ⌝ }
 {
     let start = column(table, row, c) as usize;
@@ -48,7 +49,7 @@ pub fn bytes_at<'a>(bytes: &'a [u8], table: &[u32], row: usize, c: usize) -> &'a
 }
 
 fn has_port(wires: &[u32], row: usize, port: u32) -> bool
-    requires { ⌜ row < 8589934592 ⌝ }
+    requires { ⌜ row < manyRows ⌝ }
     ensures { λ r. ⌜ r ≡ hasPort port (wireOf (now (wires .entry)) row) ⌝ }
 {
     let direction = column(wires, row, WIRE_FLAGS) / 4;

@@ -9,6 +9,7 @@ use text::TEXT_LENGTH;
 ghost use mathlib.Core.Path.{_≡_};
 ghost use Prim.Native.Nat.{_≤_};
 ghost use lib.ListN.{length};
+ghost use Rattle.rules.specs.Limits.{bitsLength};
 ghost use Rattle.netlist.specs.Results.{lent};
 ghost use Rattle.session.specs.Called.{answer};
 ghost use Rattle.text.specs.Written.{moved};
@@ -32,7 +33,7 @@ fn text_end(
     rows: &[u32],
     counts: Counts,
 ) -> usize
-    requires { ⌜ length (now bits) ≤ 16384 ⌝ }
+    requires { ⌜ length (now bits) ≤ bitsLength ⌝ }
     ensures { λ r. ⌜ r ≡ moved 0 (length (textRows (tabled (now (names .entry)) (now (strings .entry)) (now (bits .entry)) (now (wires .entry)) (now (rows .entry))) counts)) ⌝ }
 {
     let mut none = [0u8; 1];
@@ -47,7 +48,7 @@ fn measure_rows(
     rows: &[u32],
     counts: Counts,
 ) -> Written
-    requires { ⌜ length (now bits) ≤ 16384 ⌝ }
+    requires { ⌜ length (now bits) ≤ bitsLength ⌝ }
     ensures { λ r. ⌜ (r .number, r .length) ≡ answer 0 (measureText (textRows (tabled (now (names .entry)) (now (strings .entry)) (now (bits .entry)) (now (wires .entry)) (now (rows .entry))) counts)) ⌝ }
 {
     let end = text_end(names, strings, bits, wires, rows, counts);
@@ -73,7 +74,7 @@ fn write_rows(
     counts: Counts,
     out: &mut [u8],
 ) -> Written
-    requires { ⌜ length (now bits) ≤ 16384 ⌝ }
+    requires { ⌜ length (now bits) ≤ bitsLength ⌝ }
     ensures { λ r. ⌜ (r .number, r .length, now (out .exit)) ≡ wrote (now (out .entry)) (writeText (length (now (out .entry))) (textRows (tabled (now (names .entry)) (now (strings .entry)) (now (bits .entry)) (now (wires .entry)) (now (rows .entry))) counts)) ⌝ }
 {
     let end = text_end(names, strings, bits, wires, rows, counts);

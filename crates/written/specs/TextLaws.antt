@@ -6,6 +6,7 @@ use mathlib.Core.List.{List, [], _∷_, reverseAux, reverse, reverse-reverse}
 use Prim.Native.Nat.{ℕ, _+_, _≤_}
 use lib.ListN.{length}
 use borrow.Author.Tests.{le-ltb}
+use Rattle.rules.specs.Limits.{longestFile}
 use Rattle.rules.specs.Lines.{lines, linesFrom, place}
 use Rattle.rules.specs.Statements.{Statement}
 use Rattle.rules.specs.Judgement.{Past}
@@ -41,6 +42,6 @@ pub any-read : (ss : List Statement) → admitted (reverse ss) ≡ true → clos
 unfolding readAny lines finish closes
 any-read ss a c = lines-read (length (textFrom [] ss)) 0 [] ss a ∙ rw c (ap accepted (reverse-reverse ss))
 
-pub text-read : (ss : List Statement) → admitted (reverse ss) ≡ true → closes (reverse ss) ≡ true → length (textFrom [] ss) ≤ 32768 → read (textFrom [] ss) ≡ accepted ss
+pub text-read : (ss : List Statement) → admitted (reverse ss) ≡ true → closes (reverse ss) ≡ true → length (textFrom [] ss) ≤ longestFile → read (textFrom [] ss) ≡ accepted ss
 unfolding read
-text-read ss a c h = rw (le-ltb 32768 (length (textFrom [] ss)) h) (any-read ss a c)
+text-read ss a c h = rw (le-ltb longestFile (length (textFrom [] ss)) h) (any-read ss a c)
