@@ -5,7 +5,7 @@ use mathlib.Core.Bool.{Bool, false, cond, not, _&&_}
 use mathlib.Core.List.{[], _∷_}
 use lib.Dec.{eqb}
 use lib.ListN.{length}
-use Rattle.rules.specs.Statements.{Statement, aModule, aWire, code, contents}
+use Rattle.rules.specs.Statements.{Statement, aModule, aWire, code, contents, attributeKind, moduleKind, wireKind, cellKind, endKind}
 use Rattle.rules.specs.Shapes.{Scope, top, inModule, inCell, Context}
 use Rattle.rules.specs.Judgement.{Past, sum, scope, context, ofModule, ofCell, ofObject, count}
 use Rattle.context.specs.declared.place.Place.{Place}
@@ -58,7 +58,7 @@ pub record Bounds (p : Place) : Type 0 where
 
 -- a scope's number behind a statement of a kind
 unfoldable pub scopeAfter : ℕ → ℕ → ℕ
-scopeAfter n k = cond (eqb k 3) 1 (cond (eqb k 7) 2 (cond (eqb k 12) (n - 1) n))
+scopeAfter n k = cond (eqb k moduleKind) 1 (cond (eqb k cellKind) 2 (cond (eqb k endKind) (n - 1) n))
 
 -- the place behind a statement of a kind that stands at p
 unfoldable pub placeAfter : Place → ℕ → Place
@@ -66,14 +66,14 @@ placeAfter p k =
     record {
       scope = scopeAfter (p .scope) k;
       first = false;
-      attributed = eqb k 2;
+      attributed = eqb k attributeKind;
       rows = p .rows + 1;
-      «module_from» = cond (eqb k 3) (p .rows + 1) (p .«module_from»);
-      «cell_from» = cond (eqb k 7) (p .rows + 1) (p .«cell_from»);
-      «object_from» = cond (eqb k 2) (p .«object_from») (p .rows + 1);
-      wires = p .wires + cond (eqb k 5) 1 0;
-      «wires_from» = cond (eqb k 3) (p .wires + cond (eqb k 5) 1 0) (p .«wires_from»);
-      modules = p .modules + cond (eqb k 3) 1 0;
+      «module_from» = cond (eqb k moduleKind) (p .rows + 1) (p .«module_from»);
+      «cell_from» = cond (eqb k cellKind) (p .rows + 1) (p .«cell_from»);
+      «object_from» = cond (eqb k attributeKind) (p .«object_from») (p .rows + 1);
+      wires = p .wires + cond (eqb k wireKind) 1 0;
+      «wires_from» = cond (eqb k moduleKind) (p .wires + cond (eqb k wireKind) 1 0) (p .«wires_from»);
+      modules = p .modules + cond (eqb k moduleKind) 1 0;
     }
 
 -- r is the place behind each statement of this kind that stands at p

@@ -6,7 +6,7 @@ use mathlib.Core.List.{List, [], _∷_}
 use lib.Dec.{eqb, ltb}
 use Rattle.rules.specs.Limits.{mostModules, mostWires, mostMemories, mostCells, mostParameters, mostAttributes, mostCellConnections, mostConnections, mostSignalBits, mostValueBits, mostStringBytes, nameRoom}
 use Rattle.rules.specs.Bytes.{any}
-use Rattle.rules.specs.Statements.{Statement, anAttribute, aModule, aParameter, aWire, aMemory, aCell, aCellParameter, aCellConnection, aConnection, code, contents}
+use Rattle.rules.specs.Statements.{Statement, anAttribute, aModule, aParameter, aWire, aMemory, aCell, aCellParameter, aCellConnection, aConnection, code, contents, attributeKind, moduleKind, parameterKind, wireKind, memoryKind, cellKind, cellParameterKind, cellConnectionKind, connectionKind}
 use Rattle.rules.specs.Judgement.{Past, sum, count, signalSize, valueSize, stringSize, nameSize}
 use Rattle.context.specs.declared.sizes.Sizes.{Sizes}
 
@@ -108,14 +108,14 @@ pub record AtMost (n : ℕ) (u : Sizes) : Type 0 where
 unfoldable pub kindSizes : (k g v t n : ℕ) → Sizes
 kindSizes k g v t n =
     record {
-      modules = cond (eqb k 3) 1 0;
-      wires = cond (eqb k 5) 1 0;
-      memories = cond (eqb k 6) 1 0;
-      cells = cond (eqb k 7) 1 0;
-      parameters = cond (eqb k 4 || eqb k 8) 1 0;
-      attributes = cond (eqb k 2) 1 0;
-      ports = cond (eqb k 9) 1 0;
-      connections = cond (eqb k 10) 1 0;
+      modules = cond (eqb k moduleKind) 1 0;
+      wires = cond (eqb k wireKind) 1 0;
+      memories = cond (eqb k memoryKind) 1 0;
+      cells = cond (eqb k cellKind) 1 0;
+      parameters = cond (eqb k parameterKind || eqb k cellParameterKind) 1 0;
+      attributes = cond (eqb k attributeKind) 1 0;
+      ports = cond (eqb k cellConnectionKind) 1 0;
+      connections = cond (eqb k connectionKind) 1 0;
       «signal_bits» = g;
       «value_bits» = v;
       «string_bytes» = t;

@@ -3,6 +3,7 @@ use Prim.Native.Nat.{ℕ, zero, suc, _+_, _-_}
 use mathlib.Core.List.{List, [], _++_}
 use mathlib.Core.Bool.{cond}
 use lib.Dec.{eqb}
+use Rattle.rules.specs.Statements.{autoidxKind, attributeKind, moduleKind, parameterKind, wireKind, memoryKind, cellKind, cellParameterKind, cellConnectionKind, connectionKind, endKind}
 use Rattle.rules.specs.Bytes.{bytes}
 use Rattle.netlist.specs.Rows.{kindAt}
 use Rattle.netlist.specs.Tables.{Tables}
@@ -19,7 +20,7 @@ nextRow rows kind k (suc c) = let r = nextRow rows kind (suc k) c in cond (eqb (
 
 -- where the attributes that wait behind row k begin: an attribute waits on, any other statement ends the wait
 unfoldable pub waitingFrom : (kind first k : ℕ) → ℕ
-waitingFrom kind first k = cond (eqb kind 2) first (k + 1)
+waitingFrom kind first k = cond (eqb kind attributeKind) first (k + 1)
 
 module _ (t : Tables) (m : Module) where
   -- the line of row k, the names of wires being those of now
@@ -38,15 +39,15 @@ module _ (t : Tables) (m : Module) where
   -- a cell in row k, with count rows behind it: its parameters and connections stand before the next `end`
   unfoldable pub cellRows : (k count : ℕ) → List ℕ
   cellRows k c =
-      let inside = nextRow (t .rows) 12 (k + 1) c - (k + 1) in
-      rowLine 1 k ++ kindRows 8 2 (k + 1) inside ++ kindRows 9 2 (k + 1) inside ++ bytes "  end\n"
+      let inside = nextRow (t .rows) endKind (k + 1) c - (k + 1) in
+      rowLine 1 k ++ kindRows cellParameterKind 2 (k + 1) inside ++ kindRows cellConnectionKind 2 (k + 1) inside ++ bytes "  end\n"
 
   -- an object in row k whose attributes begin in row `first`, if it is of a kind; kind 7 is a cell
   unfoldable pub objectIf : (kind first k count : ℕ) → List ℕ
   objectIf kind first k c =
       let cell = cellRows k c in
       let line = rowLine 1 k in
-      let r = kindRows 2 1 first (k - first) ++ cond (eqb kind 7) cell line in
+      let r = kindRows attributeKind 1 first (k - first) ++ cond (eqb kind cellKind) cell line in
       cond (eqb (kindAt (t .rows) k) kind) r []
 
   unfoldable pub objectRows : (kind first k count : ℕ) → List ℕ
@@ -55,7 +56,7 @@ module _ (t : Tables) (m : Module) where
 
   -- what stands in a module
   unfoldable pub bodyRows : (k count : ℕ) → List ℕ
-  bodyRows k c = kindRows 4 1 k c ++ objectRows 5 k k c ++ objectRows 6 k k c ++ objectRows 7 k k c ++ kindRows 10 1 k c
+  bodyRows k c = kindRows parameterKind 1 k c ++ objectRows wireKind k k c ++ objectRows memoryKind k k c ++ objectRows cellKind k k c ++ kindRows connectionKind 1 k c
 
 -- a module by its number
 unfoldable pub moduleAt : (wires : List ℕ) → Counts → ℕ → Module
@@ -69,17 +70,17 @@ module _ (t : Tables) (C : Counts) where
   moduleIf n first k c =
       let m = moduleAt (t .wires) C n in
       let r =
-      kindRows t m 2 0 first (k - first)
+      kindRows t m attributeKind 0 first (k - first)
       ++ rowLine t m 0 k
-      ++ bodyRows t m (k + 1) (nextRow (t .rows) 3 (k + 1) c - (k + 1))
+      ++ bodyRows t m (k + 1) (nextRow (t .rows) moduleKind (k + 1) c - (k + 1))
       ++ bytes "end\n" in
-      cond (eqb (kindAt (t .rows) k) 3) r []
+      cond (eqb (kindAt (t .rows) k) moduleKind) r []
 
   unfoldable pub moduleRows : (n first k count : ℕ) → List ℕ
   moduleRows n first k zero = []
   moduleRows n first k (suc c) =
-      moduleIf n first k c ++ moduleRows (n + cond (eqb (kindAt (t .rows) k) 3) 1 0) (waitingFrom (kindAt (t .rows) k) first k) (suc k) c
+      moduleIf n first k c ++ moduleRows (n + cond (eqb (kindAt (t .rows) k) moduleKind) 1 0) (waitingFrom (kindAt (t .rows) k) first k) (suc k) c
 
   -- only the first statement may be `autoidx`
   unfoldable pub textRows : List ℕ
-  textRows = kindRows t (moduleAt (t .wires) C 0) 1 0 0 (cond (eqb (C .statements) 0) 0 1) ++ moduleRows 0 0 0 (C .statements)
+  textRows = kindRows t (moduleAt (t .wires) C 0) autoidxKind 0 0 (cond (eqb (C .statements) 0) 0 1) ++ moduleRows 0 0 0 (C .statements)

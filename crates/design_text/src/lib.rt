@@ -21,6 +21,7 @@ ghost use mathlib.Core.Bool.{cond};
 ghost use Prim.Native.Nat.{_+_, _-_, _≤_, _<_};
 ghost use lib.Dec.{eqb};
 ghost use lib.ListN.{length};
+ghost use Rattle.rules.specs.Statements.{moduleKind};
 ghost use Rattle.rules.specs.Limits.{bitsLength, pastText};
 ghost use Rattle.text.specs.Written.{Written};
 ghost use Rattle.netlist.specs.Tables.{tabled};
@@ -399,7 +400,7 @@ fn put_module(
 }
 
 fn one_if_module(kind: u32) -> u32
-    ensures { λ r. ⌜ r ≡ cond (eqb kind 3) 1 0 ⌝ }
+    ensures { λ r. ⌜ r ≡ cond (eqb kind moduleKind) 1 0 ⌝ }
 {
     if kind == KIND_MODULE {
         return 1;

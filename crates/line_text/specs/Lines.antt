@@ -6,7 +6,7 @@ use mathlib.Core.Option.{Option, none, some}
 use mathlib.Core.Bool.{false, cond}
 use lib.Dec.{eqb}
 use lib.ListN.{replicate}
-use Rattle.rules.specs.Statements.{Statement, wire-stmt}
+use Rattle.rules.specs.Statements.{Statement, wire-stmt, wireKind, cellConnectionKind, connectionKind}
 use Rattle.rules.specs.Signals.{Wires}
 use Rattle.rules.specs.Text.{written, shapeTokens, spaced}
 use Rattle.wires.specs.Rows.{column, wireOf}
@@ -19,7 +19,7 @@ use Rattle.text.specs.Written.{Written}
 -- the statement in row k; a wire's has its name now
 unfoldable pub statementNow : (names strings bits wires rows : List ℕ) → Module → ℕ → Option Statement
 statementNow names strings bits wires rows m k =
-    cond (eqb (kindAt rows k) 5) (some (wire-stmt (wireOf wires (column rows k 3)) (ownNow names wires rows m (column rows k 3))))
+    cond (eqb (kindAt rows k) wireKind) (some (wire-stmt (wireOf wires (column rows k 3)) (ownNow names wires rows m (column rows k 3))))
     (statementAt names strings bits wires rows k)
 
 -- a statement's text; where a row holds none, none
@@ -34,5 +34,5 @@ lineOf level ws o = replicate (2 * level) 32 ++ bodyText ws o ++ 10 ∷ []
 -- the statement of a kind other than those that name wires is written, whatever the wires are
 abbrev pub PlainIs : (names strings bits rows : List ℕ) → (k kind at : ℕ) → (old new : List ℕ) → ℕ → Type 0
 PlainIs names strings bits rows k kind at old new r =
-    (wires : List ℕ) (ws : Wires) → eqb kind 5 ≡ false → eqb kind 9 ≡ false → eqb kind 10 ≡ false →
+    (wires : List ℕ) (ws : Wires) → eqb kind wireKind ≡ false → eqb kind cellConnectionKind ≡ false → eqb kind connectionKind ≡ false →
     Written at (bodyText ws (statementBy names strings bits wires rows k kind)) old new r

@@ -9,7 +9,7 @@ use Rattle.rules.specs.Statements.{Statement}
 use Rattle.rules.specs.Judgement.{accepted}
 use Rattle.rules.specs.Design.{design}
 use Rattle.rules.specs.Session.{Rename, renameCall}
-use Rattle.rules.specs.Layout.{rooms}
+use Rattle.rules.specs.Layout.{rooms, renameKind}
 use Rattle.tables.specs.declared.Row.{Row}
 use Rattle.context.specs.declared.place.Place.{Place}
 use Rattle.admitted.specs.Holds.{Allowed}
@@ -19,7 +19,7 @@ use Rattle.memory_check.specs.declared.Renamed.{Renamed}
 
 -- whether a row is that of a rename whose name starts at a place
 unfoldable pub isRename : Row → ℕ → Bool
-isRename x at = eqb (x .kind) 13 && (eqb (x .a) at && (eqb (x .e) 0 && (eqb (x .f) 0 && eqb (x .g) 0)))
+isRename x at = eqb (x .kind) renameKind && (eqb (x .a) at && (eqb (x .e) 0 && (eqb (x .f) 0 && eqb (x .g) 0)))
 
 -- behind i renames that use so many bytes of names: one more that is accepted, and the bytes used behind it; or none
 unfoldable pub RenameIs : (names wires rows : List ℕ) → Place → (i used : ℕ) → Renamed → Type 0

@@ -3,6 +3,7 @@ use Prim.Native.Nat.{ℕ, zero, suc, _+_, _-_}
 use mathlib.Core.List.{List}
 use mathlib.Core.Bool.{Bool, cond}
 use lib.Dec.{eqb, leb, ltb}
+use Rattle.rules.specs.Statements.{moduleKind}
 use Rattle.wires.specs.Rows.{column}
 use Rattle.modules.specs.declared.Range.{Range}
 
@@ -17,7 +18,7 @@ wireRange t total m = record { first = rowsWhere (λ c. ltb c m) t total; count 
 
 -- how many of the first k rows are module lines; and how many stand before the module line of number m, from 0: all k if there is none
 abbrev pub linesIn : List ℕ → ℕ → ℕ
-linesIn rows k = rowsWhere (λ c. eqb c 3) rows k
+linesIn rows k = rowsWhere (λ c. eqb c moduleKind) rows k
 
 unfoldable pub lineOf : List ℕ → (k m : ℕ) → ℕ
 lineOf rows zero m = 0

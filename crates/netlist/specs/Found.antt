@@ -3,6 +3,7 @@ use Prim.Native.Nat.{ℕ, _-_}
 use mathlib.Core.Bool.{Bool, cond}
 use mathlib.Core.List.{List}
 use lib.Dec.{eqb, ltb}
+use Rattle.rules.specs.Statements.{attributeKind, moduleKind, parameterKind, wireKind, memoryKind, cellKind, cellParameterKind, connectionKind}
 use Rattle.rules.specs.Bytes.{same, any}
 use Rattle.rules.specs.Tokens.{Name}
 use Rattle.netlist.specs.Rows.{namesBetween}
@@ -13,19 +14,19 @@ use Rattle.context.specs.declared.place.Place.{Place}
 -- its first row, by the code of the statement's kind; of a kind without a name the rows are none
 unfoldable pub spaceFrom : Place → ℕ → ℕ
 spaceFrom p k =
-    cond (eqb k 2) (p .«object_from»)
-    (cond (eqb k 3) 0
-    (cond (ltb k 4) (p .rows) (cond (ltb k 8) (p .«module_from») (cond (ltb k 10) (p .«cell_from») (p .rows)))))
+    cond (eqb k attributeKind) (p .«object_from»)
+    (cond (eqb k moduleKind) 0
+    (cond (ltb k parameterKind) (p .rows) (cond (ltb k cellParameterKind) (p .«module_from») (cond (ltb k connectionKind) (p .«cell_from») (p .rows)))))
 
 -- the kinds that share it
 abbrev pub sharedKinds : Kinds
-sharedKinds = record { a = 5; b = 6; c = 7 }
+sharedKinds = record { a = wireKind; b = memoryKind; c = cellKind }
 
 abbrev pub ownKind : ℕ → Kinds
 ownKind k = record { a = k; b = k; c = k }
 
 unfoldable pub kindsFrom : ℕ → Kinds
-kindsFrom k = cond (ltb k 5) (ownKind k) (cond (ltb k 8) sharedKinds (ownKind k))
+kindsFrom k = cond (ltb k wireKind) (ownKind k) (cond (ltb k cellParameterKind) sharedKinds (ownKind k))
 
 -- whether a name is found there
 unfoldable pub foundIn : (names rows : List ℕ) → Place → (kind : ℕ) → Name → Bool

@@ -4,6 +4,7 @@ use Prim.Native.Nat.{ℕ, zero, suc, _+_}
 use mathlib.Core.List.{List, [], _∷_}
 use mathlib.Core.Bool.{Bool, cond}
 use lib.Dec.{eqb}
+use Rattle.rules.specs.Statements.{cellKind}
 use Rattle.rules.specs.Tokens.{Name}
 use Rattle.wires.specs.Rows.{column, spanAt}
 
@@ -12,7 +13,7 @@ kindAt rows k = column rows k 0
 
 -- the column where a name's start stands: of a cell, whose code is 7, behind its type's
 unfoldable pub nameColumn : ℕ → ℕ
-nameColumn kind = cond (eqb kind 7) 3 1
+nameColumn kind = cond (eqb kind cellKind) 3 1
 
 unfoldable pub nameFrom : List ℕ → List ℕ → (row first : ℕ) → Name
 nameFrom names rows k c = spanAt names rows k c

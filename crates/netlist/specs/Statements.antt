@@ -5,6 +5,7 @@ use mathlib.Core.List.{List, map}
 use mathlib.Core.Option.{Option, none, some}
 use mathlib.Core.Bool.{cond}
 use lib.Dec.{eqb}
+use Rattle.rules.specs.Layout.{valueConstant, integerConstant}
 use Rattle.rules.specs.Statements.{Sort, Constant, value, integer, string, Signal, Memory, Statement, autoidx-stmt, attr-stmt, module-stmt, param-stmt, wire-stmt, memory-stmt, cell-stmt, cell-param-stmt, cell-conn-stmt, conn-stmt, end-stmt}
 use Rattle.numbers.specs.Kinds.{digitOf, signalOf, sortOf}
 use Rattle.numbers.specs.Signed.{signedOf}
@@ -14,8 +15,8 @@ use Rattle.netlist.specs.Rows.{kindAt, nameFrom}
 -- the constant of three columns: its kind, 1 a value, 2 an integer, else a string; then its span, or the integer
 unfoldable pub constantAt : (strings bits rows : List ℕ) → (row c : ℕ) → Constant
 constantAt strings bits rows k c =
-    cond (eqb (column rows k c) 1) (value (map digitOf (spanAt bits rows k (c + 1))))
-    (cond (eqb (column rows k c) 2) (integer (signedOf (column rows k (c + 1)))) (string (spanAt strings rows k (c + 1))))
+    cond (eqb (column rows k c) valueConstant) (value (map digitOf (spanAt bits rows k (c + 1))))
+    (cond (eqb (column rows k c) integerConstant) (integer (signedOf (column rows k (c + 1)))) (string (spanAt strings rows k (c + 1))))
 
 -- kind 0: a parameter without a constant
 unfoldable pub optionalAt : (strings bits rows : List ℕ) → (row c : ℕ) → Option Constant

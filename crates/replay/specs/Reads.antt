@@ -8,10 +8,10 @@ use lib.Dec.{eqb}
 use lib.ListN.{length}
 use Rattle.rules.specs.Limits.{namesLength, bitsLength}
 use Rattle.rules.specs.Tokens.{Name}
-use Rattle.rules.specs.Statements.{Sort, Constant, value, integer, string, digitsOf, bytesOf, Statement, Memory, autoidx-stmt, attr-stmt, module-stmt, param-stmt, wire-stmt, memory-stmt, cell-stmt, cell-param-stmt, cell-conn-stmt, conn-stmt, proc-stmt, end-stmt, Kind, contents, holds}
+use Rattle.rules.specs.Statements.{Sort, Constant, value, integer, string, digitsOf, bytesOf, Statement, Memory, autoidx-stmt, attr-stmt, module-stmt, param-stmt, wire-stmt, memory-stmt, cell-stmt, cell-param-stmt, cell-conn-stmt, conn-stmt, proc-stmt, end-stmt, Kind, contents, holds, autoidxKind, attributeKind, moduleKind, parameterKind, wireKind, memoryKind, cellKind, cellParameterKind, cellConnectionKind, connectionKind, processKind}
 use Rattle.rules.specs.Signals.{Wires}
 use Rattle.rules.specs.Judgement.{signalSize, valueSize, stringSize, nameSize}
-use Rattle.rules.specs.Layout.{Used, row, digitCode, wireRow, constantColumns, statementRow}
+use Rattle.rules.specs.Layout.{Used, row, digitCode, wireRow, constantColumns, statementRow, valueConstant, integerConstant}
 use Rattle.admitted.specs.Admitted.{fineConstant, fineParts}
 use Rattle.tables.specs.Row.{words}
 use Rattle.tables.specs.declared.Row.{Row}
@@ -43,7 +43,7 @@ Decides false P = P → ⊥
 
 unfoldable pub constantOf : (strings bits : List ℕ) → Used → (kind a b : ℕ) → Constant
 constantOf strings bits u kind a b =
-    cond (eqb kind 1) (value (map digitOf (span bits (u .bits) b))) (cond (eqb kind 2) (integer (signedOf a)) (string (span strings (u .strings) b)))
+    cond (eqb kind valueConstant) (value (map digitOf (span bits (u .bits) b))) (cond (eqb kind integerConstant) (integer (signedOf a)) (string (span strings (u .strings) b)))
 
 pub record ReadsConstant (strings bits : List ℕ) (u : Used) (kind a b : ℕ) (c : Constant) : Type 0 where
   pub columns : constantColumns u c ≡ kind ∷ a ∷ b ∷ []
@@ -76,17 +76,17 @@ module _ (t : PartTables) (u : Used) (r : Row) where
   -- the statement of a kind
   unfoldable pub statementBy : ℕ → Statement
   statementBy k =
-      cond (eqb k 1) (autoidx-stmt (signedOf (r .a)))
-      (cond (eqb k 2) (attr-stmt firstName constantIn)
-      (cond (eqb k 3) (module-stmt firstName)
-      (cond (eqb k 4) (param-stmt firstName (optionalOf (t .strings) (t .bits) u (r .c) (r .d) (r .e)))
-      (cond (eqb k 5) (wire-stmt (wireOf (t .wires) (u .wires)) firstName)
-      (cond (eqb k 6) (memory-stmt (memoryOf r) firstName)
-      (cond (eqb k 7) (cell-stmt firstName (span (t .names) (u .names + r .b) (r .d)))
-      (cond (eqb k 8) (cell-param-stmt (sortOf (r .f)) firstName constantIn)
-      (cond (eqb k 9) (cell-conn-stmt firstName (signalOf (span (t .bits) (u .bits) (r .d))))
-      (cond (eqb k 10) (conn-stmt (signalOf (span (t .bits) (u .bits) (r .b))) (signalOf (span (t .bits) (u .bits + r .b) (r .d))))
-      (cond (eqb k 11) (proc-stmt firstName) end-stmt))))))))))
+      cond (eqb k autoidxKind) (autoidx-stmt (signedOf (r .a)))
+      (cond (eqb k attributeKind) (attr-stmt firstName constantIn)
+      (cond (eqb k moduleKind) (module-stmt firstName)
+      (cond (eqb k parameterKind) (param-stmt firstName (optionalOf (t .strings) (t .bits) u (r .c) (r .d) (r .e)))
+      (cond (eqb k wireKind) (wire-stmt (wireOf (t .wires) (u .wires)) firstName)
+      (cond (eqb k memoryKind) (memory-stmt (memoryOf r) firstName)
+      (cond (eqb k cellKind) (cell-stmt firstName (span (t .names) (u .names + r .b) (r .d)))
+      (cond (eqb k cellParameterKind) (cell-param-stmt (sortOf (r .f)) firstName constantIn)
+      (cond (eqb k cellConnectionKind) (cell-conn-stmt firstName (signalOf (span (t .bits) (u .bits) (r .d))))
+      (cond (eqb k connectionKind) (conn-stmt (signalOf (span (t .bits) (u .bits) (r .b))) (signalOf (span (t .bits) (u .bits + r .b) (r .d))))
+      (cond (eqb k processKind) (proc-stmt firstName) end-stmt))))))))))
 
   unfoldable pub statementOf : Statement
   statementOf = statementBy (r .kind)

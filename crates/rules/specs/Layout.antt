@@ -111,11 +111,21 @@ wireRow u x =
 unfoldable pub wireRows : Used → Statement → List (List ℕ)
 wireRows u s = map (wireRow u) (zip (contents s .names) (contents s .wires))
 
+-- the kinds of constants
+abbrev pub valueConstant : ℕ
+valueConstant = 1
+
+abbrev pub integerConstant : ℕ
+integerConstant = 2
+
+abbrev pub stringConstant : ℕ
+stringConstant = 3
+
 -- three columns of a constant: its kind, where it starts and its length; or its kind and the integer
 unfoldable pub constantColumns : Used → Constant → List ℕ
-constantColumns u (value ds) = 1 ∷ u .bits ∷ length ds ∷ []
-constantColumns u (integer i) = 2 ∷ twosComplement i ∷ 0 ∷ []
-constantColumns u (string s) = 3 ∷ u .strings ∷ length s ∷ []
+constantColumns u (value ds) = valueConstant ∷ u .bits ∷ length ds ∷ []
+constantColumns u (integer i) = integerConstant ∷ twosComplement i ∷ 0 ∷ []
+constantColumns u (string s) = stringConstant ∷ u .strings ∷ length s ∷ []
 
 unfoldable pub sortCode : Sort → ℕ
 sortCode plain = 0
@@ -155,9 +165,13 @@ put R s =
 unfoldable pub putAll : Rooms → List Statement → Rooms
 putAll R ss = foldl put R ss
 
--- A standing rename's row: kind 13, its new name, its module and wire number
+-- the kind of a standing rename's row, behind those of statements
+abbrev pub renameKind : ℕ
+renameKind = 13
+
+-- A standing rename's row: a kind of its own, its new name, its module and wire number
 unfoldable pub renameRow : ℕ → Rename → List ℕ
-renameRow at r = row (13 ∷ at ∷ length (r .newName) ∷ r .moduleNumber ∷ r .wireNumber ∷ [])
+renameRow at r = row (renameKind ∷ at ∷ length (r .newName) ∷ r .moduleNumber ∷ r .wireNumber ∷ [])
 
 unfoldable pub putRename : Rooms → Rename → Rooms
 putRename R r =

@@ -96,20 +96,57 @@ Statement = Stmt Constant Signal Wire Memory
 pub data Kind : Type 0 where
   anAutoidx anAttribute aModule aParameter aWire aMemory aCell aCellParameter aCellConnection aConnection aProcess anEnd : Kind
 
+-- the codes of kinds, as the rows of a design have them
+abbrev pub autoidxKind : ℕ
+autoidxKind = 1
+
+abbrev pub attributeKind : ℕ
+attributeKind = 2
+
+abbrev pub moduleKind : ℕ
+moduleKind = 3
+
+abbrev pub parameterKind : ℕ
+parameterKind = 4
+
+abbrev pub wireKind : ℕ
+wireKind = 5
+
+abbrev pub memoryKind : ℕ
+memoryKind = 6
+
+abbrev pub cellKind : ℕ
+cellKind = 7
+
+abbrev pub cellParameterKind : ℕ
+cellParameterKind = 8
+
+abbrev pub cellConnectionKind : ℕ
+cellConnectionKind = 9
+
+abbrev pub connectionKind : ℕ
+connectionKind = 10
+
+abbrev pub processKind : ℕ
+processKind = 11
+
+abbrev pub endKind : ℕ
+endKind = 12
+
 -- (by this number kinds are compared)
 unfoldable pub code : Kind → ℕ
-code anAutoidx = 1
-code anAttribute = 2
-code aModule = 3
-code aParameter = 4
-code aWire = 5
-code aMemory = 6
-code aCell = 7
-code aCellParameter = 8
-code aCellConnection = 9
-code aConnection = 10
-code aProcess = 11
-code anEnd = 12
+code anAutoidx = autoidxKind
+code anAttribute = attributeKind
+code aModule = moduleKind
+code aParameter = parameterKind
+code aWire = wireKind
+code aMemory = memoryKind
+code aCell = cellKind
+code aCellParameter = cellParameterKind
+code aCellConnection = cellConnectionKind
+code aConnection = connectionKind
+code aProcess = processKind
+code anEnd = endKind
 
 -- What stands in a statement: of its names wire references are left out, of its constants those in signals
 pub record Contents (C S W M : Type 0) : Type 0 where
