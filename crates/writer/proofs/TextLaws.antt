@@ -1,10 +1,11 @@
 -- A text by its end, and the text of memory that is open.
 -- Assumes nothing.
-use Prim.Native.Nat.{ℕ, _+_, _≤_, _<_}
+use Prim.Native.Nat.{ℕ, _+_, _-_, _≤_, _<_}
 use mathlib.Core.Path.{_≡_, sym, ap, ap₂, _∙_}
 use mathlib.Core.List.{List}
 use native.Mathlib.Omega.{arith}
-use lib.ListN.{length}
+use lib.ListN.{length, take, drop}
+use lib.Seq.{take-append-seam}
 use borrow.Author.Tests.{lt-ltb, le-ltb}
 use Rattle.rules.specs.Judgement.{verdict, lowest}
 use Rattle.rules.specs.Design.{design}
@@ -12,7 +13,8 @@ use Rattle.rules.specs.Session.{now}
 use Rattle.rules.specs.Text.{text, writeText, write, measureText, measure}
 use Rattle.rules.specs.Layout.{Memory}
 use Rattle.context.specs.declared.place.Place.{Place}
-use Rattle.text.specs.Written.{moved, Written, written-end, written-whole}
+use Rattle.tables.specs.Store.{store, store-eq}
+use Rattle.text.specs.Written.{moved, Written, written-whole}
 use Rattle.netlist.specs.Lengths.{lengths-exact}
 use Rattle.session.specs.Called.{Called, holding, answer}
 use Rattle.session.specs.Steps.{Holding}
@@ -23,6 +25,10 @@ use Rattle.design_text.specs.Rows.{textRows}
 use Rattle.design_text.specs.declared.Counts.{Counts}
 use Rattle.design_text.proofs.Text.{text-held}
 use Rattle.writer.specs.Write.{wrote}
+
+-- what was stored at a room's start
+store-front : (l t : List ℕ) → length t ≤ length l → take (length t) (drop 0 (store l 0 t)) ≡ t
+store-front l t h = ap (take (length t)) (store-eq l 0 t (omega arith)) ∙ take-append-seam t (drop (0 + length t) l)
 
 -- ---- the verdict on a text that ends at r
 module _ (t : List ℕ) (r : ℕ) (e : r ≡ moved 0 (length t)) where
@@ -55,13 +61,17 @@ module _ (t : List ℕ) (r : ℕ) (e : r ≡ moved 0 (length t)) where
         let q : length t ≡ r = end-is h in
         rw (le-ltb 32768 (length t) (omega arith), lt-ltb (length old) (length t) (omega arith))
 
-    pub write-short : r ≤ 32768 → r ≤ length old → {new : List ℕ} {s : ℕ} → Written 0 t old new s → (0, s, new) ≡ wrote old (writeText (length old) t)
+    -- made in a room of its own, and stored from there
+    pub write-short :
+        r ≤ 32768 → r ≤ length old → {own made new : List ℕ} → Written 0 t own made r → length own ≡ 32768 → new ≡ store old 0 (take (r - 0) (drop 0 made)) →
+        (0, r, new) ≡ wrote old (writeText (length old) t)
     unfolding wrote writeText verdict lowest
-    write-short h b {new} {s} w =
+    write-short h b {own} {made} {new} w l e =
         let q : length t ≡ r = end-is h in
-        let x : 0 + length t ≤ 32768 = omega arith in
-        let z : s ≡ length t = omega (arith, written-end w x) in
-        rw (le-ltb 32768 (length t) (omega arith), le-ltb (length old) (length t) (omega arith)) (ap₂ (λ (a : ℕ) (l : List ℕ). (0, a, l)) z (written-whole w x))
+        let z : r - 0 ≡ length t = omega arith in
+        let m : take (r - 0) (drop 0 made) ≡ t =
+        ap₂ (λ (k : ℕ) (x : List ℕ). take k (drop 0 x)) z (written-whole w (omega arith)) ∙ store-front own t (omega arith) in
+        rw (le-ltb 32768 (length t) (omega arith), le-ltb (length old) (length t) (omega arith)) (ap₂ (λ (a : ℕ) (x : List ℕ). (0, a, x)) (sym q) (e ∙ ap (store old 0) m))
 
 -- ---- memory that is open
 module _ {m : Memory} {p : Place} (h : Holding m p) where

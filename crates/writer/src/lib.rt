@@ -5,6 +5,7 @@ use design_text::put_text;
 use netlist::results::TEXT_TOO_LONG;
 use session::Opened;
 use session::open_memory;
+use tables::put_bytes;
 use text::TEXT_LENGTH;
 ghost use mathlib.Core.Path.{_≡_};
 ghost use Prim.Native.Nat.{_≤_};
@@ -64,7 +65,7 @@ fn measure_rows(
     }
 }
 
-// It is measured first, so that a refusal leaves the room as it was.
+// The text is made in a room of its own, so that a refusal leaves the room lent as it was.
 fn write_rows(
     names: &[u8],
     strings: &[u8],
@@ -77,7 +78,8 @@ fn write_rows(
     requires { ⌜ length (now bits) ≤ bitsLength ⌝ }
     ensures { λ r. ⌜ (r .number, r .length, now (out .exit)) ≡ wrote (now (out .entry)) (writeText (length (now (out .entry))) (textRows (tabled (now (names .entry)) (now (strings .entry)) (now (bits .entry)) (now (wires .entry)) (now (rows .entry))) counts)) ⌝ }
 {
-    let end = text_end(names, strings, bits, wires, rows, counts);
+    let mut text = [0u8; TEXT_LENGTH];
+    let end = put_text(names, strings, bits, wires, rows, counts, &mut text);
     if TEXT_LENGTH < end {
         return Written {
             number: TEXT_TOO_LONG,
@@ -90,10 +92,10 @@ fn write_rows(
             length: 0,
         };
     }
-    let size = put_text(names, strings, bits, wires, rows, counts, out);
+    put_bytes(out, 0, &text[0..end]);
     Written {
         number: 0,
-        length: size as u32,
+        length: end as u32,
     }
 }
 

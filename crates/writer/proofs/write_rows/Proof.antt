@@ -7,28 +7,51 @@ use borrow.Author.Needs.{needs}
 use Rattle.writer.proofs.write_rows.Statement.{statement}
 use Rattle.writer.proofs.write_rows.Tie as tie
 
-text-end-requires : tie.Need-text-end-requires
-text-end-requires c κs = c .before .before .before .before .before .before .pre
-
-returns : tie.Need-returns
-returns c = write-long _ (c .before .text-end .result) (c .before .text-end .ensures) (now (c .before .before .before .before .before .before .before .before .args .out)) (omega arith)
-
-returns-2 : tie.Need-returns-2
-returns-2 c = write-past _ (c .before .before .text-end .result) (c .before .before .text-end .ensures) (now (c .before .before .before .before .before .before .before .before .before .args .out)) (omega arith) (omega arith)
+slice-aggregate-put-text : tie.Need-slice-aggregate-put-text
+slice-aggregate-put-text c = search needs
 
 put-text-requires : tie.Need-put-text-requires
-put-text-requires c κs = c .before .before .before .before .before .before .before .before .before .before .pre
+put-text-requires c κs = c .before .before .before .before .before .before .before .pre
 
-cast-t14 : tie.Need-cast-t14
-cast-t14 c = search needs
+returns : tie.Need-returns
+returns c = write-long _ (c .before .before .put-text .result) (c .before .before .put-text .ensures .place) (now (c .before .before .before .before .before .before .before .before .before .before .args .out)) (omega arith)
+
+returns-2 : tie.Need-returns-2
+returns-2 c = write-past _ (c .before .before .before .put-text .result) (c .before .before .before .put-text .ensures .place) (now (c .before .before .before .before .before .before .before .before .before .before .before .args .out)) (omega arith) (omega arith)
+
+sub-put-bytes : tie.Need-sub-put-bytes
+sub-put-bytes c = search needs
+
+part-put-bytes-start : tie.Need-part-put-bytes-start
+part-put-bytes-start c = search needs
+
+part-put-bytes-end : tie.Need-part-put-bytes-end
+part-put-bytes-end c = search needs
+
+put-bytes-requires : tie.Need-put-bytes-requires
+put-bytes-requires c κs = search needs
+
+cast-t21 : tie.Need-cast-t21
+cast-t21 c = search needs
 
 same-length : tie.Need-same-length
-same-length c = c .before .before .put-text .ensures .kept
+same-length c = search needs
 
 returns-3 : tie.Need-returns-3
-returns-3 c = write-short _ (c .before .before .before .before .before .before .text-end .result) (c .before .before .before .before .before .before .text-end .ensures) (now (c .before .before .before .before .before .before .before .before .before .before .before .before .before .args .out)) (omega arith) (omega arith) (c .before .before .put-text .ensures)
+returns-3 c = write-short _ (c .before .before .before .before .before .before .before .before .before .put-text .result) (c .before .before .before .before .before .before .before .before .before .put-text .ensures .place) (now (c .before .before .before .before .before .before .before .before .before .before .before .before .before .before .before .before .before .args .out)) (omega arith) (omega arith) (c .before .before .before .before .before .before .before .before .before .put-text .ensures) (search needs) (c .before .before .put-bytes .ensures)
 
 pub write-rows-spec : {M : Type 1} → statement M
 write-rows-spec =
     tie.close
-    (tie.spec text-end-requires returns returns-2 put-text-requires cast-t14 same-length returns-3)
+    (tie.spec
+    slice-aggregate-put-text
+    put-text-requires
+    returns
+    returns-2
+    sub-put-bytes
+    part-put-bytes-start
+    part-put-bytes-end
+    put-bytes-requires
+    cast-t21
+    same-length
+    returns-3)
