@@ -10,6 +10,13 @@ use borrow.Author.Needs.{needs}
 use Rattle.answer.proofs.answer_in.Statement.{statement}
 use Rattle.answer.proofs.answer_in.Tie as tie
 
+-- Places that lie far back.
+abbrev at-entry : tie.After-read → tie.Start
+at-entry c = c .before .before .before .before .before .before .before .before .before .before .before .before .before
+
+abbrev at-read : tie.After-put-held → tie.After-read
+at-read c = c .before .before .before .before .before .before .before .before .before .before .before .before .before .before .before .before .before .before .before
+
 read-requires : tie.Need-read-requires
 read-requires c κs = search needs
 
@@ -35,7 +42,20 @@ same-length-6 : tie.Need-same-length-6
 same-length-6 c = search needs
 
 returns : tie.Need-returns
-returns c = (refusal-put (c .before .before .before .before .before .before .before .before .before .before .before .before .before .before .before .before .read .result .number) (c .before .before .before .before .before .before .before .before .before .before .before .before .before .before .before .before .read .result .place) (omega arith) (omega arith) (c .before .before .put-refusal .ensures) ∙ ap (putting (now (c .before .before .before .before .before .before .before .before .before .before .before .before .before .before .before .before .before .before .before .before .before .before .before .before .before .before .before .before .before .args .out))) (answer-refused (now (c .before .before .before .before .before .before .before .before .before .before .before .before .before .before .before .before .before .before .before .before .before .before .before .before .before .before .before .before .before .args .f)) (lent (now (c .before .before .before .before .before .before .before .before .before .before .before .before .before .before .before .before .before .before .before .before .before .before .before .before .before .before .before .before .before .args .names)) (now (c .before .before .before .before .before .before .before .before .before .before .before .before .before .before .before .before .before .before .before .before .before .before .before .before .before .before .before .before .before .args .strings)) (now (c .before .before .before .before .before .before .before .before .before .before .before .before .before .before .before .before .before .before .before .before .before .before .before .before .before .before .before .before .before .args .bits)) (now (c .before .before .before .before .before .before .before .before .before .before .before .before .before .before .before .before .before .before .before .before .before .before .before .before .before .before .before .before .before .args .wires)) (now (c .before .before .before .before .before .before .before .before .before .before .before .before .before .before .before .before .before .before .before .before .before .before .before .before .before .before .before .before .before .args .rows)) 0 0) _ (c .before .before .before .before .before .before .before .before .before .before .before .before .before .before .before .before .read .ensures) (c .before .before .before .before .before .before .before .before .before .before .before .before .before .before .before .before .before .before .before .before .before .before .before .before .before .before .before .before .before .pre .0) (c .before .before .before .before .if1 .taken)), refusal-fits (c .before .before .before .before .before .before .before .before .before .before .before .before .before .before .before .before .read .result .number) (c .before .before .before .before .before .before .before .before .before .before .before .before .before .before .before .before .read .result .place) (omega arith) (omega arith) (c .before .before .put-refusal .ensures))
+returns c =
+    let entry = at-entry (c .before .before .before .before .before .before .before .before .before .before .before .before .before .before .before .before) in
+    let args = entry .args in
+    let pre = entry .pre in
+    let read = c .before .before .before .before .before .before .before .before .before .before .before .before .before .before .before .before .read in
+    let if1 = c .before .before .before .before .if1 in
+    let put-refusal = c .before .before .put-refusal in (
+      refusal-put (read .result .number) (read .result .place) (omega arith) (omega arith) (put-refusal .ensures)
+          ∙ ap (putting (now (args .out)))
+          (answer-refused (now (args .f))
+          (lent (now (args .names)) (now (args .strings)) (now (args .bits)) (now (args .wires)) (now (args .rows)) 0 0) _
+          (read .ensures) (pre .0) (if1 .taken)),
+      refusal-fits (read .result .number) (read .result .place) (omega arith) (omega arith) (put-refusal .ensures),
+    )
 
 put-held-requires : tie.Need-put-held-requires
 put-held-requires c κs = search needs
@@ -59,7 +79,18 @@ same-length-12 : tie.Need-same-length-12
 same-length-12 c = search needs
 
 returns-2 : tie.Need-returns-2
-returns-2 c = (answer-held (now (c .before .before .before .before .before .before .before .before .before .before .before .before .before .before .before .before .before .before .before .before .before .before .before .before .before .before .before .before .before .before .before .before .before .before .args .f)) (lent (now (c .before .before .before .before .before .before .before .before .before .before .before .before .before .before .before .before .before .before .before .before .before .before .before .before .before .before .before .before .before .before .before .before .before .before .args .names)) (now (c .before .before .before .before .before .before .before .before .before .before .before .before .before .before .before .before .before .before .before .before .before .before .before .before .before .before .before .before .before .before .before .before .before .before .args .strings)) (now (c .before .before .before .before .before .before .before .before .before .before .before .before .before .before .before .before .before .before .before .before .before .before .before .before .before .before .before .before .before .before .before .before .before .before .args .bits)) (now (c .before .before .before .before .before .before .before .before .before .before .before .before .before .before .before .before .before .before .before .before .before .before .before .before .before .before .before .before .before .before .before .before .before .before .args .wires)) (now (c .before .before .before .before .before .before .before .before .before .before .before .before .before .before .before .before .before .before .before .before .before .before .before .before .before .before .before .before .before .before .before .before .before .before .args .rows)) 0 0) _ (c .before .before .before .before .before .before .before .before .before .before .before .before .before .before .before .before .before .before .before .before .before .read .ensures) (c .before .before .before .before .before .before .before .before .before .if1 .left) (now (c .before .before .before .before .before .before .before .before .before .before .before .before .before .before .before .before .before .before .before .before .before .before .before .before .before .before .before .before .before .before .before .before .before .before .args .out)) (c .before .before .before .before .before .before .before .before .before .before .before .before .before .before .before .before .before .before .before .before .before .before .before .before .before .before .before .before .before .before .before .before .before .before .pre .1) _ _ (c .before .before .put-held .ensures .0), c .before .before .put-held .ensures .1)
+returns-2 c =
+    let entry = at-entry (at-read (c .before .before)) in
+    let args = entry .args in
+    let pre = entry .pre in
+    let read = at-read (c .before .before) .read in
+    let if1 = c .before .before .before .before .before .before .before .before .before .if1 in
+    let put-held = c .before .before .put-held in (
+      answer-held (now (args .f))
+          (lent (now (args .names)) (now (args .strings)) (now (args .bits)) (now (args .wires)) (now (args .rows)) 0 0) _
+          (read .ensures) (if1 .left) (now (args .out)) (pre .1) _ _ (put-held .ensures .0),
+      put-held .ensures .1,
+    )
 
 pub answer-in-spec : {M : Type 1} → statement M
 answer-in-spec =

@@ -18,7 +18,17 @@ same-length : tie.Need-same-length
 same-length c = search needs
 
 returns : tie.Need-returns
-returns c = (held-refused (lent (now (c .before .before .before .before .before .before .before .before .before .before .before .before .before .before .before .before .args .names)) (now (c .before .before .before .before .before .before .before .before .before .before .before .before .before .before .before .before .args .strings)) (now (c .before .before .before .before .before .before .before .before .before .before .before .before .before .before .before .before .args .bits)) (now (c .before .before .before .before .before .before .before .before .before .before .before .before .before .before .before .before .args .wires)) (now (c .before .before .before .before .before .before .before .before .before .before .before .before .before .before .before .before .args .rows)) (c .before .before .before .before .before .before .before .before .before .before .before .before .before .before .before .before .args .renames) (c .before .before .before .before .before .before .before .before .before .before .before .before .before .before .before .before .args .room)) (now (c .before .before .before .before .before .before .before .before .before .before .before .before .before .before .before .before .args .out)) _ (c .before .before .before .before .before .before .before .before .write .result .number) (c .before .before .before .before .before .before .before .before .write .result .length) (c .before .before .before .before .if1 .taken) _ _ (refusal-put (c .before .before .before .before .before .before .before .before .write .result .number) 0 (omega arith) (omega arith) (c .before .before .put-refusal .ensures)) (c .before .before .before .before .before .before .before .before .write .ensures), refusal-fits (c .before .before .before .before .before .before .before .before .write .result .number) 0 (omega arith) (omega arith) (c .before .before .put-refusal .ensures))
+returns c =
+    let args = c .before .before .before .before .before .before .before .before .before .before .before .before .before .before .before .before .args in
+    let write = c .before .before .before .before .before .before .before .before .write in
+    let if1 = c .before .before .before .before .if1 in
+    let put-refusal = c .before .before .put-refusal in (
+      held-refused
+          (lent (now (args .names)) (now (args .strings)) (now (args .bits)) (now (args .wires)) (now (args .rows)) (args .renames) (args .room))
+          (now (args .out)) _ (write .result .number) (write .result .length) (if1 .taken) _ _
+          (refusal-put (write .result .number) 0 (omega arith) (omega arith) (put-refusal .ensures)) (write .ensures),
+      refusal-fits (write .result .number) 0 (omega arith) (omega arith) (put-refusal .ensures),
+    )
 
 cast-result : tie.Need-cast-result
 cast-result c = search needs
@@ -27,7 +37,16 @@ same-length-2 : tie.Need-same-length-2
 same-length-2 c = search needs
 
 returns-2 : tie.Need-returns-2
-returns-2 c = (held-written (lent (now (c .before .before .before .before .before .before .before .before .before .before .before .before .before .args .names)) (now (c .before .before .before .before .before .before .before .before .before .before .before .before .before .args .strings)) (now (c .before .before .before .before .before .before .before .before .before .before .before .before .before .args .bits)) (now (c .before .before .before .before .before .before .before .before .before .before .before .before .before .args .wires)) (now (c .before .before .before .before .before .before .before .before .before .before .before .before .before .args .rows)) (c .before .before .before .before .before .before .before .before .before .before .before .before .before .args .renames) (c .before .before .before .before .before .before .before .before .before .before .before .before .before .args .room)) (now (c .before .before .before .before .before .before .before .before .before .before .before .before .before .args .out)) _ (c .before .before .before .before .before .write .result .number) (c .before .before .before .before .before .write .result .length) (c .before .if1 .left) (c .before .before .before .before .before .write .ensures), written-fits (lent (now (c .before .before .before .before .before .before .before .before .before .before .before .before .before .args .names)) (now (c .before .before .before .before .before .before .before .before .before .before .before .before .before .args .strings)) (now (c .before .before .before .before .before .before .before .before .before .before .before .before .before .args .bits)) (now (c .before .before .before .before .before .before .before .before .before .before .before .before .before .args .wires)) (now (c .before .before .before .before .before .before .before .before .before .before .before .before .before .args .rows)) (c .before .before .before .before .before .before .before .before .before .before .before .before .before .args .renames) (c .before .before .before .before .before .before .before .before .before .before .before .before .before .args .room)) (now (c .before .before .before .before .before .before .before .before .before .before .before .before .before .args .out)) _ (c .before .before .before .before .before .write .result .number) (c .before .before .before .before .before .write .result .length) (c .before .before .before .before .before .write .ensures))
+returns-2 c =
+    let args = c .before .before .before .before .before .before .before .before .before .before .before .before .before .args in
+    let write = c .before .before .before .before .before .write in (
+      held-written
+          (lent (now (args .names)) (now (args .strings)) (now (args .bits)) (now (args .wires)) (now (args .rows)) (args .renames) (args .room))
+          (now (args .out)) _ (write .result .number) (write .result .length) (c .before .if1 .left) (write .ensures),
+      written-fits
+          (lent (now (args .names)) (now (args .strings)) (now (args .bits)) (now (args .wires)) (now (args .rows)) (args .renames) (args .room))
+          (now (args .out)) _ (write .result .number) (write .result .length) (write .ensures),
+    )
 
 pub put-held-spec : {M : Type 1} → statement M
 put-held-spec =

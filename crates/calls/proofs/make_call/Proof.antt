@@ -4,6 +4,10 @@ use borrow.Author.Needs.{needs}
 use Rattle.calls.proofs.make_call.Statement.{statement}
 use Rattle.calls.proofs.make_call.Tie as tie
 
+-- Places that lie far back.
+abbrev at-entry : tie.After-rename → tie.Start
+at-entry c = c .before .before .before .before .before .before .before .before .before .before .before .before .before .before .before .before .before
+
 mul-at : tie.Need-mul-at
 mul-at c = search needs
 
@@ -20,7 +24,12 @@ same-length-2 : tie.Need-same-length-2
 same-length-2 c = search needs
 
 returns : tie.Need-returns
-returns c = rw (call-undo (now (c .before .before .before .before .before .before .before .before .before .before .before .before .before .before .before .before .args .calls)) (now (c .before .before .before .before .before .before .before .before .before .before .before .before .before .before .before .before .args .texts)) (c .before .before .before .before .before .before .before .before .before .before .before .before .before .before .before .before .args .i) _ (c .before .before .before .before .before .before .before .before .word .ensures) (c .before .before .before .before .before .before .before .if1 .taken)) (c .before .before .before .before .undo .ensures)
+returns c =
+    let args = c .before .before .before .before .before .before .before .before .before .before .before .before .before .before .before .before .args in
+    let word = c .before .before .before .before .before .before .before .before .word in
+    let if1 = c .before .before .before .before .before .before .before .if1 in
+    let undo = c .before .before .before .before .undo in
+    rw (call-undo (now (args .calls)) (now (args .texts)) (args .i) _ (word .ensures) (if1 .taken)) (undo .ensures)
 
 add-word : tie.Need-add-word
 add-word c = search needs
@@ -68,7 +77,19 @@ same-length-4 : tie.Need-same-length-4
 same-length-4 c = search needs
 
 returns-2 : tie.Need-returns-2
-returns-2 c = rw (call-rename (now (c .before .before .before .before .before .before .before .before .before .before .before .before .before .before .before .before .before .before .before .before .before .args .calls)) (now (c .before .before .before .before .before .before .before .before .before .before .before .before .before .before .before .before .before .before .before .before .before .args .texts)) (c .before .before .before .before .before .before .before .before .before .before .before .before .before .before .before .before .before .before .before .before .before .args .i) _ (c .before .before .before .before .before .before .before .before .before .before .before .before .before .word .ensures) (c .before .before .before .before .before .before .before .before .before .before .before .before .if1 .left) _ _ _ _ _ (c .before .before .before .before .before .before .before .word4 .ensures) (c .before .before .before .before .before .before .word5 .ensures) (c .before .before .before .before .before .before .before .before .before .before .before .word2 .ensures) (c .before .before .before .before .before .before .before .before .before .before .word3 .ensures) (c .before .before .before .before .before .part .ensures)) (c .before .before .before .before .rename .ensures)
+returns-2 c =
+    let args = at-entry (c .before .before .before .before) .args in
+    let word = c .before .before .before .before .before .before .before .before .before .before .before .before .before .word in
+    let if1 = c .before .before .before .before .before .before .before .before .before .before .before .before .if1 in
+    let word2 = c .before .before .before .before .before .before .before .before .before .before .before .word2 in
+    let word3 = c .before .before .before .before .before .before .before .before .before .before .word3 in
+    let word4 = c .before .before .before .before .before .before .before .word4 in
+    let word5 = c .before .before .before .before .before .before .word5 in
+    let part = c .before .before .before .before .before .part in
+    let rename = c .before .before .before .before .rename in
+    rw
+    (call-rename (now (args .calls)) (now (args .texts)) (args .i) _ (word .ensures) (if1 .left) _ _ _ _ _
+    (word4 .ensures) (word5 .ensures) (word2 .ensures) (word3 .ensures) (part .ensures)) (rename .ensures)
 
 pub make-call-spec : {M : Type 1} → statement M
 make-call-spec =

@@ -18,8 +18,21 @@ abbrev μ-loop : tie.MeasureT-loop
 μ-loop calls texts answers₀ names₀ strings bits wires rows₀ renames room many i₀ standing₀ used₀ answers names rows i standing used =
     many - i
 
+-- Places that lie far back.
+abbrev at-entry : tie.After-put-answer Inv-loop μ-loop → tie.Start Inv-loop μ-loop
+at-entry c = c .before .before .before .before .before .before .before .before .before .before .before .before .before .before .before .before .before .before .before
+
 loop-holds : tie.Need-loop-holds Inv-loop μ-loop
-loop-holds c = (omega arith, refl, refl, refl, omega arith, going-start _ (c .before .before .before .before .before .before .before .before .pre) _ _ _ (calls-start (now (c .before .before .before .before .before .before .before .before .args .calls)) (now (c .before .before .before .before .before .before .before .before .args .texts))))
+loop-holds c =
+    let pre = c .before .before .before .before .before .before .before .before .pre in
+    let args = c .before .before .before .before .before .before .before .before .args in (
+      omega arith,
+      refl,
+      refl,
+      refl,
+      omega arith,
+      going-start _ pre _ _ _ (calls-start (now (args .calls)) (now (args .texts))),
+    )
 
 make-call-requires : tie.Need-make-call-requires Inv-loop μ-loop
 make-call-requires c κs = omega (arith, c .before .before .before .loop .inv .4)
@@ -34,14 +47,19 @@ loop-less : tie.Need-loop-less Inv-loop μ-loop
 loop-less c = omega arith
 
 loop-again : tie.Need-loop-again Inv-loop μ-loop
-loop-again c = (
-  omega arith,
-  c .before .before .put-answer .kept .0 ∙ c .before .before .before .before .before .before .before .before .before .before .before .before .loop .inv .1,
-  c .before .before .before .before .before .before .before .before .make-call .kept .1 .1 .1 .0 ∙ c .before .before .before .before .before .before .before .before .before .before .before .before .loop .inv .2,
-  c .before .before .before .before .before .before .before .before .make-call .kept .1 .1 .1 .1 .1 .1 .1 .0 ∙ c .before .before .before .before .before .before .before .before .before .before .before .before .loop .inv .3,
-  c .before .before .before .before .before .before .before .before .before .before .before .before .loop .inv .4,
-  going-step (c .before .before .before .before .before .before .before .before .before .before .before .before .loop .inv .5) _ _ (calls-next (now (c .before .before .before .before .before .before .before .before .before .before .before .before .before .before .before .before .before .before .before .before .before .args .calls)) (now (c .before .before .before .before .before .before .before .before .before .before .before .before .before .before .before .before .before .before .before .before .before .args .texts)) _ (c .before .before .before .before .before .before .before .before .before .before .before .before .loop .i) (omega arith)) _ (c .before .before .before .before .before .before .before .before .make-call .ensures) _ (c .before .before .put-answer .ensures),
-)
+loop-again c =
+    let args = at-entry (c .before .before) .args in
+    let loop = c .before .before .before .before .before .before .before .before .before .before .before .before .loop in
+    let make-call = c .before .before .before .before .before .before .before .before .make-call in
+    let put-answer = c .before .before .put-answer in (
+      omega arith,
+      put-answer .kept .0 ∙ loop .inv .1,
+      make-call .kept .1 .1 .1 .0 ∙ loop .inv .2,
+      make-call .kept .1 .1 .1 .1 .1 .1 .1 .0 ∙ loop .inv .3,
+      loop .inv .4,
+      going-step (loop .inv .5) _ _ (calls-next (now (args .calls)) (now (args .texts)) _ (loop .i) (omega arith)) _
+          (make-call .ensures) _ (put-answer .ensures),
+    )
 
 accepted-requires : tie.Need-accepted-requires Inv-loop μ-loop
 accepted-requires c κs = search needs
@@ -56,7 +74,11 @@ same-length-3 : tie.Need-same-length-3 Inv-loop μ-loop
 same-length-3 c = c .before .before .loop .inv .3
 
 returns : tie.Need-returns Inv-loop μ-loop
-returns c = rw (c .accepted .ensures) (going-end (c .before .before .loop .inv .5) (calls-end (now (c .before .before .before .before .before .before .before .before .before .before .before .args .calls)) (now (c .before .before .before .before .before .before .before .before .before .before .before .args .texts)) _ (c .before .before .loop .i) (omega arith)))
+returns c =
+    let args = c .before .before .before .before .before .before .before .before .before .before .before .args in
+    let loop = c .before .before .loop in
+    rw (c .accepted .ensures)
+    (going-end (loop .inv .5) (calls-end (now (args .calls)) (now (args .texts)) _ (loop .i) (omega arith)))
 
 pub make-calls-spec : {M : Type 1} → statement M
 make-calls-spec =

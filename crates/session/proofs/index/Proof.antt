@@ -19,10 +19,30 @@ module-wires-requires : tie.Need-module-wires-requires
 module-wires-requires c κs = search needs
 
 returns : tie.Need-returns
-returns c = index-missing (opened (lent (now (c .before .before .before .before .before .before .before .before .before .before .before .before .args .names)) (now (c .before .before .before .before .before .before .before .before .before .before .before .before .args .strings)) (now (c .before .before .before .before .before .before .before .before .before .before .before .before .args .bits)) (now (c .before .before .before .before .before .before .before .before .before .before .before .before .args .wires)) (now (c .before .before .before .before .before .before .before .before .before .before .before .before .args .rows)) (c .before .before .before .before .before .before .before .before .before .before .before .before .args .renames) (c .before .before .before .before .before .before .before .before .before .before .before .before .args .room)) _ (c .before .before .before .before .before .before .open-memory .ensures) _ (c .before .before .before .before .place .given .1)) _ _ _ _ (c .before .before .module-wires .ensures) (c .if1 .taken)
+returns c =
+    let args = c .before .before .before .before .before .before .before .before .before .before .before .before .args in
+    let open-memory = c .before .before .before .before .before .before .open-memory in
+    let place = c .before .before .before .before .place in
+    let module-wires = c .before .before .module-wires in
+    index-missing
+    (opened
+    (lent (now (args .names)) (now (args .strings)) (now (args .bits)) (now (args .wires)) (now (args .rows)) (args .renames) (args .room))
+    _ (open-memory .ensures) _ (place .given .1)) _ _ _ _ (module-wires .ensures) (c .if1 .taken)
 
 add-row-index : tie.Need-add-row-index
-add-row-index c = omega (arith, index-fits (opened (lent (now (c .before .before .before .before .before .before .before .before .before .before .before .before .before .args .names)) (now (c .before .before .before .before .before .before .before .before .before .before .before .before .before .args .strings)) (now (c .before .before .before .before .before .before .before .before .before .before .before .before .before .args .bits)) (now (c .before .before .before .before .before .before .before .before .before .before .before .before .before .args .wires)) (now (c .before .before .before .before .before .before .before .before .before .before .before .before .before .args .rows)) (c .before .before .before .before .before .before .before .before .before .before .before .before .before .args .renames) (c .before .before .before .before .before .before .before .before .before .before .before .before .before .args .room)) _ (c .before .before .before .before .before .before .before .open-memory .ensures) _ (c .before .before .before .before .before .place .given .1)) (c .before .before .before .before .before .before .before .before .before .before .before .before .before .args .m .0) (c .before .before .before .before .before .before .before .before .before .before .before .before .before .args .w .0) (c .before .before .before .before .before .before .before .before .before .before .before .before .before .args .bit) _ (c .before .before .before .module-wires .ensures) (c .before .if1 .left))
+add-row-index c =
+    let args = c .before .before .before .before .before .before .before .before .before .before .before .before .before .args in
+    let open-memory = c .before .before .before .before .before .before .before .open-memory in
+    let place = c .before .before .before .before .before .place in
+    let module-wires = c .before .before .before .module-wires in
+    omega (
+      arith,
+      index-fits
+          (opened
+          (lent (now (args .names)) (now (args .strings)) (now (args .bits)) (now (args .wires)) (now (args .rows)) (args .renames) (args .room))
+          _ (open-memory .ensures) _ (place .given .1)) (args .m .0) (args .w .0) (args .bit) _
+          (module-wires .ensures) (c .before .if1 .left),
+    )
 
 row-index-requires : tie.Need-row-index-requires
 row-index-requires c κs = search needs
@@ -31,10 +51,26 @@ enum-known-number : tie.Need-enum-known-number
 enum-known-number c = search needs
 
 returns-2 : tie.Need-returns-2
-returns-2 c = index-there (opened (lent (now (c .before .before .before .before .before .before .before .before .before .before .before .before .before .before .args .names)) (now (c .before .before .before .before .before .before .before .before .before .before .before .before .before .before .args .strings)) (now (c .before .before .before .before .before .before .before .before .before .before .before .before .before .before .args .bits)) (now (c .before .before .before .before .before .before .before .before .before .before .before .before .before .before .args .wires)) (now (c .before .before .before .before .before .before .before .before .before .before .before .before .before .before .args .rows)) (c .before .before .before .before .before .before .before .before .before .before .before .before .before .before .args .renames) (c .before .before .before .before .before .before .before .before .before .before .before .before .before .before .args .room)) _ (c .before .before .before .before .before .before .before .before .open-memory .ensures) _ (c .before .before .before .before .before .before .place .given .1)) (c .before .before .before .before .before .before .before .before .before .before .before .before .before .before .args .m .0) (c .before .before .before .before .before .before .before .before .before .before .before .before .before .before .args .w .0) (c .before .before .before .before .before .before .before .before .before .before .before .before .before .before .args .bit) _ (c .before .before .before .before .module-wires .ensures) _ (c .before .before .if1 .left) (c .row-index .ensures)
+returns-2 c =
+    let args = c .before .before .before .before .before .before .before .before .before .before .before .before .before .before .args in
+    let open-memory = c .before .before .before .before .before .before .before .before .open-memory in
+    let place = c .before .before .before .before .before .before .place in
+    let module-wires = c .before .before .before .before .module-wires in
+    let if1 = c .before .before .if1 in
+    index-there
+    (opened
+    (lent (now (args .names)) (now (args .strings)) (now (args .bits)) (now (args .wires)) (now (args .rows)) (args .renames) (args .room))
+    _ (open-memory .ensures) _ (place .given .1)) (args .m .0) (args .w .0) (args .bit) _ (module-wires .ensures)
+    _ (if1 .left) (c .row-index .ensures)
 
 returns-3 : tie.Need-returns-3
-returns-3 c = not-open (λ n. (n, pos 0)) _ _ (not-opened (lent (now (c .before .before .before .before .before .before .before .before .before .args .names)) (now (c .before .before .before .before .before .before .before .before .before .args .strings)) (now (c .before .before .before .before .before .before .before .before .before .args .bits)) (now (c .before .before .before .before .before .before .before .before .before .args .wires)) (now (c .before .before .before .before .before .before .before .before .before .args .rows)) (c .before .before .before .before .before .before .before .before .before .args .renames) (c .before .before .before .before .before .before .before .before .before .args .room)) _ (c .before .before .before .open-memory .ensures) _ (c .before .number .given .1))
+returns-3 c =
+    let args = c .before .before .before .before .before .before .before .before .before .args in
+    let open-memory = c .before .before .before .open-memory in
+    not-open (λ n. (n, pos 0)) _ _
+    (not-opened
+    (lent (now (args .names)) (now (args .strings)) (now (args .bits)) (now (args .wires)) (now (args .rows)) (args .renames) (args .room))
+    _ (open-memory .ensures) _ (c .before .number .given .1))
 
 pub index-spec : {M : Type 1} → statement M
 index-spec =

@@ -23,10 +23,24 @@ enum-known-number : tie.Need-enum-known-number
 enum-known-number c = search needs
 
 returns : tie.Need-returns
-returns c = looked-up (opened (lent (now (c .before .before .before .before .before .before .before .before .before .before .before .before .args .names)) (now (c .before .before .before .before .before .before .before .before .before .before .before .before .args .strings)) (now (c .before .before .before .before .before .before .before .before .before .before .before .before .args .bits)) (now (c .before .before .before .before .before .before .before .before .before .before .before .before .args .wires)) (now (c .before .before .before .before .before .before .before .before .before .before .before .before .args .rows)) (c .before .before .before .before .before .before .before .before .before .before .before .before .args .renames) (c .before .before .before .before .before .before .before .before .before .before .before .before .args .room)) _ (c .before .before .before .before .before .open-memory .ensures) _ (c .before .before .before .place .given .1)) (c .before .before .before .before .before .before .before .before .before .before .before .before .args .m .0) (now (c .before .before .before .before .before .before .before .before .before .before .before .before .args .name)) _ _ (c .before .module-of .ensures) (c .find .ensures)
+returns c =
+    let args = c .before .before .before .before .before .before .before .before .before .before .before .before .args in
+    let open-memory = c .before .before .before .before .before .open-memory in
+    let place = c .before .before .before .place in
+    looked-up
+    (opened
+    (lent (now (args .names)) (now (args .strings)) (now (args .bits)) (now (args .wires)) (now (args .rows)) (args .renames) (args .room))
+    _ (open-memory .ensures) _ (place .given .1)) (args .m .0) (now (args .name)) _ _
+    (c .before .module-of .ensures) (c .find .ensures)
 
 returns-2 : tie.Need-returns-2
-returns-2 c = not-open (λ n. (n, 0)) _ _ (not-opened (lent (now (c .before .before .before .before .before .before .before .before .before .before .args .names)) (now (c .before .before .before .before .before .before .before .before .before .before .args .strings)) (now (c .before .before .before .before .before .before .before .before .before .before .args .bits)) (now (c .before .before .before .before .before .before .before .before .before .before .args .wires)) (now (c .before .before .before .before .before .before .before .before .before .before .args .rows)) (c .before .before .before .before .before .before .before .before .before .before .args .renames) (c .before .before .before .before .before .before .before .before .before .before .args .room)) _ (c .before .before .before .open-memory .ensures) _ (c .before .number .given .1))
+returns-2 c =
+    let args = c .before .before .before .before .before .before .before .before .before .before .args in
+    let open-memory = c .before .before .before .open-memory in
+    not-open (λ n. (n, 0)) _ _
+    (not-opened
+    (lent (now (args .names)) (now (args .strings)) (now (args .bits)) (now (args .wires)) (now (args .rows)) (args .renames) (args .room))
+    _ (open-memory .ensures) _ (c .before .number .given .1))
 
 pub look-up-spec : {M : Type 1} → statement M
 look-up-spec =

@@ -27,11 +27,26 @@ enum-told c = search needs
 
 returns-2 : tie.Need-returns-2
 unfolding rightLengths
-returns-2 c = held-open (lent (now (c .before .before .before .before .before .before .before .before .before .before .before .args .names)) (now (c .before .before .before .before .before .before .before .before .before .before .before .args .strings)) (now (c .before .before .before .before .before .before .before .before .before .before .before .args .bits)) (now (c .before .before .before .before .before .before .before .before .before .before .before .args .wires)) (now (c .before .before .before .before .before .before .before .before .before .before .before .args .rows)) (c .before .before .before .before .before .before .before .before .before .before .before .args .renames) (c .before .before .before .before .before .before .before .before .before .before .before .args .room)) _ (c .before .before .before .judge-memory .ensures) (sym (c .before .before .before .before .before .right-lengths .ensures) ∙ not-false _ (c .before .before .before .before .if1 .left)) _ _ (c .before .place .given .1)
+returns-2 c =
+    let args = c .before .before .before .before .before .before .before .before .before .before .before .args in
+    let right-lengths = c .before .before .before .before .before .right-lengths in
+    let if1 = c .before .before .before .before .if1 in
+    let judge-memory = c .before .before .before .judge-memory in
+    held-open
+    (lent (now (args .names)) (now (args .strings)) (now (args .bits)) (now (args .wires)) (now (args .rows)) (args .renames) (args .room))
+    _ (judge-memory .ensures) (sym (right-lengths .ensures) ∙ not-false _ (if1 .left)) _ _
+    (c .before .place .given .1)
 
 returns-3 : tie.Need-returns-3
 unfolding rightLengths
-returns-3 c = held-none (lent (now (c .before .before .before .before .before .before .before .before .before .before .args .names)) (now (c .before .before .before .before .before .before .before .before .before .before .args .strings)) (now (c .before .before .before .before .before .before .before .before .before .before .args .bits)) (now (c .before .before .before .before .before .before .before .before .before .before .args .wires)) (now (c .before .before .before .before .before .before .before .before .before .before .args .rows)) (c .before .before .before .before .before .before .before .before .before .before .args .renames) (c .before .before .before .before .before .before .before .before .before .before .args .room)) _ (c .before .before .judge-memory .ensures) (sym (c .before .before .before .before .right-lengths .ensures) ∙ not-false _ (c .before .before .before .if1 .left)) (c .enum-told .given .1)
+returns-3 c =
+    let args = c .before .before .before .before .before .before .before .before .before .before .args in
+    let right-lengths = c .before .before .before .before .right-lengths in
+    let if1 = c .before .before .before .if1 in
+    let judge-memory = c .before .before .judge-memory in
+    held-none
+    (lent (now (args .names)) (now (args .strings)) (now (args .bits)) (now (args .wires)) (now (args .rows)) (args .renames) (args .room))
+    _ (judge-memory .ensures) (sym (right-lengths .ensures) ∙ not-false _ (if1 .left)) (c .enum-told .given .1)
 
 pub open-memory-spec : {M : Type 1} → statement M
 open-memory-spec =

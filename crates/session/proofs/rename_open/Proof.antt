@@ -15,22 +15,61 @@ same-length-2 : tie.Need-same-length-2
 same-length-2 c = search needs
 
 returns : tie.Need-returns
-returns c = rename-refused (c .before .before .before .before .before .before .before .before .before .before .pre) (record { moduleNumber = c .before .before .before .before .before .before .before .before .before .before .args .m .0; wireNumber = c .before .before .before .before .before .before .before .before .before .before .args .w .0; newName = now (c .before .before .before .before .before .before .before .before .before .before .args .new) }) _ (c .before .judge-rename .ensures) (c .if1 .taken)
+returns c =
+    let pre = c .before .before .before .before .before .before .before .before .before .before .pre in
+    let args = c .before .before .before .before .before .before .before .before .before .before .args in
+    rename-refused pre (record { moduleNumber = args .m .0; wireNumber = args .w .0; newName = now (args .new) }) _
+    (c .before .judge-rename .ensures) (c .if1 .taken)
 
 add-put-rename : tie.Need-add-put-rename
-add-put-rename c = let f = rename-fits (c .before .before .before .before .before .before .before .before .before .before .before .before .before .pre) (record { moduleNumber = c .before .before .before .before .before .before .before .before .before .before .before .before .before .args .m .0; wireNumber = c .before .before .before .before .before .before .before .before .before .before .before .before .before .args .w .0; newName = now (c .before .before .before .before .before .before .before .before .before .before .before .before .before .args .new) }) _ (c .before .before .before .before .judge-rename .ensures) (c .before .before .before .if1 .left) in omega arith
+add-put-rename c =
+    let pre = c .before .before .before .before .before .before .before .before .before .before .before .before .before .pre in
+    let args = c .before .before .before .before .before .before .before .before .before .before .before .before .before .args in
+    let judge-rename = c .before .before .before .before .judge-rename in
+    let if1 = c .before .before .before .if1 in
+    let f = rename-fits pre (record { moduleNumber = args .m .0; wireNumber = args .w .0; newName = now (args .new) })
+    _ (judge-rename .ensures) (if1 .left) in
+    omega arith
 
 put-rename-requires : tie.Need-put-rename-requires
-put-rename-requires c κs = let f = rename-fits (c .before .before .before .before .before .before .before .before .before .before .before .before .before .pre) (record { moduleNumber = c .before .before .before .before .before .before .before .before .before .before .before .before .before .args .m .0; wireNumber = c .before .before .before .before .before .before .before .before .before .before .before .before .before .args .w .0; newName = now (c .before .before .before .before .before .before .before .before .before .before .before .before .before .args .new) }) _ (c .before .before .before .before .judge-rename .ensures) (c .before .before .before .if1 .left) in (omega arith, omega arith, omega arith)
+put-rename-requires c κs =
+    let pre = c .before .before .before .before .before .before .before .before .before .before .before .before .before .pre in
+    let args = c .before .before .before .before .before .before .before .before .before .before .before .before .before .args in
+    let judge-rename = c .before .before .before .before .judge-rename in
+    let if1 = c .before .before .before .if1 in
+    let f = rename-fits pre (record { moduleNumber = args .m .0; wireNumber = args .w .0; newName = now (args .new) })
+    _ (judge-rename .ensures) (if1 .left) in
+    (omega arith, omega arith, omega arith)
 
 add-t23 : tie.Need-add-t23
-add-t23 c = let f = rename-fits (c .before .before .before .before .before .before .before .before .before .before .before .before .before .before .before .before .before .before .pre) (record { moduleNumber = c .before .before .before .before .before .before .before .before .before .before .before .before .before .before .before .before .before .before .args .m .0; wireNumber = c .before .before .before .before .before .before .before .before .before .before .before .before .before .before .before .before .before .before .args .w .0; newName = now (c .before .before .before .before .before .before .before .before .before .before .before .before .before .before .before .before .before .before .args .new) }) _ (c .before .before .before .before .before .before .before .before .before .judge-rename .ensures) (c .before .before .before .before .before .before .before .before .if1 .left) in omega arith
+add-t23 c =
+    let pre = c .before .before .before .before .before .before .before .before .before .before .before .before .before .before .before .before .before .before .pre in
+    let args = c .before .before .before .before .before .before .before .before .before .before .before .before .before .before .before .before .before .before .args in
+    let judge-rename = c .before .before .before .before .before .before .before .before .before .judge-rename in
+    let if1 = c .before .before .before .before .before .before .before .before .if1 in
+    let f = rename-fits pre (record { moduleNumber = args .m .0; wireNumber = args .w .0; newName = now (args .new) })
+    _ (judge-rename .ensures) (if1 .left) in
+    omega arith
 
 cast-t25 : tie.Need-cast-t25
-cast-t25 c = let f = rename-fits (c .before .before .before .before .before .before .before .before .before .before .before .before .before .before .before .before .before .before .pre) (record { moduleNumber = c .before .before .before .before .before .before .before .before .before .before .before .before .before .before .before .before .before .before .args .m .0; wireNumber = c .before .before .before .before .before .before .before .before .before .before .before .before .before .before .before .before .before .before .args .w .0; newName = now (c .before .before .before .before .before .before .before .before .before .before .before .before .before .before .before .before .before .before .args .new) }) _ (c .before .before .before .before .before .before .before .before .before .judge-rename .ensures) (c .before .before .before .before .before .before .before .before .if1 .left) in omega arith
+cast-t25 c =
+    let pre = c .before .before .before .before .before .before .before .before .before .before .before .before .before .before .before .before .before .before .pre in
+    let args = c .before .before .before .before .before .before .before .before .before .before .before .before .before .before .before .before .before .before .args in
+    let judge-rename = c .before .before .before .before .before .before .before .before .before .judge-rename in
+    let if1 = c .before .before .before .before .before .before .before .before .if1 in
+    let f = rename-fits pre (record { moduleNumber = args .m .0; wireNumber = args .w .0; newName = now (args .new) })
+    _ (judge-rename .ensures) (if1 .left) in
+    omega arith
 
 add-t26 : tie.Need-add-t26
-add-t26 c = let f = rename-fits (c .before .before .before .before .before .before .before .before .before .before .before .before .before .before .before .before .before .before .pre) (record { moduleNumber = c .before .before .before .before .before .before .before .before .before .before .before .before .before .before .before .before .before .before .args .m .0; wireNumber = c .before .before .before .before .before .before .before .before .before .before .before .before .before .before .before .before .before .before .args .w .0; newName = now (c .before .before .before .before .before .before .before .before .before .before .before .before .before .before .before .before .before .before .args .new) }) _ (c .before .before .before .before .before .before .before .before .before .judge-rename .ensures) (c .before .before .before .before .before .before .before .before .if1 .left) in omega arith
+add-t26 c =
+    let pre = c .before .before .before .before .before .before .before .before .before .before .before .before .before .before .before .before .before .before .pre in
+    let args = c .before .before .before .before .before .before .before .before .before .before .before .before .before .before .before .before .before .before .args in
+    let judge-rename = c .before .before .before .before .before .before .before .before .before .judge-rename in
+    let if1 = c .before .before .before .before .before .before .before .before .if1 in
+    let f = rename-fits pre (record { moduleNumber = args .m .0; wireNumber = args .w .0; newName = now (args .new) })
+    _ (judge-rename .ensures) (if1 .left) in
+    omega arith
 
 same-length-3 : tie.Need-same-length-3
 same-length-3 c = search needs
@@ -39,7 +78,14 @@ same-length-4 : tie.Need-same-length-4
 same-length-4 c = search needs
 
 returns-2 : tie.Need-returns-2
-returns-2 c = rename-done (c .before .before .before .before .before .before .before .before .before .before .before .before .before .before .before .before .before .before .pre) (record { moduleNumber = c .before .before .before .before .before .before .before .before .before .before .before .before .before .before .before .before .before .before .args .m .0; wireNumber = c .before .before .before .before .before .before .before .before .before .before .before .before .before .before .before .before .before .before .args .w .0; newName = now (c .before .before .before .before .before .before .before .before .before .before .before .before .before .before .before .before .before .before .args .new) }) _ (c .before .before .before .before .before .before .before .before .before .judge-rename .ensures) (c .before .before .before .before .before .before .before .before .if1 .left) _ _ (c .before .before .before .before .put-rename .ensures .0) (c .before .before .before .before .put-rename .ensures .1)
+returns-2 c =
+    let pre = c .before .before .before .before .before .before .before .before .before .before .before .before .before .before .before .before .before .before .pre in
+    let args = c .before .before .before .before .before .before .before .before .before .before .before .before .before .before .before .before .before .before .args in
+    let judge-rename = c .before .before .before .before .before .before .before .before .before .judge-rename in
+    let if1 = c .before .before .before .before .before .before .before .before .if1 in
+    let put-rename = c .before .before .before .before .put-rename in
+    rename-done pre (record { moduleNumber = args .m .0; wireNumber = args .w .0; newName = now (args .new) }) _
+    (judge-rename .ensures) (if1 .left) _ _ (put-rename .ensures .0) (put-rename .ensures .1)
 
 pub rename-open-spec : {M : Type 1} → statement M
 rename-open-spec =

@@ -32,7 +32,11 @@ same-length-2 c = search needs
 
 returns : tie.Need-returns
 unfolding words column wordAt
-returns c = (c .before .before .before .before .before .before .before .before .word .ensures, (rw (← c .before .before .before .before .before .before .before .before .word .ensures) (c .before .before .before .before .before .before .zero-bytes .ensures), c .before .before .put-row .ensures))
+returns c =
+    let word = c .before .before .before .before .before .before .before .before .word in
+    let zero-bytes = c .before .before .before .before .before .before .zero-bytes in
+    let put-row = c .before .before .put-row in
+    (word .ensures, (rw (← word .ensures) (zero-bytes .ensures), put-row .ensures))
 
 pub take-rename-spec : {M : Type 1} → statement M
 take-rename-spec =

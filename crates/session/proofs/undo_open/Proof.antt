@@ -23,7 +23,12 @@ same-length-2 : tie.Need-same-length-2
 same-length-2 c = search needs
 
 returns-2 : tie.Need-returns-2
-returns-2 c = undo-done (c .before .before .before .before .before .before .before .before .before .before .before .before .before .before .pre) (c .before .before .before .before .before .before .before .before .if1 .left) _ _ _ (c .before .before .before .before .take-rename .ensures .0) (c .before .before .before .before .take-rename .ensures .1 .0) (c .before .before .before .before .take-rename .ensures .1 .1)
+returns-2 c =
+    let pre = c .before .before .before .before .before .before .before .before .before .before .before .before .before .before .pre in
+    let if1 = c .before .before .before .before .before .before .before .before .if1 in
+    let take-rename = c .before .before .before .before .take-rename in
+    undo-done pre (if1 .left) _ _ _ (take-rename .ensures .0) (take-rename .ensures .1 .0)
+    (take-rename .ensures .1 .1)
 
 pub undo-open-spec : {M : Type 1} → statement M
 undo-open-spec =

@@ -19,16 +19,37 @@ counts-at-requires : tie.Need-counts-at-requires
 counts-at-requires c κs = search needs
 
 measure-rows-requires : tie.Need-measure-rows-requires
-measure-rows-requires c κs = bits-few (opened (lent (now (c .before .before .before .before .before .before .before .before .before .before .args .names)) (now (c .before .before .before .before .before .before .before .before .before .before .args .strings)) (now (c .before .before .before .before .before .before .before .before .before .before .args .bits)) (now (c .before .before .before .before .before .before .before .before .before .before .args .wires)) (now (c .before .before .before .before .before .before .before .before .before .before .args .rows)) (c .before .before .before .before .before .before .before .before .before .before .args .renames) (c .before .before .before .before .before .before .before .before .before .before .args .room)) _ (c .before .before .before .before .open-memory .ensures) _ (c .before .before .place .given .1))
+measure-rows-requires c κs =
+    let args = c .before .before .before .before .before .before .before .before .before .before .args in
+    let open-memory = c .before .before .before .before .open-memory in
+    let place = c .before .before .place in
+    bits-few
+    (opened
+    (lent (now (args .names)) (now (args .strings)) (now (args .bits)) (now (args .wires)) (now (args .rows)) (args .renames) (args .room))
+    _ (open-memory .ensures) _ (place .given .1))
 
 enum-known-n : tie.Need-enum-known-n
 enum-known-n c = search needs
 
 returns : tie.Need-returns
-returns c = measured (opened (lent (now (c .before .before .before .before .before .before .before .before .before .before .before .args .names)) (now (c .before .before .before .before .before .before .before .before .before .before .before .args .strings)) (now (c .before .before .before .before .before .before .before .before .before .before .before .args .bits)) (now (c .before .before .before .before .before .before .before .before .before .before .before .args .wires)) (now (c .before .before .before .before .before .before .before .before .before .before .before .args .rows)) (c .before .before .before .before .before .before .before .before .before .before .before .args .renames) (c .before .before .before .before .before .before .before .before .before .before .before .args .room)) _ (c .before .before .before .before .before .open-memory .ensures) _ (c .before .before .before .place .given .1)) (c .before .counts-at .result) (c .before .counts-at .ensures) _ (c .measure-rows .ensures)
+returns c =
+    let args = c .before .before .before .before .before .before .before .before .before .before .before .args in
+    let open-memory = c .before .before .before .before .before .open-memory in
+    let place = c .before .before .before .place in
+    measured
+    (opened
+    (lent (now (args .names)) (now (args .strings)) (now (args .bits)) (now (args .wires)) (now (args .rows)) (args .renames) (args .room))
+    _ (open-memory .ensures) _ (place .given .1)) (c .before .counts-at .result) (c .before .counts-at .ensures)
+    _ (c .measure-rows .ensures)
 
 returns-2 : tie.Need-returns-2
-returns-2 c = not-open (λ n. (n, 0)) _ _ (not-opened (lent (now (c .before .before .before .before .before .before .before .before .before .args .names)) (now (c .before .before .before .before .before .before .before .before .before .args .strings)) (now (c .before .before .before .before .before .before .before .before .before .args .bits)) (now (c .before .before .before .before .before .before .before .before .before .args .wires)) (now (c .before .before .before .before .before .before .before .before .before .args .rows)) (c .before .before .before .before .before .before .before .before .before .args .renames) (c .before .before .before .before .before .before .before .before .before .args .room)) _ (c .before .before .before .open-memory .ensures) _ (c .before .n .given .1))
+returns-2 c =
+    let args = c .before .before .before .before .before .before .before .before .before .args in
+    let open-memory = c .before .before .before .open-memory in
+    not-open (λ n. (n, 0)) _ _
+    (not-opened
+    (lent (now (args .names)) (now (args .strings)) (now (args .bits)) (now (args .wires)) (now (args .rows)) (args .renames) (args .room))
+    _ (open-memory .ensures) _ (c .before .n .given .1))
 
 pub measure-spec : {M : Type 1} → statement M
 measure-spec =

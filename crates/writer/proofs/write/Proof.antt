@@ -19,7 +19,14 @@ counts-at-requires : tie.Need-counts-at-requires
 counts-at-requires c κs = search needs
 
 write-rows-requires : tie.Need-write-rows-requires
-write-rows-requires c κs = bits-few (opened (lent (now (c .before .before .before .before .before .before .before .before .before .before .before .before .args .names)) (now (c .before .before .before .before .before .before .before .before .before .before .before .before .args .strings)) (now (c .before .before .before .before .before .before .before .before .before .before .before .before .args .bits)) (now (c .before .before .before .before .before .before .before .before .before .before .before .before .args .wires)) (now (c .before .before .before .before .before .before .before .before .before .before .before .before .args .rows)) (c .before .before .before .before .before .before .before .before .before .before .before .before .args .renames) (c .before .before .before .before .before .before .before .before .before .before .before .before .args .room)) _ (c .before .before .before .before .before .open-memory .ensures) _ (c .before .before .before .place .given .1))
+write-rows-requires c κs =
+    let args = c .before .before .before .before .before .before .before .before .before .before .before .before .args in
+    let open-memory = c .before .before .before .before .before .open-memory in
+    let place = c .before .before .before .place in
+    bits-few
+    (opened
+    (lent (now (args .names)) (now (args .strings)) (now (args .bits)) (now (args .wires)) (now (args .rows)) (args .renames) (args .room))
+    _ (open-memory .ensures) _ (place .given .1))
 
 enum-known-n : tie.Need-enum-known-n
 enum-known-n c = search needs
@@ -28,10 +35,26 @@ same-length : tie.Need-same-length
 same-length c = search needs
 
 returns : tie.Need-returns
-returns c = written (opened (lent (now (c .before .before .before .before .before .before .before .before .before .before .before .before .before .before .before .args .names)) (now (c .before .before .before .before .before .before .before .before .before .before .before .before .before .before .before .args .strings)) (now (c .before .before .before .before .before .before .before .before .before .before .before .before .before .before .before .args .bits)) (now (c .before .before .before .before .before .before .before .before .before .before .before .before .before .before .before .args .wires)) (now (c .before .before .before .before .before .before .before .before .before .before .before .before .before .before .before .args .rows)) (c .before .before .before .before .before .before .before .before .before .before .before .before .before .before .before .args .renames) (c .before .before .before .before .before .before .before .before .before .before .before .before .before .before .before .args .room)) _ (c .before .before .before .before .before .before .before .before .open-memory .ensures) _ (c .before .before .before .before .before .before .place .given .1)) (c .before .before .before .before .counts-at .result) (c .before .before .before .before .counts-at .ensures) (now (c .before .before .before .before .before .before .before .before .before .before .before .before .before .before .before .args .out)) _ (c .before .before .write-rows .ensures)
+returns c =
+    let args = c .before .before .before .before .before .before .before .before .before .before .before .before .before .before .before .args in
+    let open-memory = c .before .before .before .before .before .before .before .before .open-memory in
+    let place = c .before .before .before .before .before .before .place in
+    let counts-at = c .before .before .before .before .counts-at in
+    let write-rows = c .before .before .write-rows in
+    written
+    (opened
+    (lent (now (args .names)) (now (args .strings)) (now (args .bits)) (now (args .wires)) (now (args .rows)) (args .renames) (args .room))
+    _ (open-memory .ensures) _ (place .given .1)) (counts-at .result) (counts-at .ensures) (now (args .out)) _
+    (write-rows .ensures)
 
 returns-2 : tie.Need-returns-2
-returns-2 c = not-open (λ n. (n, 0, now (c .before .before .before .before .before .before .before .before .before .before .args .out))) _ _ (not-opened (lent (now (c .before .before .before .before .before .before .before .before .before .before .args .names)) (now (c .before .before .before .before .before .before .before .before .before .before .args .strings)) (now (c .before .before .before .before .before .before .before .before .before .before .args .bits)) (now (c .before .before .before .before .before .before .before .before .before .before .args .wires)) (now (c .before .before .before .before .before .before .before .before .before .before .args .rows)) (c .before .before .before .before .before .before .before .before .before .before .args .renames) (c .before .before .before .before .before .before .before .before .before .before .args .room)) _ (c .before .before .before .open-memory .ensures) _ (c .before .n .given .1))
+returns-2 c =
+    let args = c .before .before .before .before .before .before .before .before .before .before .args in
+    let open-memory = c .before .before .before .open-memory in
+    not-open (λ n. (n, 0, now (args .out))) _ _
+    (not-opened
+    (lent (now (args .names)) (now (args .strings)) (now (args .bits)) (now (args .wires)) (now (args .rows)) (args .renames) (args .room))
+    _ (open-memory .ensures) _ (c .before .n .given .1))
 
 pub write-spec : {M : Type 1} → statement M
 write-spec =
