@@ -22,7 +22,11 @@ row-kind-requires : tie.Need-row-kind-requires Inv-loop μ-loop
 row-kind-requires c κs = tt
 
 returns : tie.Need-returns Inv-loop μ-loop
-returns c = sym (c .before .before .before .loop .inv ∙ row-found (now (c .before .before .before .before .before .args .rows)) (c .before .before .before .before .before .args .kind) (c .before .before .before .loop .k) (c .before .before .before .before .before .args .to) _ (c .before .row-kind .ensures) (omega arith) (c .if1 .taken))
+returns c =
+    let args = c .before .before .before .before .before .args in
+    let loop = c .before .before .before .loop in
+    sym
+    (loop .inv ∙ row-found (now (args .rows)) (args .kind) (loop .k) (args .to) _ (c .before .row-kind .ensures) (omega arith) (c .if1 .taken))
 
 add-k : tie.Need-add-k Inv-loop μ-loop
 add-k c = omega arith
@@ -31,7 +35,12 @@ loop-less : tie.Need-loop-less Inv-loop μ-loop
 loop-less c = omega arith
 
 loop-again : tie.Need-loop-again Inv-loop μ-loop
-loop-again c = c .before .before .before .loop .inv ∙ row-later (now (c .before .before .before .before .before .args .rows)) (c .before .before .before .before .before .args .kind) (c .before .before .before .loop .k) (c .before .before .before .before .before .args .to) _ (c .before .row-kind .ensures) (omega arith) (c .if1 .left)
+loop-again c =
+    let args = c .before .before .before .before .before .args in
+    let loop = c .before .before .before .loop in
+    loop .inv
+    ∙ row-later (now (args .rows)) (args .kind) (loop .k) (args .to) _ (c .before .row-kind .ensures)
+    (omega arith) (c .if1 .left)
 
 returns-2 : tie.Need-returns-2 Inv-loop μ-loop
 returns-2 c = sym (c .before .loop .inv ∙ row-none (now (c .before .before .before .args .rows)) (c .before .before .before .args .kind) (c .before .loop .k) (c .before .before .before .args .to) (omega arith))

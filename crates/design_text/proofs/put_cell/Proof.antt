@@ -7,6 +7,10 @@ use borrow.Author.Needs.{needs}
 use Rattle.design_text.proofs.put_cell.Statement.{statement}
 use Rattle.design_text.proofs.put_cell.Tie as tie
 
+-- Places that lie far back.
+abbrev at-entry : tie.After-put-kind2 → tie.Start
+at-entry c = c .before .before .before .before .before .before .before .before .before .before .before .before .before .before .before .before .before
+
 add-from : tie.Need-add-from
 add-from c = search needs
 
@@ -29,7 +33,15 @@ put-bytes-requires : tie.Need-put-bytes-requires
 put-bytes-requires c κs = written-most (c .before .before .before .before .put-kind2 .ensures)
 
 returns : tie.Need-returns
-returns c = cell-written _ _ (c .before .before .before .before .before .before .before .before .before .before .before .before .before .before .before .before .before .before .before .before .before .before .before .before .args .k) _ (c .before .before .before .before .before .before .before .before .before .before .before .before .before .before .before .before .before .next-row .result) (c .before .before .before .before .before .before .before .before .before .before .before .before .before .before .before .before .before .next-row .ensures) (c .before .before .before .before .before .before .before .before .before .before .before .before .before .before .before .put-line .ensures) (c .before .before .before .before .before .before .before .before .before .before .before .put-kind .ensures) (c .before .before .before .before .before .before .before .put-kind2 .ensures) (c .before .before .put-bytes .ensures)
+returns c =
+    let args = at-entry (c .before .before .before .before .before .before .before) .args in
+    let next-row = c .before .before .before .before .before .before .before .before .before .before .before .before .before .before .before .before .before .next-row in
+    let put-line = c .before .before .before .before .before .before .before .before .before .before .before .before .before .before .before .put-line in
+    let put-kind = c .before .before .before .before .before .before .before .before .before .before .before .put-kind in
+    let put-kind2 = c .before .before .before .before .before .before .before .put-kind2 in
+    let put-bytes = c .before .before .put-bytes in
+    cell-written _ _ (args .k) _ (next-row .result) (next-row .ensures) (put-line .ensures) (put-kind .ensures)
+    (put-kind2 .ensures) (put-bytes .ensures)
 
 same-length : tie.Need-same-length
 same-length c = returns c .kept

@@ -7,6 +7,13 @@ use borrow.Author.Needs.{needs}
 use Rattle.design_text.proofs.put_module.Statement.{statement}
 use Rattle.design_text.proofs.put_module.Tie as tie
 
+-- Places that lie far back.
+abbrev at-entry : tie.After-put-line → tie.Start
+at-entry c = c .before .before .before .before .before .before .before .before .before .before .before .before .before .before .before .before
+
+abbrev at-row-kind : tie.After-put-bytes → tie.After-row-kind
+at-row-kind c = c .before .before .before .before .before .before .before .before .before .before .before .before .before .before .before .before .before .before
+
 row-kind-requires : tie.Need-row-kind-requires
 row-kind-requires c κs = tt
 
@@ -23,13 +30,18 @@ next-row-requires : tie.Need-next-row-requires
 next-row-requires c κs = tt
 
 put-kind-requires : tie.Need-put-kind-requires
-put-kind-requires c κs = (c .before .before .before .before .before .before .before .before .before .before .before .pre .0, c .before .before .before .before .before .before .before .before .before .before .before .pre .1, omega arith)
+put-kind-requires c κs =
+    let pre = c .before .before .before .before .before .before .before .before .before .before .before .pre in
+    (pre .0, pre .1, omega arith)
 
 put-line-requires : tie.Need-put-line-requires
 put-line-requires c κs = (written-most (c .before .before .before .put-kind .ensures), omega arith, c .before .before .before .before .before .before .before .before .before .before .before .before .before .before .before .pre .1)
 
 put-body-requires : tie.Need-put-body-requires
-put-body-requires c κs = (written-most (c .before .before .before .put-line .ensures), c .before .before .before .before .before .before .before .before .before .before .before .before .before .before .before .before .before .before .before .pre .1)
+put-body-requires c κs =
+    let pre = c .before .before .before .before .before .before .before .before .before .before .before .before .before .before .before .before .before .before .before .pre in
+    let put-line = c .before .before .before .put-line in
+    (written-most (put-line .ensures), pre .1)
 
 slice-aggregate-put-bytes : tie.Need-slice-aggregate-put-bytes
 slice-aggregate-put-bytes c = search needs
@@ -38,7 +50,19 @@ put-bytes-requires : tie.Need-put-bytes-requires
 put-bytes-requires c κs = written-most (c .before .before .before .before .put-body .ensures)
 
 returns-2 : tie.Need-returns-2
-returns-2 c = module-written _ _ _ _ (c .before .before .before .before .before .before .before .before .before .before .before .before .before .before .before .before .before .before .before .before .before .before .before .before .before .before .before .args .k) _ (c .before .before .before .before .before .before .before .before .before .before .before .before .before .before .before .before .before .before .before .before .row-kind .result) (c .before .before .before .before .before .before .before .before .before .before .before .before .before .before .before .before .before .before .before .before .row-kind .ensures) (c .before .before .before .before .before .before .before .before .before .before .before .before .before .before .before .before .before .before .module-of .result) (c .before .before .before .before .before .before .before .before .before .before .before .before .before .before .before .before .before .next-row .result) (c .before .before .before .before .before .before .before .before .before .before .before .before .before .before .before .before .before .before .before .if1 .left) (c .before .before .before .before .before .before .before .before .before .before .before .before .before .before .before .before .before .before .module-of .ensures) (c .before .before .before .before .before .before .before .before .before .before .before .before .before .before .before .before .before .next-row .ensures) (c .before .before .before .before .before .before .before .before .before .before .before .before .before .before .before .put-kind .ensures) (c .before .before .before .before .before .before .before .before .before .before .before .put-line .ensures) (c .before .before .before .before .before .before .before .put-body .ensures) (c .before .before .put-bytes .ensures)
+returns-2 c =
+    let args = at-entry (c .before .before .before .before .before .before .before .before .before .before .before) .args in
+    let row-kind = at-row-kind (c .before .before) .row-kind in
+    let if1 = c .before .before .before .before .before .before .before .before .before .before .before .before .before .before .before .before .before .before .before .if1 in
+    let module-of = c .before .before .before .before .before .before .before .before .before .before .before .before .before .before .before .before .before .before .module-of in
+    let next-row = c .before .before .before .before .before .before .before .before .before .before .before .before .before .before .before .before .before .next-row in
+    let put-kind = c .before .before .before .before .before .before .before .before .before .before .before .before .before .before .before .put-kind in
+    let put-line = c .before .before .before .before .before .before .before .before .before .before .before .put-line in
+    let put-body = c .before .before .before .before .before .before .before .put-body in
+    let put-bytes = c .before .before .put-bytes in
+    module-written _ _ _ _ (args .k) _ (row-kind .result) (row-kind .ensures) (module-of .result) (next-row .result)
+    (if1 .left) (module-of .ensures) (next-row .ensures) (put-kind .ensures) (put-line .ensures)
+    (put-body .ensures) (put-bytes .ensures)
 
 same-length : tie.Need-same-length
 same-length c = returns-2 c .kept

@@ -40,7 +40,14 @@ loop-less : tie.Need-loop-less Inv-loop μ-loop
 loop-less c = omega arith
 
 loop-again : tie.Need-loop-again Inv-loop μ-loop
-loop-again c = (omega (arith, one-at-most (c .before .before .before .before .before .before .row-kind .result) _ (c .before .one-if-module .ensures), c .before .before .before .before .before .before .before .before .before .loop .inv .0), reaches-next (c .before .before .before .before .before .before .before .before .before .loop .inv .1) (c .before .before .before .before .put-module .ensures) (module-next _ _ _ _ _ _ _ _ _ (omega arith) (c .before .before .before .before .before .before .row-kind .ensures) (c .waiting-from .ensures) (c .before .one-if-module .ensures)))
+loop-again c =
+    let loop = c .before .before .before .before .before .before .before .before .before .loop in
+    let row-kind = c .before .before .before .before .before .before .row-kind in
+    let put-module = c .before .before .before .before .put-module in (
+      omega (arith, one-at-most (row-kind .result) _ (c .before .one-if-module .ensures), loop .inv .0),
+      reaches-next (loop .inv .1) (put-module .ensures)
+          (module-next _ _ _ _ _ _ _ _ _ (omega arith) (row-kind .ensures) (c .waiting-from .ensures) (c .before .one-if-module .ensures)),
+    )
 
 same-length : tie.Need-same-length Inv-loop μ-loop
 same-length c = c .before .before .loop .inv .1 .written .kept

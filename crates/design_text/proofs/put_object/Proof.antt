@@ -14,17 +14,32 @@ row-kind-requires c κs = search needs
 
 returns : tie.Need-returns
 unfolding objectIf
-returns c = rw (← c .before .row-kind .ensures, ne-eqb (c .before .row-kind .result) (c .before .before .before .before .before .before .before .before .args .kind) (c .if1 .taken)) (written-none (c .before .before .before .before .before .before .before .before .args .at) (now (c .before .before .before .before .before .before .before .before .args .out)) (c .before .before .before .before .before .before .before .before .pre .0))
+returns c =
+    let args = c .before .before .before .before .before .before .before .before .args in
+    let pre = c .before .before .before .before .before .before .before .before .pre in
+    rw (← c .before .row-kind .ensures, ne-eqb (c .before .row-kind .result) (args .kind) (c .if1 .taken))
+    (written-none (args .at) (now (args .out)) (pre .0))
 
 put-kind-requires : tie.Need-put-kind-requires
 put-kind-requires c κs = (c .before .before .before .before .before .before .before .before .before .pre .0, c .before .before .before .before .before .before .before .before .before .pre .1, omega arith)
 
 put-cell-requires : tie.Need-put-cell-requires
-put-cell-requires c κs = (written-most (c .before .before .before .before .put-kind .ensures), c .before .before .before .before .before .before .before .before .before .before .before .before .before .before .pre .1, c .before .before .before .before .before .before .before .before .before .before .before .before .before .before .pre .2)
+put-cell-requires c κs =
+    let pre = c .before .before .before .before .before .before .before .before .before .before .before .before .before .before .pre in
+    let put-kind = c .before .before .before .before .put-kind in
+    (written-most (put-kind .ensures), pre .1, pre .2)
 
 returns-2 : tie.Need-returns-2
 unfolding objectIf
-returns-2 c = rw (← c .before .before .before .before .before .before .before .before .before .before .row-kind .ensures, eq-eqb (c .before .before .before .before .before .before .before .before .before .before .row-kind .result) (c .before .before .before .before .before .before .before .before .before .before .before .before .before .before .before .before .before .args .kind) (c .before .before .before .before .before .before .before .before .before .if1 .left), eq-eqb (c .before .before .before .before .before .before .before .before .before .before .before .before .before .before .before .before .before .args .kind) 7 (c .before .before .before .before .if2 .taken)) (written-then (c .before .before .before .before .before .before .before .put-kind .ensures) (c .before .before .put-cell .ensures))
+returns-2 c =
+    let args = c .before .before .before .before .before .before .before .before .before .before .before .before .before .before .before .before .before .args in
+    let row-kind = c .before .before .before .before .before .before .before .before .before .before .row-kind in
+    let if1 = c .before .before .before .before .before .before .before .before .before .if1 in
+    let put-kind = c .before .before .before .before .before .before .before .put-kind in
+    let if2 = c .before .before .before .before .if2 in
+    let put-cell = c .before .before .put-cell in
+    rw (← row-kind .ensures, eq-eqb (row-kind .result) (args .kind) (if1 .left), eq-eqb (args .kind) 7 (if2 .taken))
+    (written-then (put-kind .ensures) (put-cell .ensures))
 
 same-length : tie.Need-same-length
 same-length c = returns-2 c .kept
@@ -34,7 +49,15 @@ put-line-requires c κs = (written-most (c .before .before .before .before .put-
 
 returns-3 : tie.Need-returns-3
 unfolding rowLine objectIf
-returns-3 c = rw (← c .before .before .before .before .before .before .before .before .before .before .row-kind .ensures, eq-eqb (c .before .before .before .before .before .before .before .before .before .before .row-kind .result) (c .before .before .before .before .before .before .before .before .before .before .before .before .before .before .before .before .before .args .kind) (c .before .before .before .before .before .before .before .before .before .if1 .left), ne-eqb (c .before .before .before .before .before .before .before .before .before .before .before .before .before .before .before .before .before .args .kind) 7 (c .before .before .before .before .if2 .left)) (written-then (c .before .before .before .before .before .before .before .put-kind .ensures) (c .before .before .put-line .ensures))
+returns-3 c =
+    let args = c .before .before .before .before .before .before .before .before .before .before .before .before .before .before .before .before .before .args in
+    let row-kind = c .before .before .before .before .before .before .before .before .before .before .row-kind in
+    let if1 = c .before .before .before .before .before .before .before .before .before .if1 in
+    let put-kind = c .before .before .before .before .before .before .before .put-kind in
+    let if2 = c .before .before .before .before .if2 in
+    let put-line = c .before .before .put-line in
+    rw (← row-kind .ensures, eq-eqb (row-kind .result) (args .kind) (if1 .left), ne-eqb (args .kind) 7 (if2 .left))
+    (written-then (put-kind .ensures) (put-line .ensures))
 
 same-length-2 : tie.Need-same-length-2
 same-length-2 c = returns-3 c .kept

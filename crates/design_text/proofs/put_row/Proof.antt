@@ -13,7 +13,11 @@ row-kind-requires c κs = search needs
 
 returns : tie.Need-returns
 unfolding rowLine lineIf
-returns c = rw (← c .before .row-kind .ensures, ne-eqb (c .before .row-kind .result) (c .before .before .before .before .before .before .before .before .args .kind) (c .if1 .taken)) (written-none (c .before .before .before .before .before .before .before .before .args .at) (now (c .before .before .before .before .before .before .before .before .args .out)) (c .before .before .before .before .before .before .before .before .pre .0))
+returns c =
+    let args = c .before .before .before .before .before .before .before .before .args in
+    let pre = c .before .before .before .before .before .before .before .before .pre in
+    rw (← c .before .row-kind .ensures, ne-eqb (c .before .row-kind .result) (args .kind) (c .if1 .taken))
+    (written-none (args .at) (now (args .out)) (pre .0))
 
 put-line-requires : tie.Need-put-line-requires
 put-line-requires c κs = search needs
@@ -23,7 +27,12 @@ same-length c = search needs
 
 returns-2 : tie.Need-returns-2
 unfolding rowLine lineIf
-returns-2 c = rw (← c .before .before .before .before .before .row-kind .ensures, eq-eqb (c .before .before .before .before .before .row-kind .result) (c .before .before .before .before .before .before .before .before .before .before .before .before .args .kind) (c .before .before .before .before .if1 .left)) (c .before .before .put-line .ensures)
+returns-2 c =
+    let args = c .before .before .before .before .before .before .before .before .before .before .before .before .args in
+    let row-kind = c .before .before .before .before .before .row-kind in
+    let if1 = c .before .before .before .before .if1 in
+    let put-line = c .before .before .put-line in
+    rw (← row-kind .ensures, eq-eqb (row-kind .result) (args .kind) (if1 .left)) (put-line .ensures)
 
 pub put-row-spec : {M : Type 1} → statement M
 put-row-spec =

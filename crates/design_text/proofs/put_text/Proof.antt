@@ -19,7 +19,13 @@ put-modules-requires : tie.Need-put-modules-requires
 put-modules-requires c κs = (written-most (c .before .before .before .put-kind .ensures), c .before .before .before .before .before .before .before .before .before .before .before .before .before .pre)
 
 returns : tie.Need-returns
-returns c = text-written _ _ (c .before .before .before .before .before .before .before .before .before .module-of .result) (c .before .before .before .before .before .before .before .before .at-most-one .result) (c .before .before .before .before .before .before .before .before .before .module-of .ensures) (c .before .before .before .before .before .before .before .before .at-most-one .ensures) (c .before .before .before .before .before .before .put-kind .ensures) (c .before .before .put-modules .ensures)
+returns c =
+    let module-of = c .before .before .before .before .before .before .before .before .before .module-of in
+    let at-most-one = c .before .before .before .before .before .before .before .before .at-most-one in
+    let put-kind = c .before .before .before .before .before .before .put-kind in
+    let put-modules = c .before .before .put-modules in
+    text-written _ _ (module-of .result) (at-most-one .result) (module-of .ensures) (at-most-one .ensures)
+    (put-kind .ensures) (put-modules .ensures)
 
 same-length : tie.Need-same-length
 same-length c = returns c .kept

@@ -20,10 +20,30 @@ module-wires-requires : tie.Need-module-wires-requires
 module-wires-requires c κs = search needs
 
 returns : tie.Need-returns
-returns c = shown-missing (opened (lent (now (c .before .before .before .before .before .before .before .before .before .before .before .before .args .names)) (now (c .before .before .before .before .before .before .before .before .before .before .before .before .args .strings)) (now (c .before .before .before .before .before .before .before .before .before .before .before .before .args .bits)) (now (c .before .before .before .before .before .before .before .before .before .before .before .before .args .wires)) (now (c .before .before .before .before .before .before .before .before .before .before .before .before .args .rows)) (c .before .before .before .before .before .before .before .before .before .before .before .before .args .renames) (c .before .before .before .before .before .before .before .before .before .before .before .before .args .room)) _ (c .before .before .before .before .before .before .open-memory .ensures) _ (c .before .before .before .before .place .given .1)) _ _ _ (c .before .before .module-wires .ensures) (c .if1 .taken)
+returns c =
+    let args = c .before .before .before .before .before .before .before .before .before .before .before .before .args in
+    let open-memory = c .before .before .before .before .before .before .open-memory in
+    let place = c .before .before .before .before .place in
+    let module-wires = c .before .before .module-wires in
+    shown-missing
+    (opened
+    (lent (now (args .names)) (now (args .strings)) (now (args .bits)) (now (args .wires)) (now (args .rows)) (args .renames) (args .room))
+    _ (open-memory .ensures) _ (place .given .1)) _ _ _ (module-wires .ensures) (c .if1 .taken)
 
 add-shown-wire : tie.Need-add-shown-wire
-add-shown-wire c = omega (arith, index-fits (opened (lent (now (c .before .before .before .before .before .before .before .before .before .before .before .before .before .args .names)) (now (c .before .before .before .before .before .before .before .before .before .before .before .before .before .args .strings)) (now (c .before .before .before .before .before .before .before .before .before .before .before .before .before .args .bits)) (now (c .before .before .before .before .before .before .before .before .before .before .before .before .before .args .wires)) (now (c .before .before .before .before .before .before .before .before .before .before .before .before .before .args .rows)) (c .before .before .before .before .before .before .before .before .before .before .before .before .before .args .renames) (c .before .before .before .before .before .before .before .before .before .before .before .before .before .args .room)) _ (c .before .before .before .before .before .before .before .open-memory .ensures) _ (c .before .before .before .before .before .place .given .1)) (c .before .before .before .before .before .before .before .before .before .before .before .before .before .args .m .0) (c .before .before .before .before .before .before .before .before .before .before .before .before .before .args .w .0) 0 _ (c .before .before .before .module-wires .ensures) (c .before .if1 .left))
+add-shown-wire c =
+    let args = c .before .before .before .before .before .before .before .before .before .before .before .before .before .args in
+    let open-memory = c .before .before .before .before .before .before .before .open-memory in
+    let place = c .before .before .before .before .before .place in
+    let module-wires = c .before .before .before .module-wires in
+    omega (
+      arith,
+      index-fits
+          (opened
+          (lent (now (args .names)) (now (args .strings)) (now (args .bits)) (now (args .wires)) (now (args .rows)) (args .renames) (args .room))
+          _ (open-memory .ensures) _ (place .given .1)) (args .m .0) (args .w .0) 0 _ (module-wires .ensures)
+          (c .before .if1 .left),
+    )
 
 shown-wire-requires : tie.Need-shown-wire-requires
 shown-wire-requires c κs = search needs
@@ -32,10 +52,28 @@ enum-known-number : tie.Need-enum-known-number
 enum-known-number c = search needs
 
 returns-2 : tie.Need-returns-2
-returns-2 c = shown-there (opened (lent (now (c .before .before .before .before .before .before .before .before .before .before .before .before .before .before .args .names)) (now (c .before .before .before .before .before .before .before .before .before .before .before .before .before .before .args .strings)) (now (c .before .before .before .before .before .before .before .before .before .before .before .before .before .before .args .bits)) (now (c .before .before .before .before .before .before .before .before .before .before .before .before .before .before .args .wires)) (now (c .before .before .before .before .before .before .before .before .before .before .before .before .before .before .args .rows)) (c .before .before .before .before .before .before .before .before .before .before .before .before .before .before .args .renames) (c .before .before .before .before .before .before .before .before .before .before .before .before .before .before .args .room)) _ (c .before .before .before .before .before .before .before .before .open-memory .ensures) _ (c .before .before .before .before .before .before .place .given .1)) (c .before .before .before .before .before .before .before .before .before .before .before .before .before .before .args .m .0) (c .before .before .before .before .before .before .before .before .before .before .before .before .before .before .args .w .0) _ (c .before .before .before .before .module-wires .ensures) (c .before .before .if1 .left) _ (c .shown-wire .ensures)
+returns-2 c =
+    let args = c .before .before .before .before .before .before .before .before .before .before .before .before .before .before .args in
+    let open-memory = c .before .before .before .before .before .before .before .before .open-memory in
+    let place = c .before .before .before .before .before .before .place in
+    let module-wires = c .before .before .before .before .module-wires in
+    let if1 = c .before .before .if1 in
+    shown-there
+    (opened
+    (lent (now (args .names)) (now (args .strings)) (now (args .bits)) (now (args .wires)) (now (args .rows)) (args .renames) (args .room))
+    _ (open-memory .ensures) _ (place .given .1)) (args .m .0) (args .w .0) _ (module-wires .ensures) (if1 .left)
+    _ (c .shown-wire .ensures)
 
 returns-3 : tie.Need-returns-3
-returns-3 c = shown-refused (lent (now (c .before .before .before .before .before .before .before .before .before .args .names)) (now (c .before .before .before .before .before .before .before .before .before .args .strings)) (now (c .before .before .before .before .before .before .before .before .before .args .bits)) (now (c .before .before .before .before .before .before .before .before .before .args .wires)) (now (c .before .before .before .before .before .before .before .before .before .args .rows)) (c .before .before .before .before .before .before .before .before .before .args .renames) (c .before .before .before .before .before .before .before .before .before .args .room)) (c .before .before .before .before .before .before .before .before .before .args .m .0) (c .before .before .before .before .before .before .before .before .before .args .w .0) _ (not-opened (lent (now (c .before .before .before .before .before .before .before .before .before .args .names)) (now (c .before .before .before .before .before .before .before .before .before .args .strings)) (now (c .before .before .before .before .before .before .before .before .before .args .bits)) (now (c .before .before .before .before .before .before .before .before .before .args .wires)) (now (c .before .before .before .before .before .before .before .before .before .args .rows)) (c .before .before .before .before .before .before .before .before .before .args .renames) (c .before .before .before .before .before .before .before .before .before .args .room)) _ (c .before .before .before .open-memory .ensures) _ (c .before .number .given .1))
+returns-3 c =
+    let args = c .before .before .before .before .before .before .before .before .before .args in
+    let open-memory = c .before .before .before .open-memory in
+    shown-refused
+    (lent (now (args .names)) (now (args .strings)) (now (args .bits)) (now (args .wires)) (now (args .rows)) (args .renames) (args .room))
+    (args .m .0) (args .w .0) _
+    (not-opened
+    (lent (now (args .names)) (now (args .strings)) (now (args .bits)) (now (args .wires)) (now (args .rows)) (args .renames) (args .room))
+    _ (open-memory .ensures) _ (c .before .number .given .1))
 
 pub find-shown-spec : {M : Type 1} → statement M
 find-shown-spec =

@@ -26,8 +26,14 @@ row-kind-requires : tie.Need-row-kind-requires Inv-loop μ-loop
 row-kind-requires c κs = search needs
 
 returns : tie.Need-returns Inv-loop μ-loop
-returns c = let e : c .before .before .before .loop .k ≡ suc (c .before .before .before .loop .k - 1) = omega arith in
-    sym (c .before .before .before .loop .inv .1 ∙ hdlname-stop (now (c .before .before .before .before .before .before .args .names)) (now (c .before .before .before .before .before .before .args .rows)) (c .before .before .before .loop .k) (c .before .before .before .loop .found) (c .before .before .before .loop .k - 1) e (λ q. c .if1 .taken (c .before .row-kind .ensures ∙ q)))
+returns c =
+    let args = c .before .before .before .before .before .before .args in
+    let loop = c .before .before .before .loop in
+    let e : loop .k ≡ suc (loop .k - 1) = omega arith in
+    sym
+    (loop .inv .1
+    ∙ hdlname-stop (now (args .names)) (now (args .rows)) (loop .k) (loop .found) (loop .k - 1) e
+    (λ q. c .if1 .taken (c .before .row-kind .ensures ∙ q)))
 
 is-hdlname-requires : tie.Need-is-hdlname-requires Inv-loop μ-loop
 is-hdlname-requires c κs = search needs
@@ -36,15 +42,33 @@ loop-less : tie.Need-loop-less Inv-loop μ-loop
 loop-less c = omega arith
 
 loop-again : tie.Need-loop-again Inv-loop μ-loop
-loop-again c = let e : c .before .before .before .before .before .loop .k ≡ suc (c .before .before .before .before .before .loop .k - 1) = omega arith in
-    (omega arith, c .before .before .before .before .before .loop .inv .1 ∙ hdlname-here (now (c .before .before .before .before .before .before .before .before .args .names)) (now (c .before .before .before .before .before .before .before .before .args .rows)) (c .before .before .before .before .before .loop .k) (c .before .before .before .before .before .loop .found) (c .before .before .before .before .before .loop .k - 1) e (sym (c .before .before .before .row-kind .ensures) ∙ c .before .before .if1 .left) _ (c .before .is-hdlname .ensures) (c .if2 .taken))
+loop-again c =
+    let args = c .before .before .before .before .before .before .before .before .args in
+    let loop = c .before .before .before .before .before .loop in
+    let row-kind = c .before .before .before .row-kind in
+    let if1 = c .before .before .if1 in
+    let e : loop .k ≡ suc (loop .k - 1) = omega arith in (
+      omega arith,
+      loop .inv .1
+          ∙ hdlname-here (now (args .names)) (now (args .rows)) (loop .k) (loop .found) (loop .k - 1) e
+          (sym (row-kind .ensures) ∙ if1 .left) _ (c .before .is-hdlname .ensures) (c .if2 .taken),
+    )
 
 loop-less-2 : tie.Need-loop-less-2 Inv-loop μ-loop
 loop-less-2 c = omega arith
 
 loop-again-2 : tie.Need-loop-again-2 Inv-loop μ-loop
-loop-again-2 c = let e : c .before .before .before .before .before .loop .k ≡ suc (c .before .before .before .before .before .loop .k - 1) = omega arith in
-    (omega arith, c .before .before .before .before .before .loop .inv .1 ∙ hdlname-next (now (c .before .before .before .before .before .before .before .before .args .names)) (now (c .before .before .before .before .before .before .before .before .args .rows)) (c .before .before .before .before .before .loop .k) (c .before .before .before .before .before .loop .found) (c .before .before .before .before .before .loop .k - 1) e (sym (c .before .before .before .row-kind .ensures) ∙ c .before .before .if1 .left) _ (c .before .is-hdlname .ensures) (c .if2 .left))
+loop-again-2 c =
+    let args = c .before .before .before .before .before .before .before .before .args in
+    let loop = c .before .before .before .before .before .loop in
+    let row-kind = c .before .before .before .row-kind in
+    let if1 = c .before .before .if1 in
+    let e : loop .k ≡ suc (loop .k - 1) = omega arith in (
+      omega arith,
+      loop .inv .1
+          ∙ hdlname-next (now (args .names)) (now (args .rows)) (loop .k) (loop .found) (loop .k - 1) e
+          (sym (row-kind .ensures) ∙ if1 .left) _ (c .before .is-hdlname .ensures) (c .if2 .left),
+    )
 
 returns-2 : tie.Need-returns-2 Inv-loop μ-loop
 returns-2 c = sym (c .before .loop .inv .1 ∙ hdlname-end (now (c .before .before .before .before .args .names)) (now (c .before .before .before .before .args .rows)) (c .before .loop .k) (c .before .loop .found) (omega arith))

@@ -18,7 +18,12 @@ span-requires c κs = search needs
 
 returns : tie.Need-returns
 unfolding partBy
-returns c = c .span .ensures ∙ name-at (now (c .before .before .before .before .before .before .args .names)) (now (c .before .before .before .before .before .before .args .wires)) (now (c .before .before .before .before .before .before .args .rows)) (c .before .before .before .before .before .before .args .from) (c .before .before .before .before .before .before .args .count) (c .before .before .before .before .before .before .args .m .0) (c .before .before .before .before .before .before .args .w .0) (c .before .before .before .before .before .before .args .k) _ 0 (c .before .before .last-rename .ensures) (c .before .if1 .taken)
+returns c =
+    let args = c .before .before .before .before .before .before .args in
+    let last-rename = c .before .before .last-rename in
+    c .span .ensures
+    ∙ name-at (now (args .names)) (now (args .wires)) (now (args .rows)) (args .from) (args .count) (args .m .0)
+    (args .w .0) (args .k) _ 0 (last-rename .ensures) (c .before .if1 .taken)
 
 sub-span : tie.Need-sub-span
 sub-span c = search needs
@@ -34,8 +39,13 @@ span-requires-2 c κs = search needs
 
 returns-2 : tie.Need-returns-2
 unfolding partBy
-returns-2 c = let e : c .before .before .last-rename .result ≡ suc (c .before .before .last-rename .result - 1) = omega arith in
-    c .span2 .ensures ∙ name-at (now (c .before .before .before .before .before .before .args .names)) (now (c .before .before .before .before .before .before .args .wires)) (now (c .before .before .before .before .before .before .args .rows)) (c .before .before .before .before .before .before .args .from) (c .before .before .before .before .before .before .args .count) (c .before .before .before .before .before .before .args .m .0) (c .before .before .before .before .before .before .args .w .0) (c .before .before .before .before .before .before .args .k) _ _ (c .before .before .last-rename .ensures) e
+returns-2 c =
+    let args = c .before .before .before .before .before .before .args in
+    let last-rename = c .before .before .last-rename in
+    let e : last-rename .result ≡ suc (last-rename .result - 1) = omega arith in
+    c .span2 .ensures
+    ∙ name-at (now (args .names)) (now (args .wires)) (now (args .rows)) (args .from) (args .count) (args .m .0)
+    (args .w .0) (args .k) _ _ (last-rename .ensures) e
 
 pub name-part-spec : {M : Type 1} → statement M
 name-part-spec =

@@ -16,31 +16,61 @@ enum-known-place : tie.Need-enum-known-place
 enum-known-place c = search needs
 
 sub-result : tie.Need-sub-result
-sub-result c = subst (InRange (now (c .before .before .before .before .before .before .before .before .before .args .names)) (now (c .before .before .before .before .before .before .before .before .before .args .strings))) (c .before .place .given .1) (c .before .before .before .find-shown .ensures .1 .0) .0
+sub-result c =
+    let args = c .before .before .before .before .before .before .before .before .before .args in
+    let find-shown = c .before .before .before .find-shown in
+    subst (InRange (now (args .names)) (now (args .strings))) (c .before .place .given .1)
+    (find-shown .ensures .1 .0) .0
 
 part-result-start : tie.Need-part-result-start
 part-result-start c = sub-result c
 
 part-result-end : tie.Need-part-result-end
-part-result-end c = subst (InRange (now (c .before .before .before .before .before .before .before .before .before .args .names)) (now (c .before .before .before .before .before .before .before .before .before .args .strings))) (c .before .place .given .1) (c .before .before .before .find-shown .ensures .1 .0) .1
+part-result-end c =
+    let args = c .before .before .before .before .before .before .before .before .before .args in
+    let find-shown = c .before .before .before .find-shown in
+    subst (InRange (now (args .names)) (now (args .strings))) (c .before .place .given .1)
+    (find-shown .ensures .1 .0) .1
 
 returns : tie.Need-returns
-returns c = shown-name (lent (now (c .before .before .before .before .before .before .before .before .before .before .args .names)) (now (c .before .before .before .before .before .before .before .before .before .before .args .strings)) (now (c .before .before .before .before .before .before .before .before .before .before .args .bits)) (now (c .before .before .before .before .before .before .before .before .before .before .args .wires)) (now (c .before .before .before .before .before .before .before .before .before .before .args .rows)) (c .before .before .before .before .before .before .before .before .before .before .args .renames) (c .before .before .before .before .before .before .before .before .before .before .args .room)) (c .before .before .before .before .before .before .before .before .before .before .args .m .0) (c .before .before .before .before .before .before .before .before .before .before .args .w .0) (ptr (c .before .before .before .before .before .before .before .before .before .before .args .names)) (ptr (c .before .before .before .before .before .before .before .before .before .before .args .strings)) _ (c .before .before .before .before .find-shown .ensures) _ _ (c .before .before .place .given .1)
+returns c =
+    let args = c .before .before .before .before .before .before .before .before .before .before .args in
+    let find-shown = c .before .before .before .before .find-shown in
+    let place = c .before .before .place in
+    shown-name
+    (lent (now (args .names)) (now (args .strings)) (now (args .bits)) (now (args .wires)) (now (args .rows)) (args .renames) (args .room))
+    (args .m .0) (args .w .0) (ptr (args .names)) (ptr (args .strings)) _ (find-shown .ensures) _ _
+    (place .given .1)
 
 enum-known-place-2 : tie.Need-enum-known-place-2
 enum-known-place-2 c = search needs
 
 sub-result-2 : tie.Need-sub-result-2
-sub-result-2 c = subst (InRange (now (c .before .before .before .before .before .before .before .before .before .args .names)) (now (c .before .before .before .before .before .before .before .before .before .args .strings))) (c .before .place2 .given .1) (c .before .before .before .find-shown .ensures .1 .0) .0
+sub-result-2 c =
+    let args = c .before .before .before .before .before .before .before .before .before .args in
+    let find-shown = c .before .before .before .find-shown in
+    subst (InRange (now (args .names)) (now (args .strings))) (c .before .place2 .given .1)
+    (find-shown .ensures .1 .0) .0
 
 part-result-start-2 : tie.Need-part-result-start-2
 part-result-start-2 c = sub-result-2 c
 
 part-result-end-2 : tie.Need-part-result-end-2
-part-result-end-2 c = subst (InRange (now (c .before .before .before .before .before .before .before .before .before .args .names)) (now (c .before .before .before .before .before .before .before .before .before .args .strings))) (c .before .place2 .given .1) (c .before .before .before .find-shown .ensures .1 .0) .1
+part-result-end-2 c =
+    let args = c .before .before .before .before .before .before .before .before .before .args in
+    let find-shown = c .before .before .before .find-shown in
+    subst (InRange (now (args .names)) (now (args .strings))) (c .before .place2 .given .1)
+    (find-shown .ensures .1 .0) .1
 
 returns-2 : tie.Need-returns-2
-returns-2 c = shown-text (lent (now (c .before .before .before .before .before .before .before .before .before .before .args .names)) (now (c .before .before .before .before .before .before .before .before .before .before .args .strings)) (now (c .before .before .before .before .before .before .before .before .before .before .args .bits)) (now (c .before .before .before .before .before .before .before .before .before .before .args .wires)) (now (c .before .before .before .before .before .before .before .before .before .before .args .rows)) (c .before .before .before .before .before .before .before .before .before .before .args .renames) (c .before .before .before .before .before .before .before .before .before .before .args .room)) (c .before .before .before .before .before .before .before .before .before .before .args .m .0) (c .before .before .before .before .before .before .before .before .before .before .args .w .0) (ptr (c .before .before .before .before .before .before .before .before .before .before .args .names)) (ptr (c .before .before .before .before .before .before .before .before .before .before .args .strings)) _ (c .before .before .before .before .find-shown .ensures) _ _ (c .before .before .place2 .given .1)
+returns-2 c =
+    let args = c .before .before .before .before .before .before .before .before .before .before .args in
+    let find-shown = c .before .before .before .before .find-shown in
+    let place2 = c .before .before .place2 in
+    shown-text
+    (lent (now (args .names)) (now (args .strings)) (now (args .bits)) (now (args .wires)) (now (args .rows)) (args .renames) (args .room))
+    (args .m .0) (args .w .0) (ptr (args .names)) (ptr (args .strings)) _ (find-shown .ensures) _ _
+    (place2 .given .1)
 
 enum-known-place-3 : tie.Need-enum-known-place-3
 enum-known-place-3 c = search needs
@@ -55,7 +85,14 @@ part-result-end-3 : tie.Need-part-result-end-3
 part-result-end-3 c = search needs
 
 returns-3 : tie.Need-returns-3
-returns-3 c = shown-none (lent (now (c .before .before .before .before .before .before .before .before .before .before .args .names)) (now (c .before .before .before .before .before .before .before .before .before .before .args .strings)) (now (c .before .before .before .before .before .before .before .before .before .before .args .bits)) (now (c .before .before .before .before .before .before .before .before .before .before .args .wires)) (now (c .before .before .before .before .before .before .before .before .before .before .args .rows)) (c .before .before .before .before .before .before .before .before .before .before .args .renames) (c .before .before .before .before .before .before .before .before .before .before .args .room)) (c .before .before .before .before .before .before .before .before .before .before .args .m .0) (c .before .before .before .before .before .before .before .before .before .before .args .w .0) (ptr (c .before .before .before .before .before .before .before .before .before .before .args .names)) (ptr (c .before .before .before .before .before .before .before .before .before .before .args .strings)) _ (c .before .before .before .before .find-shown .ensures) _ (c .before .before .place3 .given .1)
+returns-3 c =
+    let args = c .before .before .before .before .before .before .before .before .before .before .args in
+    let find-shown = c .before .before .before .before .find-shown in
+    let place3 = c .before .before .place3 in
+    shown-none
+    (lent (now (args .names)) (now (args .strings)) (now (args .bits)) (now (args .wires)) (now (args .rows)) (args .renames) (args .room))
+    (args .m .0) (args .w .0) (ptr (args .names)) (ptr (args .strings)) _ (find-shown .ensures) _
+    (place3 .given .1)
 
 pub show-spec : {M : Type 1} → statement M
 show-spec =

@@ -17,16 +17,35 @@ text-part-requires : tie.Need-text-part-requires
 text-part-requires c κs = search needs
 
 returns : tie.Need-returns
-returns c = shows-text (now (c .before .before .before .before .before .before .before .before .before .args .names)) (now (c .before .before .before .before .before .before .before .before .before .args .strings)) (now (c .before .before .before .before .before .before .before .before .before .args .wires)) (now (c .before .before .before .before .before .before .before .before .before .args .rows)) (c .before .before .before .before .before .before .before .before .before .args .from) (c .before .before .before .before .before .before .before .before .before .args .count) (c .before .before .before .before .before .before .before .before .before .args .m .0) (c .before .before .before .before .before .before .before .before .before .args .w .0) (c .before .before .before .before .before .before .before .before .before .args .k) _ _ (c .before .before .text-part .result) (c .before .before .before .before .wire-line .ensures) (c .before .before .before .hdlname-row .ensures) (c .before .before .text-part .ensures) (c .if1 .taken)
+returns c =
+    let args = c .before .before .before .before .before .before .before .before .before .args in
+    let wire-line = c .before .before .before .before .wire-line in
+    let hdlname-row = c .before .before .before .hdlname-row in
+    let text-part = c .before .before .text-part in
+    shows-text (now (args .names)) (now (args .strings)) (now (args .wires)) (now (args .rows)) (args .from)
+    (args .count) (args .m .0) (args .w .0) (args .k) _ _ (text-part .result) (wire-line .ensures)
+    (hdlname-row .ensures) (text-part .ensures) (c .if1 .taken)
 
 name-part-requires : tie.Need-name-part-requires
 name-part-requires c κs = search needs
 
 plain-part-requires : tie.Need-plain-part-requires
-plain-part-requires c κs = rw (c .name-part .ensures) (name-is (now (c .before .before .before .before .before .before .before .before .before .before .args .names)) (now (c .before .before .before .before .before .before .before .before .before .before .args .wires)) (now (c .before .before .before .before .before .before .before .before .before .before .args .rows)) (c .before .before .before .before .before .before .before .before .before .before .args .from) (c .before .before .before .before .before .before .before .before .before .before .args .count) (c .before .before .before .before .before .before .before .before .before .before .args .m .0) (c .before .before .before .before .before .before .before .before .before .before .args .w .0) (c .before .before .before .before .before .before .before .before .before .before .args .k) .1)
+plain-part-requires c κs =
+    let args = c .before .before .before .before .before .before .before .before .before .before .args in
+    rw (c .name-part .ensures)
+    (name-is (now (args .names)) (now (args .wires)) (now (args .rows)) (args .from) (args .count) (args .m .0) (args .w .0) (args .k) .1)
 
 returns-2 : tie.Need-returns-2
-returns-2 c = shows-name (now (c .before .before .before .before .before .before .before .before .before .before .before .args .names)) (now (c .before .before .before .before .before .before .before .before .before .before .before .args .strings)) (now (c .before .before .before .before .before .before .before .before .before .before .before .args .wires)) (now (c .before .before .before .before .before .before .before .before .before .before .before .args .rows)) (c .before .before .before .before .before .before .before .before .before .before .before .args .from) (c .before .before .before .before .before .before .before .before .before .before .before .args .count) (c .before .before .before .before .before .before .before .before .before .before .before .args .m .0) (c .before .before .before .before .before .before .before .before .before .before .before .args .w .0) (c .before .before .before .before .before .before .before .before .before .before .before .args .k) _ _ (c .before .before .before .before .text-part .result) (c .before .before .before .before .before .before .wire-line .ensures) (c .before .before .before .before .before .hdlname-row .ensures) (c .before .before .before .before .text-part .ensures) (c .before .before .if1 .left) _ _ (c .before .name-part .ensures) (c .plain-part .ensures)
+returns-2 c =
+    let args = c .before .before .before .before .before .before .before .before .before .before .before .args in
+    let wire-line = c .before .before .before .before .before .before .wire-line in
+    let hdlname-row = c .before .before .before .before .before .hdlname-row in
+    let text-part = c .before .before .before .before .text-part in
+    let if1 = c .before .before .if1 in
+    shows-name (now (args .names)) (now (args .strings)) (now (args .wires)) (now (args .rows)) (args .from)
+    (args .count) (args .m .0) (args .w .0) (args .k) _ _ (text-part .result) (wire-line .ensures)
+    (hdlname-row .ensures) (text-part .ensures) (if1 .left) _ _ (c .before .name-part .ensures)
+    (c .plain-part .ensures)
 
 pub shown-wire-spec : {M : Type 1} → statement M
 shown-wire-spec =

@@ -22,15 +22,23 @@ column-requires : tie.Need-column-requires
 column-requires c κs = search needs
 
 returns-2 : tie.Need-returns-2
-returns-2 c = let e : c .before .before .before .before .before .args .behind ≡ suc (c .before .before .before .before .before .args .behind - 1) = omega arith in
-    text-other (now (c .before .before .before .before .before .args .strings)) (now (c .before .before .before .before .before .args .rows)) (c .before .before .before .before .before .args .behind) (c .before .before .before .before .before .args .behind - 1) e (λ q. c .if2 .taken (c .before .column .ensures ∙ q))
+returns-2 c =
+    let args = c .before .before .before .before .before .args in
+    let e : args .behind ≡ suc (args .behind - 1) = omega arith in
+    text-other (now (args .strings)) (now (args .rows)) (args .behind) (args .behind - 1) e
+    (λ q. c .if2 .taken (c .before .column .ensures ∙ q))
 
 span-requires : tie.Need-span-requires
 span-requires c κs = search needs
 
 returns-3 : tie.Need-returns-3
-returns-3 c = let e : c .before .before .before .before .before .before .args .behind ≡ suc (c .before .before .before .before .before .before .args .behind - 1) = omega arith in
-    c .span .ensures ∙ text-string (now (c .before .before .before .before .before .before .args .strings)) (now (c .before .before .before .before .before .before .args .rows)) (c .before .before .before .before .before .before .args .behind) (c .before .before .before .before .before .before .args .behind - 1) e (sym (c .before .before .column .ensures) ∙ c .before .if2 .left)
+returns-3 c =
+    let args = c .before .before .before .before .before .before .args in
+    let column = c .before .before .column in
+    let e : args .behind ≡ suc (args .behind - 1) = omega arith in
+    c .span .ensures
+    ∙ text-string (now (args .strings)) (now (args .rows)) (args .behind) (args .behind - 1) e
+    (sym (column .ensures) ∙ c .before .if2 .left)
 
 pub text-part-spec : {M : Type 1} → statement M
 text-part-spec =

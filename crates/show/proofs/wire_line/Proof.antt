@@ -26,15 +26,26 @@ declares-requires : tie.Need-declares-requires Inv-loop μ-loop
 declares-requires c κs = search needs
 
 returns : tie.Need-returns Inv-loop μ-loop
-returns c = let e : c .before .before .before .loop .k ≡ suc (c .before .before .before .loop .k - 1) = omega arith in
-    sym (c .before .before .before .loop .inv .1 ∙ line-here (now (c .before .before .before .before .before .args .rows)) (c .before .before .before .before .before .args .wire) (c .before .before .before .loop .k) (c .before .before .before .loop .k - 1) _ e (c .before .declares .ensures) (c .if1 .taken))
+returns c =
+    let args = c .before .before .before .before .before .args in
+    let loop = c .before .before .before .loop in
+    let e : loop .k ≡ suc (loop .k - 1) = omega arith in
+    sym
+    (loop .inv .1 ∙ line-here (now (args .rows)) (args .wire) (loop .k) (loop .k - 1) _ e (c .before .declares .ensures) (c .if1 .taken))
 
 loop-less : tie.Need-loop-less Inv-loop μ-loop
 loop-less c = omega arith
 
 loop-again : tie.Need-loop-again Inv-loop μ-loop
-loop-again c = let e : c .before .before .before .loop .k ≡ suc (c .before .before .before .loop .k - 1) = omega arith in
-    (omega arith, c .before .before .before .loop .inv .1 ∙ line-next (now (c .before .before .before .before .before .args .rows)) (c .before .before .before .before .before .args .wire) (c .before .before .before .loop .k) (c .before .before .before .loop .k - 1) _ e (c .before .declares .ensures) (c .if1 .left))
+loop-again c =
+    let args = c .before .before .before .before .before .args in
+    let loop = c .before .before .before .loop in
+    let e : loop .k ≡ suc (loop .k - 1) = omega arith in (
+      omega arith,
+      loop .inv .1
+          ∙ line-next (now (args .rows)) (args .wire) (loop .k) (loop .k - 1) _ e (c .before .declares .ensures)
+          (c .if1 .left),
+    )
 
 returns-2 : tie.Need-returns-2 Inv-loop μ-loop
 returns-2 c = sym (c .before .loop .inv .1 ∙ line-end (now (c .before .before .before .args .rows)) (c .before .before .before .args .wire) (c .before .loop .k) (omega arith))
