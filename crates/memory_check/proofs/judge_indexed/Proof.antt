@@ -9,6 +9,10 @@ use Rattle.memory_check.proofs.MemoryLaws.{names-short, index-kept, few
 use Rattle.memory_check.proofs.judge_indexed.Statement.{statement}
 use Rattle.memory_check.proofs.judge_indexed.Tie as tie
 
+-- Places that lie far back.
+abbrev at-right-tables : tie.After-rest-is-zero → tie.After-right-tables
+at-right-tables c = c .before .before .before .before .before .before .before .before .before .before .before .before .before .before .before .before .before .before .before
+
 right-tables-requires : tie.Need-right-tables-requires
 right-tables-requires c κs = search needs
 
@@ -35,7 +39,17 @@ returns-2 : tie.Need-returns-2
 returns-2 c = no-statements _ _ (c .before .before .before .before .before .before .replay .ensures .0) (c .enum-told .given .1)
 
 standing-renames-requires : tie.Need-standing-renames-requires
-standing-renames-requires c κs = ((names-short _ _ _ _ _ (sym (c .before .before .before .before .before .before .before .before .before .before .before .before .before .right-tables .ensures) ∙ not-false _ (c .before .before .before .before .before .before .before .before .before .before .before .before .if1 .left)), few-wires _ _ _ _ _ (c .before .before .before .before .before .before .before .before .before .replay .ensures .0) (c .before .before .before .r .given .1)), index-kept _ _ _ _ _ (c .before .before .before .before .before .before .before .before .before .replay .ensures .1) (c .before .before .before .r .given .1))
+standing-renames-requires c κs =
+    let right-tables = c .before .before .before .before .before .before .before .before .before .before .before .before .before .right-tables in
+    let if1 = c .before .before .before .before .before .before .before .before .before .before .before .before .if1 in
+    let replay = c .before .before .before .before .before .before .before .before .before .replay in
+    let r = c .before .before .before .r in (
+      (
+        names-short _ _ _ _ _ (sym (right-tables .ensures) ∙ not-false _ (if1 .left)),
+        few-wires _ _ _ _ _ (replay .ensures .0) (r .given .1),
+      ),
+      index-kept _ _ _ _ _ (replay .ensures .1) (r .given .1),
+    )
 
 enum-known-s : tie.Need-enum-known-s
 enum-known-s c = search needs
@@ -50,7 +64,12 @@ same-length-4 : tie.Need-same-length-4
 same-length-4 c = search needs
 
 returns-3 : tie.Need-returns-3
-returns-3 c = no-renames-there _ _ (c .before .before .before .before .before .before .before .before .before .before .before .before .replay .ensures .0) _ _ (c .before .before .before .before .before .before .r .given .1) _ (c .before .before .standing-renames .ensures) (c .enum-told2 .given .1)
+returns-3 c =
+    let replay = c .before .before .before .before .before .before .before .before .before .before .before .before .replay in
+    let r = c .before .before .before .before .before .before .r in
+    let standing-renames = c .before .before .standing-renames in
+    no-renames-there _ _ (replay .ensures .0) _ _ (r .given .1) _ (standing-renames .ensures)
+    (c .enum-told2 .given .1)
 
 same-length-5 : tie.Need-same-length-5
 same-length-5 c = search needs
@@ -59,7 +78,13 @@ same-length-6 : tie.Need-same-length-6
 same-length-6 c = search needs
 
 returns-4 : tie.Need-returns-4
-returns-4 c = other-room _ _ (c .before .before .before .before .before .before .before .before .before .before .before .before .before .before .replay .ensures .0) _ _ (c .before .before .before .before .before .before .before .before .r .given .1) _ (c .before .before .before .before .standing-renames .ensures) _ (c .before .before .s .given .1) (λ e. omega arith)
+returns-4 c =
+    let replay = c .before .before .before .before .before .before .before .before .before .before .before .before .before .before .replay in
+    let r = c .before .before .before .before .before .before .before .before .r in
+    let standing-renames = c .before .before .before .before .standing-renames in
+    let s = c .before .before .s in
+    other-room _ _ (replay .ensures .0) _ _ (r .given .1) _ (standing-renames .ensures) _ (s .given .1)
+    (λ e. omega arith)
 
 rest-is-zero-requires : tie.Need-rest-is-zero-requires
 rest-is-zero-requires c κs = search needs
@@ -73,7 +98,15 @@ same-length-8 c = search needs
 returns-5 : tie.Need-returns-5
 unfolding rightLengths
 returns-5 c =
-    memory-holds _ _ (c .before .before .before .before .before .before .before .before .before .before .before .before .before .before .before .before .replay .ensures .0) _ _ (c .before .before .before .before .before .before .before .before .before .before .r .given .1) _ (c .before .before .before .before .before .before .standing-renames .ensures) _ (c .before .before .before .before .s .given .1) (omega arith) (sym (c .before .before .before .before .before .before .before .before .before .before .before .before .before .before .before .before .before .before .before .before .right-tables .ensures) ∙ not-false _ (c .before .before .before .before .before .before .before .before .before .before .before .before .before .before .before .before .before .before .before .if1 .left)) (sym (c .before .rest-is-zero .ensures) ∙ c .if3 .taken)
+    let right-tables = at-right-tables (c .before) .right-tables in
+    let if1 = c .before .before .before .before .before .before .before .before .before .before .before .before .before .before .before .before .before .before .before .if1 in
+    let replay = c .before .before .before .before .before .before .before .before .before .before .before .before .before .before .before .before .replay in
+    let r = c .before .before .before .before .before .before .before .before .before .before .r in
+    let standing-renames = c .before .before .before .before .before .before .standing-renames in
+    let s = c .before .before .before .before .s in
+    memory-holds _ _ (replay .ensures .0) _ _ (r .given .1) _ (standing-renames .ensures) _ (s .given .1)
+    (omega arith) (sym (right-tables .ensures) ∙ not-false _ (if1 .left))
+    (sym (c .before .rest-is-zero .ensures) ∙ c .if3 .taken)
 
 same-length-9 : tie.Need-same-length-9
 same-length-9 c = search needs
@@ -82,7 +115,10 @@ same-length-10 : tie.Need-same-length-10
 same-length-10 c = search needs
 
 returns-6 : tie.Need-returns-6
-returns-6 c = rest-left _ _ (c .before .before .before .before .before .before .before .before .before .before .before .before .before .before .before .before .replay .ensures .0) _ _ (c .before .before .before .before .before .before .before .before .before .before .r .given .1) (sym (c .before .rest-is-zero .ensures) ∙ c .if3 .left)
+returns-6 c =
+    let replay = c .before .before .before .before .before .before .before .before .before .before .before .before .before .before .before .before .replay in
+    let r = c .before .before .before .before .before .before .before .before .before .before .r in
+    rest-left _ _ (replay .ensures .0) _ _ (r .given .1) (sym (c .before .rest-is-zero .ensures) ∙ c .if3 .left)
 
 pub judge-indexed-spec : {M : Type 1} → statement M
 judge-indexed-spec =

@@ -55,7 +55,14 @@ cast-t24 c = omega (arith, c .before .before .before .before .before .before .be
 
 returns-5 : tie.Need-returns-5
 returns-5 c =
-    rename-next _ _ _ _ _ _ _ (c .before .before .before .before .before .before .before .get-row .ensures) _ (c .before .before .part .ensures) _ (c .before .indexed-rename .ensures) (c .before .before .before .before .before .before .before .before .if1 .left) (sym (c .before .before .before .before .before .before .is-rename .ensures) ∙ not-false _ (c .before .before .before .before .before .if2 .left)) (c .before .before .before .if3 .left) (c .if4 .left)
+    let if1 = c .before .before .before .before .before .before .before .before .if1 in
+    let get-row = c .before .before .before .before .before .before .before .get-row in
+    let is-rename = c .before .before .before .before .before .before .is-rename in
+    let if2 = c .before .before .before .before .before .if2 in
+    let if3 = c .before .before .before .if3 in
+    let part = c .before .before .part in
+    rename-next _ _ _ _ _ _ _ (get-row .ensures) _ (part .ensures) _ (c .before .indexed-rename .ensures) (if1 .left)
+    (sym (is-rename .ensures) ∙ not-false _ (if2 .left)) (if3 .left) (c .if4 .left)
 
 pub one-rename-spec : {M : Type 1} → statement M
 one-rename-spec =

@@ -46,7 +46,19 @@ zero-from-requires c κs = search needs
 
 returns-3 : tie.Need-returns-3
 unfolding restZero zeroFrom
-returns-3 c = rw (← c .before .before .before .before .before .before .before .before .zero-bytes-from .ensures, not-false (c .before .before .before .before .before .before .before .before .zero-bytes-from .result) (c .before .before .before .before .before .before .before .if1 .left), ← c .before .before .before .before .before .zero-bytes-from2 .ensures, not-false (c .before .before .before .before .before .zero-bytes-from2 .result) (c .before .before .before .before .if2 .left), ← c .before .zero-from .ensures, not-true (c .before .zero-from .result) (c .if3 .taken))
+returns-3 c =
+    let zero-bytes-from = c .before .before .before .before .before .before .before .before .zero-bytes-from in
+    let if1 = c .before .before .before .before .before .before .before .if1 in
+    let zero-bytes-from2 = c .before .before .before .before .before .zero-bytes-from2 in
+    let if2 = c .before .before .before .before .if2 in
+    rw (
+      ← zero-bytes-from .ensures,
+      not-false (zero-bytes-from .result) (if1 .left),
+      ← zero-bytes-from2 .ensures,
+      not-false (zero-bytes-from2 .result) (if2 .left),
+      ← c .before .zero-from .ensures,
+      not-true (c .before .zero-from .result) (c .if3 .taken),
+    )
 
 cast-zero-from-3 : tie.Need-cast-zero-from-3
 cast-zero-from-3 c = search needs
@@ -59,14 +71,47 @@ zero-from-requires-2 c κs = search needs
 
 returns-4 : tie.Need-returns-4
 unfolding restZero zeroFrom
-returns-4 c = rw (← c .before .before .before .before .before .before .before .before .before .before .before .zero-bytes-from .ensures, not-false (c .before .before .before .before .before .before .before .before .before .before .before .zero-bytes-from .result) (c .before .before .before .before .before .before .before .before .before .before .if1 .left), ← c .before .before .before .before .before .before .before .before .zero-bytes-from2 .ensures, not-false (c .before .before .before .before .before .before .before .before .zero-bytes-from2 .result) (c .before .before .before .before .before .before .before .if2 .left), ← c .before .before .before .before .zero-from .ensures, not-false (c .before .before .before .before .zero-from .result) (c .before .before .before .if3 .left), ← c .before .zero-from2 .ensures, not-true (c .before .zero-from2 .result) (c .if4 .taken))
+returns-4 c =
+    let zero-bytes-from = c .before .before .before .before .before .before .before .before .before .before .before .zero-bytes-from in
+    let if1 = c .before .before .before .before .before .before .before .before .before .before .if1 in
+    let zero-bytes-from2 = c .before .before .before .before .before .before .before .before .zero-bytes-from2 in
+    let if2 = c .before .before .before .before .before .before .before .if2 in
+    let zero-from = c .before .before .before .before .zero-from in
+    let if3 = c .before .before .before .if3 in
+    rw (
+      ← zero-bytes-from .ensures,
+      not-false (zero-bytes-from .result) (if1 .left),
+      ← zero-bytes-from2 .ensures,
+      not-false (zero-bytes-from2 .result) (if2 .left),
+      ← zero-from .ensures,
+      not-false (zero-from .result) (if3 .left),
+      ← c .before .zero-from2 .ensures,
+      not-true (c .before .zero-from2 .result) (c .if4 .taken),
+    )
 
 zero-from-requires-3 : tie.Need-zero-from-requires-3
 zero-from-requires-3 c κs = search needs
 
 returns-5 : tie.Need-returns-5
 unfolding restZero zeroFrom
-returns-5 c = rw (← c .before .before .before .before .before .before .before .before .before .before .before .before .zero-bytes-from .ensures, not-false (c .before .before .before .before .before .before .before .before .before .before .before .before .zero-bytes-from .result) (c .before .before .before .before .before .before .before .before .before .before .before .if1 .left), ← c .before .before .before .before .before .before .before .before .before .zero-bytes-from2 .ensures, not-false (c .before .before .before .before .before .before .before .before .before .zero-bytes-from2 .result) (c .before .before .before .before .before .before .before .before .if2 .left), ← c .before .before .before .before .before .zero-from .ensures, not-false (c .before .before .before .before .before .zero-from .result) (c .before .before .before .before .if3 .left), ← c .before .before .zero-from2 .ensures, not-false (c .before .before .zero-from2 .result) (c .before .if4 .left)) (c .zero-from3 .ensures)
+returns-5 c =
+    let zero-bytes-from = c .before .before .before .before .before .before .before .before .before .before .before .before .zero-bytes-from in
+    let if1 = c .before .before .before .before .before .before .before .before .before .before .before .if1 in
+    let zero-bytes-from2 = c .before .before .before .before .before .before .before .before .before .zero-bytes-from2 in
+    let if2 = c .before .before .before .before .before .before .before .before .if2 in
+    let zero-from = c .before .before .before .before .before .zero-from in
+    let if3 = c .before .before .before .before .if3 in
+    let zero-from2 = c .before .before .zero-from2 in
+    rw (
+      ← zero-bytes-from .ensures,
+      not-false (zero-bytes-from .result) (if1 .left),
+      ← zero-bytes-from2 .ensures,
+      not-false (zero-bytes-from2 .result) (if2 .left),
+      ← zero-from .ensures,
+      not-false (zero-from .result) (if3 .left),
+      ← zero-from2 .ensures,
+      not-false (zero-from2 .result) (c .before .if4 .left),
+    ) (c .zero-from3 .ensures)
 
 pub rest-is-zero-spec : {M : Type 1} → statement M
 rest-is-zero-spec =

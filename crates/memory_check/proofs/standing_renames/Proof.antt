@@ -27,7 +27,10 @@ slice-aggregate-all-renames-2 : tie.Need-slice-aggregate-all-renames-2
 slice-aggregate-all-renames-2 c = search needs
 
 all-renames-requires : tie.Need-all-renames-requires
-all-renames-requires c κs = (c .before .before .before .before .before .before .before .before .before .before .before .before .before .pre .0 .0, (c .before .before .before .before .before .before .before .before .before .before .before .before .before .pre .1, c .before .before .before .before .index-wires .ensures))
+all-renames-requires c κs =
+    let pre = c .before .before .before .before .before .before .before .before .before .before .before .before .before .pre in
+    let index-wires = c .before .before .before .before .index-wires in
+    (pre .0 .0, (pre .1, index-wires .ensures))
 
 returns-2 : tie.Need-returns-2
 returns-2 c = c .all-renames .ensures

@@ -20,14 +20,25 @@ renamed-to-requires : tie.Need-renamed-to-requires Inv-loop μ-loop
 renamed-to-requires c κs = tt
 
 loop-holds : tie.Need-loop-holds Inv-loop μ-loop
-loop-holds c = (omega arith, search-start (now (c .before .before .before .before .before .args .names)) (now (c .before .before .before .before .before .args .wires)) (now (c .before .before .before .before .before .args .rows)) (c .before .before .before .before .before .args .m) (now (c .before .before .before .before .before .args .name)))
+loop-holds c =
+    let args = c .before .before .before .before .before .args in (
+      omega arith,
+      search-start (now (args .names)) (now (args .wires)) (now (args .rows)) (args .m) (now (args .name)),
+    )
 
 keeps-name-requires : tie.Need-keeps-name-requires Inv-loop μ-loop
 keeps-name-requires c κs = tt
 
 returns : tie.Need-returns Inv-loop μ-loop
 unfolding named
-returns c = sym (c .before .before .before .loop .inv .1 ∙ search-kept (now (c .before .before .before .before .before .before .before .before .before .args .names)) (now (c .before .before .before .before .before .before .before .before .before .args .wires)) (now (c .before .before .before .before .before .before .before .before .before .args .rows)) (c .before .before .before .before .before .before .before .before .before .args .m) (now (c .before .before .before .before .before .before .before .before .before .args .name)) (c .before .before .before .loop .k) (omega (arith, c .before .before .before .before .renamed-to .ensures .below)) (sym (c .before .keeps-name .ensures) ∙ c .if1 .taken))
+returns c =
+    let args = c .before .before .before .before .before .before .before .before .before .args in
+    let renamed-to = c .before .before .before .before .renamed-to in
+    let loop = c .before .before .before .loop in
+    sym
+    (loop .inv .1
+    ∙ search-kept (now (args .names)) (now (args .wires)) (now (args .rows)) (args .m) (now (args .name))
+    (loop .k) (omega (arith, renamed-to .ensures .below)) (sym (c .before .keeps-name .ensures) ∙ c .if1 .taken))
 
 add-k : tie.Need-add-k Inv-loop μ-loop
 add-k c = omega arith
@@ -36,15 +47,39 @@ loop-less : tie.Need-loop-less Inv-loop μ-loop
 loop-less c = omega arith
 
 loop-again : tie.Need-loop-again Inv-loop μ-loop
-loop-again c = (omega arith, c .before .before .before .loop .inv .1 ∙ search-passed (now (c .before .before .before .before .before .before .before .before .before .args .names)) (now (c .before .before .before .before .before .before .before .before .before .args .wires)) (now (c .before .before .before .before .before .before .before .before .before .args .rows)) (c .before .before .before .before .before .before .before .before .before .args .m) (now (c .before .before .before .before .before .before .before .before .before .args .name)) (c .before .before .before .loop .k) (omega (arith, c .before .before .before .before .renamed-to .ensures .below)) _ (c .before .before .before .before .renamed-to .ensures) (c .before .before .loop-test .taken) (sym (c .before .keeps-name .ensures) ∙ c .if1 .left))
+loop-again c =
+    let args = c .before .before .before .before .before .before .before .before .before .args in
+    let renamed-to = c .before .before .before .before .renamed-to in
+    let loop = c .before .before .before .loop in
+    let loop-test = c .before .before .loop-test in (
+      omega arith,
+      loop .inv .1
+          ∙ search-passed (now (args .names)) (now (args .wires)) (now (args .rows)) (args .m) (now (args .name)) (loop .k)
+          (omega (arith, renamed-to .ensures .below)) _ (renamed-to .ensures) (loop-test .taken)
+          (sym (c .before .keeps-name .ensures) ∙ c .if1 .left),
+    )
 
 returns-2 : tie.Need-returns-2 Inv-loop μ-loop
 unfolding named
-returns-2 c = sym (c .before .before .before .loop .inv .1 ∙ search-renamed (now (c .before .before .before .before .before .before .before .before .before .args .names)) (now (c .before .before .before .before .before .before .before .before .before .args .wires)) (now (c .before .before .before .before .before .before .before .before .before .args .rows)) (c .before .before .before .before .before .before .before .before .before .args .m) (now (c .before .before .before .before .before .before .before .before .before .args .name)) (c .before .before .before .loop .k) (omega (arith, c .if2 .taken)) _ (omega arith) (c .before .before .before .before .renamed-to .ensures))
+returns-2 c =
+    let args = c .before .before .before .before .before .before .before .before .before .args in
+    let renamed-to = c .before .before .before .before .renamed-to in
+    let loop = c .before .before .before .loop in
+    sym
+    (loop .inv .1
+    ∙ search-renamed (now (args .names)) (now (args .wires)) (now (args .rows)) (args .m) (now (args .name))
+    (loop .k) (omega (arith, c .if2 .taken)) _ (omega arith) (renamed-to .ensures))
 
 returns-3 : tie.Need-returns-3 Inv-loop μ-loop
 unfolding named
-returns-3 c = sym (c .before .before .before .loop .inv .1 ∙ search-end (now (c .before .before .before .before .before .before .before .before .before .args .names)) (now (c .before .before .before .before .before .before .before .before .before .args .wires)) (now (c .before .before .before .before .before .before .before .before .before .args .rows)) (c .before .before .before .before .before .before .before .before .before .args .m) (now (c .before .before .before .before .before .before .before .before .before .args .name)) _ (c .before .before .before .loop .k) (omega (arith, c .before .before .before .before .renamed-to .ensures .below, c .if2 .left)))
+returns-3 c =
+    let args = c .before .before .before .before .before .before .before .before .before .args in
+    let renamed-to = c .before .before .before .before .renamed-to in
+    let loop = c .before .before .before .loop in
+    sym
+    (loop .inv .1
+    ∙ search-end (now (args .names)) (now (args .wires)) (now (args .rows)) (args .m) (now (args .name)) _
+    (loop .k) (omega (arith, renamed-to .ensures .below, c .if2 .left)))
 
 pub find-named-spec : {M : Type 1} → statement M
 find-named-spec =

@@ -46,13 +46,18 @@ loop-less : tie.Need-loop-less Inv-loop μ-loop
 loop-less c = omega arith
 
 loop-again : tie.Need-loop-again Inv-loop μ-loop
-loop-again c = (
-  omega arith,
-  wire-put _ _ _ _ _ _ (c .before .before .before .before .before .before .before .before .before .before .loop .inv .1) (c .before .before .before .before .before .before .before .hash .ensures ∙ ap hashOf (c .before .before .before .before .before .before .before .before .bytes-at .ensures)) (omega (arith, c .before .before .before .before .before .before .before .before .before .before .loop .inv .4)) _ _ (c .before .before .before .before .put .ensures .0) (c .before .before .before .before .put .ensures .1),
-  c .before .before .before .before .put .kept .0 ∙ c .before .before .before .before .before .before .before .before .before .before .loop .inv .2,
-  c .before .before .before .before .put .kept .1 .0 ∙ c .before .before .before .before .before .before .before .before .before .before .loop .inv .3,
-  omega (arith, c .before .before .before .before .put .kept .1 .0, c .before .before .before .before .before .before .before .before .before .before .loop .inv .4),
-)
+loop-again c =
+    let loop = c .before .before .before .before .before .before .before .before .before .before .loop in
+    let bytes-at = c .before .before .before .before .before .before .before .before .bytes-at in
+    let hash = c .before .before .before .before .before .before .before .hash in
+    let put = c .before .before .before .before .put in (
+      omega arith,
+      wire-put _ _ _ _ _ _ (loop .inv .1) (hash .ensures ∙ ap hashOf (bytes-at .ensures)) (omega (arith, loop .inv .4))
+          _ _ (put .ensures .0) (put .ensures .1),
+      put .kept .0 ∙ loop .inv .2,
+      put .kept .1 .0 ∙ loop .inv .3,
+      omega (arith, put .kept .1 .0, loop .inv .4),
+    )
 
 same-length : tie.Need-same-length Inv-loop μ-loop
 same-length c = c .before .loop .inv .2

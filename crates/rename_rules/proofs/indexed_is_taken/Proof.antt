@@ -17,7 +17,11 @@ returns c = rw (renamed-taken _ _ _ _ _ _ (c .before .before .renamed-to .ensure
 
 indexed-kept-requires : tie.Need-indexed-kept-requires
 indexed-kept-requires c κs =
-    let e : c .before .before .renamed-to .result ≡ c .before .before .before .before .before .before .before .before .before .before .before .args .m .wires = omega (arith, c .before .before .renamed-to .ensures .below, c .if1 .left) in (c .before .before .before .before .before .before .before .before .before .before .before .pre .1, rw e at (c .before .before .renamed-to .ensures))
+    let args = c .before .before .before .before .before .before .before .before .before .before .before .args in
+    let pre = c .before .before .before .before .before .before .before .before .before .before .before .pre in
+    let renamed-to = c .before .before .renamed-to in
+    let e : renamed-to .result ≡ args .m .wires = omega (arith, renamed-to .ensures .below, c .if1 .left) in
+    (pre .1, rw e at (renamed-to .ensures))
 
 returns-2 : tie.Need-returns-2
 unfolding nameTaken

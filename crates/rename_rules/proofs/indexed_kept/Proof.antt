@@ -34,25 +34,52 @@ row-keeps-name-requires : tie.Need-row-keeps-name-requires Inv-loop μ-loop
 row-keeps-name-requires c κs = omega arith
 
 returns : tie.Need-returns Inv-loop μ-loop
-returns c = sym (kept-found _ _ _ _ _ (c .before .before .before .before .before .before .before .before .before .before .before .before .before .pre .1) _ _ (c .before .before .before .before .before .before .before .before .before .before .before .before .before .pre .0) _ (c .before .before .before .before .loop .inv (c .before .before .before .before .before .before .before .before .before .before .before .before .before .pre .0)) (c .before .before .if1 .taken) _ (c .before .row-keeps-name .ensures) (c .if2 .taken))
+returns c =
+    let pre = c .before .before .before .before .before .before .before .before .before .before .before .before .before .pre in
+    let loop = c .before .before .before .before .loop in
+    let if1 = c .before .before .if1 in
+    sym
+    (kept-found _ _ _ _ _ (pre .1) _ _ (pre .0) _ (loop .inv (pre .0)) (if1 .taken) _ (c .before .row-keeps-name .ensures) (c .if2 .taken))
 
 cast-at : tie.Need-cast-at Inv-loop μ-loop
-cast-at c = omega (arith, c .before .before .before .before .loop .inv (c .before .before .before .before .before .before .before .before .before .before .before .before .before .pre .0) .below, c .before .before .before .before .before .before .before .before .before .before .before .before .before .pre .0 .indexed .room)
+cast-at c =
+    let pre = c .before .before .before .before .before .before .before .before .before .before .before .before .before .pre in
+    let loop = c .before .before .before .before .loop in
+    omega (arith, loop .inv (pre .0) .below, pre .0 .indexed .room)
 
 mul-at-2 : tie.Need-mul-at-2 Inv-loop μ-loop
-mul-at-2 c = omega (arith, c .before .before .before .before .loop .inv (c .before .before .before .before .before .before .before .before .before .before .before .before .before .pre .0) .below, c .before .before .before .before .before .before .before .before .before .before .before .before .before .pre .0 .indexed .room)
+mul-at-2 c =
+    let pre = c .before .before .before .before .before .before .before .before .before .before .before .before .before .pre in
+    let loop = c .before .before .before .before .loop in
+    omega (arith, loop .inv (pre .0) .below, pre .0 .indexed .room)
 
 shared-slice-read-at-2 : tie.Need-shared-slice-read-at-2 Inv-loop μ-loop
-shared-slice-read-at-2 c = omega (arith, c .before .before .before .before .before .loop .inv (c .before .before .before .before .before .before .before .before .before .before .before .before .before .before .pre .0) .below, c .before .before .before .before .before .before .before .before .before .before .before .before .before .before .pre .0 .indexed .room)
+shared-slice-read-at-2 c =
+    let pre = c .before .before .before .before .before .before .before .before .before .before .before .before .before .before .pre in
+    let loop = c .before .before .before .before .before .loop in
+    omega (arith, loop .inv (pre .0) .below, pre .0 .indexed .room)
 
 loop-less : tie.Need-loop-less Inv-loop μ-loop
-loop-less c = kept-less _ _ _ _ _ (c .before .before .before .before .before .before .before .before .before .before .before .before .before .before .pre .1) _ _ (c .before .before .before .before .before .before .before .before .before .before .before .before .before .before .pre .0) _ (c .before .before .before .before .before .loop .inv (c .before .before .before .before .before .before .before .before .before .before .before .before .before .before .pre .0)) (c .before .before .before .if1 .taken)
+loop-less c =
+    let pre = c .before .before .before .before .before .before .before .before .before .before .before .before .before .before .pre in
+    let loop = c .before .before .before .before .before .loop in
+    let if1 = c .before .before .before .if1 in
+    kept-less _ _ _ _ _ (pre .1) _ _ (pre .0) _ (loop .inv (pre .0)) (if1 .taken)
 
 loop-again : tie.Need-loop-again Inv-loop μ-loop
-loop-again c = λ q. kept-next _ _ _ _ _ (c .before .before .before .before .before .before .before .before .before .before .before .before .before .before .pre .1) _ _ q _ (c .before .before .before .before .before .loop .inv q) (c .before .before .before .if1 .taken) _ (c .before .before .row-keeps-name .ensures) (c .before .if2 .left)
+loop-again c =
+    let pre = c .before .before .before .before .before .before .before .before .before .before .before .before .before .before .pre in
+    let loop = c .before .before .before .before .before .loop in
+    let if1 = c .before .before .before .if1 in
+    let row-keeps-name = c .before .before .row-keeps-name in
+    λ q. kept-next _ _ _ _ _ (pre .1) _ _ q _ (loop .inv q) (if1 .taken) _ (row-keeps-name .ensures)
+    (c .before .if2 .left)
 
 returns-2 : tie.Need-returns-2 Inv-loop μ-loop
-returns-2 c = sym (kept-end _ _ _ _ _ (c .before .before .before .before .before .before .before .before .before .before .before .pre .1) _ _ (c .before .before .before .before .before .before .before .before .before .before .before .pre .0) _ (c .before .before .loop .inv (c .before .before .before .before .before .before .before .before .before .before .before .pre .0)) (c .if1 .left))
+returns-2 c =
+    let pre = c .before .before .before .before .before .before .before .before .before .before .before .pre in
+    let loop = c .before .before .loop in
+    sym (kept-end _ _ _ _ _ (pre .1) _ _ (pre .0) _ (loop .inv (pre .0)) (c .if1 .left))
 
 pub indexed-kept-spec : {M : Type 1} → statement M
 indexed-kept-spec =

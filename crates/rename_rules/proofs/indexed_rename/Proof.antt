@@ -12,7 +12,13 @@ module-of-requires : tie.Need-module-of-requires
 module-of-requires c κs = search needs
 
 indexed-is-taken-requires : tie.Need-indexed-is-taken-requires
-indexed-is-taken-requires c κs = (indexed-upto (ap (λ (x : Module). x .from) (c .module-of .ensures)) (c .before .before .before .before .before .before .before .before .before .pre .0), module-indexed _ _ (c .before .before .before .before .before .before .before .before .before .args .rows .now) (c .before .before .before .before .before .before .before .before .before .args .place) (c .before .before .before .before .before .before .before .before .before .args .standing) (c .before .before .before .before .before .before .before .before .before .args .m .0) _ (c .module-of .ensures) (c .before .before .before .before .before .before .before .before .before .pre .1))
+indexed-is-taken-requires c κs =
+    let pre = c .before .before .before .before .before .before .before .before .before .pre in
+    let args = c .before .before .before .before .before .before .before .before .before .args in (
+      indexed-upto (ap (λ (x : Module). x .from) (c .module-of .ensures)) (pre .0),
+      module-indexed _ _ (args .rows .now) (args .place) (args .standing) (args .m .0) _ (c .module-of .ensures)
+          (pre .1),
+    )
 
 rename-number-requires : tie.Need-rename-number-requires
 rename-number-requires c κs = search needs

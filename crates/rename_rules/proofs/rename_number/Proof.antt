@@ -35,22 +35,69 @@ is-port-requires c κs = search needs
 
 returns-3 : tie.Need-returns-3
 unfolding numberBy
-returns-3 c = rw (← c .before .before .before .before .before .before .legal .ensures, c .before .before .before .before .before .if1 .left, lt-leb (c .before .before .before .before .before .before .before .before .before .args .m .wires) (c .before .before .before .before .before .before .before .before .before .args .w .0) (omega arith), ← c .before .is-port .ensures, c .if3 .taken)
+returns-3 c =
+    let args = c .before .before .before .before .before .before .before .before .before .args in
+    let legal = c .before .before .before .before .before .before .legal in
+    let if1 = c .before .before .before .before .before .if1 in
+    rw
+    (← legal .ensures, if1 .left, lt-leb (args .m .wires) (args .w .0) (omega arith), ← c .before .is-port .ensures, c .if3 .taken)
 
 returns-4 : tie.Need-returns-4
 unfolding numberBy
-returns-4 c = rw (← c .before .before .before .before .before .before .before .legal .ensures, c .before .before .before .before .before .before .if1 .left, lt-leb (c .before .before .before .before .before .before .before .before .before .before .args .m .wires) (c .before .before .before .before .before .before .before .before .before .before .args .w .0) (omega arith), ← c .before .before .is-port .ensures, c .before .if3 .left, c .if4 .taken)
+returns-4 c =
+    let args = c .before .before .before .before .before .before .before .before .before .before .args in
+    let legal = c .before .before .before .before .before .before .before .legal in
+    let if1 = c .before .before .before .before .before .before .if1 in
+    let is-port = c .before .before .is-port in
+    rw
+    (← legal .ensures, if1 .left, lt-leb (args .m .wires) (args .w .0) (omega arith), ← is-port .ensures, c .before .if3 .left, c .if4 .taken)
 
 exceeds-room-requires : tie.Need-exceeds-room-requires
-exceeds-room-requires c κs = legal-short (now (c .before .before .before .before .before .before .before .before .before .before .args .new)) (sym (c .before .before .before .before .before .before .before .legal .ensures) ∙ not-false _ (c .before .before .before .before .before .before .if1 .left))
+exceeds-room-requires c κs =
+    let args = c .before .before .before .before .before .before .before .before .before .before .args in
+    let legal = c .before .before .before .before .before .before .before .legal in
+    let if1 = c .before .before .before .before .before .before .if1 in
+    legal-short (now (args .new)) (sym (legal .ensures) ∙ not-false _ (if1 .left))
 
 returns-5 : tie.Need-returns-5
 unfolding numberBy
-returns-5 c = rw (← c .before .before .before .before .before .before .before .before .before .legal .ensures, c .before .before .before .before .before .before .before .before .if1 .left, lt-leb (c .before .before .before .before .before .before .before .before .before .before .before .before .args .m .wires) (c .before .before .before .before .before .before .before .before .before .before .before .before .args .w .0) (omega arith), ← c .before .before .before .before .is-port .ensures, c .before .before .before .if3 .left, c .before .before .if4 .left, ← c .before .exceeds-room .ensures, c .if5 .taken)
+returns-5 c =
+    let args = c .before .before .before .before .before .before .before .before .before .before .before .before .args in
+    let legal = c .before .before .before .before .before .before .before .before .before .legal in
+    let if1 = c .before .before .before .before .before .before .before .before .if1 in
+    let is-port = c .before .before .before .before .is-port in
+    let if3 = c .before .before .before .if3 in
+    let if4 = c .before .before .if4 in
+    rw (
+      ← legal .ensures,
+      if1 .left,
+      lt-leb (args .m .wires) (args .w .0) (omega arith),
+      ← is-port .ensures,
+      if3 .left,
+      if4 .left,
+      ← c .before .exceeds-room .ensures,
+      c .if5 .taken,
+    )
 
 returns-6 : tie.Need-returns-6
 unfolding numberBy
-returns-6 c = rw (← c .before .before .before .before .before .before .before .before .before .legal .ensures, c .before .before .before .before .before .before .before .before .if1 .left, lt-leb (c .before .before .before .before .before .before .before .before .before .before .before .before .args .m .wires) (c .before .before .before .before .before .before .before .before .before .before .before .before .args .w .0) (omega arith), ← c .before .before .before .before .is-port .ensures, c .before .before .before .if3 .left, c .before .before .if4 .left, ← c .before .exceeds-room .ensures, c .if5 .left)
+returns-6 c =
+    let args = c .before .before .before .before .before .before .before .before .before .before .before .before .args in
+    let legal = c .before .before .before .before .before .before .before .before .before .legal in
+    let if1 = c .before .before .before .before .before .before .before .before .if1 in
+    let is-port = c .before .before .before .before .is-port in
+    let if3 = c .before .before .before .if3 in
+    let if4 = c .before .before .if4 in
+    rw (
+      ← legal .ensures,
+      if1 .left,
+      lt-leb (args .m .wires) (args .w .0) (omega arith),
+      ← is-port .ensures,
+      if3 .left,
+      if4 .left,
+      ← c .before .exceeds-room .ensures,
+      c .if5 .left,
+    )
 
 pub rename-number-spec : {M : Type 1} → statement M
 rename-number-spec =

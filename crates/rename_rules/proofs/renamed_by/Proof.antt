@@ -39,7 +39,15 @@ returns-3 : tie.Need-returns-3
 returns-3 c = renamed-again _ _ _ (c .before .before .before .before .before .before .column .ensures) (c .before .before .before .before .before .before .before .before .before .before .before .pre .0) _ (c .before .last-rename .ensures) (c .if3 .taken)
 
 returns-4 : tie.Need-returns-4
-returns-4 c = renamed-here _ _ _ (c .before .before .before .before .before .before .column .ensures) (c .before .before .before .before .before .before .before .before .before .before .before .pre .0) (omega (arith, c .before .before .before .before .before .if1 .left)) _ (c .before .before .before .before .bytes-at .ensures) (sym (c .before .before .before .same-bytes .ensures) ∙ not-false _ (c .before .before .if2 .left)) _ (c .before .last-rename .ensures) (c .if3 .left)
+returns-4 c =
+    let pre = c .before .before .before .before .before .before .before .before .before .before .before .pre in
+    let column = c .before .before .before .before .before .before .column in
+    let if1 = c .before .before .before .before .before .if1 in
+    let bytes-at = c .before .before .before .before .bytes-at in
+    let same-bytes = c .before .before .before .same-bytes in
+    let if2 = c .before .before .if2 in
+    renamed-here _ _ _ (column .ensures) (pre .0) (omega (arith, if1 .left)) _ (bytes-at .ensures)
+    (sym (same-bytes .ensures) ∙ not-false _ (if2 .left)) _ (c .before .last-rename .ensures) (c .if3 .left)
 
 pub renamed-by-spec : {M : Type 1} → statement M
 renamed-by-spec =

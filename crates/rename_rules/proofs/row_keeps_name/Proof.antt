@@ -13,14 +13,18 @@ sub-k c = search needs
 
 returns : tie.Need-returns
 unfolding rowKeeps
-returns c = rw (le-leb (c .before .before .before .before .before .before .before .args .m .wires) (c .before .before .before .before .before .before .before .args .row - c .before .before .before .before .before .before .before .args .m .first) (omega arith))
+returns c =
+    let args = c .before .before .before .before .before .before .before .args in
+    rw (le-leb (args .m .wires) (args .row - args .m .first) (omega arith))
 
 keeps-name-requires : tie.Need-keeps-name-requires
 keeps-name-requires c κs = search needs
 
 returns-2 : tie.Need-returns-2
 unfolding rowKeeps
-returns-2 c = rw (lt-leb (c .before .before .before .before .before .before .before .before .args .m .wires) (c .before .before .before .before .before .before .before .before .args .row - c .before .before .before .before .before .before .before .before .args .m .first) (omega arith)) (c .keeps-name .ensures)
+returns-2 c =
+    let args = c .before .before .before .before .before .before .before .before .args in
+    rw (lt-leb (args .m .wires) (args .row - args .m .first) (omega arith)) (c .keeps-name .ensures)
 
 pub row-keeps-name-spec : {M : Type 1} → statement M
 row-keeps-name-spec = tie.close (tie.spec sub-k returns keeps-name-requires returns-2)

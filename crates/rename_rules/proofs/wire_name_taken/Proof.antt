@@ -21,12 +21,22 @@ enum-told c = search needs
 returns : tie.Need-returns
 unfolding named isFound
 returns c =
-    sym (taken-found (now (c .before .before .before .before .before .before .before .before .args .names)) (now (c .before .before .before .before .before .before .before .before .args .wires)) (now (c .before .before .before .before .before .before .before .before .args .rows)) (c .before .before .before .before .before .before .before .before .args .m) (now (c .before .before .before .before .before .before .before .before .args .name)) (c .before .before .before .find-named .result) (c .before .before .before .find-named .ensures) ∙ ap (λ (r : Named). isFound (named r)) (c .before .found .given .1))
+    let args = c .before .before .before .before .before .before .before .before .args in
+    let find-named = c .before .before .before .find-named in
+    sym
+    (taken-found (now (args .names)) (now (args .wires)) (now (args .rows)) (args .m) (now (args .name))
+    (find-named .result) (find-named .ensures)
+    ∙ ap (λ (r : Named). isFound (named r)) (c .before .found .given .1))
 
 returns-2 : tie.Need-returns-2
 unfolding named isFound
 returns-2 c =
-    sym (taken-found (now (c .before .before .before .before .before .before .before .args .names)) (now (c .before .before .before .before .before .before .before .args .wires)) (now (c .before .before .before .before .before .before .before .args .rows)) (c .before .before .before .before .before .before .before .args .m) (now (c .before .before .before .before .before .before .before .args .name)) (c .before .before .find-named .result) (c .before .before .find-named .ensures) ∙ ap (λ (r : Named). isFound (named r)) (c .enum-told .given .1))
+    let args = c .before .before .before .before .before .before .before .args in
+    let find-named = c .before .before .find-named in
+    sym
+    (taken-found (now (args .names)) (now (args .wires)) (now (args .rows)) (args .m) (now (args .name))
+    (find-named .result) (find-named .ensures)
+    ∙ ap (λ (r : Named). isFound (named r)) (c .enum-told .given .1))
 
 pub wire-name-taken-spec : {M : Type 1} → statement M
 wire-name-taken-spec =
