@@ -10,16 +10,37 @@ sub-t13 : tie.Need-sub-t13
 sub-t13 c = search needs
 
 line-statement-requires : tie.Need-line-statement-requires
-line-statement-requires c κs = (c .before .before .before .before .before .before .before .before .before .before .pre .0, wires-upto (omega (arith, c .before .before .before .before .before .before .before .before .before .before .pre .1 .1 .0 .wires-from)) (c .before .before .before .before .before .before .before .before .before .before .pre .1 .1 .1 .by-wire))
+line-statement-requires c κs =
+    let pre = c .before .before .before .before .before .before .before .before .before .before .pre in
+    (pre .0, wires-upto (omega (arith, pre .1 .1 .0 .wires-from)) (pre .1 .1 .1 .by-wire))
 
 judge-statement-requires : tie.Need-judge-statement-requires
-judge-statement-requires c κs = (c .before .before .before .before .before .before .before .before .before .before .before .before .before .pre .0 .rows .file, (line-sound (c .before .before .before .before .before .before .before .before .before .before .before .before .before .args .place) (c .before .before .before .before .before .before .before .before .before .before .before .before .before .args .f .now) (c .before .before .before .before .before .before .before .before .before .before .before .before .before .args .tokens .now) (c .before .before .before .before .before .before .before .before .before .before .before .before .before .args .names .now) (c .before .before .before .before .before .before .before .before .before .before .before .before .before .args .wires .now) (c .before .before .line-statement .last .1 .1 .1 .1 .1 .1 .0) (c .before .before .line-statement .result) (c .before .before .line-statement .ensures), (c .before .before .before .before .before .before .before .before .before .before .before .before .before .pre .1 .0, (c .before .before .before .before .before .before .before .before .before .before .before .before .before .pre .1 .1 .0, c .before .before .before .before .before .before .before .before .before .before .before .before .before .pre .1 .1 .1 .by-row))))
+judge-statement-requires c κs =
+    let pre = c .before .before .before .before .before .before .before .before .before .before .before .before .before .pre in
+    let args = c .before .before .before .before .before .before .before .before .before .before .before .before .before .args in
+    let line-statement = c .before .before .line-statement in (
+      pre .0 .rows .file,
+      (
+        line-sound (args .place) (args .f .now) (args .tokens .now) (args .names .now) (args .wires .now)
+            (line-statement .last .1 .1 .1 .1 .1 .1 .0) (line-statement .result) (line-statement .ensures),
+        (pre .1 .0, (pre .1 .1 .0, pre .1 .1 .1 .by-row)),
+      ),
+    )
 
 same-length : tie.Need-same-length
 same-length c = search needs
 
 returns : tie.Need-returns
-returns c = (c .judge-statement .ensures .0, λ ss st. c .judge-statement .ensures .1 ss (c .before .before .before .before .before .before .before .before .before .before .before .before .before .before .args .wires .now) (c .before .before .before .line-statement .last .1 .1 .1 .1 .1 .1 .0) _ st (omega (arith, c .before .before .before .line-statement .kept, c .before .before .before .before .before .before .before .before .before .before .before .before .before .before .pre .0 .room)) (line-says (c .before .before .before .before .before .before .before .before .before .before .before .before .before .before .args .place) (c .before .before .before .before .before .before .before .before .before .before .before .before .before .before .args .f .now) (c .before .before .before .before .before .before .before .before .before .before .before .before .before .before .args .tokens .now) (c .before .before .before .before .before .before .before .before .before .before .before .before .before .before .args .names .now) (c .before .before .before .before .before .before .before .before .before .before .before .before .before .before .args .wires .now) (c .before .before .before .line-statement .last .1 .1 .1 .1 .1 .1 .0) (c .before .before .before .line-statement .result) (c .before .before .before .line-statement .ensures) ss _ _ st))
+returns c =
+    let args = c .before .before .before .before .before .before .before .before .before .before .before .before .before .before .args in
+    let pre = c .before .before .before .before .before .before .before .before .before .before .before .before .before .before .pre in
+    let line-statement = c .before .before .before .line-statement in (
+      c .judge-statement .ensures .0,
+      λ ss st. c .judge-statement .ensures .1 ss (args .wires .now) (line-statement .last .1 .1 .1 .1 .1 .1 .0) _ st
+          (omega (arith, line-statement .kept, pre .0 .room))
+          (line-says (args .place) (args .f .now) (args .tokens .now) (args .names .now) (args .wires .now)
+          (line-statement .last .1 .1 .1 .1 .1 .1 .0) (line-statement .result) (line-statement .ensures) ss _ _ st),
+    )
 
 pub judge-line-spec : {M : Type 1} → statement M
 judge-line-spec =

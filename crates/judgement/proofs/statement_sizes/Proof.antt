@@ -22,7 +22,18 @@ span-size-requires-2 : tie.Need-span-size-requires-2
 span-size-requires-2 c κs = search needs
 
 add-names : tie.Need-add-names
-add-names c = omega (arith, c .before .span-size .ensures, c .span-size2 .ensures, name-few (c .before .before .before .before .before .args .f .now) (c .before .before .before .parts-of .result .first), name-few (c .before .before .before .before .before .args .f .now) (c .before .before .before .parts-of .result .name), c .before .before .before .before .before .pre .0)
+add-names c =
+    let args = c .before .before .before .before .before .args in
+    let pre = c .before .before .before .before .before .pre in
+    let parts-of = c .before .before .before .parts-of in
+    omega (
+      arith,
+      c .before .span-size .ensures,
+      c .span-size2 .ensures,
+      name-few (args .f .now) (parts-of .result .first),
+      name-few (args .f .now) (parts-of .result .name),
+      pre .0,
+    )
 
 value-bits-requires : tie.Need-value-bits-requires
 value-bits-requires c κs = parts-good (c .before .before .before .before .before .args .f .now) _ _ (c .before .before .before .parts-of .ensures) (c .before .before .before .before .before .pre .1 .1 .1)
@@ -34,7 +45,20 @@ kind-sizes-requires : tie.Need-kind-sizes-requires
 kind-sizes-requires c κs = search needs
 
 returns : tie.Need-returns
-returns c = (sizes-are (c .before .before .before .before .before .before .before .before .args .f .now) _ _ _ _ _ _ _ (c .before .before .before .before .before .before .parts-of .ensures) (c .before .before .before .before .before .before .before .before .pre .1 .1 .1) (c .before .before .before .before .before .before .before .before .pre .1 .1 .0) (c .before .before .value-bits .ensures) (c .before .string-bytes .ensures) (c .before .before .before .before .span-size .ensures) (c .before .before .before .span-size2 .ensures) (kind-sizes-are _ _ _ _ _ _ (c .kind-sizes .ensures)), sizes-few (c .before .before .before .before .before .before .before .before .args .f .now) _ _ _ _ _ _ _ (c .before .before .before .before .before .before .parts-of .ensures) (c .before .before .before .before .before .before .before .before .pre .1 .1 .1) (c .before .before .before .before .before .before .before .before .pre .1 .1 .0) (c .before .before .value-bits .ensures) (c .before .string-bytes .ensures) (c .before .before .before .before .span-size .ensures) (c .before .before .before .span-size2 .ensures) (kind-sizes-are _ _ _ _ _ _ (c .kind-sizes .ensures)) (c .before .before .before .before .before .before .before .before .pre .1 .0) (c .before .before .before .before .before .before .before .before .pre .0))
+returns c =
+    let args = c .before .before .before .before .before .before .before .before .args in
+    let pre = c .before .before .before .before .before .before .before .before .pre in
+    let parts-of = c .before .before .before .before .before .before .parts-of in
+    let span-size = c .before .before .before .before .span-size in
+    let span-size2 = c .before .before .before .span-size2 in
+    let value-bits = c .before .before .value-bits in (
+      sizes-are (args .f .now) _ _ _ _ _ _ _ (parts-of .ensures) (pre .1 .1 .1) (pre .1 .1 .0) (value-bits .ensures)
+          (c .before .string-bytes .ensures) (span-size .ensures) (span-size2 .ensures)
+          (kind-sizes-are _ _ _ _ _ _ (c .kind-sizes .ensures)),
+      sizes-few (args .f .now) _ _ _ _ _ _ _ (parts-of .ensures) (pre .1 .1 .1) (pre .1 .1 .0) (value-bits .ensures)
+          (c .before .string-bytes .ensures) (span-size .ensures) (span-size2 .ensures)
+          (kind-sizes-are _ _ _ _ _ _ (c .kind-sizes .ensures)) (pre .1 .0) (pre .0),
+    )
 
 pub statement-sizes-spec : {M : Type 1} → statement M
 statement-sizes-spec =

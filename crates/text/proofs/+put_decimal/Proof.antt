@@ -86,7 +86,12 @@ put-decimal-returns-2 : (t : ℕ) → put-decimal-lts.Need-returns-2 (
   put-decimal-below t,
   put-decimal.Post,
 ) (put-decimal-at t) put-decimal.Post
-put-decimal-returns-2 t c = written-as (written-then (c .before .before .before .before .before .before .put-decimal .ensures) (c .before .before .put-byte2 .ensures)) (sym (decimal-more (c .before .before .before .before .before .before .before .before .before .before .args .n) (c .before .before .before .before .before .before .before .before .if1 .left)))
+put-decimal-returns-2 t c =
+    let args = c .before .before .before .before .before .before .before .before .before .before .args in
+    let if1 = c .before .before .before .before .before .before .before .before .if1 in
+    let put-decimal = c .before .before .before .before .before .before .put-decimal in
+    let put-byte2 = c .before .before .put-byte2 in
+    written-as (written-then (put-decimal .ensures) (put-byte2 .ensures)) (sym (decimal-more (args .n) (if1 .left)))
 
 put-decimal-same-length-2 : (t : ℕ) → put-decimal-lts.Need-same-length-2 (
   put-byte-reads.Asked,

@@ -22,13 +22,21 @@ put-bytes-requires : tie.Need-put-bytes-requires
 put-bytes-requires c κs = omega arith
 
 returns-2 : tie.Need-returns-2
-returns-2 c = all-bytes (now (c .before .before .before .before .before .before .before .before .args .out)) _ (now (c .before .before .before .before .before .before .before .before .args .s)) (c .before .before .before .before .before .before .before .before .args .at) (c .before .before .put-bytes .ensures) (c .before .before .before .before .before .if1 .left)
+returns-2 c =
+    let args = c .before .before .before .before .before .before .before .before .args in
+    let if1 = c .before .before .before .before .before .if1 in
+    let put-bytes = c .before .before .put-bytes in
+    all-bytes (now (args .out)) _ (now (args .s)) (args .at) (put-bytes .ensures) (if1 .left)
 
 same-length-2 : tie.Need-same-length-2
 same-length-2 c = returns-2 c .kept
 
 returns-3 : tie.Need-returns-3
-returns-3 c = all-bytes (now (c .before .before .before .before .before .args .out)) _ (now (c .before .before .before .before .before .args .s)) (c .before .before .before .before .before .args .at) (sym (store-past (now (c .before .before .before .before .before .args .out)) (c .before .before .before .before .before .args .at) (now (c .before .before .before .before .before .args .s)) (c .if3 .taken))) (c .before .before .if1 .left)
+returns-3 c =
+    let args = c .before .before .before .before .before .args in
+    let if1 = c .before .before .if1 in
+    all-bytes (now (args .out)) _ (now (args .s)) (args .at)
+    (sym (store-past (now (args .out)) (args .at) (now (args .s)) (c .if3 .taken))) (if1 .left)
 
 put-each-requires-2 : tie.Need-put-each-requires-2
 put-each-requires-2 c κs = c .before .before .before .before .before .before .pre

@@ -32,7 +32,14 @@ loop-less : tie.Need-loop-less Inv-loop μ-loop
 loop-less c = omega arith
 
 loop-again : tie.Need-loop-again Inv-loop μ-loop
-loop-again c = (omega arith, written-as (written-then (c .before .before .before .before .before .before .loop .inv .1) (c .before .before .put-byte .ensures)) (bytes-more (now (c .before .before .before .before .before .before .before .before .before .args .s)) (c .before .before .before .before .before .before .loop .i) (omega arith)))
+loop-again c =
+    let args = c .before .before .before .before .before .before .before .before .before .args in
+    let loop = c .before .before .before .before .before .before .loop in
+    let put-byte = c .before .before .put-byte in (
+      omega arith,
+      written-as (written-then (loop .inv .1) (put-byte .ensures))
+          (bytes-more (now (args .s)) (loop .i) (omega arith)),
+    )
 
 same-length : tie.Need-same-length Inv-loop μ-loop
 same-length c = c .before .loop .inv .1 .kept

@@ -43,7 +43,12 @@ same-length-3 c = c .before .before .put-bytes3 .ensures .kept
 
 returns-3 : tie.Need-returns-3
 unfolding escaped
-returns-3 c = rw (ne-eqb _ _ (c .before .before .before .before .before .before .before .if1 .left), ne-eqb _ _ (c .before .before .before .before .before .before .if2 .left), eq-eqb _ _ (c .before .before .before .before .before .if3 .taken)) (c .before .before .put-bytes3 .ensures)
+returns-3 c =
+    let if1 = c .before .before .before .before .before .before .before .if1 in
+    let if2 = c .before .before .before .before .before .before .if2 in
+    let if3 = c .before .before .before .before .before .if3 in
+    let put-bytes3 = c .before .before .put-bytes3 in
+    rw (ne-eqb _ _ (if1 .left), ne-eqb _ _ (if2 .left), eq-eqb _ _ (if3 .taken)) (put-bytes3 .ensures)
 
 slice-aggregate-put-bytes-4 : tie.Need-slice-aggregate-put-bytes-4
 slice-aggregate-put-bytes-4 c = refl
@@ -56,7 +61,14 @@ same-length-4 c = c .before .before .put-bytes4 .ensures .kept
 
 returns-4 : tie.Need-returns-4
 unfolding escaped
-returns-4 c = rw (ne-eqb _ _ (c .before .before .before .before .before .before .before .before .if1 .left), ne-eqb _ _ (c .before .before .before .before .before .before .before .if2 .left), ne-eqb _ _ (c .before .before .before .before .before .before .if3 .left), eq-eqb _ _ (c .before .before .before .before .before .if4 .taken)) (c .before .before .put-bytes4 .ensures)
+returns-4 c =
+    let if1 = c .before .before .before .before .before .before .before .before .if1 in
+    let if2 = c .before .before .before .before .before .before .before .if2 in
+    let if3 = c .before .before .before .before .before .before .if3 in
+    let if4 = c .before .before .before .before .before .if4 in
+    let put-bytes4 = c .before .before .put-bytes4 in
+    rw (ne-eqb _ _ (if1 .left), ne-eqb _ _ (if2 .left), ne-eqb _ _ (if3 .left), eq-eqb _ _ (if4 .taken))
+    (put-bytes4 .ensures)
 
 add-t29 : tie.Need-add-t29
 add-t29 c = omega arith
@@ -75,7 +87,16 @@ same-length-5 c = c .before .before .put-bytes5 .ensures .kept
 
 returns-5 : tie.Need-returns-5
 unfolding escaped
-returns-5 c = rw (ne-eqb _ _ (c .before .before .before .before .before .before .before .before .before .if1 .left), ne-eqb _ _ (c .before .before .before .before .before .before .before .before .if2 .left), ne-eqb _ _ (c .before .before .before .before .before .before .before .if3 .left), ne-eqb _ _ (c .before .before .before .before .before .before .if4 .left), lt-ltb _ _ (c .before .before .before .before .before .if5 .taken)) (c .before .before .put-bytes5 .ensures)
+returns-5 c =
+    let if1 = c .before .before .before .before .before .before .before .before .before .if1 in
+    let if2 = c .before .before .before .before .before .before .before .before .if2 in
+    let if3 = c .before .before .before .before .before .before .before .if3 in
+    let if4 = c .before .before .before .before .before .before .if4 in
+    let if5 = c .before .before .before .before .before .if5 in
+    let put-bytes5 = c .before .before .put-bytes5 in
+    rw
+    (ne-eqb _ _ (if1 .left), ne-eqb _ _ (if2 .left), ne-eqb _ _ (if3 .left), ne-eqb _ _ (if4 .left), lt-ltb _ _ (if5 .taken))
+    (put-bytes5 .ensures)
 
 put-byte-requires : tie.Need-put-byte-requires
 put-byte-requires c κs = c .before .before .before .before .before .before .before .pre
@@ -85,7 +106,16 @@ same-length-6 c = c .before .before .put-byte .ensures .kept
 
 returns-6 : tie.Need-returns-6
 unfolding escaped
-returns-6 c = rw (ne-eqb _ _ (c .before .before .before .before .before .before .before .before .if1 .left), ne-eqb _ _ (c .before .before .before .before .before .before .before .if2 .left), ne-eqb _ _ (c .before .before .before .before .before .before .if3 .left), ne-eqb _ _ (c .before .before .before .before .before .if4 .left), le-ltb _ _ (c .before .before .before .before .if5 .left)) (c .before .before .put-byte .ensures)
+returns-6 c =
+    let if1 = c .before .before .before .before .before .before .before .before .if1 in
+    let if2 = c .before .before .before .before .before .before .before .if2 in
+    let if3 = c .before .before .before .before .before .before .if3 in
+    let if4 = c .before .before .before .before .before .if4 in
+    let if5 = c .before .before .before .before .if5 in
+    let put-byte = c .before .before .put-byte in
+    rw
+    (ne-eqb _ _ (if1 .left), ne-eqb _ _ (if2 .left), ne-eqb _ _ (if3 .left), ne-eqb _ _ (if4 .left), le-ltb _ _ (if5 .left))
+    (put-byte .ensures)
 
 pub put-escaped-spec : {M : Type 1} → statement M
 put-escaped-spec =

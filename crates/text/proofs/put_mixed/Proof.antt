@@ -35,7 +35,14 @@ loop-less : tie.Need-loop-less Inv-loop μ-loop
 loop-less c = omega arith
 
 loop-again : tie.Need-loop-again Inv-loop μ-loop
-loop-again c = (omega arith, written-as (written-then (c .before .before .before .before .before .before .loop .inv .1) (c .before .before .put-escaped .ensures)) (flatMap-more escaped (now (c .before .before .before .before .before .before .before .before .before .args .s)) (c .before .before .before .before .before .before .loop .i) 0 (omega arith)))
+loop-again c =
+    let args = c .before .before .before .before .before .before .before .before .before .args in
+    let loop = c .before .before .before .before .before .before .loop in
+    let put-escaped = c .before .before .put-escaped in (
+      omega arith,
+      written-as (written-then (loop .inv .1) (put-escaped .ensures))
+          (flatMap-more escaped (now (args .s)) (loop .i) 0 (omega arith)),
+    )
 
 same-length : tie.Need-same-length Inv-loop μ-loop
 same-length c = c .before .loop .inv .1 .kept

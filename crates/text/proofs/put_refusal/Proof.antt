@@ -18,7 +18,13 @@ put-byte-requires-2 c κs = written-most (c .before .before .before .put-decimal
 
 returns : tie.Need-returns
 unfolding refusal
-returns c = written-then (written-then (c .before .before .before .before .before .before .before .before .before .before .before .before .before .before .put-decimal .ensures) (written-then (c .before .before .before .before .before .before .before .before .before .before .put-byte .ensures) (c .before .before .before .before .before .before .put-decimal2 .ensures))) (c .before .before .put-byte2 .ensures)
+returns c =
+    let put-decimal = c .before .before .before .before .before .before .before .before .before .before .before .before .before .before .put-decimal in
+    let put-byte = c .before .before .before .before .before .before .before .before .before .before .put-byte in
+    let put-decimal2 = c .before .before .before .before .before .before .put-decimal2 in
+    let put-byte2 = c .before .before .put-byte2 in
+    written-then (written-then (put-decimal .ensures) (written-then (put-byte .ensures) (put-decimal2 .ensures)))
+    (put-byte2 .ensures)
 
 same-length : tie.Need-same-length
 same-length c = returns c .kept
