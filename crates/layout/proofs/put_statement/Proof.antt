@@ -5,6 +5,10 @@ use borrow.Author.Needs.{needs}
 use Rattle.layout.proofs.put_statement.Statement.{statement}
 use Rattle.layout.proofs.put_statement.Tie as tie
 
+-- Places that lie far back.
+abbrev at-entry : tie.After-put-valued → tie.Start
+at-entry c = c .before .before .before .before .before .before .before .before .before .before .before .before .before .before .before .before .before
+
 as-valued-requires : tie.Need-as-valued-requires
 as-valued-requires c κs = search needs
 
@@ -12,13 +16,25 @@ enum-known-kind : tie.Need-enum-known-kind
 enum-known-kind c = search needs
 
 put-valued-requires : tie.Need-put-valued-requires
-put-valued-requires c κs = valued-room (now (c .before .before .before .before .before .before .before .before .before .before .before .before .before .before .before .before .args .f)) (now (c .before .before .before .before .before .before .before .before .before .before .before .before .before .before .before .before .args .scratch)) (c .before .before .before .before .before .before .before .before .before .before .before .before .before .before .before .before .args .statement) (c .before .before .before .before .before .before .before .before .before .before .before .before .before .before .before .before .args .u) (tabled (now (c .before .before .before .before .before .before .before .before .before .before .before .before .before .before .before .before .args .names)) (now (c .before .before .before .before .before .before .before .before .before .before .before .before .before .before .before .before .args .strings)) (now (c .before .before .before .before .before .before .before .before .before .before .before .before .before .before .before .before .args .bits)) (now (c .before .before .before .before .before .before .before .before .before .before .before .before .before .before .before .before .args .wires)) (now (c .before .before .before .before .before .before .before .before .before .before .before .before .before .before .before .before .args .rows))) (c .before .before .before .before .before .before .before .before .before .before .before .before .before .before .before .before .pre) _ _ _ _ ((rw (c .before .before .before .before .before .before .kind .given .1) at (c .before .before .before .before .before .before .before .before .as-valued .ensures)) (now (c .before .before .before .before .before .before .before .before .before .before .before .before .before .before .before .before .args .f)) (now (c .before .before .before .before .before .before .before .before .before .before .before .before .before .before .before .before .args .scratch)) (c .before .before .before .before .before .before .before .before .before .before .before .before .before .before .before .before .pre .sound))
+put-valued-requires c κs =
+    let args = c .before .before .before .before .before .before .before .before .before .before .before .before .before .before .before .before .args in
+    let pre = c .before .before .before .before .before .before .before .before .before .before .before .before .before .before .before .before .pre in
+    let as-valued = c .before .before .before .before .before .before .before .before .as-valued in
+    let kind = c .before .before .before .before .before .before .kind in
+    valued-room (now (args .f)) (now (args .scratch)) (args .statement) (args .u)
+    (tabled (now (args .names)) (now (args .strings)) (now (args .bits)) (now (args .wires)) (now (args .rows)))
+    pre _ _ _ _ ((rw (kind .given .1) at (as-valued .ensures)) (now (args .f)) (now (args .scratch)) (pre .sound))
 
 enum-told : tie.Need-enum-told
 enum-told c = search needs
 
 put-plain-requires : tie.Need-put-plain-requires
-put-plain-requires c κs = plain-room (now (c .before .before .before .before .before .before .before .before .before .before .before .before .before .before .before .args .f)) (now (c .before .before .before .before .before .before .before .before .before .before .before .before .before .before .before .args .scratch)) (c .before .before .before .before .before .before .before .before .before .before .before .before .before .before .before .args .statement) (c .before .before .before .before .before .before .before .before .before .before .before .before .before .before .before .args .u) (tabled (now (c .before .before .before .before .before .before .before .before .before .before .before .before .before .before .before .args .names)) (now (c .before .before .before .before .before .before .before .before .before .before .before .before .before .before .before .args .strings)) (now (c .before .before .before .before .before .before .before .before .before .before .before .before .before .before .before .args .bits)) (now (c .before .before .before .before .before .before .before .before .before .before .before .before .before .before .before .args .wires)) (now (c .before .before .before .before .before .before .before .before .before .before .before .before .before .before .before .args .rows))) (c .before .before .before .before .before .before .before .before .before .before .before .before .before .before .before .pre)
+put-plain-requires c κs =
+    let args = c .before .before .before .before .before .before .before .before .before .before .before .before .before .before .before .args in
+    let pre = c .before .before .before .before .before .before .before .before .before .before .before .before .before .before .before .pre in
+    plain-room (now (args .f)) (now (args .scratch)) (args .statement) (args .u)
+    (tabled (now (args .names)) (now (args .strings)) (now (args .bits)) (now (args .wires)) (now (args .rows)))
+    pre
 
 same-length : tie.Need-same-length
 same-length c = c .before .before .before .before .before .before .before .before .before .before .put-valued .kept .1 .1 .1 .1 .1 .1 .0
@@ -36,7 +52,17 @@ same-length-5 : tie.Need-same-length-5
 same-length-5 c = c .before .before .before .before .before .before .before .before .before .before .put-valued .kept .1 .1 .1 .1 .1 .1 .1 .1 .1 .1 .0
 
 returns : tie.Need-returns
-returns c = valued-put (now (c .before .before .before .before .before .before .before .before .before .before .before .before .before .before .before .before .before .before .before .before .before .before .before .before .before .before .before .args .f)) (now (c .before .before .before .before .before .before .before .before .before .before .before .before .before .before .before .before .before .before .before .before .before .before .before .before .before .before .before .args .scratch)) (c .before .before .before .before .before .before .before .before .before .before .before .before .before .before .before .before .before .before .before .before .before .before .before .before .before .before .before .args .statement) (c .before .before .before .before .before .before .before .before .before .before .before .before .before .before .before .before .before .before .before .before .before .before .before .before .before .before .before .args .u) _ _ _ _ _ _ _ _ _ _ _ _ _ ((rw (c .before .before .before .before .before .before .before .before .before .before .before .before .before .before .before .before .before .kind .given .1) at (c .before .before .before .before .before .before .before .before .before .before .before .before .before .before .before .before .before .before .before .as-valued .ensures)) (now (c .before .before .before .before .before .before .before .before .before .before .before .before .before .before .before .before .before .before .before .before .before .before .before .before .before .before .before .args .f)) (now (c .before .before .before .before .before .before .before .before .before .before .before .before .before .before .before .before .before .before .before .before .before .before .before .before .before .before .before .args .scratch)) (c .before .before .before .before .before .before .before .before .before .before .before .before .before .before .before .before .before .before .before .before .before .before .before .before .before .before .before .pre .sound)) (c .before .before .before .before .before .before .before .before .before .before .put-valued .ensures .0) (c .before .before .before .before .before .before .before .before .before .before .put-valued .ensures .1 .0) (c .before .before .before .before .before .before .before .before .before .before .put-valued .ensures .1 .1 .0) (c .before .before .before .before .before .before .before .before .before .before .put-valued .ensures .1 .1 .1)
+returns c =
+    let entry = at-entry (c .before .before .before .before .before .before .before .before .before .before) in
+    let args = entry .args in
+    let pre = entry .pre in
+    let as-valued = c .before .before .before .before .before .before .before .before .before .before .before .before .before .before .before .before .before .before .before .as-valued in
+    let kind = c .before .before .before .before .before .before .before .before .before .before .before .before .before .before .before .before .before .kind in
+    let put-valued = c .before .before .before .before .before .before .before .before .before .before .put-valued in
+    valued-put (now (args .f)) (now (args .scratch)) (args .statement) (args .u) _ _ _ _ _ _ _ _ _ _ _ _ _
+    ((rw (kind .given .1) at (as-valued .ensures)) (now (args .f)) (now (args .scratch)) (pre .sound))
+    (put-valued .ensures .0) (put-valued .ensures .1 .0) (put-valued .ensures .1 .1 .0)
+    (put-valued .ensures .1 .1 .1)
 
 same-length-6 : tie.Need-same-length-6
 same-length-6 c = search needs
@@ -54,7 +80,11 @@ same-length-10 : tie.Need-same-length-10
 same-length-10 c = search needs
 
 returns-2 : tie.Need-returns-2
-returns-2 c = c .before .before .before .before .before .before .before .before .put-plain .ensures (rw (c .before .before .before .before .before .before .before .before .before .before .before .before .before .before .enum-told .given .1) at (c .before .before .before .before .before .before .before .before .before .before .before .before .before .before .before .before .as-valued .ensures)) _
+returns-2 c =
+    let as-valued = c .before .before .before .before .before .before .before .before .before .before .before .before .before .before .before .before .as-valued in
+    let enum-told = c .before .before .before .before .before .before .before .before .before .before .before .before .before .before .enum-told in
+    let put-plain = c .before .before .before .before .before .before .before .before .put-plain in
+    put-plain .ensures (rw (enum-told .given .1) at (as-valued .ensures)) _
 
 pub put-statement-spec : {M : Type 1} → statement M
 put-statement-spec =

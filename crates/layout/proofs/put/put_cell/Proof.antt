@@ -30,10 +30,15 @@ same-length-2 c = search needs
 
 returns : tie.Need-returns
 unfolding statementRow columns code holds contents row padded
-returns c = (
-  names-put _ _ _ _ _ _ _ _ refl (c .before .before .before .before .before .before .before .before .before .before .before .before .put-name .ensures .1) (ap (λ (n : ℕ). c .before .before .before .before .before .before .before .before .before .before .before .before .before .before .before .before .before .args .u .names + n) (c .before .before .before .before .before .before .before .before .before .before .before .before .put-name .ensures .0)) (c .before .before .before .before .before .before .before .put-name2 .ensures .1),
-  rw (c .before .before .before .before .before .before .before .before .before .before .before .before .put-name .ensures .0, c .before .before .before .before .before .before .before .put-name2 .ensures .0) at (c .before .before .put-columns .ensures),
-)
+returns c =
+    let args = c .before .before .before .before .before .before .before .before .before .before .before .before .before .before .before .before .before .args in
+    let put-name = c .before .before .before .before .before .before .before .before .before .before .before .before .put-name in
+    let put-name2 = c .before .before .before .before .before .before .before .put-name2 in
+    let put-columns = c .before .before .put-columns in (
+      names-put _ _ _ _ _ _ _ _ refl (put-name .ensures .1) (ap (λ (n : ℕ). args .u .names + n) (put-name .ensures .0))
+          (put-name2 .ensures .1),
+      rw (put-name .ensures .0, put-name2 .ensures .0) at (put-columns .ensures),
+    )
 
 pub put-cell-spec : {M : Type 1} → statement M
 put-cell-spec =

@@ -19,7 +19,9 @@ cast-put-named : tie.Need-cast-put-named
 cast-put-named c = omega (arith, c .before .before .before .before .before .before .before .before .before .before .before .before .pre .1 .1 .0)
 
 put-named-requires : tie.Need-put-named-requires
-put-named-requires c κs = (c .before .before .before .before .before .before .before .before .before .before .before .before .pre .0, c .before .before .before .before .before .before .before .before .before .before .before .before .pre .1 .1 .1)
+put-named-requires c κs =
+    let pre = c .before .before .before .before .before .before .before .before .before .before .before .before .pre in
+    (pre .0, pre .1 .1 .1)
 
 same-length : tie.Need-same-length
 same-length c = c .before .before .before .before .put-named .kept .1 .1 .1 .0
@@ -32,10 +34,17 @@ same-length-3 c = c .before .before .before .before .put-named .kept .1 .1 .1 .1
 
 returns : tie.Need-returns
 unfolding statementRow columns code holds contents row padded
-returns c = (
-  name-put _ _ _ _ _ refl (c .before .before .before .before .put-named .ensures .1 .0),
-  (signal-put _ _ _ _ _ _ refl (c .before .before .before .before .before .before .before .before .before .reverse-words .ensures) refl, rw (signal-long (now (c .before .before .before .before .before .before .before .before .before .before .before .before .before .before .before .before .before .args .scratch)) 0 (c .before .before .before .before .before .before .before .before .before .before .before .before .before .before .before .before .before .args .width) (omega (arith, c .before .before .before .before .before .before .before .before .before .before .before .before .before .before .before .before .before .pre .1 .0))) (c .before .before .before .before .put-named .ensures .1 .1)),
-)
+returns c =
+    let args = c .before .before .before .before .before .before .before .before .before .before .before .before .before .before .before .before .before .args in
+    let pre = c .before .before .before .before .before .before .before .before .before .before .before .before .before .before .before .before .before .pre in
+    let reverse-words = c .before .before .before .before .before .before .before .before .before .reverse-words in
+    let put-named = c .before .before .before .before .put-named in (
+      name-put _ _ _ _ _ refl (put-named .ensures .1 .0),
+      (
+        signal-put _ _ _ _ _ _ refl (reverse-words .ensures) refl,
+        rw (signal-long (now (args .scratch)) 0 (args .width) (omega (arith, pre .1 .0))) (put-named .ensures .1 .1),
+      ),
+    )
 
 pub put-cell-connection-spec : {M : Type 1} → statement M
 put-cell-connection-spec =

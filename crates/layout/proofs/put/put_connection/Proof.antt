@@ -22,7 +22,10 @@ add-reverse-words-2 : tie.Need-add-reverse-words-2
 add-reverse-words-2 c = omega (arith, c .before .before .before .before .before .before .before .before .before .pre .1 .0)
 
 reverse-words-requires-2 : tie.Need-reverse-words-requires-2
-reverse-words-requires-2 c κs = omega (arith, c .before .before .before .before .before .before .before .before .before .pre .0, c .before .before .before .before .before .before .before .before .before .pre .1 .0, c .before .before .before .reverse-words .kept)
+reverse-words-requires-2 c κs =
+    let pre = c .before .before .before .before .before .before .before .before .before .pre in
+    let reverse-words = c .before .before .before .reverse-words in
+    omega (arith, pre .0, pre .1 .0, reverse-words .kept)
 
 cast-put-columns : tie.Need-cast-put-columns
 cast-put-columns c = omega (arith, c .before .before .before .before .before .before .before .before .before .before .before .before .before .pre .1 .0)
@@ -47,10 +50,18 @@ same-length-2 c = c .before .before .put-columns .kept .0
 
 returns : tie.Need-returns
 unfolding statementRow columns code holds contents row padded
-returns c = (
-  signals-put _ _ _ _ _ _ refl (c .before .before .before .before .before .before .before .before .before .before .before .reverse-words .ensures) 2048 _ _ refl (omega (arith, c .before .before .before .before .before .before .before .before .before .before .before .before .before .before .before .before .before .pre .0)) (c .before .before .before .before .before .before .before .reverse-words2 .ensures),
-  rw (signal-long (now (c .before .before .before .before .before .before .before .before .before .before .before .before .before .before .before .before .before .args .scratch)) 0 (c .before .before .before .before .before .before .before .before .before .before .before .before .before .before .before .before .before .args .left) (omega (arith, c .before .before .before .before .before .before .before .before .before .before .before .before .before .before .before .before .before .pre .0)), signal-long (now (c .before .before .before .before .before .before .before .before .before .before .before .before .before .before .before .before .before .args .scratch)) 2048 (c .before .before .before .before .before .before .before .before .before .before .before .before .before .before .before .before .before .args .right) (c .before .before .before .before .before .before .before .before .before .before .before .before .before .before .before .before .before .pre .0 .1)) (c .before .before .put-columns .ensures),
-)
+returns c =
+    let pre = c .before .before .before .before .before .before .before .before .before .before .before .before .before .before .before .before .before .pre in
+    let args = c .before .before .before .before .before .before .before .before .before .before .before .before .before .before .before .before .before .args in
+    let reverse-words = c .before .before .before .before .before .before .before .before .before .before .before .reverse-words in
+    let reverse-words2 = c .before .before .before .before .before .before .before .reverse-words2 in
+    let put-columns = c .before .before .put-columns in (
+      signals-put _ _ _ _ _ _ refl (reverse-words .ensures) 2048 _ _ refl (omega (arith, pre .0))
+          (reverse-words2 .ensures),
+      rw
+          (signal-long (now (args .scratch)) 0 (args .left) (omega (arith, pre .0)), signal-long (now (args .scratch)) 2048 (args .right) (pre .0 .1))
+          (put-columns .ensures),
+    )
 
 pub put-connection-spec : {M : Type 1} → statement M
 put-connection-spec =

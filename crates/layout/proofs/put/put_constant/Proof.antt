@@ -21,14 +21,20 @@ enum-known-c-2 c = search needs
 
 put-value-requires : tie.Need-put-value-requires
 unfolding literalIn kept digitsOf literalBits
-put-value-requires c κs = (rw (c .before .before .before .c2 .given .1) at (c .before .before .before .before .before .before .before .before .before .pre .0 .good), (c .before .before .before .before .before .before .before .before .before .pre .1, rw (c .before .before .before .c2 .given .1) at (c .before .before .before .before .before .before .before .before .before .pre .0 .bits-fit)))
+put-value-requires c κs =
+    let pre = c .before .before .before .before .before .before .before .before .before .pre in
+    let c2 = c .before .before .before .c2 in
+    (rw (c2 .given .1) at (pre .0 .good), (pre .1, rw (c2 .given .1) at (pre .0 .bits-fit)))
 
 enum-known-c-3 : tie.Need-enum-known-c-3
 enum-known-c-3 c = search needs
 
 put-text-requires : tie.Need-put-text-requires
 unfolding literalIn kept bytesOf
-put-text-requires c κs = (rw (c .before .before .c3 .given .1) at (c .before .before .before .before .before .before .before .before .pre .0 .whole), rw (c .before .before .c3 .given .1) at (c .before .before .before .before .before .before .before .before .pre .0 .strings-fit))
+put-text-requires c κs =
+    let pre = c .before .before .before .before .before .before .before .before .pre in
+    let c3 = c .before .before .c3 in
+    (rw (c3 .given .1) at (pre .0 .whole), rw (c3 .given .1) at (pre .0 .strings-fit))
 
 returns : tie.Need-returns
 unfolding literalIn kept constantColumns bytesOf digitsOf
@@ -42,7 +48,12 @@ same-length-2 c = search needs
 
 returns-2 : tie.Need-returns-2
 unfolding literalIn kept constantColumns bytesOf digitsOf literalBits
-returns-2 c = (rw (c .before .before .before .before .before .before .before .before .c2 .given .1, c .before .before .before .before .put-value .ensures .0), (rw (c .before .before .before .before .before .before .before .before .c2 .given .1, store-none), rw (c .before .before .before .before .before .before .before .before .c2 .given .1) (c .before .before .before .before .put-value .ensures .1)))
+returns-2 c =
+    let c2 = c .before .before .before .before .before .before .before .before .c2 in
+    let put-value = c .before .before .before .before .put-value in (
+      rw (c2 .given .1, put-value .ensures .0),
+      (rw (c2 .given .1, store-none), rw (c2 .given .1) (put-value .ensures .1)),
+    )
 
 same-length-3 : tie.Need-same-length-3
 same-length-3 c = search needs

@@ -24,7 +24,11 @@ same-length c = search needs
 
 returns : tie.Need-returns
 unfolding nameIn
-returns c = (ap length (c .before .before .before .before .part .ensures), c .before .before .put-bytes .ensures ∙ ap (store (now (c .before .before .before .before .before .before .before .args .names)) (c .before .before .before .before .before .before .before .args .at)) (c .before .before .before .before .part .ensures))
+returns c =
+    let args = c .before .before .before .before .before .before .before .args in
+    let part = c .before .before .before .before .part in
+    let put-bytes = c .before .before .put-bytes in
+    (ap length (part .ensures), put-bytes .ensures ∙ ap (store (now (args .names)) (args .at)) (part .ensures))
 
 pub put-name-spec : {M : Type 1} → statement M
 put-name-spec =

@@ -15,7 +15,10 @@ same-length-2 : tie.Need-same-length-2
 same-length-2 c = search needs
 
 returns : tie.Need-returns
-returns c = (c .before .before .before .before .before .before .put-name .ensures .0, (c .before .before .before .before .before .before .put-name .ensures .1, rw (c .before .before .before .before .before .before .put-name .ensures .0) at (c .before .before .put-columns .ensures)))
+returns c =
+    let put-name = c .before .before .before .before .before .before .put-name in
+    let put-columns = c .before .before .put-columns in
+    (put-name .ensures .0, (put-name .ensures .1, rw (put-name .ensures .0) at (put-columns .ensures)))
 
 pub put-named-spec : {M : Type 1} → statement M
 put-named-spec =

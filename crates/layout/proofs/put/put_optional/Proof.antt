@@ -11,7 +11,10 @@ enum-known-c : tie.Need-enum-known-c
 enum-known-c c = search needs
 
 put-constant-requires : tie.Need-put-constant-requires
-put-constant-requires c κs = (rw (c .before .before .before .before .c .given .1) at (c .before .before .before .before .before .before .before .before .before .before .pre .0), c .before .before .before .before .before .before .before .before .before .before .pre .1)
+put-constant-requires c κs =
+    let pre = c .before .before .before .before .before .before .before .before .before .before .pre in
+    let c-known = c .before .before .before .before .c in
+    (rw (c-known .given .1) at (pre .0), pre .1)
 
 enum-told : tie.Need-enum-told
 enum-told c = search needs

@@ -19,9 +19,12 @@ literal-width-requires c κs = search needs
 
 reverse-words-requires : tie.Need-reverse-words-requires
 reverse-words-requires c κs =
-    let n = value-width _ _ _ _ (c .before .before .before .before .before .before .before .before .before .before .pre .0) _ (c .before .before .literal-width .ensures .0) in
-    let l = value-few _ _ _ _ (c .before .before .before .before .before .before .before .before .before .before .pre .0) in
-    (omega arith, omega (arith, n, l, c .before .before .before .before .before .before .before .before .before .before .pre .1 .0, c .before .before .before .before .before .put-literal .kept), omega (arith, n, c .before .before .before .before .before .before .before .before .before .before .pre .1 .1))
+    let pre = c .before .before .before .before .before .before .before .before .before .before .pre in
+    let put-literal = c .before .before .before .before .before .put-literal in
+    let literal-width = c .before .before .literal-width in
+    let n = value-width _ _ _ _ (pre .0) _ (literal-width .ensures .0) in
+    let l = value-few _ _ _ _ (pre .0) in
+    (omega arith, omega (arith, n, l, pre .1 .0, put-literal .kept), omega (arith, n, pre .1 .1))
 
 cast-result : tie.Need-cast-result
 cast-result c = search needs
@@ -33,10 +36,17 @@ same-length-2 : tie.Need-same-length-2
 same-length-2 c = search needs
 
 returns : tie.Need-returns
-returns c = (
-  value-width _ _ _ _ (c .before .before .before .before .before .before .before .before .before .before .before .before .before .pre .0) _ (c .before .before .before .before .before .literal-width .ensures .0),
-  c .before .before .reverse-words .ensures ∙ ap (store (now (c .before .before .before .before .before .before .before .before .before .before .before .before .before .args .bits)) (c .before .before .before .before .before .before .before .before .before .before .before .before .before .args .at)) (value-stored _ _ _ _ (c .before .before .before .before .before .before .before .before .before .before .before .before .before .pre .0) _ _ _ (c .before .before .before .before .before .before .before .before .before .before .before .before .before .pre .1 .0) (c .before .before .before .before .before .literal-width .ensures .0) (c .before .before .before .before .before .before .before .before .put-literal .ensures)),
-)
+returns c =
+    let pre = c .before .before .before .before .before .before .before .before .before .before .before .before .before .pre in
+    let args = c .before .before .before .before .before .before .before .before .before .before .before .before .before .args in
+    let put-literal = c .before .before .before .before .before .before .before .before .put-literal in
+    let literal-width = c .before .before .before .before .before .literal-width in
+    let reverse-words = c .before .before .reverse-words in (
+      value-width _ _ _ _ (pre .0) _ (literal-width .ensures .0),
+      reverse-words .ensures
+          ∙ ap (store (now (args .bits)) (args .at))
+          (value-stored _ _ _ _ (pre .0) _ _ _ (pre .1 .0) (literal-width .ensures .0) (put-literal .ensures)),
+    )
 
 pub put-value-spec : {M : Type 1} → statement M
 put-value-spec =

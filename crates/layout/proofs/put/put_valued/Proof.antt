@@ -6,7 +6,9 @@ put-optional-requires : tie.Need-put-optional-requires
 put-optional-requires c κs = (c .before .before .before .before .before .before .before .before .before .pre .1 .0, c .before .before .before .before .before .before .before .before .before .pre .1 .1 .0)
 
 put-named-requires : tie.Need-put-named-requires
-put-named-requires c κs = (c .before .before .before .before .before .before .before .before .before .before .before .before .before .before .before .before .before .before .pre .0, c .before .before .before .before .before .before .before .before .before .before .before .before .before .before .before .before .before .before .pre .1 .1 .1)
+put-named-requires c κs =
+    let pre = c .before .before .before .before .before .before .before .before .before .before .before .before .before .before .before .before .before .before .pre in
+    (pre .0, pre .1 .1 .1)
 
 same-length : tie.Need-same-length
 same-length c = c .before .before .before .before .before .before .before .before .before .before .before .before .before .put-optional .kept .1 .1 .1 .0
@@ -25,7 +27,15 @@ same-length-5 c = c .before .before .before .before .put-named .kept .1 .1 .1 .1
 
 returns : tie.Need-returns
 unfolding valuedRow
-returns c = (c .before .before .before .before .put-named .ensures .1 .0, (c .before .before .before .before .before .before .before .before .before .before .before .before .before .put-optional .ensures .1 .0, (c .before .before .before .before .before .before .before .before .before .before .before .before .before .put-optional .ensures .1 .1, rw (c .before .before .before .before .before .before .before .before .before .before .before .before .before .put-optional .ensures .0) (c .before .before .before .before .put-named .ensures .1 .1))))
+returns c =
+    let put-optional = c .before .before .before .before .before .before .before .before .before .before .before .before .before .put-optional in
+    let put-named = c .before .before .before .before .put-named in (
+      put-named .ensures .1 .0,
+      (
+        put-optional .ensures .1 .0,
+        (put-optional .ensures .1 .1, rw (put-optional .ensures .0) (put-named .ensures .1 .1)),
+      ),
+    )
 
 pub put-valued-spec : {M : Type 1} → statement M
 put-valued-spec =

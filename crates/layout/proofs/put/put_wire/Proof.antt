@@ -27,7 +27,17 @@ same-length-3 c = c .before .before .before .before .before .before .before .bef
 
 returns : tie.Need-returns
 unfolding statementRow columns code holds contents row padded
-returns c = λ w h. (name-put _ _ _ _ _ refl (c .before .before .before .before .before .before .before .before .before .put-named .ensures .1 .0), wire-put (usedOf (c .before .before .before .before .before .before .before .before .before .before .before .before .before .before .before .before .args .u)) _ w _ _ _ _ _ _ _ _ h (c .before .before .before .before .before .before .before .before .before .put-named .ensures .0) (rw (c .before .before .before .before .last-module .ensures) at (c .before .before .put-columns .ensures)), c .before .before .before .before .before .before .before .before .before .put-named .ensures .1 .1)
+returns c =
+    let args = c .before .before .before .before .before .before .before .before .before .before .before .before .before .before .before .before .args in
+    let put-named = c .before .before .before .before .before .before .before .before .before .put-named in
+    let last-module = c .before .before .before .before .last-module in
+    let put-columns = c .before .before .put-columns in
+    λ w h. (
+      name-put _ _ _ _ _ refl (put-named .ensures .1 .0),
+      wire-put (usedOf (args .u)) _ w _ _ _ _ _ _ _ _ h (put-named .ensures .0)
+          (rw (last-module .ensures) at (put-columns .ensures)),
+      put-named .ensures .1 .1,
+    )
 
 pub put-wire-spec : {M : Type 1} → statement M
 put-wire-spec =
