@@ -27,7 +27,12 @@ returns c = no-shape (no-name _ _ (rw (c .enum-told .given .1) at (c .before .be
 
 signal-requires : tie.Need-signal-requires
 signal-requires c κs =
-    (readable-on _ _ _ _ (c .before .before .before .before .before .before .before .before .before .before .before .before .pre .0 .rows) (id-below _ _ _ _ _ (c .before .before .before .before .id-at .ensures) (c .before .before .start .given .1)), (omega (arith, c .before .before .before .before .before .before .before .before .before .before .before .before .pre .0 .room), c .before .before .before .before .before .before .before .before .before .before .before .before .pre .0 .few, c .before .before .before .before .before .before .before .before .before .before .before .before .pre .1))
+    let pre = c .before .before .before .before .before .before .before .before .before .before .before .before .pre in
+    let id-at = c .before .before .before .before .id-at in
+    let start = c .before .before .start in (
+      readable-on _ _ _ _ (pre .0 .rows) (id-below _ _ _ _ _ (id-at .ensures) (start .given .1)),
+      (omega (arith, pre .0 .room), pre .0 .few, pre .1),
+    )
 
 enum-known-next : tie.Need-enum-known-next
 enum-known-next c = search needs
@@ -41,7 +46,12 @@ same-length c = search needs
 returns-2 : tie.Need-returns-2
 unfolding idGives
 returns-2 c =
-    no-shape (no-signal _ _ _ (rw (c .before .before .before .before .before .before .before .start .given .1) at (c .before .before .before .before .before .before .before .before .before .id-at .ensures (c .before .before .before .before .before .before .before .before .before .before .before .before .before .before .before .before .before .args .f .now))) (rw (c .enum-told2 .given .1) at (c .before .before .before .before .signal .ensures .read)))
+    let args = c .before .before .before .before .before .before .before .before .before .before .before .before .before .before .before .before .before .args in
+    let id-at = c .before .before .before .before .before .before .before .before .before .id-at in
+    let start = c .before .before .before .before .before .before .before .start in
+    let signal = c .before .before .before .before .signal in
+    no-shape
+    (no-signal _ _ _ (rw (start .given .1) at (id-at .ensures (args .f .now))) (rw (c .enum-told2 .given .1) at (signal .ensures .read)))
 
 same-length-2 : tie.Need-same-length-2
 same-length-2 c = search needs
@@ -49,8 +59,14 @@ same-length-2 c = search needs
 returns-3 : tie.Need-returns-3
 unfolding idGives
 returns-3 c =
-    let a = rw (c .before .before .next .given .1) at (c .before .before .before .before .before .before .signal .ensures .read) in
-    no-shape (named-read _ _ _ (rw (c .before .before .before .before .before .before .before .before .before .start .given .1) at (c .before .before .before .before .before .before .before .before .before .before .before .id-at .ensures (c .before .before .before .before .before .before .before .before .before .before .before .before .before .before .before .before .before .before .before .args .f .now))) _ _ (a .3 .is) ∙ rows-left _ _ _ _ (c .if1 .taken))
+    let args = c .before .before .before .before .before .before .before .before .before .before .before .before .before .before .before .before .before .before .before .args in
+    let id-at = c .before .before .before .before .before .before .before .before .before .before .before .id-at in
+    let start = c .before .before .before .before .before .before .before .before .before .start in
+    let signal = c .before .before .before .before .before .before .signal in
+    let next = c .before .before .next in
+    let a = rw (next .given .1) at (signal .ensures .read) in
+    no-shape
+    (named-read _ _ _ (rw (start .given .1) at (id-at .ensures (args .f .now))) _ _ (a .3 .is) ∙ rows-left _ _ _ _ (c .if1 .taken))
 
 refused-requires : tie.Need-refused-requires
 refused-requires c κs = search needs
@@ -61,9 +77,18 @@ same-length-3 c = search needs
 returns-4 : tie.Need-returns-4
 unfolding idGives nameIn
 returns-4 c =
-    let a = rw (c .before .before .before .next .given .1) at (c .before .before .before .before .before .before .before .signal .ensures .read) in
-    rw (named-read _ _ _ (rw (c .before .before .before .before .before .before .before .before .before .before .start .given .1) at (c .before .before .before .before .before .before .before .before .before .before .before .before .id-at .ensures (c .before .before .before .before .before .before .before .before .before .before .before .before .before .before .before .before .before .before .before .before .args .f .now))) _ _ (a .3 .is) ∙ no-rows _ _ _ _ (c .before .if1 .left), c .refused .ensures)
-    (cell-connected _ _ _ _ (a .3 .sig) _ (a .3 .held))
+    let after-signal = c .before .before .before .before .before .before .before in
+    let args = after-signal .before .before .before .before .before .before .before .before .before .before .before .before .before .args in
+    let id-at = c .before .before .before .before .before .before .before .before .before .before .before .before .id-at in
+    let start = c .before .before .before .before .before .before .before .before .before .before .start in
+    let signal = c .before .before .before .before .before .before .before .signal in
+    let next = c .before .before .before .next in
+    let a = rw (next .given .1) at (signal .ensures .read) in
+    rw (
+      named-read _ _ _ (rw (start .given .1) at (id-at .ensures (args .f .now))) _ _ (a .3 .is)
+          ∙ no-rows _ _ _ _ (c .before .if1 .left),
+      c .refused .ensures,
+    ) (cell-connected _ _ _ _ (a .3 .sig) _ (a .3 .held))
 
 pub cell-connection-statement-spec : {M : Type 1} → statement M
 cell-connection-statement-spec =

@@ -22,13 +22,27 @@ cell-connection-statement-requires c κs = c .before .before .before .before .be
 
 returns : tie.Need-returns
 unfolding cellKindOf
-returns c first attributed = rw (c .before .before .before .before .cell-line-kind .ensures .0 (c .before .before .before .before .before .before .before .before .before .before .before .before .args .f .now) first attributed, c .before .before .form .given .1) (c .form-statement .ensures (form-whole _ _ (c .before .before .before .before .before .before .before .before .before .before .before .before .pre .0 .rows .closed) (c .before .before .form .given .0 .0) (rw (c .before .before .form .given .1) at (c .before .before .before .before .cell-line-kind .ensures .1))) _ _)
+returns c first attributed =
+    let args = c .before .before .before .before .before .before .before .before .before .before .before .before .args in
+    let pre = c .before .before .before .before .before .before .before .before .before .before .before .before .pre in
+    let cell-line-kind = c .before .before .before .before .cell-line-kind in
+    let form = c .before .before .form in
+    rw (cell-line-kind .ensures .0 (args .f .now) first attributed, form .given .1)
+    (c .form-statement .ensures
+    (form-whole _ _ (pre .0 .rows .closed) (form .given .0 .0) (rw (form .given .1) at (cell-line-kind .ensures .1)))
+    _ _)
 
 same-length : tie.Need-same-length
 same-length c = search needs
 
 returns-2 : tie.Need-returns-2
-returns-2 c first attributed = rw (c .before .before .before .before .before .before .cell-line-kind .ensures .0 (c .before .before .before .before .before .before .before .before .before .before .before .before .before .before .args .f .now) first attributed, c .before .before .before .before .enum-told .given .1) (c .before .before .cell-connection-statement .ensures)
+returns-2 c first attributed =
+    let args = c .before .before .before .before .before .before .before .before .before .before .before .before .before .before .args in
+    let cell-line-kind = c .before .before .before .before .before .before .cell-line-kind in
+    let enum-told = c .before .before .before .before .enum-told in
+    let cell-connection-statement = c .before .before .cell-connection-statement in
+    rw (cell-line-kind .ensures .0 (args .f .now) first attributed, enum-told .given .1)
+    (cell-connection-statement .ensures)
 
 pub cell-statement-spec : {M : Type 1} → statement M
 cell-statement-spec =

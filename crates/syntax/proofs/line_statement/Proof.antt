@@ -14,7 +14,13 @@ form-statement-requires c κs = search needs
 
 returns : tie.Need-returns
 unfolding scopeOf contextOf
-returns c = rw (c .before .before .if1 .taken, c .before .top-line .ensures .0 (c .before .before .before .before .before .before .before .before .before .before .before .args .f .now) (c .before .before .before .before .before .before .before .before .before .before .before .args .place .attributed)) (c .form-statement .ensures (form-whole _ _ (c .before .before .before .before .before .before .before .before .before .before .before .pre .0 .rows .closed) (c .before .top-line .result) (c .before .top-line .ensures .1)) _ _)
+returns c =
+    let args = c .before .before .before .before .before .before .before .before .before .before .before .args in
+    let pre = c .before .before .before .before .before .before .before .before .before .before .before .pre in
+    let if1 = c .before .before .if1 in
+    let top-line = c .before .top-line in
+    rw (if1 .taken, top-line .ensures .0 (args .f .now) (args .place .attributed))
+    (c .form-statement .ensures (form-whole _ _ (pre .0 .rows .closed) (top-line .result) (top-line .ensures .1)) _ _)
 
 module-statement-requires : tie.Need-module-statement-requires
 module-statement-requires c κs = c .before .before .before .before .before .before .before .before .before .before .before .before .pre
@@ -24,7 +30,11 @@ same-length c = search needs
 
 returns-2 : tie.Need-returns-2
 unfolding scopeOf contextOf
-returns-2 c = rw (c .before .before .before .before .if2 .taken) (c .before .before .module-statement .ensures (c .before .before .before .before .before .before .before .before .before .before .before .before .before .before .before .args .place .first))
+returns-2 c =
+    let args = c .before .before .before .before .before .before .before .before .before .before .before .before .before .before .before .args in
+    let if2 = c .before .before .before .before .if2 in
+    let module-statement = c .before .before .module-statement in
+    rw (if2 .taken) (module-statement .ensures (args .place .first))
 
 cell-statement-requires : tie.Need-cell-statement-requires
 cell-statement-requires c κs = c .before .before .before .before .before .before .before .before .before .before .before .before .pre

@@ -37,8 +37,13 @@ returns-2 c ws s =
 returns-3 : tie.Need-returns-3
 unfolding kindOf nameIn
 returns-3 c ws s =
-    let g = rw (c .before .before .before .before .before .options .given .1) at (c .before .before .before .before .before .before .before .memory-line .ensures (c .before .before .before .before .before .before .before .before .before .before .args .f .now)) in
-    rw (g .1) (judged (memory-stated ws _ s (g .0) _ (rw (c .before .width .given .1) at (c .before .before .before .memory-rules .ensures (g .0) (g .2)))))
+    let args = c .before .before .before .before .before .before .before .before .before .before .args in
+    let memory-line = c .before .before .before .before .before .before .before .memory-line in
+    let options = c .before .before .before .before .before .options in
+    let memory-rules = c .before .before .before .memory-rules in
+    let g = rw (options .given .1) at (memory-line .ensures (args .f .now)) in
+    rw (g .1)
+    (judged (memory-stated ws _ s (g .0) _ (rw (c .before .width .given .1) at (memory-rules .ensures (g .0) (g .2)))))
 
 pub memory-statement-spec : {M : Type 1} → statement M
 memory-statement-spec =

@@ -34,7 +34,15 @@ connection-statement-requires c κs = c .before .before .before .before .before 
 
 returns : tie.Need-returns
 unfolding kindOf
-returns c first = rw (c .before .before .before .before .module-line-kind .ensures .0 (c .before .before .before .before .before .before .before .before .before .before .before .before .args .f .now) first, c .before .before .form .given .1) (c .form-statement .ensures (form-whole _ _ (c .before .before .before .before .before .before .before .before .before .before .before .before .pre .0 .rows .closed) (c .before .before .form .given .0 .0) (rw (c .before .before .form .given .1) at (c .before .before .before .before .module-line-kind .ensures .1))) _ _)
+returns c first =
+    let args = c .before .before .before .before .before .before .before .before .before .before .before .before .args in
+    let pre = c .before .before .before .before .before .before .before .before .before .before .before .before .pre in
+    let module-line-kind = c .before .before .before .before .module-line-kind in
+    let form = c .before .before .form in
+    rw (module-line-kind .ensures .0 (args .f .now) first, form .given .1)
+    (c .form-statement .ensures
+    (form-whole _ _ (pre .0 .rows .closed) (form .given .0 .0) (rw (form .given .1) at (module-line-kind .ensures .1)))
+    _ _)
 
 returns-2 : tie.Need-returns-2
 returns-2 c first = rw (c .before .before .before .module-line-kind .ensures .0 (c .before .before .before .before .before .before .before .before .before .before .before .args .f .now) first, c .before .enum-told .given .1) (c .wire-statement .ensures _ _)
@@ -46,7 +54,12 @@ same-length : tie.Need-same-length
 same-length c = search needs
 
 returns-4 : tie.Need-returns-4
-returns-4 c first = rw (c .before .before .before .before .before .before .module-line-kind .ensures .0 (c .before .before .before .before .before .before .before .before .before .before .before .before .before .before .args .f .now) first, c .before .before .before .before .enum-told3 .given .1) (c .before .before .connection-statement .ensures)
+returns-4 c first =
+    let args = c .before .before .before .before .before .before .before .before .before .before .before .before .before .before .args in
+    let module-line-kind = c .before .before .before .before .before .before .module-line-kind in
+    let enum-told3 = c .before .before .before .before .enum-told3 in
+    let connection-statement = c .before .before .connection-statement in
+    rw (module-line-kind .ensures .0 (args .f .now) first, enum-told3 .given .1) (connection-statement .ensures)
 
 pub module-statement-spec : {M : Type 1} → statement M
 module-statement-spec =
