@@ -45,7 +45,14 @@ finished-requires c κs = search needs
 
 returns-3 : tie.Need-returns-3
 unfolding shapes.of₂ shapes.of₁ shapes.after shapes.give shapes.whole idGives ended formOf nameIn
-returns-3 c = (λ f. rw (c .before .before .before .before .before .before .before .before .id-at .ensures f, c .before .before .before .before .before .before .start .given .1, c .before .before .before .before .id-at2 .ensures f, c .before .before .name-start .given .1) (c .finished .ensures .0 f), c .finished .ensures .1 tt)
+returns-3 c =
+    let id-at = c .before .before .before .before .before .before .before .before .id-at in
+    let start = c .before .before .before .before .before .before .start in
+    let id-at2 = c .before .before .before .before .id-at2 in
+    let name-start = c .before .before .name-start in (
+      λ f. rw (id-at .ensures f, start .given .1, id-at2 .ensures f, name-start .given .1) (c .finished .ensures .0 f),
+      c .finished .ensures .1 tt,
+    )
 
 pub cell-line-spec : {M : Type 1} → statement M
 cell-line-spec =

@@ -50,7 +50,17 @@ finished-requires c κs = search needs
 
 returns-4 : tie.Need-returns-4
 unfolding shapes.of₂ shapes.of₁ shapes.after shapes.give shapes.whole idGives literalGives ended formOf nameIn valueIn
-returns-4 c = (λ f. rw (c .before .before .before .before .before .before .before .before .before .id-at .ensures f, c .before .before .before .before .before .before .before .start .given .1, present-thing _ f _ _ (c .before .before .before .before .before .if1 .left), c .before .before .before .before .literal-at .ensures .0 f, c .before .before .c .given .1) (c .finished .ensures .0 f), c .finished .ensures .1 (_, rw (c .before .before .c .given .1) at (c .before .before .before .before .literal-at .ensures .1)))
+returns-4 c =
+    let id-at = c .before .before .before .before .before .before .before .before .before .id-at in
+    let start = c .before .before .before .before .before .before .before .start in
+    let if1 = c .before .before .before .before .before .if1 in
+    let literal-at = c .before .before .before .before .literal-at in
+    let c-known = c .before .before .c in (
+      λ f. rw
+          (id-at .ensures f, start .given .1, present-thing _ f _ _ (if1 .left), literal-at .ensures .0 f, c-known .given .1)
+          (c .finished .ensures .0 f),
+      c .finished .ensures .1 (_, rw (c-known .given .1) at (literal-at .ensures .1)),
+    )
 
 pub parameter-line-spec : {M : Type 1} → statement M
 parameter-line-spec =

@@ -47,9 +47,21 @@ finished-requires c κs = search needs
 returns-3 : tie.Need-returns-3
 unfolding shapes.of₂ shapes.of₁ shapes.after shapes.give shapes.whole idGives literalGives ended formOf nameIn
 returns-3 c =
+    let id-at = c .before .before .before .before .before .before .before .before .before .id-at in
+    let start = c .before .before .before .before .before .before .before .start in
+    let literal-at = c .before .before .before .before .before .literal-at in
+    let value = c .before .before .before .value in
     ⊎-elim
-    (λ w. (λ f. rw (c .before .before .before .before .before .before .before .before .before .id-at .ensures f, c .before .before .before .before .before .before .before .start .given .1, c .before .before .before .before .before .literal-at .ensures .0 f, c .before .before .before .value .given .1, w .0 .taken) (rw (w .1) at (c .finished .ensures .0 f)), λ h. rw (w .1) at (c .finished .ensures .1) (_, rw (c .before .before .before .value .given .1) at (c .before .before .before .before .before .literal-at .ensures .1))))
-    (λ w. (λ f. rw (c .before .before .before .before .before .before .before .before .before .id-at .ensures f, c .before .before .before .before .before .before .before .start .given .1, c .before .before .before .before .before .literal-at .ensures .0 f, c .before .before .before .value .given .1, w .0 .left) (rw (w .1) at (c .finished .ensures .0 f)), λ h. rw (w .1) at (c .finished .ensures .1) (h, (_, rw (c .before .before .before .value .given .1) at (c .before .before .before .before .before .literal-at .ensures .1)))))
+    (λ w. (
+      λ f. rw (id-at .ensures f, start .given .1, literal-at .ensures .0 f, value .given .1, w .0 .taken)
+          (rw (w .1) at (c .finished .ensures .0 f)),
+      λ h. rw (w .1) at (c .finished .ensures .1) (_, rw (value .given .1) at (literal-at .ensures .1)),
+    ))
+    (λ w. (
+      λ f. rw (id-at .ensures f, start .given .1, literal-at .ensures .0 f, value .given .1, w .0 .left)
+          (rw (w .1) at (c .finished .ensures .0 f)),
+      λ h. rw (w .1) at (c .finished .ensures .1) (h, (_, rw (value .given .1) at (literal-at .ensures .1))),
+    ))
     (c .before .if1 .came)
 
 pub valued-line-spec : {M : Type 1} → statement M

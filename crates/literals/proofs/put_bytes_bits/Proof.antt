@@ -43,7 +43,14 @@ loop-less : tie.Need-loop-less Inv-loop μ-loop
 loop-less c = omega arith
 
 loop-again : tie.Need-loop-again Inv-loop μ-loop
-loop-again c = (omega arith, c .before .before .put-bits .kept .1 .1 .0 ∙ c .before .before .before .before .before .before .loop .inv .1, bytes-more _ _ _ _ _ _ (c .before .before .before .before .before .loop-test .taken) (c .before .before .before .before .before .before .loop .inv .2) (c .before .before .put-bits .ensures))
+loop-again c =
+    let loop = c .before .before .before .before .before .before .loop in
+    let loop-test = c .before .before .before .before .before .loop-test in
+    let put-bits = c .before .before .put-bits in (
+      omega arith,
+      put-bits .kept .1 .1 .0 ∙ loop .inv .1,
+      bytes-more _ _ _ _ _ _ (loop-test .taken) (loop .inv .2) (put-bits .ensures),
+    )
 
 same-length : tie.Need-same-length Inv-loop μ-loop
 same-length c = omega arith

@@ -24,8 +24,14 @@ same-length c = search needs
 
 returns : tie.Need-returns
 returns c =
-    let w = read-word _ (c .before .before .before .before .before .before .before .before .before .args .z) _ _ (c .before .before .before .before .before .before .part .ensures) (c .before .before .before .before .before .decimal .ensures) (c .before .before .before .before .before .before .before .before .before .pre .0) in
-    c .before .before .put-bits .ensures ∙ ap (store (now (c .before .before .before .before .before .before .before .before .before .args .out)) (c .before .before .before .before .before .before .before .before .before .args .at)) (integer-codes _ _ (c .before .before .before .before .word-of .ensures ∙ w))
+    let args = c .before .before .before .before .before .before .before .before .before .args in
+    let pre = c .before .before .before .before .before .before .before .before .before .pre in
+    let part = c .before .before .before .before .before .before .part in
+    let decimal = c .before .before .before .before .before .decimal in
+    let word-of = c .before .before .before .before .word-of in
+    let put-bits = c .before .before .put-bits in
+    let w = read-word _ (args .z) _ _ (part .ensures) (decimal .ensures) (pre .0) in
+    put-bits .ensures ∙ ap (store (now (args .out)) (args .at)) (integer-codes _ _ (word-of .ensures ∙ w))
 
 pub put-integer-spec : {M : Type 1} → statement M
 put-integer-spec =

@@ -25,7 +25,11 @@ enum-known-c-3 c = search needs
 
 put-text-requires : tie.Need-put-text-requires
 unfolding literalIn literalWidth
-put-text-requires c κs = let w = rw (c .before .before .c3 .given .1) at (c .before .before .before .before .before .before .pre .1 .0) in (rw (c .before .before .c3 .given .1) at (c .before .before .before .before .before .before .pre .1 .1 .1), (omega (arith, w), rw (c .before .before .c3 .given .1) at (c .before .before .before .before .before .before .pre .1 .1 .0)))
+put-text-requires c κs =
+    let pre = c .before .before .before .before .before .before .pre in
+    let c3 = c .before .before .c3 in
+    let w = rw (c3 .given .1) at (pre .1 .0) in
+    (rw (c3 .given .1) at (pre .1 .1 .1), (omega (arith, w), rw (c3 .given .1) at (pre .1 .1 .0)))
 
 same-length : tie.Need-same-length
 same-length c = search needs

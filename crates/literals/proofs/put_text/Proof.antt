@@ -35,8 +35,13 @@ same-length c = search needs
 
 returns : tie.Need-returns
 returns c =
-    let e = stored-front _ _ _ _ _ (c .before .before .before .before .before .before .before .before .before .before .before .pre .1 .0) (c .before .before .before .before .before .before .before .put-string .ensures .1) (c .before .before .before .before .before .before .before .put-string .ensures .0) (c .before .before .before .before .part .ensures) in
-    c .before .before .put-bytes-bits .ensures ∙ ap (λ (bs : List ℕ). store (now (c .before .before .before .before .before .before .before .before .before .before .before .args .out)) (c .before .before .before .before .before .before .before .before .before .before .before .args .at) (codes (string bs))) e
+    let pre = c .before .before .before .before .before .before .before .before .before .before .before .pre in
+    let args = c .before .before .before .before .before .before .before .before .before .before .before .args in
+    let put-string = c .before .before .before .before .before .before .before .put-string in
+    let part = c .before .before .before .before .part in
+    let put-bytes-bits = c .before .before .put-bytes-bits in
+    let e = stored-front _ _ _ _ _ (pre .1 .0) (put-string .ensures .1) (put-string .ensures .0) (part .ensures) in
+    put-bytes-bits .ensures ∙ ap (λ (bs : List ℕ). store (now (args .out)) (args .at) (codes (string bs))) e
 
 pub put-text-spec : {M : Type 1} → statement M
 put-text-spec =

@@ -32,8 +32,14 @@ same-length c = search needs
 
 returns : tie.Need-returns
 returns c =
-    let e = read-literal _ _ _ _ _ _ (c .before .before .before .before .before .before .part .ensures) (c .before .before .before .before .before .decimal .ensures) _ (c .before .before .before .before .value-digits .ensures) (c .before .before .before .before .before .before .before .before .before .pre .0) in
-    c .before .before .put-digits .ensures ∙ ap (λ (l : Literal). store (now (c .before .before .before .before .before .before .before .before .before .args .out)) (c .before .before .before .before .before .before .before .before .before .args .at) (codes l)) e
+    let pre = c .before .before .before .before .before .before .before .before .before .pre in
+    let args = c .before .before .before .before .before .before .before .before .before .args in
+    let part = c .before .before .before .before .before .before .part in
+    let decimal = c .before .before .before .before .before .decimal in
+    let value-digits = c .before .before .before .before .value-digits in
+    let put-digits = c .before .before .put-digits in
+    let e = read-literal _ _ _ _ _ _ (part .ensures) (decimal .ensures) _ (value-digits .ensures) (pre .0) in
+    put-digits .ensures ∙ ap (λ (l : Literal). store (now (args .out)) (args .at) (codes l)) e
 
 pub put-value-spec : {M : Type 1} → statement M
 put-value-spec =

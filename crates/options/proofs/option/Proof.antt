@@ -53,8 +53,16 @@ enum-told c = search needs
 returns-3 : tie.Need-returns-3
 unfolding front integerGives
 returns-3 c =
-    let g = sym (c .before .before .before .before .flag .ensures) ∙ c .before .before .before .if3 .left in
-    decides _ _ _ _ (sym (c .before .before .before .before .before .before .before .before .c .given .1) ∙ c .before .before .before .before .before .before .before .before .before .before .token-at .ensures) tt _ (λ f j os. rest-short _ j os _ _ (sym (c .before .before .before .before .before .before .offered .ensures) ∙ not-false _ (c .before .before .before .before .before .if2 .left)) g (c .before .before .integer-at .ensures f ∙ rw (c .enum-told .given .1)))
+    let token-at = c .before .before .before .before .before .before .before .before .before .before .token-at in
+    let c-known = c .before .before .before .before .before .before .before .before .c in
+    let offered = c .before .before .before .before .before .before .offered in
+    let if2 = c .before .before .before .before .before .if2 in
+    let flag = c .before .before .before .before .flag in
+    let if3 = c .before .before .before .if3 in
+    let integer-at = c .before .before .integer-at in
+    let g = sym (flag .ensures) ∙ if3 .left in
+    decides _ _ _ _ (sym (c-known .given .1) ∙ token-at .ensures) tt _
+    (λ f j os. rest-short _ j os _ _ (sym (offered .ensures) ∙ not-false _ (if2 .left)) g (integer-at .ensures f ∙ rw (c .enum-told .given .1)))
 
 enum-told-2 : tie.Need-enum-told-2
 enum-told-2 c = search needs
@@ -74,8 +82,19 @@ returns-5 c = goes-on _ _ _ _ _ (sym (c .before .before .start .given .1) ∙ c 
 returns-6 : tie.Need-returns-6
 unfolding integerGives
 returns-6 c =
-    let g = sym (c .before .before .before .before .before .flag .ensures) ∙ c .before .before .before .before .if3 .left in
-    (g, number-next _ _ _ _ (sym (c .before .before .before .before .before .before .before .before .before .c .given .1) ∙ c .before .before .before .before .before .before .before .before .before .before .before .token-at .ensures) (sym (c .before .before .before .before .before .before .before .offered .ensures) ∙ not-false _ (c .before .before .before .before .before .before .if2 .left)) _ g (λ f. c .before .before .before .integer-at .ensures f ∙ rw (c .before .z .given .1)))
+    let token-at = c .before .before .before .before .before .before .before .before .before .before .before .token-at in
+    let c-known = c .before .before .before .before .before .before .before .before .before .c in
+    let offered = c .before .before .before .before .before .before .before .offered in
+    let if2 = c .before .before .before .before .before .before .if2 in
+    let flag = c .before .before .before .before .before .flag in
+    let if3 = c .before .before .before .before .if3 in
+    let integer-at = c .before .before .before .integer-at in
+    let g = sym (flag .ensures) ∙ if3 .left in (
+      g,
+      number-next _ _ _ _ (sym (c-known .given .1) ∙ token-at .ensures)
+          (sym (offered .ensures) ∙ not-false _ (if2 .left)) _ g
+          (λ f. integer-at .ensures f ∙ rw (c .before .z .given .1)),
+    )
 
 returns-7 : tie.Need-returns-7
 unfolding front

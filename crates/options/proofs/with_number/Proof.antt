@@ -30,7 +30,16 @@ or-requires : tie.Need-or-requires
 or-requires c κs = tt
 
 returns : tie.Need-returns
-returns c f = took-number f _ _ _ _ (c .before .before .before .before .before .before .before .before .pre) (c .before .before .before .before .before .before .pick .ensures) (c .before .before .before .before .before .pick2 .ensures) (c .before .before .before .before .pick3 .ensures) (c .before .before .before .pick4 .ensures) (c .before .before .pick5 .ensures) (c .before .pick6 .ensures) refl refl (c .or .ensures ∙ rw (c .before .before .before .before .before .before .before .given .ensures))
+returns c f =
+    let pre = c .before .before .before .before .before .before .before .before .pre in
+    let given = c .before .before .before .before .before .before .before .given in
+    let pick = c .before .before .before .before .before .before .pick in
+    let pick2 = c .before .before .before .before .before .pick2 in
+    let pick3 = c .before .before .before .before .pick3 in
+    let pick4 = c .before .before .before .pick4 in
+    let pick5 = c .before .before .pick5 in
+    took-number f _ _ _ _ pre (pick .ensures) (pick2 .ensures) (pick3 .ensures) (pick4 .ensures) (pick5 .ensures)
+    (c .before .pick6 .ensures) refl refl (c .or .ensures ∙ rw (given .ensures))
 
 pub with-number-spec : {M : Type 1} → statement M
 with-number-spec =

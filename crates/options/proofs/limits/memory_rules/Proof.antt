@@ -28,13 +28,33 @@ between-requires-2 : tie.Need-between-requires-2
 between-requires-2 c κs = tt
 
 returns-3 : tie.Need-returns-3
-returns-3 c os H = memory-size _ _ os H (sym (c .before .before .before .before .before .before .before .options-good .ensures) ∙ not-false _ (c .before .before .before .before .before .before .if1 .left)) _ (c .before .before .before .before .before .word-or .ensures) _ (c .before .before .word-or2 .ensures) (sym (c .before .before .before .before .between .ensures) ∙ not-false _ (c .before .before .before .if2 .left)) ∙ sym (c .before .between2 .ensures) ∙ not-true _ (c .if3 .taken)
+returns-3 c os H =
+    let options-good = c .before .before .before .before .before .before .before .options-good in
+    let if1 = c .before .before .before .before .before .before .if1 in
+    let word-or = c .before .before .before .before .before .word-or in
+    let between = c .before .before .before .before .between in
+    let if2 = c .before .before .before .if2 in
+    let word-or2 = c .before .before .word-or2 in
+    memory-size _ _ os H (sym (options-good .ensures) ∙ not-false _ (if1 .left)) _ (word-or .ensures) _
+    (word-or2 .ensures) (sym (between .ensures) ∙ not-false _ (if2 .left))
+    ∙ sym (c .before .between2 .ensures)
+    ∙ not-true _ (c .if3 .taken)
 
 word-or-requires-3 : tie.Need-word-or-requires-3
 word-or-requires-3 c κs = tt
 
 returns-4 : tie.Need-returns-4
-returns-4 c os H = memory-good _ _ os H (sym (c .before .before .before .before .before .before .before .before .options-good .ensures) ∙ not-false _ (c .before .before .before .before .before .before .before .if1 .left)) _ (c .before .before .before .before .before .before .word-or .ensures) _ (c .before .before .before .word-or2 .ensures) (sym (c .before .before .before .before .before .between .ensures) ∙ not-false _ (c .before .before .before .before .if2 .left)) _ (c .word-or3 .ensures) (sym (c .before .before .between2 .ensures) ∙ not-false _ (c .before .if3 .left))
+returns-4 c os H =
+    let options-good = c .before .before .before .before .before .before .before .before .options-good in
+    let if1 = c .before .before .before .before .before .before .before .if1 in
+    let word-or = c .before .before .before .before .before .before .word-or in
+    let between = c .before .before .before .before .before .between in
+    let if2 = c .before .before .before .before .if2 in
+    let word-or2 = c .before .before .before .word-or2 in
+    let between2 = c .before .before .between2 in
+    memory-good _ _ os H (sym (options-good .ensures) ∙ not-false _ (if1 .left)) _ (word-or .ensures) _
+    (word-or2 .ensures) (sym (between .ensures) ∙ not-false _ (if2 .left)) _ (c .word-or3 .ensures)
+    (sym (between2 .ensures) ∙ not-false _ (c .before .if3 .left))
 
 pub memory-rules-spec : {M : Type 1} → statement M
 memory-rules-spec =
