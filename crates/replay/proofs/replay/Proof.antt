@@ -32,7 +32,14 @@ none-requires c κs = tt
 
 loop-holds : tie.Need-loop-holds Inv-loop μ-loop
 unfolding placeOf
-loop-holds c = (done-start _ _ _ _ (c .before .start .ensures) (c .none .ensures), indexed-upto (ap (λ (p : Place). p .rows) (c .before .start .ensures)) (c .before .before .before .before .before .before .before .before .before .pre .0), refl, refl, c .before .before .before .before .before .before .before .before .before .pre .1)
+loop-holds c =
+    let pre = c .before .before .before .before .before .before .before .before .before .pre in (
+      done-start _ _ _ _ (c .before .start .ensures) (c .none .ensures),
+      indexed-upto (ap (λ (p : Place). p .rows) (c .before .start .ensures)) (pre .0),
+      refl,
+      refl,
+      pre .1,
+    )
 
 cast-word : tie.Need-cast-word Inv-loop μ-loop
 cast-word c = search needs
@@ -57,7 +64,15 @@ same-length-2 c = c .before .before .before .before .before .before .loop .inv .
 
 returns : tie.Need-returns Inv-loop μ-loop
 unfolding IndexLeft
-returns c = (done-closed _ _ _ _ (c .before .before .before .before .before .before .loop .inv .0) _ (c .before .before .before .before .word .ensures) (sym (c .before .before .before .is-statement .ensures) ∙ not-true _ (c .before .before .if1 .taken)) (sym (c .before .is-closed .ensures) ∙ c .if2 .taken), c .before .before .before .before .before .before .loop .inv .1)
+returns c =
+    let loop = c .before .before .before .before .before .before .loop in
+    let word = c .before .before .before .before .word in
+    let is-statement = c .before .before .before .is-statement in
+    let if1 = c .before .before .if1 in (
+      done-closed _ _ _ _ (loop .inv .0) _ (word .ensures) (sym (is-statement .ensures) ∙ not-true _ (if1 .taken))
+          (sym (c .before .is-closed .ensures) ∙ c .if2 .taken),
+      loop .inv .1,
+    )
 
 same-length-3 : tie.Need-same-length-3 Inv-loop μ-loop
 same-length-3 c = c .before .before .before .before .before .before .loop .inv .2
@@ -77,20 +92,43 @@ enum-known-t c = search needs
 
 index-row-requires : tie.Need-index-row-requires Inv-loop μ-loop
 index-row-requires c κs =
-    let few = done-ready _ _ _ _ (c .before .before .before .before .before .before .before .before .before .before .before .before .loop .inv .0) .few in
-    (c .before .before .before .before .before .before .before .before .before .before .before .before .loop .inv .1, (omega (arith, few, c .before .before .before .before .before .before .before .before .before .before .before .before .loop .inv .4), omega (arith, few)))
+    let loop = c .before .before .before .before .before .before .before .before .before .before .before .before .loop in
+    let few = done-ready _ _ _ _ (loop .inv .0) .few in
+    (loop .inv .1, (omega (arith, few, loop .inv .4), omega (arith, few)))
 
 loop-less : tie.Need-loop-less Inv-loop μ-loop
-loop-less c = omega (arith, done-ready _ _ _ _ (c .before .before .before .before .before .before .before .before .before .before .before .before .before .before .before .before .before .loop .inv .0) .few, next-rows _ _ _ _ (c .before .before .before .before .before .before .before .before .before .before .before .before .before .before .before .before .before .loop .inv .0) _ (c .before .before .before .before .before .before .before .before .before .before .before .before .before .before .before .word .ensures) (sym (c .before .before .before .before .before .before .before .before .before .before .before .before .before .before .is-statement .ensures) ∙ not-false _ (c .before .before .before .before .before .before .before .before .before .before .before .before .before .if1 .left)) _ _ _ (c .before .before .before .before .before .before .before .before .before .before .one-more .ensures) (c .before .before .before .before .before .before .before .before .t .given .1))
+loop-less c =
+    let loop = c .before .before .before .before .before .before .before .before .before .before .before .before .before .before .before .before .before .loop in
+    let word = c .before .before .before .before .before .before .before .before .before .before .before .before .before .before .before .word in
+    let is-statement = c .before .before .before .before .before .before .before .before .before .before .before .before .before .before .is-statement in
+    let if1 = c .before .before .before .before .before .before .before .before .before .before .before .before .before .if1 in
+    let one-more = c .before .before .before .before .before .before .before .before .before .before .one-more in
+    let t = c .before .before .before .before .before .before .before .before .t in
+    omega (
+      arith,
+      done-ready _ _ _ _ (loop .inv .0) .few,
+      next-rows _ _ _ _ (loop .inv .0) _ (word .ensures) (sym (is-statement .ensures) ∙ not-false _ (if1 .left)) _
+          _ _ (one-more .ensures) (t .given .1),
+    )
 
 loop-again : tie.Need-loop-again Inv-loop μ-loop
-loop-again c = (
-  done-next _ _ _ _ (c .before .before .before .before .before .before .before .before .before .before .before .before .before .before .before .before .before .loop .inv .0) _ (c .before .before .before .before .before .before .before .before .before .before .before .before .before .before .before .word .ensures) (sym (c .before .before .before .before .before .before .before .before .before .before .before .before .before .before .is-statement .ensures) ∙ not-false _ (c .before .before .before .before .before .before .before .before .before .before .before .before .before .if1 .left)) _ _ _ (c .before .before .before .before .before .before .before .before .before .before .one-more .ensures) (c .before .before .before .before .before .before .before .before .t .given .1),
-  indexed-upto (next-rows _ _ _ _ (c .before .before .before .before .before .before .before .before .before .before .before .before .before .before .before .before .before .loop .inv .0) _ (c .before .before .before .before .before .before .before .before .before .before .before .before .before .before .before .word .ensures) (sym (c .before .before .before .before .before .before .before .before .before .before .before .before .before .before .is-statement .ensures) ∙ not-false _ (c .before .before .before .before .before .before .before .before .before .before .before .before .before .if1 .left)) _ _ _ (c .before .before .before .before .before .before .before .before .before .before .one-more .ensures) (c .before .before .before .before .before .before .before .before .t .given .1)) (c .before .before .before .before .index-row .ensures .0),
-  c .before .before .before .before .index-row .kept .1 .1 .0 ∙ c .before .before .before .before .before .before .before .before .before .before .before .before .before .before .before .before .before .loop .inv .2,
-  c .before .before .before .before .index-row .ensures .1 ∙ c .before .before .before .before .before .before .before .before .before .before .before .before .before .before .before .before .before .loop .inv .3,
-  omega (arith, c .before .before .before .before .index-row .ensures .1, c .before .before .before .before .before .before .before .before .before .before .before .before .before .before .before .before .before .loop .inv .4),
-)
+loop-again c =
+    let loop = c .before .before .before .before .before .before .before .before .before .before .before .before .before .before .before .before .before .loop in
+    let word = c .before .before .before .before .before .before .before .before .before .before .before .before .before .before .before .word in
+    let is-statement = c .before .before .before .before .before .before .before .before .before .before .before .before .before .before .is-statement in
+    let if1 = c .before .before .before .before .before .before .before .before .before .before .before .before .before .if1 in
+    let one-more = c .before .before .before .before .before .before .before .before .before .before .one-more in
+    let t = c .before .before .before .before .before .before .before .before .t in
+    let index-row = c .before .before .before .before .index-row in (
+      done-next _ _ _ _ (loop .inv .0) _ (word .ensures) (sym (is-statement .ensures) ∙ not-false _ (if1 .left)) _ _ _
+          (one-more .ensures) (t .given .1),
+      indexed-upto
+          (next-rows _ _ _ _ (loop .inv .0) _ (word .ensures) (sym (is-statement .ensures) ∙ not-false _ (if1 .left)) _ _ _
+          (one-more .ensures) (t .given .1)) (index-row .ensures .0),
+      index-row .kept .1 .1 .0 ∙ loop .inv .2,
+      index-row .ensures .1 ∙ loop .inv .3,
+      omega (arith, index-row .ensures .1, loop .inv .4),
+    )
 
 enum-told : tie.Need-enum-told Inv-loop μ-loop
 enum-told c = search needs
@@ -103,7 +141,16 @@ same-length-6 c = c .before .before .before .before .before .before .before .bef
 
 returns-3 : tie.Need-returns-3 Inv-loop μ-loop
 unfolding IndexLeft
-returns-3 c = (done-stuck _ _ _ _ (c .before .before .before .before .before .before .before .before .before .loop .inv .0) _ (c .before .before .before .before .before .before .before .word .ensures) (sym (c .before .before .before .before .before .before .is-statement .ensures) ∙ not-false _ (c .before .before .before .before .before .if1 .left)) _ (c .before .before .one-more .ensures) (c .enum-told .given .1), tt)
+returns-3 c =
+    let loop = c .before .before .before .before .before .before .before .before .before .loop in
+    let word = c .before .before .before .before .before .before .before .word in
+    let is-statement = c .before .before .before .before .before .before .is-statement in
+    let if1 = c .before .before .before .before .before .if1 in
+    let one-more = c .before .before .one-more in (
+      done-stuck _ _ _ _ (loop .inv .0) _ (word .ensures) (sym (is-statement .ensures) ∙ not-false _ (if1 .left)) _
+          (one-more .ensures) (c .enum-told .given .1),
+      tt,
+    )
 
 pub replay-spec : {M : Type 1} → statement M
 replay-spec =

@@ -35,7 +35,10 @@ put-bytes-requires c κs =
     omega (arith, h, ap length (c .part .ensures), c .before .before .before .before .before .pre .1)
 
 sub-end : tie.Need-sub-end Inv-loop μ-loop
-sub-end c = omega (arith, endOf-low isPlain (now (c .before .before .before .before .before .before .before .before .args .s)) (c .before .before .before .before .before .before .before .before .args .at), c .before .before .before .before .before .plain-end .ensures)
+sub-end c =
+    let args = c .before .before .before .before .before .before .before .before .args in
+    let plain-end = c .before .before .before .before .before .plain-end in
+    omega (arith, endOf-low isPlain (now (args .s)) (args .at), plain-end .ensures)
 
 add-end : tie.Need-add-end Inv-loop μ-loop
 add-end c =
@@ -58,10 +61,25 @@ enum-known-g c = search needs
 put-given-requires : tie.Need-put-given-requires Inv-loop μ-loop
 unfolding turnOf
 put-given-requires c κs =
-    let l = c .before .before .before .before .before .before .before .loop in
-    let r = reached-goes _ _ _ _ _ (l .inv .1) _ _ (c .before .before .before .before .before .before .loop-test .taken) (rw (c .before .before .g .given .1) at (c .before .before .before .before .turn-on .ensures)) in
-    let h = reached-room _ _ _ _ _ r (c .before .before .before .before .before .before .before .before .before .before .before .before .before .before .before .before .pre .0) in
-    omega (arith, simp length-append at h, l .inv .2, l .inv .4, c .before .before .before .before .before .before .before .before .before .before .before .before .before .before .before .before .pre .1, ap length (c .before .before .before .before .before .before .before .before .before .before .put-bytes .ensures), length-store (now (c .before .before .before .before .before .before .before .before .before .before .before .before .before .before .before .before .args .out)) (c .before .before .before .before .before .before .before .before .before .before .before .before .before .before .before .before .args .to) (now (c .before .before .before .before .before .before .before .before .before .before .before .part .result)))
+    let pre = c .before .before .before .before .before .before .before .before .before .before .before .before .before .before .before .before .pre in
+    let args = c .before .before .before .before .before .before .before .before .before .before .before .before .before .before .before .before .args in
+    let part = c .before .before .before .before .before .before .before .before .before .before .before .part in
+    let put-bytes = c .before .before .before .before .before .before .before .before .before .before .put-bytes in
+    let loop = c .before .before .before .before .before .before .before .loop in
+    let loop-test = c .before .before .before .before .before .before .loop-test in
+    let turn-on = c .before .before .before .before .turn-on in
+    let g = c .before .before .g in
+    let r = reached-goes _ _ _ _ _ (loop .inv .1) _ _ (loop-test .taken) (rw (g .given .1) at (turn-on .ensures)) in
+    let h = reached-room _ _ _ _ _ r (pre .0) in
+    omega (
+      arith,
+      simp length-append at h,
+      loop .inv .2,
+      loop .inv .4,
+      pre .1,
+      ap length (put-bytes .ensures),
+      length-store (now (args .out)) (args .to) (now (part .result)),
+    )
 
 add-i : tie.Need-add-i Inv-loop μ-loop
 add-i c = omega arith
@@ -72,10 +90,19 @@ loop-less c = omega arith
 loop-again : tie.Need-loop-again Inv-loop μ-loop
 unfolding turnOf
 loop-again c =
-    let l = c .before .before .before .before .before .before .before .before .before .before .loop in
-    let r = reached-goes _ _ _ _ _ (l .inv .1) _ _ (c .before .before .before .before .before .before .before .before .before .loop-test .taken) (rw (c .before .before .before .before .before .g .given .1) at (c .before .before .before .before .before .before .before .turn-on .ensures)) in
-    let p = c .before .before .put-given .ensures in
-    (_, r, simp length-append (omega (arith, l .inv .2, p .0)), (λ x e. store-then _ _ _ _ _ _ _ (l .inv .3 x e) (l .inv .2) (p .1)), search needs)
+    let loop = c .before .before .before .before .before .before .before .before .before .before .loop in
+    let loop-test = c .before .before .before .before .before .before .before .before .before .loop-test in
+    let turn-on = c .before .before .before .before .before .before .before .turn-on in
+    let g = c .before .before .before .before .before .g in
+    let put-given = c .before .before .put-given in
+    let r = reached-goes _ _ _ _ _ (loop .inv .1) _ _ (loop-test .taken) (rw (g .given .1) at (turn-on .ensures)) in
+    let p = put-given .ensures in (
+      _,
+      r,
+      simp length-append (omega (arith, loop .inv .2, p .0)),
+      (λ x e. store-then _ _ _ _ _ _ _ (loop .inv .3 x e) (loop .inv .2) (p .1)),
+      search needs,
+    )
 
 enum-known-g-2 : tie.Need-enum-known-g-2 Inv-loop μ-loop
 enum-known-g-2 c = search needs
@@ -83,10 +110,25 @@ enum-known-g-2 c = search needs
 put-given-requires-2 : tie.Need-put-given-requires-2 Inv-loop μ-loop
 unfolding turnOf
 put-given-requires-2 c κs =
-    let l = c .before .before .before .before .before .before .before .loop in
-    let q = reached-ends _ _ _ _ _ (l .inv .1) _ (c .before .before .before .before .before .before .loop-test .taken) (rw (c .before .before .g2 .given .1) at (c .before .before .before .before .turn-on .ensures)) in
+    let pre = c .before .before .before .before .before .before .before .before .before .before .before .before .before .before .before .before .pre in
+    let args = c .before .before .before .before .before .before .before .before .before .before .before .before .before .before .before .before .args in
+    let part = c .before .before .before .before .before .before .before .before .before .before .before .part in
+    let put-bytes = c .before .before .before .before .before .before .before .before .before .before .put-bytes in
+    let loop = c .before .before .before .before .before .before .before .loop in
+    let loop-test = c .before .before .before .before .before .before .loop-test in
+    let turn-on = c .before .before .before .before .turn-on in
+    let g2 = c .before .before .g2 in
+    let q = reached-ends _ _ _ _ _ (loop .inv .1) _ (loop-test .taken) (rw (g2 .given .1) at (turn-on .ensures)) in
     let e = closed-decoded _ _ _ q in
-    omega (arith, simp length-append at (ap length e), l .inv .2, l .inv .4, c .before .before .before .before .before .before .before .before .before .before .before .before .before .before .before .before .pre .1, ap length (c .before .before .before .before .before .before .before .before .before .before .put-bytes .ensures), length-store (now (c .before .before .before .before .before .before .before .before .before .before .before .before .before .before .before .before .args .out)) (c .before .before .before .before .before .before .before .before .before .before .before .before .before .before .before .before .args .to) (now (c .before .before .before .before .before .before .before .before .before .before .before .part .result)))
+    omega (
+      arith,
+      simp length-append at (ap length e),
+      loop .inv .2,
+      loop .inv .4,
+      pre .1,
+      ap length (put-bytes .ensures),
+      length-store (now (args .out)) (args .to) (now (part .result)),
+    )
 
 same-length : tie.Need-same-length Inv-loop μ-loop
 same-length c = search needs
@@ -94,11 +136,21 @@ same-length c = search needs
 returns : tie.Need-returns Inv-loop μ-loop
 unfolding turnOf
 returns c =
-    let l = c .before .before .before .before .before .before .before .before .before .before .loop in
-    let q = reached-ends _ _ _ _ _ (l .inv .1) _ (c .before .before .before .before .before .before .before .before .before .loop-test .taken) (rw (c .before .before .before .before .before .g2 .given .1) at (c .before .before .before .before .before .before .before .turn-on .ensures)) in
+    let part = c .before .before .before .before .before .before .before .before .before .before .before .before .before .before .part in
+    let put-bytes = c .before .before .before .before .before .before .before .before .before .before .before .before .before .put-bytes in
+    let loop = c .before .before .before .before .before .before .before .before .before .before .loop in
+    let loop-test = c .before .before .before .before .before .before .before .before .before .loop-test in
+    let turn-on = c .before .before .before .before .before .before .before .turn-on in
+    let g2 = c .before .before .before .before .before .g2 in
+    let put-given2 = c .before .before .put-given2 in
+    let q = reached-ends _ _ _ _ _ (loop .inv .1) _ (loop-test .taken) (rw (g2 .given .1) at (turn-on .ensures)) in
     let e = closed-decoded _ _ _ q in
-    let p = c .before .before .put-given2 .ensures in
-    rw e (simp length-append (omega (arith, l .inv .2, p .0)), store-then _ _ _ _ _ _ _ (l .inv .3 _ (c .before .before .before .before .before .before .before .before .before .before .before .before .before .put-bytes .ensures ∙ ap (store _ _) (c .before .before .before .before .before .before .before .before .before .before .before .before .before .before .part .ensures))) (l .inv .2) (p .1))
+    let p = put-given2 .ensures in
+    rw e (
+      simp length-append (omega (arith, loop .inv .2, p .0)),
+      store-then _ _ _ _ _ _ _ (loop .inv .3 _ (put-bytes .ensures ∙ ap (store _ _) (part .ensures)))
+          (loop .inv .2) (p .1),
+    )
 
 enum-told : tie.Need-enum-told Inv-loop μ-loop
 enum-told c = search needs

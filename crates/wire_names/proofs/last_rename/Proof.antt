@@ -32,16 +32,27 @@ renames-requires c κs = omega arith
 
 returns : tie.Need-returns Inv-loop μ-loop
 returns c =
-    let e : c .before .before .before .loop .i ≡ suc (c .before .before .before .loop .i - 1) = omega arith in
-    sym (c .before .before .before .loop .inv .1 ∙ rename-here (now (c .before .before .before .before .before .args .rows)) (c .before .before .before .before .before .args .from) (c .before .before .before .before .before .args .m .0) (c .before .before .before .before .before .args .wire .0) (c .before .before .before .loop .i) (c .before .before .before .loop .i - 1) e _ (c .before .renames .ensures) (c .if1 .taken))
+    let args = c .before .before .before .before .before .args in
+    let loop = c .before .before .before .loop in
+    let e : loop .i ≡ suc (loop .i - 1) = omega arith in
+    sym
+    (loop .inv .1
+    ∙ rename-here (now (args .rows)) (args .from) (args .m .0) (args .wire .0) (loop .i) (loop .i - 1) e _
+    (c .before .renames .ensures) (c .if1 .taken))
 
 loop-less : tie.Need-loop-less Inv-loop μ-loop
 loop-less c = omega arith
 
 loop-again : tie.Need-loop-again Inv-loop μ-loop
 loop-again c =
-    let e : c .before .before .before .loop .i ≡ suc (c .before .before .before .loop .i - 1) = omega arith in
-    (omega arith, c .before .before .before .loop .inv .1 ∙ rename-before (now (c .before .before .before .before .before .args .rows)) (c .before .before .before .before .before .args .from) (c .before .before .before .before .before .args .m .0) (c .before .before .before .before .before .args .wire .0) (c .before .before .before .loop .i) (c .before .before .before .loop .i - 1) e _ (c .before .renames .ensures) (c .if1 .left))
+    let args = c .before .before .before .before .before .args in
+    let loop = c .before .before .before .loop in
+    let e : loop .i ≡ suc (loop .i - 1) = omega arith in (
+      omega arith,
+      loop .inv .1
+          ∙ rename-before (now (args .rows)) (args .from) (args .m .0) (args .wire .0) (loop .i) (loop .i - 1) e _
+          (c .before .renames .ensures) (c .if1 .left),
+    )
 
 returns-2 : tie.Need-returns-2 Inv-loop μ-loop
 returns-2 c = sym (c .before .loop .inv .1 ∙ rename-none (now (c .before .before .before .args .rows)) (c .before .before .before .args .from) (c .before .before .before .args .m .0) (c .before .before .before .args .wire .0) (c .before .loop .i) (omega arith))

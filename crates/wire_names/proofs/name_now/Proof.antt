@@ -17,7 +17,12 @@ bytes-at-requires c κs = search needs
 
 returns : tie.Need-returns
 unfolding nameBy
-returns c = c .bytes-at .ensures ∙ name-at (now (c .before .before .before .before .before .before .args .names)) (now (c .before .before .before .before .before .before .args .wires)) (now (c .before .before .before .before .before .before .args .rows)) (c .before .before .before .before .before .before .args .m .from) (c .before .before .before .before .before .before .args .m .number .0) (c .before .before .before .before .before .before .args .wire .0) (c .before .before .before .before .before .before .args .k) (c .before .before .before .before .before .before .args .m .renames) _ 0 (c .before .before .last-rename .ensures) (c .before .if1 .taken)
+returns c =
+    let args = c .before .before .before .before .before .before .args in
+    let last-rename = c .before .before .last-rename in
+    c .bytes-at .ensures
+    ∙ name-at (now (args .names)) (now (args .wires)) (now (args .rows)) (args .m .from) (args .m .number .0)
+    (args .wire .0) (args .k) (args .m .renames) _ 0 (last-rename .ensures) (c .before .if1 .taken)
 
 cast-bytes-at : tie.Need-cast-bytes-at
 cast-bytes-at c = search needs
@@ -37,8 +42,12 @@ bytes-at-requires-2 c κs = search needs
 returns-2 : tie.Need-returns-2
 unfolding nameBy
 returns-2 c =
-    let e : c .before .before .before .last-rename .result ≡ suc (c .before .before .before .last-rename .result - 1) = omega arith in
-    c .bytes-at2 .ensures ∙ name-at (now (c .before .before .before .before .before .before .before .args .names)) (now (c .before .before .before .before .before .before .before .args .wires)) (now (c .before .before .before .before .before .before .before .args .rows)) (c .before .before .before .before .before .before .before .args .m .from) (c .before .before .before .before .before .before .before .args .m .number .0) (c .before .before .before .before .before .before .before .args .wire .0) (c .before .before .before .before .before .before .before .args .k) (c .before .before .before .before .before .before .before .args .m .renames) _ _ (c .before .before .before .last-rename .ensures) e
+    let args = c .before .before .before .before .before .before .before .args in
+    let last-rename = c .before .before .before .last-rename in
+    let e : last-rename .result ≡ suc (last-rename .result - 1) = omega arith in
+    c .bytes-at2 .ensures
+    ∙ name-at (now (args .names)) (now (args .wires)) (now (args .rows)) (args .m .from) (args .m .number .0)
+    (args .wire .0) (args .k) (args .m .renames) _ _ (last-rename .ensures) e
 
 pub name-now-spec : {M : Type 1} → statement M
 name-now-spec =

@@ -30,7 +30,12 @@ add-all-digits : tie.Need-add-all-digits
 add-all-digits c = search needs
 
 all-digits-requires : tie.Need-all-digits-requires
-all-digits-requires c κs = whole-inside (now (c .before .before .before .before .before .args .bits)) (c .before .before .before .before .before .args .at) (c .before .before .before .before .before .args .size) (sym (c .before .before .before .is-whole .ensures (now (c .before .before .before .before .before .args .bits)) refl) ∙ not-false _ (c .before .before .if1 .left)) (omega arith)
+all-digits-requires c κs =
+    let args = c .before .before .before .before .before .args in
+    let is-whole = c .before .before .before .is-whole in
+    let if1 = c .before .before .if1 in
+    whole-inside (now (args .bits)) (args .at) (args .size)
+    (sym (is-whole .ensures (now (args .bits)) refl) ∙ not-false _ (if1 .left)) (omega arith)
 
 returns-4 : tie.Need-returns-4
 unfolding digitsStand

@@ -30,7 +30,14 @@ settle-requires c κs = search needs
 
 returns-3 : tie.Need-returns-3
 unfolding words row padded
-returns-3 c = port-settled _ _ _ _ _ _ (sym (c .before .before .before .before .before .name-stands .ensures) ∙ not-false _ (c .before .before .before .before .if1 .left)) (sym (c .before .before .signal-stands .ensures (now (c .before .before .before .before .before .before .before .before .before .args .names))) ∙ not-false _ (c .before .if2 .left)) _ refl _ (c .settle .ensures)
+returns-3 c =
+    let args = c .before .before .before .before .before .before .before .before .before .args in
+    let name-stands = c .before .before .before .before .before .name-stands in
+    let if1 = c .before .before .before .before .if1 in
+    let signal-stands = c .before .before .signal-stands in
+    port-settled _ _ _ _ _ _ (sym (name-stands .ensures) ∙ not-false _ (if1 .left))
+    (sym (signal-stands .ensures (now (args .names))) ∙ not-false _ (c .before .if2 .left)) _ refl _
+    (c .settle .ensures)
 
 pub cell-connection-at-spec : {M : Type 1} → statement M
 cell-connection-at-spec =

@@ -35,14 +35,31 @@ returns-3 : tie.Need-returns-3
 returns-3 c = connection-widths _ _ _ _ _ (c .if3 .taken)
 
 add-settle : tie.Need-add-settle
-add-settle c = omega (arith, signal-few _ _ _ _ (sym (c .before .before .before .before .before .before .before .before .signal-stands .ensures []) ∙ not-false _ (c .before .before .before .before .before .before .before .if1 .left)), signal-few _ _ _ _ (sym (c .before .before .before .before .signal-stands2 .ensures []) ∙ not-false _ (c .before .before .before .if2 .left)))
+add-settle c =
+    let signal-stands = c .before .before .before .before .before .before .before .before .signal-stands in
+    let if1 = c .before .before .before .before .before .before .before .if1 in
+    let signal-stands2 = c .before .before .before .before .signal-stands2 in
+    let if2 = c .before .before .before .if2 in
+    omega (
+      arith,
+      signal-few _ _ _ _ (sym (signal-stands .ensures []) ∙ not-false _ (if1 .left)),
+      signal-few _ _ _ _ (sym (signal-stands2 .ensures []) ∙ not-false _ (if2 .left)),
+    )
 
 settle-requires : tie.Need-settle-requires
 settle-requires c κs = search needs
 
 returns-4 : tie.Need-returns-4
 unfolding words row padded
-returns-4 c = connection-settled _ _ _ _ _ (λ names. sym (c .before .before .before .before .before .before .before .before .before .signal-stands .ensures names) ∙ not-false _ (c .before .before .before .before .before .before .before .before .if1 .left)) (λ names. sym (c .before .before .before .before .before .signal-stands2 .ensures names) ∙ not-false _ (c .before .before .before .before .if2 .left)) (c .before .before .if3 .left) _ refl _ (c .settle .ensures)
+returns-4 c =
+    let signal-stands = c .before .before .before .before .before .before .before .before .before .signal-stands in
+    let if1 = c .before .before .before .before .before .before .before .before .if1 in
+    let signal-stands2 = c .before .before .before .before .before .signal-stands2 in
+    let if2 = c .before .before .before .before .if2 in
+    let if3 = c .before .before .if3 in
+    connection-settled _ _ _ _ _ (λ names. sym (signal-stands .ensures names) ∙ not-false _ (if1 .left))
+    (λ names. sym (signal-stands2 .ensures names) ∙ not-false _ (if2 .left)) (if3 .left) _ refl _
+    (c .settle .ensures)
 
 pub connection-at-spec : {M : Type 1} → statement M
 connection-at-spec =

@@ -32,7 +32,14 @@ settle-requires c κs = search needs
 
 returns-5 : tie.Need-returns-5
 unfolding words row padded
-returns-5 c = memory-settled _ _ _ (sym (c .before .before .before .before .before .before .before .before .name-stands .ensures) ∙ not-false _ (c .before .before .before .before .before .before .before .if1 .left)) (within-yes 1 2048 _ (positive _ (c .before .before .before .before .before .if2 .left)) (c .before .before .before .if3 .left)) (le-leb _ _ (c .before .if4 .left)) (omega arith) _ refl _ (c .settle .ensures)
+returns-5 c =
+    let name-stands = c .before .before .before .before .before .before .before .before .name-stands in
+    let if1 = c .before .before .before .before .before .before .before .if1 in
+    let if2 = c .before .before .before .before .before .if2 in
+    let if3 = c .before .before .before .if3 in
+    memory-settled _ _ _ (sym (name-stands .ensures) ∙ not-false _ (if1 .left))
+    (within-yes 1 2048 _ (positive _ (if2 .left)) (if3 .left)) (le-leb _ _ (c .before .if4 .left)) (omega arith) _
+    refl _ (c .settle .ensures)
 
 pub memory-at-spec : {M : Type 1} → statement M
 memory-at-spec =

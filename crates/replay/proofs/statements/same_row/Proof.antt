@@ -8,6 +8,10 @@ use Rattle.tables.specs.Row.{words}
 use Rattle.replay.proofs.statements.same_row.Statement.{statement}
 use Rattle.replay.proofs.statements.same_row.Tie as tie
 
+-- Places that lie far back.
+abbrev at-else1 : tie.Else7 → tie.Else1
+at-else1 c = c .before .before .before .before .before .before .before .before .before .before .before .before .before .before .before .before .before .before
+
 returns : tie.Need-returns
 unfolding same words
 returns c = rw (ne-eqb _ _ (c .if1 .taken))
@@ -26,19 +30,69 @@ returns-4 c = rw (eq-eqb _ _ (c .before .before .before .before .before .before 
 
 returns-5 : tie.Need-returns-5
 unfolding same words
-returns-5 c = rw (eq-eqb _ _ (c .before .before .before .before .before .before .before .before .before .before .before .before .if1 .left), eq-eqb _ _ (c .before .before .before .before .before .before .before .before .before .if2 .left), eq-eqb _ _ (c .before .before .before .before .before .before .if3 .left), eq-eqb _ _ (c .before .before .before .if4 .left), ne-eqb _ _ (c .if5 .taken))
+returns-5 c =
+    let if1 = c .before .before .before .before .before .before .before .before .before .before .before .before .if1 in
+    let if2 = c .before .before .before .before .before .before .before .before .before .if2 in
+    let if3 = c .before .before .before .before .before .before .if3 in
+    let if4 = c .before .before .before .if4 in
+    rw
+    (eq-eqb _ _ (if1 .left), eq-eqb _ _ (if2 .left), eq-eqb _ _ (if3 .left), eq-eqb _ _ (if4 .left), ne-eqb _ _ (c .if5 .taken))
 
 returns-6 : tie.Need-returns-6
 unfolding same words
-returns-6 c = rw (eq-eqb _ _ (c .before .before .before .before .before .before .before .before .before .before .before .before .before .before .before .if1 .left), eq-eqb _ _ (c .before .before .before .before .before .before .before .before .before .before .before .before .if2 .left), eq-eqb _ _ (c .before .before .before .before .before .before .before .before .before .if3 .left), eq-eqb _ _ (c .before .before .before .before .before .before .if4 .left), eq-eqb _ _ (c .before .before .before .if5 .left), ne-eqb _ _ (c .if6 .taken))
+returns-6 c =
+    let if1 = c .before .before .before .before .before .before .before .before .before .before .before .before .before .before .before .if1 in
+    let if2 = c .before .before .before .before .before .before .before .before .before .before .before .before .if2 in
+    let if3 = c .before .before .before .before .before .before .before .before .before .if3 in
+    let if4 = c .before .before .before .before .before .before .if4 in
+    let if5 = c .before .before .before .if5 in
+    rw (
+      eq-eqb _ _ (if1 .left),
+      eq-eqb _ _ (if2 .left),
+      eq-eqb _ _ (if3 .left),
+      eq-eqb _ _ (if4 .left),
+      eq-eqb _ _ (if5 .left),
+      ne-eqb _ _ (c .if6 .taken),
+    )
 
 returns-7 : tie.Need-returns-7
 unfolding same words
-returns-7 c = rw (eq-eqb _ _ (c .before .before .before .before .before .before .before .before .before .before .before .before .before .before .before .before .before .before .if1 .left), eq-eqb _ _ (c .before .before .before .before .before .before .before .before .before .before .before .before .before .before .before .if2 .left), eq-eqb _ _ (c .before .before .before .before .before .before .before .before .before .before .before .before .if3 .left), eq-eqb _ _ (c .before .before .before .before .before .before .before .before .before .if4 .left), eq-eqb _ _ (c .before .before .before .before .before .before .if5 .left), eq-eqb _ _ (c .before .before .before .if6 .left), ne-eqb _ _ (c .if7 .taken))
+returns-7 c =
+    let if1 = c .before .before .before .before .before .before .before .before .before .before .before .before .before .before .before .before .before .before .if1 in
+    let if2 = c .before .before .before .before .before .before .before .before .before .before .before .before .before .before .before .if2 in
+    let if3 = c .before .before .before .before .before .before .before .before .before .before .before .before .if3 in
+    let if4 = c .before .before .before .before .before .before .before .before .before .if4 in
+    let if5 = c .before .before .before .before .before .before .if5 in
+    let if6 = c .before .before .before .if6 in
+    rw (
+      eq-eqb _ _ (if1 .left),
+      eq-eqb _ _ (if2 .left),
+      eq-eqb _ _ (if3 .left),
+      eq-eqb _ _ (if4 .left),
+      eq-eqb _ _ (if5 .left),
+      eq-eqb _ _ (if6 .left),
+      ne-eqb _ _ (c .if7 .taken),
+    )
 
 returns-8 : tie.Need-returns-8
 unfolding same words
-returns-8 c = rw (eq-eqb _ _ (c .before .before .before .before .before .before .before .before .before .before .before .before .before .before .before .before .before .before .before .before .if1 .left), eq-eqb _ _ (c .before .before .before .before .before .before .before .before .before .before .before .before .before .before .before .before .before .if2 .left), eq-eqb _ _ (c .before .before .before .before .before .before .before .before .before .before .before .before .before .before .if3 .left), eq-eqb _ _ (c .before .before .before .before .before .before .before .before .before .before .before .if4 .left), eq-eqb _ _ (c .before .before .before .before .before .before .before .before .if5 .left), eq-eqb _ _ (c .before .before .before .before .before .if6 .left), eq-eqb _ _ (c .before .before .if7 .left)) (sym (and-true _))
+returns-8 c =
+    let if1 = at-else1 (c .before .before) .if1 in
+    let if2 = c .before .before .before .before .before .before .before .before .before .before .before .before .before .before .before .before .before .if2 in
+    let if3 = c .before .before .before .before .before .before .before .before .before .before .before .before .before .before .if3 in
+    let if4 = c .before .before .before .before .before .before .before .before .before .before .before .if4 in
+    let if5 = c .before .before .before .before .before .before .before .before .if5 in
+    let if6 = c .before .before .before .before .before .if6 in
+    let if7 = c .before .before .if7 in
+    rw (
+      eq-eqb _ _ (if1 .left),
+      eq-eqb _ _ (if2 .left),
+      eq-eqb _ _ (if3 .left),
+      eq-eqb _ _ (if4 .left),
+      eq-eqb _ _ (if5 .left),
+      eq-eqb _ _ (if6 .left),
+      eq-eqb _ _ (if7 .left),
+    ) (sym (and-true _))
 
 pub same-row-spec : {M : Type 1} → statement M
 same-row-spec =

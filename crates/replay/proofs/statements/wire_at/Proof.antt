@@ -33,7 +33,16 @@ settle-requires c κs = search needs
 
 returns-4 : tie.Need-returns-4
 unfolding words row padded
-returns-4 c = wire-settled _ _ _ _ _ (sym (c .before .before .before .before .before .before .name-stands .ensures) ∙ not-false _ (c .before .before .before .before .before .if1 .left)) _ (c .before .before .before .before .wire-row-stands .ensures) (not-false _ (c .before .before .before .if2 .left)) (sym (c .before .before .wire-fits .ensures (now (c .before .before .before .before .before .before .before .before .before .args .names))) ∙ not-false _ (c .before .if3 .left)) _ refl _ (c .settle .ensures)
+returns-4 c =
+    let args = c .before .before .before .before .before .before .before .before .before .args in
+    let name-stands = c .before .before .before .before .before .before .name-stands in
+    let if1 = c .before .before .before .before .before .if1 in
+    let wire-row-stands = c .before .before .before .before .wire-row-stands in
+    let if2 = c .before .before .before .if2 in
+    let wire-fits = c .before .before .wire-fits in
+    wire-settled _ _ _ _ _ (sym (name-stands .ensures) ∙ not-false _ (if1 .left)) _ (wire-row-stands .ensures)
+    (not-false _ (if2 .left)) (sym (wire-fits .ensures (now (args .names))) ∙ not-false _ (c .before .if3 .left))
+    _ refl _ (c .settle .ensures)
 
 pub wire-at-spec : {M : Type 1} → statement M
 wire-at-spec =

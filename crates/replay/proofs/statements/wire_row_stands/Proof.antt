@@ -41,7 +41,15 @@ same-row-requires c κs = search needs
 
 returns-4 : tie.Need-returns-4
 unfolding words
-returns-4 c = wire-row-settled _ _ _ (c .before .before .before .before .before .before .before .if1 .left) _ (c .before .before .before .before .before .before .get-row .ensures) (c .before .before .before .before .if2 .left) (sym (c .before .before .before .port-number-stands .ensures) ∙ not-false _ (c .before .before .if3 .left)) (omega arith) _ (rw (c .before .last-module .ensures)) _ (c .same-row .ensures)
+returns-4 c =
+    let if1 = c .before .before .before .before .before .before .before .if1 in
+    let get-row = c .before .before .before .before .before .before .get-row in
+    let if2 = c .before .before .before .before .if2 in
+    let port-number-stands = c .before .before .before .port-number-stands in
+    let if3 = c .before .before .if3 in
+    wire-row-settled _ _ _ (if1 .left) _ (get-row .ensures) (if2 .left)
+    (sym (port-number-stands .ensures) ∙ not-false _ (if3 .left)) (omega arith) _
+    (rw (c .before .last-module .ensures)) _ (c .same-row .ensures)
 
 pub wire-row-stands-spec : {M : Type 1} → statement M
 wire-row-stands-spec =

@@ -30,19 +30,43 @@ kind-sizes-requires : tie.Need-kind-sizes-requires
 kind-sizes-requires c κs = search needs
 
 plus-requires : tie.Need-plus-requires
-plus-requires c κs = (within-small _ 2147483647 (omega arith) (c .before .before .before .before .before .before .before .before .before .before .pre .0 .within), told-small _ _ _ _ _ _ (c .before .before .before .before .before .before .before .before .before .before .pre .1 .0) (kind-sizes-are _ _ _ _ _ _ (c .kind-sizes .ensures)) (sym (c .before .before .small-parts .ensures) ∙ not-false _ (c .before .if2 .left)))
+plus-requires c κs =
+    let pre = c .before .before .before .before .before .before .before .before .before .before .pre in
+    let small-parts = c .before .before .small-parts in (
+      within-small _ 2147483647 (omega arith) (pre .0 .within),
+      told-small _ _ _ _ _ _ (pre .1 .0) (kind-sizes-are _ _ _ _ _ _ (c .kind-sizes .ensures))
+          (sym (small-parts .ensures) ∙ not-false _ (c .before .if2 .left)),
+    )
 
 within-requires : tie.Need-within-requires
 within-requires c κs = search needs
 
 returns-3 : tie.Need-returns-3
-returns-3 c = counted-exceeds _ _ _ _ _ _ _ _ _ _ (c .before .before .before .before .before .before .before .before .row-name .ensures) (c .before .before .before .before .before .before .before .indexed-found .ensures) _ (kind-sizes-are _ _ _ _ _ _ (c .before .before .before .kind-sizes .ensures)) _ (c .before .before .plus .ensures) (c .before .within .ensures) (not-true _ (c .if3 .taken))
+returns-3 c =
+    let row-name = c .before .before .before .before .before .before .before .before .row-name in
+    let indexed-found = c .before .before .before .before .before .before .before .indexed-found in
+    let kind-sizes = c .before .before .before .kind-sizes in
+    let plus = c .before .before .plus in
+    counted-exceeds _ _ _ _ _ _ _ _ _ _ (row-name .ensures) (indexed-found .ensures) _
+    (kind-sizes-are _ _ _ _ _ _ (kind-sizes .ensures)) _ (plus .ensures) (c .before .within .ensures)
+    (not-true _ (c .if3 .taken))
 
 after-requires : tie.Need-after-requires
-after-requires c κs = (omega (arith, c .before .before .before .before .before .before .before .before .before .before .before .before .before .pre .0 .few), c .before .before .before .before .before .before .before .before .before .before .before .before .before .pre .0 .bounds)
+after-requires c κs =
+    let pre = c .before .before .before .before .before .before .before .before .before .before .before .before .before .pre in
+    (omega (arith, pre .0 .few), pre .0 .bounds)
 
 returns-4 : tie.Need-returns-4
-returns-4 c = counted-next _ _ _ _ _ _ _ _ _ _ (c .before .before .before .before .before .before .before .before .before .row-name .ensures) (c .before .before .before .before .before .before .before .before .indexed-found .ensures) _ (kind-sizes-are _ _ _ _ _ _ (c .before .before .before .before .kind-sizes .ensures)) _ (c .before .before .before .plus .ensures) (c .before .before .within .ensures) (c .before .before .before .before .before .before .before .if1 .left) (not-false _ (c .before .if3 .left)) _ (after-is _ _ _ (c .after .ensures))
+returns-4 c =
+    let row-name = c .before .before .before .before .before .before .before .before .before .row-name in
+    let indexed-found = c .before .before .before .before .before .before .before .before .indexed-found in
+    let if1 = c .before .before .before .before .before .before .before .if1 in
+    let kind-sizes = c .before .before .before .before .kind-sizes in
+    let plus = c .before .before .before .plus in
+    let within = c .before .before .within in
+    counted-next _ _ _ _ _ _ _ _ _ _ (row-name .ensures) (indexed-found .ensures) _
+    (kind-sizes-are _ _ _ _ _ _ (kind-sizes .ensures)) _ (plus .ensures) (within .ensures) (if1 .left)
+    (not-false _ (c .before .if3 .left)) _ (after-is _ _ _ (c .after .ensures))
 
 pub counted-spec : {M : Type 1} → statement M
 counted-spec =

@@ -36,19 +36,46 @@ used-from-requires : tie.Need-used-from-requires
 used-from-requires c κs = c .before .before .before .before .before .before .before .before .before .before .before .before .pre .0 .within
 
 statement-at-requires : tie.Need-statement-at-requires
-statement-at-requires c κs = (small-used (usedOf (c .used-from .result)) (c .before .before .before .before .before .before .before .before .before .before .before .before .before .args .p) (c .before .before .before .before .before .before .before .before .before .before .before .before .before .args .u) (c .used-from .ensures) (c .before .before .before .before .before .before .before .before .before .before .before .before .before .pre .0 .within), wires-fit (usedOf (c .used-from .result)) (c .before .before .before .before .before .before .before .before .before .before .before .before .before .args .p) (c .before .before .before .before .before .before .before .before .before .before .before .before .before .args .u) (c .used-from .ensures) (c .before .before .before .before .before .before .before .before .before .before .before .before .before .pre .0 .bounds))
+statement-at-requires c κs =
+    let args = c .before .before .before .before .before .before .before .before .before .before .before .before .before .args in
+    let pre = c .before .before .before .before .before .before .before .before .before .before .before .before .before .pre in (
+      small-used (usedOf (c .used-from .result)) (args .p) (args .u) (c .used-from .ensures) (pre .0 .within),
+      wires-fit (usedOf (c .used-from .result)) (args .p) (args .u) (c .used-from .ensures) (pre .0 .bounds),
+    )
 
 enum-known-f : tie.Need-enum-known-f
 enum-known-f c = search needs
 
 counted-requires : tie.Need-counted-requires
-counted-requires c κs = (c .before .before .before .before .before .before .before .before .before .before .before .before .before .before .before .before .before .pre .0, (turn-told (partTables (now (c .before .before .before .before .before .before .before .before .before .before .before .before .before .before .before .before .before .args .names)) (now (c .before .before .before .before .before .before .before .before .before .before .before .before .before .before .before .before .before .args .strings)) (now (c .before .before .before .before .before .before .before .before .before .before .before .before .before .before .before .before .before .args .bits)) (now (c .before .before .before .before .before .before .before .before .before .before .before .before .before .before .before .before .before .args .wires))) (now (c .before .before .before .before .before .before .before .before .before .before .before .before .before .before .before .before .before .args .rows)) (c .before .before .before .before .before .before .before .before .before .before .before .before .before .before .before .before .before .args .p) (c .before .before .before .before .before .before .before .before .before .before .before .before .before .before .before .before .before .args .u) (c .before .before .before .before .before .before .before .get-row .result) (c .before .before .before .before .before .before .before .get-row .ensures) (usedOf (c .before .before .before .before .used-from .result)) (c .before .before .before .before .used-from .ensures) (c .before .before .before .statement-at .result) (c .before .before .before .statement-at .ensures) _ _ _ _ (c .before .f .given .1), c .before .before .before .before .before .before .before .before .before .before .before .before .before .before .before .before .before .pre .1))
+counted-requires c κs =
+    let pre = c .before .before .before .before .before .before .before .before .before .before .before .before .before .before .before .before .before .pre in
+    let args = c .before .before .before .before .before .before .before .before .before .before .before .before .before .before .before .before .before .args in
+    let get-row = c .before .before .before .before .before .before .before .get-row in
+    let used-from = c .before .before .before .before .used-from in
+    let statement-at = c .before .before .before .statement-at in (
+      pre .0,
+      (
+        turn-told (partTables (now (args .names)) (now (args .strings)) (now (args .bits)) (now (args .wires)))
+            (now (args .rows)) (args .p) (args .u) (get-row .result) (get-row .ensures) (usedOf (used-from .result))
+            (used-from .ensures) (statement-at .result) (statement-at .ensures) _ _ _ _ (c .before .f .given .1),
+        pre .1,
+      ),
+    )
 
 enum-told : tie.Need-enum-told
 enum-told c = search needs
 
 returns-3 : tie.Need-returns-3
-returns-3 c = turn-counted _ _ _ _ _ (c .before .before .before .before .before .before .before .before .get-row .ensures) _ (c .before .before .before .before .before .used-from .ensures) _ (c .before .before .before .before .statement-at .ensures) _ _ _ _ (c .before .before .f .given .1) (c .before .before .before .before .before .before .before .before .before .if1 .left) (sym (c .before .before .before .before .before .before .before .stands-at .ensures) ∙ not-false _ (c .before .before .before .before .before .before .if2 .left)) _ (c .counted .ensures _ _ _)
+returns-3 c =
+    let if1 = c .before .before .before .before .before .before .before .before .before .if1 in
+    let get-row = c .before .before .before .before .before .before .before .before .get-row in
+    let stands-at = c .before .before .before .before .before .before .before .stands-at in
+    let if2 = c .before .before .before .before .before .before .if2 in
+    let used-from = c .before .before .before .before .before .used-from in
+    let statement-at = c .before .before .before .before .statement-at in
+    let f = c .before .before .f in
+    turn-counted _ _ _ _ _ (get-row .ensures) _ (used-from .ensures) _ (statement-at .ensures) _ _ _ _ (f .given .1)
+    (if1 .left) (sym (stands-at .ensures) ∙ not-false _ (if2 .left)) _ (c .counted .ensures _ _ _)
 
 returns-4 : tie.Need-returns-4
 returns-4 c = turn-not _ _ _ _ _ (c .before .before .before .before .before .before .get-row .ensures) _ (c .before .before .before .used-from .ensures) _ (c .before .before .statement-at .ensures) (c .enum-told .given .1)

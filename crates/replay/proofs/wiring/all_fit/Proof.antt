@@ -35,7 +35,13 @@ bit-fits-requires : tie.Need-bit-fits-requires Inv-loop μ-loop
 bit-fits-requires c κs = search needs
 
 returns : tie.Need-returns Inv-loop μ-loop
-returns c names = sym (c .before .before .before .before .loop .inv names ∙ all-stop _ (now (c .before .before .before .before .before .before .before .args .bits)) (c .before .before .before .before .loop .i) (c .before .before .before .before .before .before .before .args .to) (omega arith) (omega arith) (sym (c .before .bit-fits .ensures names) ∙ not-true _ (c .if1 .taken)))
+returns c names =
+    let args = c .before .before .before .before .before .before .before .args in
+    let loop = c .before .before .before .before .loop in
+    sym
+    (loop .inv names
+    ∙ all-stop _ (now (args .bits)) (loop .i) (args .to) (omega arith) (omega arith)
+    (sym (c .before .bit-fits .ensures names) ∙ not-true _ (c .if1 .taken)))
 
 add-i : tie.Need-add-i Inv-loop μ-loop
 add-i c = omega arith
@@ -44,7 +50,12 @@ loop-less : tie.Need-loop-less Inv-loop μ-loop
 loop-less c = omega arith
 
 loop-again : tie.Need-loop-again Inv-loop μ-loop
-loop-again c names = c .before .before .before .before .loop .inv names ∙ all-more _ (now (c .before .before .before .before .before .before .before .args .bits)) (c .before .before .before .before .loop .i) (c .before .before .before .before .before .before .before .args .to) (omega arith) (omega arith) (sym (c .before .bit-fits .ensures names) ∙ not-false _ (c .if1 .left))
+loop-again c names =
+    let args = c .before .before .before .before .before .before .before .args in
+    let loop = c .before .before .before .before .loop in
+    loop .inv names
+    ∙ all-more _ (now (args .bits)) (loop .i) (args .to) (omega arith) (omega arith)
+    (sym (c .before .bit-fits .ensures names) ∙ not-false _ (c .if1 .left))
 
 returns-2 : tie.Need-returns-2 Inv-loop μ-loop
 returns-2 c names = sym (c .before .loop .inv names ∙ all-end _ (now (c .before .before .before .before .args .bits)) (c .before .loop .i) (c .before .before .before .before .args .to) (omega arith))
