@@ -17,6 +17,10 @@ use Rattle.name_index.proofs.put.Reads as put-reads
 use Rattle.name_index.proofs.row_key.Reads as row-key-reads
 use Rattle.wires.proofs.bytes_at.Reads as bytes-at-reads
 
+-- Places that lie far back.
+abbrev at-entry : tie.After-put2 → tie.Start
+at-entry c = c .before .before .before .before .before .before .before .before .before .before .before .before .before .before .before .before .before .before .before
+
 -- src/lib.rt:153:9
 row-key-requires : tie.Need-row-key-requires
 row-key-requires c κs = search needs
@@ -27,7 +31,10 @@ add-put c = search needs
 
 -- src/lib.rt:154:5
 put-requires : tie.Need-put-requires
-put-requires c κs = (row-fits _ _ _ _ _ _ _ (c .before .before .before .before .before .before .before .before .pre .0) _ (c .before .before .row-key .ensures), omega (arith, c .before .before .before .before .before .before .before .before .pre .0 .chain-long, c .before .before .before .before .before .before .before .before .pre .1))
+put-requires c κs =
+    let pre = c .before .before .before .before .before .before .before .before .pre in
+    let row-key = c .before .before .row-key in
+    (row-fits _ _ _ _ _ _ _ (pre .0) _ (row-key .ensures), omega (arith, pre .0 .chain-long, pre .1))
 
 -- src/lib.rt:156:9
 same-length : tie.Need-same-length
@@ -39,7 +46,12 @@ same-length-2 c = search needs
 
 -- src/lib.rt:156:9
 returns : tie.Need-returns
-returns c = line-plain _ _ (c .if1 .taken) (line-row _ _ _ _ _ _ _ (c .before .before .before .before .before .before .before .before .before .before .before .before .before .before .pre .0) _ (c .before .before .before .before .before .before .before .before .row-key .ensures) (c .before .before .before .before .before .before .before .before .before .before .before .before .before .before .pre .1 .0) _ _ (c .before .before .before .before .before .put .ensures .0) (c .before .before .before .before .before .put .ensures .1))
+returns c =
+    let pre = c .before .before .before .before .before .before .before .before .before .before .before .before .before .before .pre in
+    let row-key = c .before .before .before .before .before .before .before .before .row-key in
+    let put = c .before .before .before .before .before .put in
+    line-plain _ _ (c .if1 .taken)
+    (line-row _ _ _ _ _ _ _ (pre .0) _ (row-key .ensures) (pre .1 .0) _ _ (put .ensures .0) (put .ensures .1))
 
 -- src/lib.rt:158:18
 bytes-at-requires : tie.Need-bytes-at-requires
@@ -64,7 +76,18 @@ add-put-4 c = search needs
 -- src/lib.rt:159:5
 put-requires-2 : tie.Need-put-requires-2
 unfolding wireKey nameOf
-put-requires-2 c κs = (wire-fits _ _ _ _ _ _ _ (line-row _ _ _ _ _ _ _ (c .before .before .before .before .before .before .before .before .before .before .before .before .before .before .before .before .before .before .pre .0) _ (c .before .before .before .before .before .before .before .before .before .before .before .before .row-key .ensures) (c .before .before .before .before .before .before .before .before .before .before .before .before .before .before .before .before .before .before .pre .1 .0) _ _ (c .before .before .before .before .before .before .before .before .before .put .ensures .0) (c .before .before .before .before .before .before .before .before .before .put .ensures .1)) _ (c .before .before .hash .ensures ∙ ap hashOf (c .before .before .before .bytes-at .ensures)), omega (arith, (line-row _ _ _ _ _ _ _ (c .before .before .before .before .before .before .before .before .before .before .before .before .before .before .before .before .before .before .pre .0) _ (c .before .before .before .before .before .before .before .before .before .before .before .before .row-key .ensures) (c .before .before .before .before .before .before .before .before .before .before .before .before .before .before .before .before .before .before .pre .1 .0) _ _ (c .before .before .before .before .before .before .before .before .before .put .ensures .0) (c .before .before .before .before .before .before .before .before .before .put .ensures .1)) .chain-long, c .before .before .before .before .before .before .before .before .before .before .before .before .before .before .before .before .before .before .pre .1))
+put-requires-2 c κs =
+    let pre = c .before .before .before .before .before .before .before .before .before .before .before .before .before .before .before .before .before .before .pre in
+    let row-key = c .before .before .before .before .before .before .before .before .before .before .before .before .row-key in
+    let put = c .before .before .before .before .before .before .before .before .before .put in
+    let bytes-at = c .before .before .before .bytes-at in
+    let hash = c .before .before .hash in (
+      wire-fits _ _ _ _ _ _ _
+          (line-row _ _ _ _ _ _ _ (pre .0) _ (row-key .ensures) (pre .1 .0) _ _ (put .ensures .0) (put .ensures .1)) _
+          (hash .ensures ∙ ap hashOf (bytes-at .ensures)),
+      omega
+          (arith, (line-row _ _ _ _ _ _ _ (pre .0) _ (row-key .ensures) (pre .1 .0) _ _ (put .ensures .0) (put .ensures .1)) .chain-long, pre .1),
+    )
 
 -- src/lib.rt:139:1
 same-length-3 : tie.Need-same-length-3
@@ -77,7 +100,19 @@ same-length-4 c = search needs
 -- src/lib.rt:139:1
 returns-2 : tie.Need-returns-2
 unfolding wireKey nameOf
-returns-2 c = line-declared _ _ (c .before .before .before .before .before .before .before .before .before .if1 .left) (line-wire _ _ _ _ _ _ _ (line-row _ _ _ _ _ _ _ (c .before .before .before .before .before .before .before .before .before .before .before .before .before .before .before .before .before .before .before .before .before .before .before .pre .0) _ (c .before .before .before .before .before .before .before .before .before .before .before .before .before .before .before .before .before .row-key .ensures) (c .before .before .before .before .before .before .before .before .before .before .before .before .before .before .before .before .before .before .before .before .before .before .before .pre .1 .0) _ _ (c .before .before .before .before .before .before .before .before .before .before .before .before .before .before .put .ensures .0) (c .before .before .before .before .before .before .before .before .before .before .before .before .before .before .put .ensures .1)) _ (c .before .before .before .before .before .before .before .hash .ensures ∙ ap hashOf (c .before .before .before .before .before .before .before .before .bytes-at .ensures)) (omega (arith, c .before .before .before .before .before .before .before .before .before .before .before .before .before .before .before .before .before .before .before .before .before .before .before .pre .1)) (c .before .before .before .before .before .before .before .before .before .before .before .before .before .before .before .before .before .before .before .before .before .before .before .pre .1 .1) _ _ (c .before .before .before .before .put2 .ensures .0) (c .before .before .before .before .put2 .ensures .1))
+returns-2 c =
+    let pre = at-entry (c .before .before .before .before) .pre in
+    let row-key = c .before .before .before .before .before .before .before .before .before .before .before .before .before .before .before .before .before .row-key in
+    let put = c .before .before .before .before .before .before .before .before .before .before .before .before .before .before .put in
+    let if1 = c .before .before .before .before .before .before .before .before .before .if1 in
+    let bytes-at = c .before .before .before .before .before .before .before .before .bytes-at in
+    let hash = c .before .before .before .before .before .before .before .hash in
+    let put2 = c .before .before .before .before .put2 in
+    line-declared _ _ (if1 .left)
+    (line-wire _ _ _ _ _ _ _
+    (line-row _ _ _ _ _ _ _ (pre .0) _ (row-key .ensures) (pre .1 .0) _ _ (put .ensures .0) (put .ensures .1)) _
+    (hash .ensures ∙ ap hashOf (bytes-at .ensures)) (omega (arith, pre .1)) (pre .1 .1) _ _ (put2 .ensures .0)
+    (put2 .ensures .1))
 
 pub index-line-spec : {M : Type 1} → statement M
 index-line-spec =

@@ -24,7 +24,13 @@ same-length-2 : tie.Need-same-length-2
 same-length-2 c = search needs
 
 returns : tie.Need-returns
-returns c = (row-put _ _ _ _ _ _ (c .before .before .before .before .before .before .before .before .before .before .before .before .pre .0) (c .before .before .before .before .before .before .before .row-key .ensures) (c .before .before .before .before .before .before .before .before .before .before .before .before .pre .1 .0) _ _ (c .before .before .before .before .put .ensures .0) (c .before .before .before .before .put .ensures .1), ap length (c .before .before .before .before .put .ensures .1) ∙ simp length-set)
+returns c =
+    let pre = c .before .before .before .before .before .before .before .before .before .before .before .before .pre in
+    let row-key = c .before .before .before .before .before .before .before .row-key in
+    let put = c .before .before .before .before .put in (
+      row-put _ _ _ _ _ _ (pre .0) (row-key .ensures) (pre .1 .0) _ _ (put .ensures .0) (put .ensures .1),
+      ap length (put .ensures .1) ∙ simp length-set,
+    )
 
 pub index-row-spec : {M : Type 1} → statement M
 index-row-spec = tie.close (tie.spec row-key-requires add-put put-requires same-length same-length-2 returns)

@@ -30,7 +30,11 @@ mul-at : tie.Need-mul-at Inv-loop μ-loop
 mul-at c = omega (arith, c .hash .ensures, hash-less (c .before .before .before .before .before .before .args .name .now))
 
 shared-slice-read-at : tie.Need-shared-slice-read-at Inv-loop μ-loop
-shared-slice-read-at c = omega (arith, c .before .hash .ensures, hash-less (c .before .before .before .before .before .before .before .args .name .now), c .before .before .before .before .before .before .before .pre .indexed .keys, length-drop keyCount (c .before .before .before .before .before .before .before .args .heads .now))
+shared-slice-read-at c =
+    let args = c .before .before .before .before .before .before .before .args in
+    let pre = c .before .before .before .before .before .before .before .pre in
+    omega
+    (arith, c .before .hash .ensures, hash-less (args .name .now), pre .indexed .keys, length-drop keyCount (args .heads .now))
 
 loop-holds : tie.Need-loop-holds Inv-loop μ-loop
 loop-holds c = wire-first _ _ _ _ _ _ _ (c .before .before .before .before .before .before .before .pre) _ (c .before .hash .ensures)
@@ -55,7 +59,16 @@ column-requires c κs = omega arith
 
 returns : tie.Need-returns Inv-loop μ-loop
 unfolding widthFound foundOf wireOf nameOf
-returns c = ap widthFound (wire-found _ _ _ _ _ _ _ (c .before .before .before .before .before .before .before .before .before .before .before .before .before .pre) _ (c .before .before .before .before .before .loop .inv) (c .before .before .before .before .loop-test .taken) _ _ (c .before .before .before .bytes-at .ensures) (c .before .before .same-bytes .ensures) (c .before .if1 .taken)) ∙ ap (λ (w : ℕ). some (c .before .before .before .before .before .loop .at - 1 - c .before .before .before .before .before .before .before .before .before .before .before .before .before .args .first, w)) (sym (c .column .ensures))
+returns c =
+    let pre = c .before .before .before .before .before .before .before .before .before .before .before .before .before .pre in
+    let args = c .before .before .before .before .before .before .before .before .before .before .before .before .before .args in
+    let loop = c .before .before .before .before .before .loop in
+    let loop-test = c .before .before .before .before .loop-test in
+    let bytes-at = c .before .before .before .bytes-at in
+    let same-bytes = c .before .before .same-bytes in
+    ap widthFound
+    (wire-found _ _ _ _ _ _ _ pre _ (loop .inv) (loop-test .taken) _ _ (bytes-at .ensures) (same-bytes .ensures) (c .before .if1 .taken))
+    ∙ ap (λ (w : ℕ). some (loop .at - 1 - args .first, w)) (sym (c .column .ensures))
 
 add-at-2 : tie.Need-add-at-2 Inv-loop μ-loop
 add-at-2 c = omega (arith, c .before .before .before .before .loop .inv .below)
@@ -64,14 +77,29 @@ mul-at-2 : tie.Need-mul-at-2 Inv-loop μ-loop
 mul-at-2 c = omega (arith, c .before .before .before .before .loop .inv .below)
 
 shared-slice-read-at-2 : tie.Need-shared-slice-read-at-2 Inv-loop μ-loop
-shared-slice-read-at-2 c = omega (arith, c .before .before .before .before .before .loop .inv .below, c .before .before .before .before .before .before .before .before .before .before .before .before .before .pre .indexed .room, length-drop rowRoom (c .before .before .before .before .before .before .before .before .before .before .before .before .before .args .chain .now))
+shared-slice-read-at-2 c =
+    let pre = c .before .before .before .before .before .before .before .before .before .before .before .before .before .pre in
+    let args = c .before .before .before .before .before .before .before .before .before .before .before .before .before .args in
+    let loop = c .before .before .before .before .before .loop in
+    omega (arith, loop .inv .below, pre .indexed .room, length-drop rowRoom (args .chain .now))
 
 loop-less : tie.Need-loop-less Inv-loop μ-loop
-loop-less c = wire-less _ _ _ _ _ _ _ (c .before .before .before .before .before .before .before .before .before .before .before .before .before .pre) _ (c .before .before .before .before .before .loop .inv) (c .before .before .before .before .loop-test .taken)
+loop-less c =
+    let pre = c .before .before .before .before .before .before .before .before .before .before .before .before .before .pre in
+    let loop = c .before .before .before .before .before .loop in
+    let loop-test = c .before .before .before .before .loop-test in
+    wire-less _ _ _ _ _ _ _ pre _ (loop .inv) (loop-test .taken)
 
 loop-again : tie.Need-loop-again Inv-loop μ-loop
 unfolding nameOf
-loop-again c = wire-next _ _ _ _ _ _ _ (c .before .before .before .before .before .before .before .before .before .before .before .before .before .pre) _ (c .before .before .before .before .before .loop .inv) (c .before .before .before .before .loop-test .taken) _ _ (c .before .before .before .bytes-at .ensures) (c .before .before .same-bytes .ensures) (c .before .if1 .left)
+loop-again c =
+    let pre = c .before .before .before .before .before .before .before .before .before .before .before .before .before .pre in
+    let loop = c .before .before .before .before .before .loop in
+    let loop-test = c .before .before .before .before .loop-test in
+    let bytes-at = c .before .before .before .bytes-at in
+    let same-bytes = c .before .before .same-bytes in
+    wire-next _ _ _ _ _ _ _ pre _ (loop .inv) (loop-test .taken) _ _ (bytes-at .ensures) (same-bytes .ensures)
+    (c .before .if1 .left)
 
 returns-2 : tie.Need-returns-2 Inv-loop μ-loop
 unfolding widthFound foundOf

@@ -37,7 +37,10 @@ pick-requires-6 : tie.Need-pick-requires-6
 pick-requires-6 c κs = search needs
 
 add-t17 : tie.Need-add-t17
-add-t17 c = omega (arith, c .before .before .before .before .before .before .before .before .before .before .pre, c .before .pick6 .ensures, cond-le (eqb (c .before .before .before .before .before .before .before .before .before .before .args .kind) 3) 1)
+add-t17 c =
+    let pre = c .before .before .before .before .before .before .before .before .before .before .pre in
+    let args = c .before .before .before .before .before .before .before .before .before .before .args in
+    omega (arith, pre, c .before .pick6 .ensures, cond-le (eqb (args .kind) 3) 1)
 
 returns : tie.Need-returns
 unfolding placeAfter

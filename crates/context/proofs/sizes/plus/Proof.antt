@@ -5,6 +5,10 @@ use Rattle.context.specs.Sizes.{plusOf}
 use Rattle.context.proofs.sizes.plus.Statement.{statement}
 use Rattle.context.proofs.sizes.plus.Tie as tie
 
+-- Places that lie far back.
+abbrev at-entry : tie.After-struct-known19 → tie.Start
+at-entry c = c .before .before .before .before .before .before .before .before .before .before .before .before .before .before .before .before .before .before .before
+
 add-t3 : tie.Need-add-t3
 add-t3 c = omega (arith, c .before .before .pre)
 
@@ -33,13 +37,13 @@ add-t11 : tie.Need-add-t11
 add-t11 c = omega (arith, c .before .before .before .before .before .before .before .before .before .before .before .before .before .before .before .before .before .before .pre)
 
 add-t12 : tie.Need-add-t12
-add-t12 c = omega (arith, c .before .before .before .before .before .before .before .before .before .before .before .before .before .before .before .before .before .before .before .before .pre)
+add-t12 c = omega (arith, at-entry (c .before) .pre)
 
 add-t13 : tie.Need-add-t13
-add-t13 c = omega (arith, c .before .before .before .before .before .before .before .before .before .before .before .before .before .before .before .before .before .before .before .before .before .before .pre)
+add-t13 c = omega (arith, at-entry (c .before .before .before) .pre)
 
 add-t14 : tie.Need-add-t14
-add-t14 c = omega (arith, c .before .before .before .before .before .before .before .before .before .before .before .before .before .before .before .before .before .before .before .before .before .before .before .before .pre)
+add-t14 c = omega (arith, at-entry (c .before .before .before .before .before) .pre)
 
 returns : tie.Need-returns
 unfolding plusOf

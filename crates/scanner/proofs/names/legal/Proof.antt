@@ -40,7 +40,15 @@ shared-slice-read-if4 : tie.Need-shared-slice-read-if4 Inv-loop μ-loop
 shared-slice-read-if4 c = search needs
 
 returns-4 : tie.Need-returns-4 Inv-loop μ-loop
-returns-4 c = sym (legal-stop _ (c .before .before .before .before .before .before .before .before .if1 .left) (c .before .before .before .before .before .before .before .if2 .left) (sym (c .before .before .before .before .before .starts-name .ensures) ∙ not-false _ (c .before .before .before .before .if3 .left)) _ (c .before .before .before .loop .inv) (c .before .before .loop-test .taken) (c .if4 .taken))
+returns-4 c =
+    let if1 = c .before .before .before .before .before .before .before .before .if1 in
+    let if2 = c .before .before .before .before .before .before .before .if2 in
+    let starts-name = c .before .before .before .before .before .starts-name in
+    let if3 = c .before .before .before .before .if3 in
+    let loop = c .before .before .before .loop in
+    let loop-test = c .before .before .loop-test in
+    sym
+    (legal-stop _ (if1 .left) (if2 .left) (sym (starts-name .ensures) ∙ not-false _ (if3 .left)) _ (loop .inv) (loop-test .taken) (c .if4 .taken))
 
 add-i : tie.Need-add-i Inv-loop μ-loop
 add-i c = search needs
