@@ -10,9 +10,10 @@ use context::kinds::END;
 use context::kinds::MEMORY;
 use context::kinds::PARAMETER;
 use context::kinds::WIRE;
-use numbers::kinds::DIGIT_CODES;
-use numbers::kinds::WIRE_CODES;
+use numbers::kinds::SignalBit;
 use numbers::kinds::WireNumber;
+use numbers::kinds::decode;
+use signal_runs::run_low;
 use text::put_byte;
 use text::put_bytes;
 use text::put_decimal;
@@ -50,7 +51,8 @@ ghost use Rattle.netlist.specs.Statements.{constantAt, optionalAt, signalAt, me
 ghost use Rattle.wire_names.specs.Now.{wiresIn, ownNow};
 ghost use Rattle.text.specs.Written.{Written};
 ghost use Rattle.line_text.specs.Pieces.{spread};
-ghost use Rattle.line_text.specs.Runs.{joint, firstRun, runsText, Apart, Lowest};
+ghost use Rattle.signal_runs.specs.Runs.{firstRun};
+ghost use Rattle.line_text.specs.Runs.{runsText};
 ghost use Rattle.line_text.specs.Lines.{statementNow, bodyText, lineOf, PlainIs};
 
 // The kind of a module line (context, kinds): beside the type `Module` it has another name here.
@@ -176,38 +178,6 @@ fn put_constant(
     put_string(out, space, bytes_at(strings, rows, row, c + 1))
 }
 
-// Whether a bit and the bit above it, by their codes, stand in one run: two constant bits, or a bit of a wire and the next.
-fn joins(low: u32, high: u32) -> bool
-    ensures { λ r. ⌜ r ≡ joint low high ⌝ }
-{
-    if low < DIGIT_CODES {
-        return high < DIGIT_CODES;
-    }
-    if high < DIGIT_CODES {
-        return false;
-    }
-    if (low - DIGIT_CODES) / WIRE_CODES != (high - DIGIT_CODES) / WIRE_CODES {
-        return false;
-    }
-    (low - DIGIT_CODES) % WIRE_CODES + 1 == (high - DIGIT_CODES) % WIRE_CODES
-}
-
-// Where the run starts whose highest bit is the one below i.
-fn run_low(s: &[u32], i: usize) -> usize
-    requires { ⌜ (0 < i) × (i ≤ length (now s)) ⌝ }
-    requires { ⌜ Apart (now s) i ⌝ }
-    ensures { λ r. ⌜ Lowest (now (s .entry)) i r ⌝ }
-{
-    let mut j = i - 1;
-    while 0 < j {
-        if !joins(s[j - 1], s[j]) {
-            return j;
-        }
-        j -= 1;
-    }
-    j
-}
-
 // `[i]` or `[h:l]`.
 fn put_bounds(out: &mut [u8], at: usize, low: u32, count: u32) -> usize
     requires { ⌜ (at ≤ pastText) × (low < mostWidth) × (0 < count) × (count ≤ bitsLength) ⌝ }
@@ -229,20 +199,20 @@ fn put_cut(
     wires: &[u32],
     rows: &[u32],
     m: Module,
-    wire: u32,
+    wire: WireNumber,
     low: u32,
     count: u32,
     out: &mut [u8],
     at: usize,
 ) -> usize
     requires { ⌜ (at ≤ pastText) × (low < mostWidth) × (0 < count) × (count ≤ bitsLength) ⌝ }
-    ensures { λ r. ⌜ Written at (spread (sigTokens (cut (drop (m .wires - (wire + 1)) (wiresIn (now (names .entry)) (now (wires .entry)) (now (rows .entry)) m)) low count))) (now (out .entry)) (now (out .exit)) r ⌝ }
+    ensures { λ r. ⌜ Written at (spread (sigTokens (cut (drop (m .wires - (wire .0 + 1)) (wiresIn (now (names .entry)) (now (wires .entry)) (now (rows .entry)) m)) low count))) (now (out .entry)) (now (out .exit)) r ⌝ }
 {
     let many = m.wires;
     if many == 0 {
         return put_bytes(out, at, b" { }");
     }
-    let n = if wire < many { wire } else { many - 1 };
+    let n = if wire.0 < many { wire.0 } else { many - 1 };
     let row = m.first as usize + n as usize;
     let end = put_token(out, at, name_now(names, wires, rows, m, WireNumber(n), row));
     if count == column(wires, row, WIRE_WIDTH) {
@@ -266,23 +236,16 @@ fn put_run(
     requires { ⌜ (at ≤ pastText) × (j < i) × (i ≤ length (now s)) × (length (now s) ≤ bitsLength) ⌝ }
     ensures { λ r. ⌜ Written at (spread (sigTokens (runSig (wiresIn (now (names .entry)) (now (wires .entry)) (now (rows .entry)) m) (firstRun (drop j (now (s .entry))) (i - j))))) (now (out .entry)) (now (out .exit)) r ⌝ }
 {
-    let code = s[j];
-    if code < DIGIT_CODES {
-        let space = put_byte(out, at, b' ');
-        return put_value(out, space, &s[j..i]);
+    match decode(s[j]) {
+        SignalBit::Digit(_) => {
+            let space = put_byte(out, at, b' ');
+            put_value(out, space, &s[j..i])
+        }
+        SignalBit::Wire(wire, low) => {
+            let count = (i - j) as u32;
+            put_cut(names, wires, rows, m, wire, low, count, out, at)
+        }
     }
-    let c = code - DIGIT_CODES;
-    put_cut(
-        names,
-        wires,
-        rows,
-        m,
-        c / WIRE_CODES,
-        c % WIRE_CODES,
-        (i - j) as u32,
-        out,
-        at,
-    )
 }
 
 // The runs of a signal, the highest first.

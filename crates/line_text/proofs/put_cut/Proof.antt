@@ -23,7 +23,7 @@ returns : tie.Need-returns
 returns c =
     let a = c .before .before .before .before .before .before .before .before .before .before .args in
     written-as (c .before .before .put-bytes .ensures)
-    (cut-none _ (a .low) (a .count) (none-in (now (a .names)) (now (a .wires)) (now (a .rows)) (a .m) (a .m .wires - (a .wire + 1)) (c .before .before .before .before .before .if1 .taken)))
+    (cut-none _ (a .low) (a .count) (none-in (now (a .names)) (now (a .wires)) (now (a .rows)) (a .m) (a .m .wires - (a .wire .0 + 1)) (c .before .before .before .before .before .if1 .taken)))
 
 same-length : tie.Need-same-length
 same-length c = returns c .kept
@@ -41,7 +41,7 @@ name-now-requires : tie.Need-name-now-requires
 name-now-requires c κs = search needs
 
 put-token-requires : tie.Need-put-token-requires
-put-token-requires c κs = c .before .before .before .before .before .before .before .before .before .before .pre .0
+put-token-requires c κs = c .before .before .before .before .before .before .before .before .before .before .before .pre .0
 
 column-requires : tie.Need-column-requires
 column-requires c κs = search needs
@@ -49,10 +49,10 @@ column-requires c κs = search needs
 returns-2 : tie.Need-returns-2
 unfolding wireOf
 returns-2 c =
-    let a = c .before .before .before .before .before .before .before .before .before .before .before .before .before .before .before .args in
+    let a = c .before .before .before .before .before .before .before .before .before .before .before .before .before .before .before .before .args in
     let n = c .before .before .before .before .before .before .before .before .before .if2 .n in
-    let e : a .m .wires ≡ (a .m .wires - (a .wire + 1)) + suc n = ⊎-elim (λ w. omega arith) (λ w. omega arith) (c .before .before .before .before .before .before .before .before .before .if2 .came) in
-    let at-n = wire-now (now (a .names)) (now (a .wires)) (now (a .rows)) (a .m) (a .wire) n e in
+    let e : a .m .wires ≡ (a .m .wires - (a .wire .0 + 1)) + suc n = ⊎-elim (λ w. omega arith) (λ w. omega arith) (c .before .before .before .before .before .before .before .before .before .if2 .came) in
+    let at-n = wire-now (now (a .names)) (now (a .wires)) (now (a .rows)) (a .m) (a .wire .0) n e in
     written-as (c .before .before .before .before .put-token .ensures) (cut-whole _ _ _ (c .before .before .before .before .before .name-now .ensures) _ _ (a .low) (a .count) at-n (c .if3 .taken ∙ c .before .column .ensures))
 
 same-length-2 : tie.Need-same-length-2
@@ -64,10 +64,10 @@ put-bounds-requires c κs = (written-most (c .before .before .before .before .be
 returns-3 : tie.Need-returns-3
 unfolding wireOf
 returns-3 c =
-    let a = c .before .before .before .before .before .before .before .before .before .before .before .before .before .before .before .before .before .before .before .args in
+    let a = c .before .before .before .before .before .before .before .before .before .before .before .before .before .before .before .before .before .before .before .before .args in
     let n = c .before .before .before .before .before .before .before .before .before .before .before .before .before .if2 .n in
-    let e : a .m .wires ≡ (a .m .wires - (a .wire + 1)) + suc n = ⊎-elim (λ w. omega arith) (λ w. omega arith) (c .before .before .before .before .before .before .before .before .before .before .before .before .before .if2 .came) in
-    let at-n = wire-now (now (a .names)) (now (a .wires)) (now (a .rows)) (a .m) (a .wire) n e in
+    let e : a .m .wires ≡ (a .m .wires - (a .wire .0 + 1)) + suc n = ⊎-elim (λ w. omega arith) (λ w. omega arith) (c .before .before .before .before .before .before .before .before .before .before .before .before .before .if2 .came) in
+    let at-n = wire-now (now (a .names)) (now (a .wires)) (now (a .rows)) (a .m) (a .wire .0) n e in
     written-as (written-then (c .before .before .before .before .before .before .before .before .put-token .ensures) (c .before .before .put-bounds .ensures))
     (cut-part _ _ _ (c .before .before .before .before .before .before .before .before .before .name-now .ensures) _ _ (a .low) (a .count) at-n (λ q. c .before .before .before .before .if3 .left (q ∙ sym (c .before .before .before .before .before .column .ensures))))
 

@@ -8,6 +8,7 @@ use Rattle.line_text.specs.Pieces.{spread}
 use Rattle.rules.specs.Text.{sigTokens}
 use Rattle.wire_names.specs.Now.{wiresIn}
 use Rattle.wire_names.specs.NowLaws.{length-in}
+use Rattle.signal_runs.specs.RunLaws.{narrow}
 use Rattle.line_text.specs.RunLaws.{run-digits, run-wire}
 use native.Mathlib.Omega.{arith}
 use borrow.Author.Needs.{needs}
@@ -15,11 +16,17 @@ use denote.Ref.{now}
 use Rattle.line_text.proofs.put_run.Statement.{statement}
 use Rattle.line_text.proofs.put_run.Tie as tie
 
-mul-code : tie.Need-mul-code
-mul-code c = search needs
+mul-decode : tie.Need-mul-decode
+mul-decode c = search needs
 
-shared-slice-read-code : tie.Need-shared-slice-read-code
-shared-slice-read-code c = search needs
+shared-slice-read-decode : tie.Need-shared-slice-read-decode
+shared-slice-read-decode c = search needs
+
+decode-requires : tie.Need-decode-requires
+decode-requires c κs = search needs
+
+enum-told : tie.Need-enum-told
+enum-told c = search needs
 
 put-byte-requires : tie.Need-put-byte-requires
 put-byte-requires c κs = search needs
@@ -37,25 +44,37 @@ part-put-value-end : tie.Need-part-put-value-end
 part-put-value-end c = search needs
 
 put-value-requires : tie.Need-put-value-requires
-put-value-requires c κs = (written-most (c .before .before .before .before .put-byte .ensures), omega (arith, length-take (c .before .before .before .before .before .before .before .before .before .before .before .before .before .args .i - c .before .before .before .before .before .before .before .before .before .before .before .before .before .args .j) (drop (c .before .before .before .before .before .before .before .before .before .before .before .before .before .args .j) (now (c .before .before .before .before .before .before .before .before .before .before .before .before .before .args .s)))))
+put-value-requires c κs =
+    let a = c .before .before .before .before .before .before .before .before .before .before .before .before .before .before .before .args in
+    (written-most (c .before .before .before .before .put-byte .ensures), omega (arith, length-take (a .i - a .j) (drop (a .j) (now (a .s)))))
+
+enum-known-wire : tie.Need-enum-known-wire
+enum-known-wire c = search needs
+
+sub-count : tie.Need-sub-count
+sub-count c = search needs
+
+cast-count : tie.Need-cast-count
+cast-count c = search needs
+
+put-cut-requires : tie.Need-put-cut-requires
+put-cut-requires c κs = (c .before .before .before .before .before .before .before .before .before .before .before .pre .0, narrow _ (c .before .before .before .before .decode .ensures) (c .before .before .wire .given .1), omega arith, omega arith)
 
 returns : tie.Need-returns
-returns c = written-as (written-then (c .before .before .before .before .before .before .before .put-byte .ensures) (c .before .before .put-value .ensures)) (run-digits (now (c .before .before .before .before .before .before .before .before .before .before .before .before .before .before .before .before .args .s)) (c .before .before .before .before .before .before .before .before .before .before .before .before .before .before .before .before .args .i) (c .before .before .before .before .before .before .before .before .before .before .before .before .before .before .before .before .args .j) (wiresIn (now (c .before .before .before .before .before .before .before .before .before .before .before .before .before .before .before .before .args .names)) (now (c .before .before .before .before .before .before .before .before .before .before .before .before .before .before .before .before .args .wires)) (now (c .before .before .before .before .before .before .before .before .before .before .before .before .before .before .before .before .args .rows)) (c .before .before .before .before .before .before .before .before .before .before .before .before .before .before .before .before .args .m)) (c .before .before .before .before .before .before .before .before .before .if1 .taken))
+returns c =
+    let a = c .before .before .before .before .before .before .before .before .before .before .before .before .before .before .before .before .before .before .args in
+    let ws = wiresIn (now (a .names)) (now (a .wires)) (now (a .rows)) (a .m) in
+    written-as (written-then (c .before .before .before .before .before .before .before .put-byte .ensures) (c .before .before .put-value .ensures)) (run-digits (now (a .s)) (a .i) (a .j) ws _ (c .before .before .before .before .before .before .before .before .before .before .before .decode .ensures) _ (c .before .before .before .before .before .before .before .before .before .enum-told .given .1))
 
 same-length : tie.Need-same-length
 same-length c = returns c .kept
 
-sub-put-cut : tie.Need-sub-put-cut
-sub-put-cut c = search needs
-
-cast-put-cut : tie.Need-cast-put-cut
-cast-put-cut c = search needs
-
-put-cut-requires : tie.Need-put-cut-requires
-put-cut-requires c κs = search needs
-
 returns-2 : tie.Need-returns-2
-returns-2 c = written-as (c .before .before .put-cut .ensures) (ap (λ x. spread (sigTokens x)) (run-wire (now (c .before .before .before .before .before .before .before .before .before .before .before .args .s)) (c .before .before .before .before .before .before .before .before .before .before .before .args .i) (c .before .before .before .before .before .before .before .before .before .before .before .args .j) (wiresIn (now (c .before .before .before .before .before .before .before .before .before .before .before .args .names)) (now (c .before .before .before .before .before .before .before .before .before .before .before .args .wires)) (now (c .before .before .before .before .before .before .before .before .before .before .before .args .rows)) (c .before .before .before .before .before .before .before .before .before .before .before .args .m)) (c .before .before .before .before .before .before .before .before .before .before .before .args .m .wires) (length-in (now (c .before .before .before .before .before .before .before .before .before .before .before .args .names)) (now (c .before .before .before .before .before .before .before .before .before .before .before .args .wires)) (now (c .before .before .before .before .before .before .before .before .before .before .before .args .rows)) (c .before .before .before .before .before .before .before .before .before .before .before .args .m)) (c .before .before .before .before .if1 .left)))
+returns-2 c =
+    let a = c .before .before .before .before .before .before .before .before .before .before .before .before .before .before .args in
+    let ws = wiresIn (now (a .names)) (now (a .wires)) (now (a .rows)) (a .m) in
+    let many = length-in (now (a .names)) (now (a .wires)) (now (a .rows)) (a .m) in
+    written-as (c .before .before .put-cut .ensures) (ap (λ x. spread (sigTokens x)) (run-wire (now (a .s)) (a .i) (a .j) ws _ (c .before .before .before .before .before .before .before .decode .ensures) _ _ (a .m .wires) (c .before .before .before .before .before .wire .given .1) many))
 
 same-length-2 : tie.Need-same-length-2
 same-length-2 c = returns-2 c .kept
@@ -64,18 +83,21 @@ pub put-run-spec : {M : Type 1} → statement M
 put-run-spec =
     tie.close
     (tie.spec
-    mul-code
-    shared-slice-read-code
+    mul-decode
+    shared-slice-read-decode
+    decode-requires
+    enum-told
     put-byte-requires
     mul-put-value
     sub-put-value
     part-put-value-start
     part-put-value-end
     put-value-requires
+    enum-known-wire
+    sub-count
+    cast-count
+    put-cut-requires
     same-length
     returns
-    sub-put-cut
-    cast-put-cut
-    put-cut-requires
     same-length-2
     returns-2)

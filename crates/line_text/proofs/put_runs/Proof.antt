@@ -5,7 +5,8 @@ use Prim.Native.Nat.{_≤_}
 use lib.ListN.{length, drop}
 use Rattle.text.specs.Written.{Written, written-none, written-most, written-then, written-as}
 use Rattle.wire_names.specs.Now.{wiresIn}
-use Rattle.line_text.specs.Runs.{runsText, Apart}
+use Rattle.signal_runs.specs.Runs.{Apart}
+use Rattle.line_text.specs.Runs.{runsText}
 use Rattle.line_text.specs.RunLaws.{runs-below, runs-none}
 use native.Mathlib.Omega.{arith}
 use denote.Ref.{now}

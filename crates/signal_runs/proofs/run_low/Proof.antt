@@ -7,12 +7,12 @@ use lib.ListN.{drop}
 use borrow.Author.Tests.{not-true, not-false}
 use Rattle.rules.specs.Text.{runs}
 use Rattle.numbers.specs.Kinds.{signalOf}
-use Rattle.line_text.specs.Runs.{firstRun}
-use Rattle.line_text.specs.RunLaws.{run-top, run-more}
+use Rattle.signal_runs.specs.Runs.{firstRun}
+use Rattle.signal_runs.specs.RunLaws.{run-top, run-more}
 use native.Mathlib.Omega.{arith}
 use denote.Ref.{now}
-use Rattle.line_text.proofs.run_low.Statement.{statement}
-use Rattle.line_text.proofs.run_low.Tie as tie
+use Rattle.signal_runs.proofs.run_low.Statement.{statement}
+use Rattle.signal_runs.proofs.run_low.Tie as tie
 
 abbrev Inv-loop : tie.InvT-loop
 Inv-loop s i j₀ j = (j < i) × (runs (signalOf (drop j s)) ≡ firstRun (drop j s) (i - j) ∷ runs (signalOf (drop i s)))
