@@ -343,12 +343,12 @@ fn put_body(
 }
 
 // A module by its number: its wires' rows, and where the renames' rows begin.
-fn module_of(wires: &[u32], counts: Counts, number: u32) -> Module
-    ensures { λ r. ⌜ r ≡ moduleAt (now (wires .entry)) counts number ⌝ }
+fn module_of(wires: &[u32], counts: Counts, number: ModuleNumber) -> Module
+    ensures { λ r. ⌜ r ≡ moduleAt (now (wires .entry)) counts (number .0) ⌝ }
 {
-    let range = module_wires(wires, counts.wires, ModuleNumber(number));
+    let range = module_wires(wires, counts.wires, number);
     Module {
-        number: ModuleNumber(number),
+        number: number,
         first: range.first,
         wires: range.count,
         from: counts.statements,
@@ -364,14 +364,14 @@ fn put_module(
     wires: &[u32],
     rows: &[u32],
     counts: Counts,
-    number: u32,
+    number: ModuleNumber,
     first: u32,
     k: u32,
     out: &mut [u8],
     at: usize,
 ) -> usize
     requires { ⌜ (at ≤ pastText) × (length (now bits) ≤ bitsLength) × (k < counts .statements) ⌝ }
-    ensures { λ r. ⌜ Written at (moduleIf (tabled (now (names .entry)) (now (strings .entry)) (now (bits .entry)) (now (wires .entry)) (now (rows .entry))) counts number first k (counts .statements - (k + 1))) (now (out .entry)) (now (out .exit)) r ⌝ }
+    ensures { λ r. ⌜ Written at (moduleIf (tabled (now (names .entry)) (now (strings .entry)) (now (bits .entry)) (now (wires .entry)) (now (rows .entry))) counts (number .0) first k (counts .statements - (k + 1))) (now (out .entry)) (now (out .exit)) r ⌝ }
 {
     if row_kind(rows, k) != KIND_MODULE {
         return at;
@@ -435,7 +435,7 @@ fn put_modules(
             wires,
             rows,
             counts,
-            number,
+            ModuleNumber(number),
             first,
             k,
             out,
@@ -470,7 +470,7 @@ pub fn put_text(
     requires { ⌜ length (now bits) ≤ bitsLength ⌝ }
     ensures { λ r. ⌜ Written 0 (textRows (tabled (now (names .entry)) (now (strings .entry)) (now (bits .entry)) (now (wires .entry)) (now (rows .entry))) counts) (now (out .entry)) (now (out .exit)) r ⌝ }
 {
-    let m = module_of(wires, counts, 0);
+    let m = module_of(wires, counts, ModuleNumber(0));
     let span = Span {
         from: 0,
         to: at_most_one(counts.statements),

@@ -104,15 +104,22 @@ fn renamed_to(names: &[u8], rows: &[u32], m: Module, name: &[u8]) -> u32
     least
 }
 
-// Whether wire k has this name from its own line, and no rename.
-fn keeps_name(names: &[u8], wires: &[u32], rows: &[u32], m: Module, k: u32, name: &[u8]) -> bool
-    ensures { λ r. ⌜ r ≡ keepsName (now (names .entry)) (now (wires .entry)) (now (rows .entry)) m (now (name .entry)) k ⌝ }
+// Whether a wire has this name from its own line, and no rename.
+fn keeps_name(
+    names: &[u8],
+    wires: &[u32],
+    rows: &[u32],
+    m: Module,
+    wire: WireNumber,
+    name: &[u8],
+) -> bool
+    ensures { λ r. ⌜ r ≡ keepsName (now (names .entry)) (now (wires .entry)) (now (rows .entry)) m (now (name .entry)) (wire .0) ⌝ }
 {
-    let own = bytes_at(names, wires, m.first as usize + k as usize, WIRE_NAME);
+    let own = bytes_at(names, wires, m.first as usize + wire.0 as usize, WIRE_NAME);
     if !same_bytes(own, name) {
         return false;
     }
-    last_rename(rows, m.from, m.renames, m.number, WireNumber(k)) == 0
+    last_rename(rows, m.from, m.renames, m.number, wire) == 0
 }
 
 // The first wire of the module that has this name now.
@@ -122,7 +129,7 @@ pub fn find_named(names: &[u8], wires: &[u32], rows: &[u32], m: Module, name: &[
     let least = renamed_to(names, rows, m, name);
     let mut k = 0;
     while k < least {
-        if keeps_name(names, wires, rows, m, k, name) {
+        if keeps_name(names, wires, rows, m, WireNumber(k), name) {
             return Named::At(WireNumber(k));
         }
         k = k + 1;
@@ -204,7 +211,7 @@ fn row_keeps_name(
     if m.wires <= k {
         return false;
     }
-    keeps_name(names, wires, rows, m, k, name)
+    keeps_name(names, wires, rows, m, WireNumber(k), name)
 }
 
 // The answer of `wire_name_taken` where no rename gives the name: of the wires with the name's hash only.

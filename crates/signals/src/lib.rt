@@ -95,14 +95,14 @@ fn too_wide(width: usize) -> u32
 }
 
 // The bits of a wire, from the top.
-fn put_wire(scratch: &mut [u32], o: usize, number: u32, width: usize)
-    requires { ⌜ (o + width ≤ length (now scratch)) × (number < mostWires) × (width ≤ mostWidth) ⌝ }
-    ensures { λ _. ⌜ now (scratch .exit) ≡ store (now (scratch .entry)) o (codes (wireBits number 0 width)) ⌝ }
+fn put_wire(scratch: &mut [u32], o: usize, number: WireNumber, width: usize)
+    requires { ⌜ (o + width ≤ length (now scratch)) × (number .0 < mostWires) × (width ≤ mostWidth) ⌝ }
+    ensures { λ _. ⌜ now (scratch .exit) ≡ store (now (scratch .entry)) o (codes (wireBits (number .0) 0 width)) ⌝ }
 {
     let mut k = 0;
     while k < width {
         let i = (width - 1 - k) as u32;
-        scratch[o + k] = numbers::kinds::encode(SignalBit::Wire(WireNumber(number), i));
+        scratch[o + k] = numbers::kinds::encode(SignalBit::Wire(number, i));
         k += 1;
     }
 }
@@ -129,8 +129,7 @@ fn wire_bits(
                     fault: TOO_MANY,
                 };
             }
-            let n = number.0;
-            put_wire(scratch, o, n, width);
+            put_wire(scratch, o, number, width);
             Bits { width, fault: 0 }
         }
         Found::Nothing => Bits {

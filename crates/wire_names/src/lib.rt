@@ -27,14 +27,14 @@ pub struct Module {
 }
 
 // Whether a rename's row is of this wire.
-fn renames(rows: &[u32], row: usize, number: u32, wire: u32) -> bool
+fn renames(rows: &[u32], row: usize, m: ModuleNumber, wire: WireNumber) -> bool
     requires { ⌜ row < manyRows ⌝ }
-    ensures { λ r. ⌜ r ≡ renames (now (rows .entry)) row number wire ⌝ }
+    ensures { λ r. ⌜ r ≡ renames (now (rows .entry)) row (m .0) (wire .0) ⌝ }
 {
-    if column(rows, row, RENAME_MODULE) != number {
+    if column(rows, row, RENAME_MODULE) != m.0 {
         return false;
     }
-    column(rows, row, RENAME_WIRE) == wire
+    column(rows, row, RENAME_WIRE) == wire.0
 }
 
 // How many of the rename rows from a row on there are up to the last one of this wire; 0 if it has none.
@@ -44,7 +44,7 @@ pub fn last_rename(rows: &[u32], from: u32, count: u32, m: ModuleNumber, wire: W
     let mut i = count;
     while 0 < i {
         let last = i - 1;
-        if renames(rows, from as usize + last as usize, m.0, wire.0) {
+        if renames(rows, from as usize + last as usize, m, wire) {
             return i;
         }
         i = last;

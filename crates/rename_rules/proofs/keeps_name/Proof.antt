@@ -9,6 +9,9 @@ use Rattle.rename_rules.proofs.keeps_name.Tie as tie
 cast-bytes-at : tie.Need-cast-bytes-at
 cast-bytes-at c = search needs
 
+cast-bytes-at-2 : tie.Need-cast-bytes-at-2
+cast-bytes-at-2 c = search needs
+
 add-bytes-at : tie.Need-add-bytes-at
 add-bytes-at c = search needs
 
@@ -34,6 +37,7 @@ keeps-name-spec =
     tie.close
     (tie.spec
     cast-bytes-at
+    cast-bytes-at-2
     add-bytes-at
     bytes-at-requires
     same-bytes-requires

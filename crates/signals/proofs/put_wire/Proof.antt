@@ -14,7 +14,7 @@ use Rattle.signals.proofs.put_wire.Statement.{statement}
 use Rattle.signals.proofs.put_wire.Tie as tie
 
 abbrev Inv-loop : tie.InvT-loop
-Inv-loop scratch₀ o number width k₀ scratch k = (k ≤ width) × (length scratch ≡ length scratch₀) × (scratch ≡ store scratch₀ o (take k (codes (wireBits number 0 width))))
+Inv-loop scratch₀ o number width k₀ scratch k = (k ≤ width) × (length scratch ≡ length scratch₀) × (scratch ≡ store scratch₀ o (take k (codes (wireBits (number .0) 0 width))))
 
 abbrev μ-loop : tie.MeasureT-loop
 μ-loop scratch₀ o number width k₀ scratch k = width - k
@@ -59,7 +59,7 @@ same-length c = omega arith
 
 returns : tie.Need-returns Inv-loop μ-loop
 returns c =
-    let number = c .before .before .before .args .number in
+    let number = c .before .before .before .args .number .0 in
     let width = c .before .before .before .args .width in
     filled-end _ _ (codes (wireBits number 0 width)) _ (c .before .loop .k) (c .before .loop .inv .2) (omega (arith, length-wire-codes number width))
 

@@ -11,14 +11,14 @@ column-requires c κs = search needs
 
 returns : tie.Need-returns
 unfolding renames
-returns c = rw (← c .before .column .ensures, ne-eqb _ _ (c .if1 .taken))
+returns c = rw (← c .before .before .column .ensures, ne-eqb _ _ (c .if1 .taken))
 
 column-requires-2 : tie.Need-column-requires-2
 column-requires-2 c κs = search needs
 
 returns-2 : tie.Need-returns-2
 unfolding renames
-returns-2 c = rw (← c .before .before .column .ensures, ← c .column2 .ensures, eq-eqb _ _ (c .before .if1 .left))
+returns-2 c = rw (← c .before .before .before .before .column .ensures, ← c .before .column2 .ensures, eq-eqb _ _ (c .before .before .if1 .left))
 
 pub renames-spec : {M : Type 1} → statement M
 renames-spec = tie.close (tie.spec column-requires returns column-requires-2 returns-2)
