@@ -19,7 +19,7 @@ use Rattle.rules.specs.Design.{Object, object, Module, Design, flatten}
 use Rattle.rules.specs.Session.{Rename, wireAt, change, renameWire, renamed, now, roomUsed, names, taken, renameCall, undoCall}
 use Rattle.admitted.specs.Admitted.{fineBit, fineSignal, fineAlone}
 use Rattle.lists.specs.Tests.{by-test, or-false-left, or-false-right}
-use Rattle.scanner.specs.Laws.{same-eq}
+use Rattle.lists.specs.Bytes.{same-eq}
 use Rattle.lists.specs.Lists.{drop-last, elim-map, flatMap-map}
 use Rattle.lists.specs.Elements.{Each, all-same}
 use Rattle.lists.specs.Sums.{sum-append, sum-map}

@@ -14,7 +14,7 @@ use Rattle.rules.specs.Statements.{Wire, Direction, Statement, statementsOpen, 
 use Rattle.rules.specs.Signals.{Wires}
 use Rattle.rules.specs.Judgement.{Past, sum, wires, portNumbers, among, Space, space, namesIn, only, until, ofModule, ofCell, ofObject}
 use Rattle.lists.specs.Tests.{by-test, and-true-left, and-true-right}
-use Rattle.scanner.specs.Laws.{same-refl, same-eq}
+use Rattle.lists.specs.Bytes.{same-refl, same-eq}
 use Rattle.lists.specs.Lists.{keeps-before}
 use Rattle.lists.specs.Elements.{all-first, all-later}
 use Rattle.lists.specs.Sums.{none-sum, sum-none}

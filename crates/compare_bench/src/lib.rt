@@ -1,5 +1,5 @@
 // Two comparisons of names with one contract, for tests/bench to time side by side: the product's, and one from the front.
-use scanner::names::same_bytes;
+use names::same_bytes;
 ghost use mathlib.Core.Path.{_≡_};
 ghost use Rattle.rules.specs.Bytes.{same};
 

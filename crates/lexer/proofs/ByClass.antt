@@ -15,7 +15,7 @@ use Rattle.rules.specs.Tokens.{Step, token, done, wrong, mark, decimal, quoted,
 use Rattle.scanner.specs.Class.{classOf, inClass, classOpen}
 use Rattle.scanner.specs.Runs.{endOf}
 use Rattle.lists.specs.Tests.{by-test}
-use Rattle.scanner.specs.Laws.{run-more, rest-more, within-yes, within-below}
+use Rattle.lists.specs.Bytes.{run-more, rest-more, within-yes, within-below}
 use Rattle.scanner.proofs.Table.{at}
 use Rattle.scanner.proofs.ClassLaws.{inside, class-one, class-blank, class-mark, class-hash, class-name-start, class-quote, class-digit, class-minus, class-lower, class-name-byte}
 use Rattle.scanner.proofs.RunLaws.{endOf-low, endOf-more, endOf-slice, endOf-rest}

@@ -18,9 +18,9 @@ use Rattle.numbers.specs.Signed.{integerOf}
 use Rattle.scanner.specs.Class.{classOf, inClass}
 use Rattle.scanner.specs.Runs.{endOf}
 use Rattle.scanner.specs.Words.{keywordNumber, keywordAt}
-use Rattle.scanner.specs.Laws.{within-yes, within-below, within-above, run-more}
+use Rattle.lists.specs.Bytes.{within-yes, within-below, within-above, run-more}
 use Rattle.scanner.proofs.ClassLaws.{class-value-digit, class-parting, class-name-start, class-name-byte}
-use Rattle.scanner.proofs.NameLaws.{legal-run}
+use Rattle.names.proofs.NameLaws.{legal-run}
 use Rattle.scanner.proofs.RunLaws.{endOf-low, endOf-high, endOf-slice, endOf-rest}
 use Rattle.scanner.proofs.WordLaws.{keyword-number, keyword-back}
 use Rattle.lists.specs.Parts.{slice-part}

@@ -1,4 +1,6 @@
 // The lexer: what stands where a token could start, and the tokens of a line, put into a table. Positions are the file's.
+use names::LONGEST_NAME;
+use names::SHORTEST_NAME;
 use scanner::class::BLANK;
 use scanner::class::COMMENT;
 use scanner::class::HIGH_DIGIT;
@@ -11,8 +13,6 @@ use scanner::class::VALUE_DIGIT;
 use scanner::class::VALUE_LETTER;
 use scanner::class::class_in;
 use scanner::class::classes;
-use scanner::names::LONGEST_NAME;
-use scanner::names::SHORTEST_NAME;
 use scanner::runs::run_end;
 use scanner::words::NO_KEYWORD;
 use scanner::words::keyword;

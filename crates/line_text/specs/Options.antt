@@ -11,7 +11,7 @@ use Rattle.rules.specs.Tokens.{Token, word}
 use Rattle.rules.specs.Statements.{Opt}
 use Rattle.rules.specs.Numbers.{inRange}
 use Rattle.rules.specs.Text.{numberToken, optionTokens}
-use Rattle.scanner.specs.Laws.{within-above}
+use Rattle.lists.specs.Bytes.{within-above}
 use Rattle.numbers.specs.Signed.{signedOf}
 use Rattle.numbers.specs.SignedLaws.{by-half}
 use Rattle.line_text.specs.Pieces.{spread, Piece, piece-none, piece-word, piece-literal, piece-append, spread-append}

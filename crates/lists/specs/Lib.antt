@@ -3,3 +3,4 @@ pub mod Lists
 pub mod Elements
 pub mod Parts
 pub mod Sums
+pub mod Bytes

@@ -13,7 +13,7 @@ use Rattle.rules.specs.Judgement.{Past, until, only, ofModule, wires, among, sp
 use Rattle.context.specs.Forms.{by-form}
 use Rattle.admitted.specs.Admitted.{ownWire, admitted}
 use Rattle.lists.specs.Tests.{or-false-left, or-false-right}
-use Rattle.scanner.specs.Laws.{same-sym}
+use Rattle.lists.specs.Bytes.{same-sym}
 use Rattle.lists.specs.Elements.{all-first}
 use Rattle.admitted.specs.AdmitLaws.{FineParts, fine-parts, Admits, admitted-before, admitted-last}
 use Rattle.meaning.specs.Wires.{Sound, no-wire, one-more}

@@ -19,7 +19,7 @@ use Rattle.rules.specs.Text.{setting, unless, directionWord, portOptions, wireO
 use Rattle.admitted.specs.Admitted.{ownWire, newPorts, fineMemory}
 use Rattle.admitted.specs.AdmitLaws.{OwnWire, own-wire}
 use Rattle.lists.specs.Tests.{by-test}
-use Rattle.scanner.specs.Laws.{within-yes, within-low, within-high}
+use Rattle.lists.specs.Bytes.{within-yes, within-low, within-high}
 use Rattle.lists.specs.Elements.{all-first, test-at, all-of}
 use Rattle.meaning.specs.Options.{wire-each, memory-each}
 

@@ -15,7 +15,7 @@ use Rattle.rules.specs.Tokens.{Name}
 use Rattle.rules.specs.Statements.{Wire}
 use Rattle.rules.specs.Signals.{Wires, find}
 use Rattle.lists.specs.Tests.{by-test}
-use Rattle.scanner.specs.Laws.{same-refl, same-eq}
+use Rattle.lists.specs.Bytes.{same-refl, same-eq}
 use Rattle.lists.specs.Lists.{element-at, element-front}
 
 -- ---- names that differ

@@ -13,7 +13,7 @@ use borrow.Author.Tests.{eq-eqb, ne-eqb, eqb-true, eqb-false}
 use Rattle.rules.specs.Bytes.{same, any}
 use Rattle.rules.specs.Tokens.{Name}
 use Rattle.lists.specs.Tests.{by-cond, by-test, by-order}
-use Rattle.scanner.specs.Laws.{same-eq}
+use Rattle.lists.specs.Bytes.{same-eq}
 use Rattle.lists.specs.Elements.{any-chosen}
 use Rattle.netlist.specs.Rows.{kindAt, nameAt, namesBetween}
 use Rattle.netlist.specs.Kinds.{hasName}

@@ -13,7 +13,7 @@ use Rattle.rules.specs.Tokens.{Name}
 use Rattle.rules.specs.Statements.{Wire}
 use Rattle.rules.specs.Signals.{find}
 use Rattle.lists.specs.Tests.{by-test, by-order}
-use Rattle.scanner.specs.Laws.{same-eq}
+use Rattle.lists.specs.Bytes.{same-eq}
 use Rattle.wires.specs.Rows.{nameOf, wireOf, wiresFrom}
 use Rattle.wires.specs.RowLaws.{length-wires}
 use Rattle.name_index.specs.HashLaws.{hash-less}

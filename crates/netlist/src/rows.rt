@@ -1,7 +1,7 @@
 // A row of eight words for each statement: its kind, then where its parts start and their lengths.
 // All of it is total: a word past the table's end counts as 0, and a span past the names' end is cut.
 use context::kinds::CELL;
-use scanner::names::same_bytes;
+use names::same_bytes;
 use wires::bytes_at;
 use wires::column;
 ghost use mathlib.Core.Path.{_≡_};

@@ -15,7 +15,7 @@ use Rattle.rules.specs.Numbers.{int32, inRange, has, numberOr, goodOptions}
 use Rattle.rules.specs.Signals.{twosComplement}
 use Rattle.scanner.specs.Words.{keywordAt}
 use Rattle.lists.specs.Tests.{by-test, and-true-left, and-true-right}
-use Rattle.scanner.specs.Laws.{within-above}
+use Rattle.lists.specs.Bytes.{within-above}
 use Rattle.tokens.specs.Rows.{integerIn}
 use Rattle.tokens.specs.declared.Slot.{Slot}
 use Rattle.tokens.specs.declared.Slot.the-variants.{Given, Absent}

@@ -12,7 +12,7 @@ use Rattle.rules.specs.Bytes.{same, any}
 use Rattle.rules.specs.Tokens.{Name}
 use Rattle.rules.specs.Statements.{code}
 use Rattle.lists.specs.Tests.{by-test, by-order, never}
-use Rattle.scanner.specs.Laws.{same-eq}
+use Rattle.lists.specs.Bytes.{same-eq}
 use Rattle.lists.specs.Elements.{any-chosen}
 use Rattle.wires.specs.Rows.{nameOf, spanAt}
 use Rattle.context.specs.declared.place.Place.{Place}

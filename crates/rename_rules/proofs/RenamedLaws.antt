@@ -11,7 +11,7 @@ use Rattle.rules.specs.Bytes.{same}
 use Rattle.rules.specs.Tokens.{Name}
 use Rattle.rules.specs.Judgement.{Verdict, accepted}
 use Rattle.lists.specs.Tests.{by-test, by-order, never, and-true-left, and-true-right}
-use Rattle.scanner.specs.Laws.{same-sym}
+use Rattle.lists.specs.Bytes.{same-sym}
 use Rattle.wires.specs.Rows.{column, spanAt}
 use Rattle.wire_names.specs.Now.{renames, lastRename, nameNow}
 use Rattle.wire_names.specs.NowLaws.{nameBy, name-by}

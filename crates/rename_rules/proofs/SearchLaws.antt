@@ -9,7 +9,7 @@ use Rattle.rules.specs.Bytes.{same, any}
 use Rattle.rules.specs.Tokens.{Name}
 use Rattle.rules.specs.Judgement.{accepted, refused}
 use Rattle.lists.specs.Tests.{by-test}
-use Rattle.scanner.specs.Laws.{same-sym}
+use Rattle.lists.specs.Bytes.{same-sym}
 use Rattle.wire_names.specs.Now.{nameNow, wiresNow, wiresIn}
 use Rattle.wire_names.specs.declared.Module.{Module}
 use Rattle.rename_rules.specs.Search.{searchNow, named, isFound}

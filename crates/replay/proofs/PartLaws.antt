@@ -12,7 +12,7 @@ use borrow.Author.Tests.{le-leb, lt-leb, leb-true, leb-false}
 use Rattle.rules.specs.Bytes.{all, within}
 use Rattle.rules.specs.Signals.{Wires}
 use Rattle.lists.specs.Tests.{by-test, and-true-left, and-true-right}
-use Rattle.scanner.specs.Laws.{legal-short}
+use Rattle.lists.specs.Bytes.{legal-short}
 use Rattle.replay.specs.Parts.{span, whole, nameStands, partStands, textStands, signalStands}
 use Rattle.replay.proofs.Spans.{whole-none, whole-in, whole-out, whole-long, span-none}
 

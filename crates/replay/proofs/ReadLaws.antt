@@ -19,7 +19,7 @@ use Rattle.tables.specs.Row.{words}
 use Rattle.tables.specs.declared.Row.{Row}
 use Rattle.lists.specs.Lists.{same-at}
 use Rattle.lists.specs.Tests.{by-test, and-true-left, and-true-right, never}
-use Rattle.scanner.specs.Laws.{same-refl, same-eq}
+use Rattle.lists.specs.Bytes.{same-refl, same-eq}
 use Rattle.lists.specs.Elements.{all-first}
 use Rattle.replay.specs.Parts.{span, whole, nameStands}
 use Rattle.netlist.specs.Spans.{Has}

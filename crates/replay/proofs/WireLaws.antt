@@ -24,7 +24,7 @@ use Rattle.numbers.specs.Signed.{signedOf}
 use Rattle.numbers.specs.SignedLaws.{word-signed}
 use Rattle.lists.specs.Lists.{same-at}
 use Rattle.lists.specs.Tests.{by-test, and-true-left, and-true-right, never}
-use Rattle.scanner.specs.Laws.{same-refl, same-eq}
+use Rattle.lists.specs.Bytes.{same-refl, same-eq}
 use Rattle.wires.specs.Rows.{wordAt, column, portOf, wireOf, wiresFrom}
 use Rattle.wires.specs.RowLaws.{length-wire-row, flags-few, flags-back, port-number-back}
 use Rattle.replay.specs.Parts.{span, nameStands, signalStands}

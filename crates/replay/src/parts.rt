@@ -1,6 +1,6 @@
 // The parts of a statement that stand in the tables behind what is used of them: names, digits and strings.
 // All of it is total: a span past a table's end stands nowhere.
-use scanner::names::legal;
+use names::legal;
 use scanner::parts::part;
 ghost use mathlib.Core.Path.{_≡_};
 ghost use Prim.Native.Nat.{_≤_};

@@ -11,7 +11,7 @@ use borrow.Author.Tests.{le-leb, lt-leb, eq-eqb, ne-eqb, leb-true, leb-false}
 use Rattle.rules.specs.Bytes.{bytes, byte, within, any, all, bytesOpen, isLineEnd, isBlank, isMark, isNameStart, isNameByte, isLower, isDigit, isValueDigit}
 use Rattle.scanner.specs.Class.{classOf, inClass, classesFrom, classTable, classOpen}
 use Rattle.lists.specs.Tests.{by-test, by-order}
-use Rattle.scanner.specs.Laws.{within-above}
+use Rattle.lists.specs.Bytes.{within-above}
 use Rattle.scanner.proofs.Table.{both-left, both-right, every, at}
 
 -- what stands in the table of classes

@@ -13,7 +13,7 @@ use Rattle.rules.specs.Bytes.{same, all}
 use Rattle.rules.specs.Tokens.{keywords}
 use Rattle.scanner.specs.Words.{placeIn, keywordNumber, keywordAt, wordCode, codeIn, codeNumber}
 use Rattle.lists.specs.Tests.{by-test, never}
-use Rattle.scanner.specs.Laws.{same-eq, same-refl, same-length}
+use Rattle.lists.specs.Bytes.{same-eq, same-refl, same-length}
 use Rattle.scanner.proofs.Table.{both-left, both-right}
 use Rattle.scanner.proofs.WordLaws.{keyword-is}
 

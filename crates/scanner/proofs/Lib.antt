@@ -2,7 +2,6 @@ pub mod Table
 pub mod ClassLaws
 pub mod RunLaws
 pub mod NumberLaws
-pub mod NameLaws
 pub mod LineLaws
 pub mod WordLaws
 pub mod CodeLaws

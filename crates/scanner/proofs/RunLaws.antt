@@ -11,7 +11,7 @@ use lib.ListN.{length, getD, take, drop, length-drop, drop-of-length-le}
 use lib.Seq.{drop-cons, drop-drop, slice}
 use Rattle.rules.specs.Bytes.{run, rest}
 use Rattle.scanner.specs.Runs.{endOf}
-use Rattle.scanner.specs.Laws.{run-le, take-run, drop-run}
+use Rattle.lists.specs.Bytes.{run-le, take-run, drop-run}
 use Rattle.lists.specs.Parts.{slice-part, slice-cut, slice-none}
 
 module _ (f : ℕ → Bool) (s : List ℕ) (i : ℕ) where

@@ -12,7 +12,7 @@ use Rattle.rules.specs.Bytes.{same, any}
 use Rattle.rules.specs.Tokens.{keywords, isKeyword}
 use Rattle.scanner.specs.Words.{placeIn, keywordNumber, keywordAt}
 use Rattle.lists.specs.Tests.{by-test}
-use Rattle.scanner.specs.Laws.{same-eq, same-refl}
+use Rattle.lists.specs.Bytes.{same-eq, same-refl}
 use Rattle.scanner.proofs.Table.{at}
 
 module _ (w : List ℕ) where

@@ -3,4 +3,3 @@ pub mod Runs
 pub mod Lines
 pub mod Words
 pub mod Numbers
-pub mod Laws

@@ -1,5 +1,5 @@
 // Keywords.
-use crate::names::same_bytes;
+use names::same_bytes;
 ghost use mathlib.Core.Path.{_≡_};
 ghost use Prim.Native.Nat.{_<_};
 ghost use lib.ListN.{length};

@@ -17,7 +17,7 @@ use Rattle.tables.specs.Flat.{flat, Eights, length-flat, store-row}
 use Rattle.netlist.specs.Results.{lent}
 use Rattle.netlist.specs.RoomLaws.{length-rename-row}
 use Rattle.canonical.specs.RenamedFine.{accepted-keeps}
-use Rattle.scanner.specs.Laws.{legal-short}
+use Rattle.lists.specs.Bytes.{legal-short}
 use Rattle.lists.specs.Lists.{flatMap-snoc}
 use Rattle.memory_check.specs.AllowedLaws.{number-accepted}
 use Rattle.memory_check.specs.RenameLaws.{file-last}

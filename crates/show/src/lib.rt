@@ -3,12 +3,12 @@
 use context::kinds::ATTRIBUTE;
 use context::kinds::WIRE;
 use modules::module_wires;
+use names::same_bytes;
 use netlist::results::NOT_THERE;
 use netlist::rows::row_kind;
 use netlist::rows::row_name;
 use numbers::kinds::ModuleNumber;
 use numbers::kinds::WireNumber;
-use scanner::names::same_bytes;
 use session::Opened;
 use session::open_memory;
 use wire_names::last_rename;

@@ -15,7 +15,7 @@ use Rattle.rules.specs.Numbers.{inRange, goodLiteral, goodNumbers, numberOr, po
 use Rattle.rules.specs.Signals.{Wires, kept, valueBits, literalBits, literalWidth, width, bits, goodSlice, parts, partsOf}
 use Rattle.rules.specs.Judgement.{portNumbers, equalWidths}
 use Rattle.lists.specs.Tests.{and-true-left}
-use Rattle.scanner.specs.Laws.{within-high}
+use Rattle.lists.specs.Bytes.{within-high}
 use Rattle.lists.specs.Elements.{all-map, all-both, all-left, all-right, all-cons, all-first, each-test}
 use Rattle.context.specs.Offsets.{good-offset, memory-offset}
 use Rattle.literals.proofs.CodeLaws.{literal-long}

@@ -7,7 +7,7 @@ use native.Mathlib.Omega.{arith}
 use lib.Dec.{eqb}
 use borrow.Author.Tests.{ne-eqb}
 use Rattle.rules.specs.Bytes.{within, isLineEnd, isStringByte}
-use Rattle.scanner.specs.Laws.{within-yes}
+use Rattle.lists.specs.Bytes.{within-yes}
 use Rattle.strings.specs.Decoded.{isPlain}
 
 module _ (b : ℕ) where

@@ -10,7 +10,7 @@ use lib.Dec.{ltb, eqb}
 use Rattle.rules.specs.Bytes.{byte, all, within, isOctal, isLineEnd, isStringByte}
 use Rattle.rules.specs.Tokens.{Inside, plain, escape, octal, Turn, goes, ends, breaks, plainTurn, escapeTurn, onto, octalByte, octalTurn, turn}
 use Rattle.lists.specs.Tests.{by-cond, and-true-left}
-use Rattle.scanner.specs.Laws.{within-yes, within-low}
+use Rattle.lists.specs.Bytes.{within-yes, within-low}
 
 -- a digit of an octal can be counted from `0`
 pub octal-digit : (b : ℕ) → isOctal b ≡ true → byte "0" ≤ b

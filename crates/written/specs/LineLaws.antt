@@ -14,7 +14,7 @@ use Rattle.rules.specs.Tokens.{Digit, S0, S1, Sx, Sz, Sm, Sa, Literal, value, i
 use Rattle.rules.specs.Lines.{Line, longer, linesFrom}
 use Rattle.rules.specs.Text.{decimalText, integerText, digitByte, escaped, literalText, tokenText, tight, behind, spaced}
 use Rattle.lists.specs.Tests.{by-cond, by-lt}
-use Rattle.scanner.specs.Laws.{within-low}
+use Rattle.lists.specs.Bytes.{within-low}
 use Rattle.scanner.proofs.LineLaws.{inLine}
 use Rattle.lists.specs.Elements.{all-append, by-any, all-implied, all-cons, all-first, all-later, all-map, all-each, all-flatMap}
 use Rattle.written.specs.NumberLaws.{Digits, some-digits, decimal-digits}

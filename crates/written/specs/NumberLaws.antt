@@ -9,7 +9,7 @@ use Rattle.rules.specs.Bytes.{all, isDigit}
 use Rattle.rules.specs.Tokens.{number, decimal}
 use Rattle.rules.specs.Text.{decimalOnto, decimalText}
 use Rattle.lists.specs.Tests.{by-lt}
-use Rattle.scanner.specs.Laws.{within-yes}
+use Rattle.lists.specs.Bytes.{within-yes}
 use Rattle.lists.specs.Elements.{all-cons}
 
 number-onto : (k n : ℕ) (ds : List ℕ) → n < k → number 10 0 (decimalOnto k n ds) ≡ number 10 n ds

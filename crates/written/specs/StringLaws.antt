@@ -11,7 +11,7 @@ use Rattle.rules.specs.Bytes.{all, within, isOctal, isStringByte, isLineEnd, by
 use Rattle.rules.specs.Tokens.{Inside, plain, escape, octal, goes, closed, turn, octalTurn, octalByte, onto, plainTurn, escapeTurn, quotedOnto, quotedBy, quoted}
 use Rattle.rules.specs.Text.{escaped}
 use Rattle.lists.specs.Tests.{by-cond, by-lt}
-use Rattle.scanner.specs.Laws.{within-yes, within-low, within-high}
+use Rattle.lists.specs.Bytes.{within-yes, within-low, within-high}
 use Rattle.lists.specs.Lists.{onto-none}
 use Rattle.lists.specs.Elements.{all-first, all-later}
 

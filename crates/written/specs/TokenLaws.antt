@@ -15,7 +15,7 @@ use Rattle.rules.specs.Tokens.{Digit, S0, S1, Sx, Sz, Sm, Sa, Literal, value, i
 use Rattle.rules.specs.Shapes as shapes
 use Rattle.rules.specs.Text.{decimalText, integerText, digitByte, escaped, literalText, tokenText, tight, behind, spaced}
 use Rattle.lists.specs.Tests.{by-test}
-use Rattle.scanner.specs.Laws.{same-eq, within-below, within-low, within-high}
+use Rattle.lists.specs.Bytes.{same-eq, within-below, within-low, within-high}
 use Rattle.lists.specs.Elements.{by-any, by-found, each-of, all-first, all-later, all-cons, all-map, all-each, each-all, map-back, test-at}
 use Rattle.written.specs.Runs.{Stops, run-upto, rest-upto}
 use Rattle.written.specs.NumberLaws.{decimal-text, Digits, some-digits, decimal-digits}

@@ -7,7 +7,7 @@ use lib.ListN.{length, drop}
 use borrow.Author.Needs.{needs}
 use native.Mathlib.Omega.{arith}
 use Rattle.rules.specs.Bytes.{same}
-use Rattle.scanner.specs.Laws.{same-length, same-more, same-end, same-apart}
+use Rattle.lists.specs.Bytes.{same-length, same-more, same-end, same-apart}
 use Rattle.compare_bench.proofs.compare_from_front.Statement.{statement}
 use Rattle.compare_bench.proofs.compare_from_front.Tie as tie
 

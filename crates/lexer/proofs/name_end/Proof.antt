@@ -9,7 +9,7 @@ use borrow.Author.Needs.{needs}
 use Rattle.rules.specs.Bytes.{isNameByte}
 use Rattle.scanner.specs.Class.{inClass}
 use Rattle.scanner.specs.Runs.{endOf}
-use Rattle.scanner.specs.Laws.{within-yes, within-below}
+use Rattle.lists.specs.Bytes.{within-yes, within-below}
 use Rattle.scanner.proofs.ClassLaws.{class-name-byte}
 use Rattle.scanner.proofs.RunLaws.{endOf-end, endOf-more, endOf-stop}
 use Rattle.lexer.proofs.name_end.Statement.{statement}

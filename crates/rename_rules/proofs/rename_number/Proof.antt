@@ -6,7 +6,7 @@ use borrow.Author.Needs.{needs}
 use borrow.Author.Tests.{le-leb, lt-leb, not-false}
 use Rattle.rename_rules.specs.Judged.{numberBy}
 use denote.Ref.{now}
-use Rattle.scanner.specs.Laws.{legal-short}
+use Rattle.lists.specs.Bytes.{legal-short}
 use Rattle.rename_rules.proofs.rename_number.Statement.{statement}
 use Rattle.rename_rules.proofs.rename_number.Tie as tie
 

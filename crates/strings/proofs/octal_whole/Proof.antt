@@ -2,7 +2,7 @@ use borrow.Author.Needs.{needs}
 use Rattle.rules.specs.Tokens.{octalByte, onto}
 use Rattle.rules.specs.Bytes.{within}
 use Rattle.strings.specs.Machine.{machineOpen}
-use Rattle.scanner.specs.Laws.{within-above}
+use Rattle.lists.specs.Bytes.{within-above}
 use Rattle.strings.proofs.Turns.{byte-in}
 use Rattle.strings.proofs.octal_whole.Statement.{statement}
 use Rattle.strings.proofs.octal_whole.Tie as tie

@@ -5,7 +5,7 @@ use native.Mathlib.Omega.{arith}
 use borrow.Author.Tests.{not-true, not-false, le-leb, lt-leb}
 use Rattle.rules.specs.Layout.{padded, row}
 use Rattle.tables.specs.Row.{words}
-use Rattle.scanner.specs.Laws.{within-yes, within-below, within-above}
+use Rattle.lists.specs.Bytes.{within-yes, within-below, within-above}
 use Rattle.replay.proofs.PartLaws.{positive}
 use Rattle.replay.proofs.KindLaws.{memory-name, memory-width, memory-size, memory-settled}
 use borrow.Author.Needs.{needs}

@@ -1,4 +1,4 @@
--- Laws of the rules' definitions: runs, tests of all bytes, equal bytes.
+-- Laws of the rules' definitions on bytes: runs, tests of all bytes, equal bytes.
 -- Assumes nothing.
 use mathlib.Core.Path.{_≡_, refl, sym, ap, ap₂, _∙_}
 use mathlib.Core.Bool.{Bool, true, false, _&&_, and-false}

@@ -4,8 +4,8 @@ use mathlib.Core.Path.{sym}
 use mathlib.Core.Bool.{or-false}
 use borrow.Author.Tests.{eq-eqb, ne-eqb}
 use Rattle.rules.specs.Bytes.{bytesOpen}
-use Rattle.scanner.proofs.names.starts_name.Statement.{statement}
-use Rattle.scanner.proofs.names.starts_name.Tie as tie
+use Rattle.names.proofs.starts_name.Statement.{statement}
+use Rattle.names.proofs.starts_name.Tie as tie
 
 returns : tie.Need-returns
 unfolding bytesOpen

@@ -1,19 +1,18 @@
--- `legal` meets its contract. The invariant: from i on the run of name bytes ends where it ends behind the first byte.
+-- `legal` meets its contract. The invariant: all bytes from i on are name bytes just where all behind the first are.
 -- Assumes nothing.
 use mathlib.Core.Path.{_≡_, refl, sym, _∙_}
 use Prim.Native.Nat.{_-_}
 use native.Mathlib.Omega.{arith}
-use lib.ListN.{length}
+use lib.ListN.{length, drop}
 use borrow.Author.Needs.{needs}
 use borrow.Author.Tests.{not-true, not-false}
-use Rattle.rules.specs.Bytes.{isNameByte}
-use Rattle.scanner.specs.Runs.{endOf}
-use Rattle.scanner.proofs.NameLaws.{legal-few, legal-many, legal-start, legal-stop, legal-end, name-on}
-use Rattle.scanner.proofs.names.legal.Statement.{statement}
-use Rattle.scanner.proofs.names.legal.Tie as tie
+use Rattle.rules.specs.Bytes.{all, isNameByte}
+use Rattle.names.proofs.NameLaws.{legal-few, legal-many, legal-start, legal-stop, legal-end, name-on}
+use Rattle.names.proofs.legal.Statement.{statement}
+use Rattle.names.proofs.legal.Tie as tie
 
 abbrev Inv-loop : tie.InvT-loop
-Inv-loop n i₀ i = endOf isNameByte n 1 ≡ endOf isNameByte n i
+Inv-loop n i₀ i = all isNameByte (drop 1 n) ≡ all isNameByte (drop i n)
 
 abbrev μ-loop : tie.MeasureT-loop
 μ-loop n i₀ i = length n - i

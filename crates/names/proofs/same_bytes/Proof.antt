@@ -6,9 +6,9 @@ use lib.ListN.{length, drop}
 use borrow.Author.Needs.{needs}
 use native.Mathlib.Omega.{arith}
 use Rattle.rules.specs.Bytes.{same}
-use Rattle.scanner.specs.Laws.{same-length, same-end, same-apart, same-on, same-last}
-use Rattle.scanner.proofs.names.same_bytes.Statement.{statement}
-use Rattle.scanner.proofs.names.same_bytes.Tie as tie
+use Rattle.lists.specs.Bytes.{same-length, same-end, same-apart, same-on, same-last}
+use Rattle.names.proofs.same_bytes.Statement.{statement}
+use Rattle.names.proofs.same_bytes.Tie as tie
 
 abbrev Inv-loop : tie.InvT-loop
 Inv-loop a b last i₀ i = (i ≤ last) × (same a b ≡ same (drop i a) (drop i b)) × (last < length a) × (length a ≡ length b)

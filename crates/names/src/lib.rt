@@ -1,4 +1,4 @@
-// Names.
+// Names: whether bytes are one, and whether two are the same.
 ghost use mathlib.Core.Path.{_≡_};
 ghost use Rattle.rules.specs.Bytes.{legal, same, isNameStart};
 
