@@ -1,5 +1,7 @@
 // The written line of the statement in a row, with the wires' names as they are now.
 // All of it is total: a word past a table's end counts as 0, and a span past its end is cut.
+use constant_text::put_string;
+use constant_text::put_value;
 use context::kinds::ATTRIBUTE;
 use context::kinds::AUTOIDX;
 use context::kinds::CELL;
@@ -19,8 +21,6 @@ use text::put_bytes;
 use text::put_decimal;
 use text::put_integer;
 use text::put_spaces;
-use text::put_string;
-use text::put_value;
 use wire_names::Module;
 use wire_names::name_now;
 use wires::WIRE_FLAGS;

@@ -2,17 +2,15 @@
 -- Assumes nothing.
 use mathlib.Core.Path.{_≡_, refl, sym, ap, _∙_}
 use mathlib.Core.Bool.{Bool, true, false, cond}
-use mathlib.Core.List.{List, [], _∷_, _++_, map, reverse, reverse-cons, map-append}
+use mathlib.Core.List.{List, [], _∷_, _++_}
 use Prim.Native.Nat.{ℕ, zero, suc, _+_, _-_, _/_, _%_, _≤_, _<_}
 use native.Mathlib.Numerals.{add-one}
 use native.Mathlib.Omega.{arith}
 use borrow.Author.Tests.{lt-ltb, le-ltb, ltb-false}
 use lib.Dec.{ltb}
-use lib.ListN.{length, take, drop, getD, set, replicate, length-set, replicate-append-replicate}
-use lib.Seq.{take-suc, take-all, drop-cons, set-out}
-use Rattle.rules.specs.Text.{decimalOnto, decimalText, digitByte}
-use Rattle.rules.specs.Tokens.{Digit}
-use Rattle.numbers.specs.Kinds.{digitOf}
+use lib.ListN.{length, take, getD, set, replicate, length-set, replicate-append-replicate}
+use lib.Seq.{take-suc, take-all, set-out}
+use Rattle.rules.specs.Text.{decimalOnto, decimalText}
 use Rattle.tables.specs.Store.{store, length-store}
 use Rattle.text.specs.Written.{Written, moved}
 
@@ -86,14 +84,3 @@ spaces-more n = replicate-append-replicate n 1 32
 
 pub bytes-more : (s : List ℕ) (i : ℕ) → i < length s → take i s ++ getD s i 0 ∷ [] ≡ take (i + 1) s
 bytes-more s i h = sym (rw add-one (take-suc s i 0 h))
-
--- the digits from i on, the highest first: one more below them is one more at the end
-pub digits-more : (s : List ℕ) (i j b : ℕ) → j < length s → i ≡ j + 1 → b ≡ digitByte (digitOf (getD s j 0)) → map digitByte (reverse (map digitOf (drop i s))) ++ b ∷ [] ≡ map digitByte (reverse (map digitOf (drop j s)))
-digits-more s i j b h ei eb =
-    let d : Digit = digitOf (getD s j 0) in
-    let ds : List Digit = map digitOf (drop i s) in
-    sym
-    (ap (λ (l : List ℕ). map digitByte (reverse (map digitOf l))) (drop-cons s j 0 h ∙ ap (λ (k : ℕ). getD s j 0 ∷ drop k s) (sym (ei ∙ add-one j)))
-    ∙ ap (map digitByte) (reverse-cons d ds)
-    ∙ map-append digitByte (reverse ds) (d ∷ [])
-    ∙ ap (λ (k : ℕ). map digitByte (reverse ds) ++ k ∷ []) (sym eb))

@@ -2,8 +2,8 @@
 use borrow.Author.Tests.{eq-eqb, ne-eqb}
 use Rattle.rules.specs.Text.{digitByte}
 use Rattle.numbers.specs.Kinds.{digitOf}
-use Rattle.text.proofs.digit_byte.Statement.{statement}
-use Rattle.text.proofs.digit_byte.Tie as tie
+use Rattle.constant_text.proofs.digit_byte.Statement.{statement}
+use Rattle.constant_text.proofs.digit_byte.Tie as tie
 
 returns : tie.Need-returns
 unfolding digitOf digitByte

@@ -8,10 +8,10 @@ use lib.ListN.{length, drop}
 use lib.Seq.{drop-length}
 use Rattle.rules.specs.Text.{digitByte}
 use Rattle.numbers.specs.Kinds.{digitOf}
 use Rattle.text.specs.Written.{Written, written-none, written-most, written-then, written-as}
-use Rattle.text.proofs.TextLaws.{digits-more}
-use Rattle.text.proofs.put_digits.Statement.{statement}
-use Rattle.text.proofs.put_digits.Tie as tie
+use Rattle.constant_text.proofs.DigitLaws.{digits-more}
+use Rattle.constant_text.proofs.put_digits.Statement.{statement}
+use Rattle.constant_text.proofs.put_digits.Tie as tie
 
 abbrev Inv-loop : tie.InvT-loop
 Inv-loop out₀ at bits end₀ i₀ out end i = (i ≤ length bits) × Written at (map digitByte (reverse (map digitOf (drop i bits)))) out₀ out end

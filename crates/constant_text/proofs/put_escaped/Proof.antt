@@ -3,8 +3,8 @@ use mathlib.Core.Path.{refl}
 use native.Mathlib.Omega.{arith}
 use borrow.Author.Tests.{eq-eqb, ne-eqb, lt-ltb, le-ltb}
 use Rattle.rules.specs.Text.{escaped}
-use Rattle.text.proofs.put_escaped.Statement.{statement}
-use Rattle.text.proofs.put_escaped.Tie as tie
+use Rattle.constant_text.proofs.put_escaped.Statement.{statement}
+use Rattle.constant_text.proofs.put_escaped.Tie as tie
 
 slice-aggregate-put-bytes : tie.Need-slice-aggregate-put-bytes
 slice-aggregate-put-bytes c = refl

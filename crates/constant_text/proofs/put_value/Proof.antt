@@ -1,9 +1,9 @@
 -- One piece behind another.
 use native.Mathlib.Omega.{arith}
 use Rattle.rules.specs.Text.{literalText}
 use Rattle.text.specs.Written.{written-most, written-then}
-use Rattle.text.proofs.put_value.Statement.{statement}
-use Rattle.text.proofs.put_value.Tie as tie
+use Rattle.constant_text.proofs.put_value.Statement.{statement}
+use Rattle.constant_text.proofs.put_value.Tie as tie
 
 cast-put-decimal : tie.Need-cast-put-decimal
 cast-put-decimal c = omega arith

@@ -1,10 +1,10 @@
 -- Plain bytes stand as they are.
 use mathlib.Core.Path.{sym, _∙_}
 use denote.Ref.{now}
-use Rattle.text.specs.Plain.{plain-text}
+use Rattle.constant_text.specs.Plain.{plain-text}
 use Rattle.text.specs.Written.{written-as}
-use Rattle.text.proofs.put_inside.Statement.{statement}
-use Rattle.text.proofs.put_inside.Tie as tie
+use Rattle.constant_text.proofs.put_inside.Statement.{statement}
+use Rattle.constant_text.proofs.put_inside.Tie as tie
 
 all-plain-requires : tie.Need-all-plain-requires
 all-plain-requires c κs = tt

@@ -7,10 +7,10 @@ use mathlib.Core.List.{flatMap}
 use lib.ListN.{length, take}
 use lib.Seq.{take-length}
 use Rattle.rules.specs.Text.{escaped}
 use Rattle.text.specs.Written.{Written, written-none, written-most, written-then, written-as}
 use Rattle.lists.specs.Lists.{flatMap-more}
-use Rattle.text.proofs.put_mixed.Statement.{statement}
-use Rattle.text.proofs.put_mixed.Tie as tie
+use Rattle.constant_text.proofs.put_mixed.Statement.{statement}
+use Rattle.constant_text.proofs.put_mixed.Tie as tie
 
 abbrev Inv-loop : tie.InvT-loop
 Inv-loop out₀ at s end₀ i₀ out end i = (i ≤ length s) × Written at (flatMap escaped (take i s)) out₀ out end

@@ -1,8 +1,8 @@
 -- One piece behind another.
 use Rattle.rules.specs.Text.{literalText}
 use Rattle.text.specs.Written.{written-most, written-then}
-use Rattle.text.proofs.put_string.Statement.{statement}
-use Rattle.text.proofs.put_string.Tie as tie
+use Rattle.constant_text.proofs.put_string.Statement.{statement}
+use Rattle.constant_text.proofs.put_string.Tie as tie
 
 put-byte-requires : tie.Need-put-byte-requires
 put-byte-requires c κs = c .before .before .before .pre

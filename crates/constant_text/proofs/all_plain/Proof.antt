@@ -6,10 +6,10 @@ use native.Mathlib.Omega.{arith}
 use denote.Ref.{now}
 use lib.ListN.{length, drop}
 use Rattle.rules.specs.Bytes.{all}
-use Rattle.text.specs.Plain.{plain}
+use Rattle.constant_text.specs.Plain.{plain}
 use Rattle.lists.specs.Elements.{all-turn, all-told}
-use Rattle.text.proofs.all_plain.Statement.{statement}
-use Rattle.text.proofs.all_plain.Tie as tie
+use Rattle.constant_text.proofs.all_plain.Statement.{statement}
+use Rattle.constant_text.proofs.all_plain.Tie as tie
 
 abbrev Inv-loop : tie.InvT-loop
 Inv-loop s good₀ i₀ good i = (good && all plain (drop i s)) ≡ all plain s
