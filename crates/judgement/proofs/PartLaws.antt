@@ -20,7 +20,7 @@ use Rattle.tokens.specs.Rows.{literalIn}
 use Rattle.tokens.specs.declared.ConstantSpan.the-variants as constant
 use Rattle.tokens.specs.declared.ConstantSlot.{ConstantSlot}
 use Rattle.tokens.specs.declared.ConstantSlot.the-variants as literal
-use Rattle.literals.proofs.CodeLaws.{value-few, value-width}
+use Rattle.literal_rules.proofs.ReadLaws.{value-few, value-width}
 use Rattle.line_forms.specs.Forms.{nameIn, valueIn}
 use Rattle.line_forms.specs.declared.Span.{Span}
 use Rattle.syntax.specs.Statements.{numberOf, faultOf, statementIn, kindIn, namesIn, Sound, GoodOptional}

@@ -17,7 +17,7 @@ use context::sizes::kind_sizes;
 use context::sizes::plus;
 use context::sizes::within;
 use line_forms::Span;
-use literals::literal_width;
+use literal_rules::literal_width;
 use name_index::indexed_found;
 use netlist::results::BAD_NUMBER;
 use netlist::results::NAME_TAKEN;

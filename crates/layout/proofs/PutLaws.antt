@@ -18,7 +18,7 @@ use Rattle.tables.specs.Flat.{flat}
 use Rattle.scanner.specs.Numbers.{capped}
 use Rattle.tokens.specs.Rows.{literalIn}
 use Rattle.tokens.specs.declared.ConstantSpan.the-variants as constant
-use Rattle.literals.proofs.CodeLaws.{value-few, value-width}
+use Rattle.literal_rules.proofs.ReadLaws.{value-few, value-width}
 use Rattle.literals.proofs.Stored.{stored-front}
 use Rattle.syntax.specs.Statements.{signalIn}
 use Rattle.layout.specs.Put.{WireHas}

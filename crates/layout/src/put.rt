@@ -11,7 +11,7 @@ use context::kinds::MODULE;
 use context::kinds::PARAMETER;
 use context::kinds::WIRE;
 use line_forms::Span;
-use literals::literal_width;
+use literal_rules::literal_width;
 use literals::put_literal;
 use netlist::rows::INTEGER_CONSTANT;
 use netlist::rows::STRING_CONSTANT;

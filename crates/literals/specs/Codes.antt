@@ -1,24 +1,15 @@
--- What the answers about a constant say, and the codes of its bits, highest first.
+-- The codes of a constant's bits, highest first.
 use mathlib.Core.Path.{_≡_}
-use mathlib.Core.Bool.{true, false}
+use mathlib.Core.Bool.{true}
 use mathlib.Core.List.{List, _++_, map, reverse}
 use Prim.Native.Nat.{ℕ}
 use lib.ListN.{drop, replicate}
-use lib.IntN.{ℤ}
 use Rattle.rules.specs.Tokens.{Literal, digit}
-use Rattle.rules.specs.Numbers.{int32}
-use Rattle.rules.specs.Signals.{twosComplement, binary, literalBits, topFiller}
+use Rattle.rules.specs.Signals.{binary, literalBits, topFiller}
 use Rattle.rules.specs.Layout.{digitCode}
 use Rattle.strings.specs.Decoded.{closes}
 use Rattle.tokens.specs.declared.ConstantSpan.{ConstantSpan}
 use Rattle.tokens.specs.declared.ConstantSpan.the-variants as constant
-use Rattle.literals.specs.declared.Number.{Number}
-use Rattle.literals.specs.declared.Number.the-variants.{Fits, Outside}
-
--- the answer is the integer's word, or the integer has none
-abbrev pub NumberIs : ℤ → Number → Type 0
-NumberIs i (Fits w) = (int32 i ≡ true) × (twosComplement i ≡ w)
-NumberIs i Outside = int32 i ≡ false
 
 -- a string has its closing quote
 abbrev pub Whole : List ℕ → ConstantSpan → Type 0

@@ -1,11 +1,12 @@
-// The constants of a line: whether they keep the number rules, how wide they are, and the codes of their bits, highest first.
+// The codes of the bits of a line's constants, highest first.
+use literal_rules::BYTE_BITS;
+use literal_rules::INTEGER_BITS;
+use literal_rules::value_digits;
 use numbers::signed::bit_of;
-use numbers::signed::fits;
 use numbers::signed::word_of;
 use scanner::decimals::decimal;
 use scanner::parts::part;
 use strings::put_string;
-use strings::string_size;
 use tokens::ConstantSpan;
 use tokens::Integer;
 ghost use mathlib.Core.Path.{_≡_};
@@ -13,17 +14,15 @@ ghost use mathlib.Core.Bool.{true};
 ghost use mathlib.Core.List.{map, reverse};
 ghost use Prim.Native.Nat.{_+_, _*_, _≤_, _<_};
 ghost use lib.ListN.{length, drop, getD};
-ghost use lib.Seq.{slice};
 ghost use Rattle.rules.specs.Limits.{mostWidth};
 ghost use Rattle.rules.specs.Tokens.{digit, value, integer, string};
 ghost use Rattle.rules.specs.Numbers.{int32, goodLiteral};
 ghost use Rattle.rules.specs.Signals.{literalBits, literalWidth};
 ghost use Rattle.rules.specs.Layout.{digitCode};
 ghost use Rattle.tables.specs.Store.{store};
-ghost use Rattle.scanner.specs.Numbers.{capped};
 ghost use Rattle.strings.specs.Decoded.{decoded, closes};
 ghost use Rattle.tokens.specs.Rows.{integerIn, literalIn};
-ghost use Rattle.literals.specs.Codes.{NumberIs, Whole, codes, wordCodes, filledCodes, fillerCode};
+ghost use Rattle.literals.specs.Codes.{Whole, codes, wordCodes, filledCodes, fillerCode};
 
 // The codes of the digits x, z, m and `-`; those of 0 and 1 are these numbers.
 const X_CODE: u32 = 2;
@@ -33,25 +32,6 @@ const Z_CODE: u32 = 3;
 const M_CODE: u32 = 4;
 
 const MINUS_CODE: u32 = 5;
-
-// The most bits of a value.
-const MOST_WIDTH: u32 = 2048;
-
-// The bits of an integer, and of a byte of a string.
-const INTEGER_BITS: usize = 32;
-
-const BYTE_BITS: usize = 8;
-
-// The width that stands for every higher one, and the most bytes whose bits are below it.
-const CAP: usize = 2147483649;
-
-const MOST_BYTES: usize = 268435456;
-
-// An integer's word of 32 bits in two's complement; or it lies outside of them.
-pub enum Number {
-    Fits(u32),
-    Outside,
-}
 
 // The code of the digit that a byte writes.
 fn digit_code(b: u8) -> u32
@@ -73,75 +53,6 @@ fn digit_code(b: u8) -> u32
         return M_CODE;
     }
     MINUS_CODE
-}
-
-// The word of an integer.
-pub fn integer_of(f: &[u8], z: Integer) -> Number
-    ensures { λ r. ⌜ NumberIs (integerIn (now (f .entry)) z) r ⌝ }
-{
-    let size = decimal(part(f, z.start, z.end));
-    if fits(z.negative, size) {
-        return Number::Fits(word_of(z.negative, size));
-    }
-    Number::Outside
-}
-
-// The digits of a value, from behind its quote mark on.
-fn value_digits<'a>(f: &'a [u8], quote: usize, end: usize) -> &'a [u8]
-    ensures { λ r. ⌜ now r ≡ slice (quote + 1) end (now (f .entry)) ⌝ }
-{
-    if f.len() <= quote {
-        return &f[0..0];
-    }
-    part(f, quote + 1, end)
-}
-
-// A value is at most 2,048 bits wide, and has no more digits than bits.
-fn good_value(f: &[u8], start: usize, quote: usize, end: usize) -> bool
-    ensures { λ r. ⌜ r ≡ goodLiteral (literalIn (now (f .entry)) (ConstantSpan.Value start quote end)) ⌝ }
-{
-    let width = decimal(part(f, start, quote));
-    if MOST_WIDTH < width {
-        return false;
-    }
-    value_digits(f, quote, end).len() <= width as usize
-}
-
-// Whether a constant keeps the number rules.
-pub fn good_literal(f: &[u8], c: ConstantSpan) -> bool
-    ensures { λ r. ⌜ r ≡ goodLiteral (literalIn (now (f .entry)) c) ⌝ }
-{
-    match c {
-        ConstantSpan::Integer(z) => fits(z.negative, decimal(part(f, z.start, z.end))),
-        ConstantSpan::Value { start, quote, end } => good_value(f, start, quote, end),
-        ConstantSpan::Text(_) => true,
-    }
-}
-
-// How many bits a string has, 8 a byte; the same cap as a decimal's.
-fn text_width(f: &[u8], start: usize) -> usize
-    ensures { λ r. ⌜ r ≡ capped (8 * length (decoded (drop start (now (f .entry))))) ⌝ }
-{
-    let size = string_size(f, start);
-    if MOST_BYTES < size {
-        return CAP;
-    }
-    BYTE_BITS * size
-}
-
-// How many bits a constant has; 2147483649 where there are more, so that the widths of a line add up.
-pub fn literal_width(f: &[u8], c: ConstantSpan) -> usize
-    ensures { λ r. ⌜ (r ≡ capped (literalWidth (literalIn (now (f .entry)) c))) × (r ≤ 2147483649) ⌝ }
-{
-    match c {
-        ConstantSpan::Integer(_) => INTEGER_BITS,
-        ConstantSpan::Value {
-            start,
-            quote,
-            end: _,
-        } => decimal(part(f, start, quote)) as usize,
-        ConstantSpan::Text(start) => text_width(f, start),
-    }
 }
 
 // The lowest k bits of a word, highest first.

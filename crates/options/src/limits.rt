@@ -1,7 +1,7 @@
 // What the options of a wire and of a memory mean, where the number and option rules allow them.
 use crate::Options;
-use literals::Number;
-use literals::integer_of;
+use literal_rules::Number;
+use literal_rules::integer_of;
 use numbers::signed::offset_fits;
 use tokens::Slot;
 ghost use mathlib.Core.Path.{_≡_};

@@ -1,6 +1,6 @@
 // Signals: the signal reader and the bundle reader call each other, the unread part of the line and the depth falling. Bits are put
 // into a scratch table from the top, the members of a bundle as they come; a slice moves its part down to where its operand began.
-use literals::Number;
+use literal_rules::Number;
 use name_index::indexed_wire;
 use netlist::results::BAD_NUMBER;
 use netlist::results::BAD_WIDTH;
@@ -237,13 +237,13 @@ fn literal_bits(f: &[u8], c: ConstantSpan, scratch: &mut [u32], o: usize) -> Bit
     requires { ⌜ (length (now f) ≤ longestFile) × (o + mostWidth ≤ length (now scratch)) × Whole (now f) c ⌝ }
     ensures { λ r. ⌜ PutAny (rules.constant (literalIn (now (f .entry)) c)) o (now (scratch .entry)) (now (scratch .exit)) r ⌝ }
 {
-    if !literals::good_literal(f, c) {
+    if !literal_rules::good_literal(f, c) {
         return Bits {
             width: 0,
             fault: BAD_NUMBER,
         };
     }
-    let width = literals::literal_width(f, c);
+    let width = literal_rules::literal_width(f, c);
     if MOST_BITS < width {
         return Bits {
             width,
@@ -302,7 +302,7 @@ fn slice(f: &[u8], bits: Bits, high: Integer, low: Slot, scratch: &mut [u32], o:
 {
     let width = bits.width;
     let fault = bits.fault;
-    let Number::Fits(h) = literals::integer_of(f, high) else {
+    let Number::Fits(h) = literal_rules::integer_of(f, high) else {
         return Bits {
             width,
             fault: merge(BAD_NUMBER, fault),
@@ -311,7 +311,7 @@ fn slice(f: &[u8], bits: Bits, high: Integer, low: Slot, scratch: &mut [u32], o:
     match low {
         Slot::Absent => cut(bits, h, h, scratch, o),
         Slot::Given(z) => {
-            let Number::Fits(l) = literals::integer_of(f, z) else {
+            let Number::Fits(l) = literal_rules::integer_of(f, z) else {
                 return Bits {
                     width,
                     fault: merge(BAD_NUMBER, fault),

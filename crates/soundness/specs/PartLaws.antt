@@ -18,7 +18,7 @@ use Rattle.lists.specs.Tests.{and-true-left}
 use Rattle.lists.specs.Bytes.{within-high}
 use Rattle.lists.specs.Elements.{all-map, all-both, all-left, all-right, all-cons, all-first, each-test}
 use Rattle.context.specs.Offsets.{good-offset, memory-offset}
-use Rattle.literals.proofs.CodeLaws.{literal-long}
+use Rattle.literal_rules.proofs.ReadLaws.{literal-long}
 use Rattle.admitted.specs.Admitted.{fineConstant, ownWire, fineMemory, fineSignal, sameLength}
 use Rattle.written.specs.TokenLaws.{fineLiteral}
 use Rattle.soundness.specs.SignalLaws.{bits-fine, bits-long}

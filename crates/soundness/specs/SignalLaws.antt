@@ -17,7 +17,7 @@ use Rattle.rules.specs.Numbers.{goodNumbers}
 use Rattle.rules.specs.Signals.{Wires, find, literalBits, wireBits, inside, lower, span, width, widths, bits, bitsOf, goodSlice, parts, partsOf}
 use Rattle.lists.specs.Parts.{length-part}
 use Rattle.lists.specs.Tests.{by-cond, and-true-left, and-true-right}
-use Rattle.literals.proofs.CodeLaws.{literal-long}
+use Rattle.literal_rules.proofs.ReadLaws.{literal-long}
 use Rattle.admitted.specs.Admitted.{fineBit}
 use Rattle.lists.specs.Elements.{all-cons, all-first, all-later, all-drop, all-append, all-left, all-right, all-map, all-each, all-take}
 use Rattle.lists.specs.Lists.{length-wire, element-behind}

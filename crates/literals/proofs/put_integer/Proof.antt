@@ -2,7 +2,8 @@
 use mathlib.Core.Path.{ap, _∙_}
 use denote.Ref.{now}
 use Rattle.tables.specs.Store.{store}
-use Rattle.literals.proofs.CodeLaws.{read-word, integer-codes}
+use Rattle.literal_rules.proofs.ReadLaws.{read-word}
+use Rattle.literals.proofs.CodeLaws.{integer-codes}
 use borrow.Author.Needs.{needs}
 use Rattle.literals.proofs.put_integer.Statement.{statement}
 use Rattle.literals.proofs.put_integer.Tie as tie

@@ -4,7 +4,7 @@ use denote.Ref.{now}
 use Rattle.rules.specs.Tokens.{Literal}
 use Rattle.tables.specs.Store.{store}
 use Rattle.literals.specs.Codes.{codes}
-use Rattle.literals.proofs.CodeLaws.{read-few, read-room, read-literal}
+use Rattle.literal_rules.proofs.ReadLaws.{read-few, read-room, read-literal}
 use borrow.Author.Needs.{needs}
 use Rattle.literals.proofs.put_value.Statement.{statement}
 use Rattle.literals.proofs.put_value.Tie as tie

@@ -5,7 +5,7 @@ use Prim.Native.Nat.{_<_}
 use native.Mathlib.Omega.{arith}
 use denote.Ref.{now}
 use borrow.Author.Tests.{not-true, not-false}
-use Rattle.literals.proofs.CodeLaws.{width-small}
+use Rattle.literal_rules.proofs.ReadLaws.{width-small}
 use Rattle.signals.proofs.HeldLaws.{put-not, put-over, constant-bad, constant-width, constant-fault, constant-put}
 use borrow.Author.Needs.{needs}
 use Rattle.signals.proofs.literal_bits.Statement.{statement}

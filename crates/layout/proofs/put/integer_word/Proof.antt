@@ -1,6 +1,6 @@
 -- An integer that has a word is below the cap with which its size is read.
 use mathlib.Core.Path.{_∙_}
-use Rattle.literals.proofs.CodeLaws.{read-word}
+use Rattle.literal_rules.proofs.ReadLaws.{read-word}
 use borrow.Author.Needs.{needs}
 use Rattle.layout.proofs.put.integer_word.Statement.{statement}
 use Rattle.layout.proofs.put.integer_word.Tie as tie

@@ -3,7 +3,7 @@ use mathlib.Core.Path.{ap, _∙_}
 use native.Mathlib.Omega.{arith}
 use denote.Ref.{now}
 use Rattle.tables.specs.Store.{store}
-use Rattle.literals.proofs.CodeLaws.{value-narrow, value-width, value-few}
+use Rattle.literal_rules.proofs.ReadLaws.{value-narrow, value-width, value-few}
 use Rattle.layout.proofs.PutLaws.{value-stored}
 use borrow.Author.Needs.{needs}
 use Rattle.layout.proofs.put.put_value.Statement.{statement}

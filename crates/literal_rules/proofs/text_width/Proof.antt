@@ -2,8 +2,8 @@
 use native.Mathlib.Omega.{arith}
 use Rattle.scanner.specs.Numbers.{capped}
 use borrow.Author.Needs.{needs}
-use Rattle.literals.proofs.text_width.Statement.{statement}
-use Rattle.literals.proofs.text_width.Tie as tie
+use Rattle.literal_rules.proofs.text_width.Statement.{statement}
+use Rattle.literal_rules.proofs.text_width.Tie as tie
 
 string-size-requires : tie.Need-string-size-requires
 string-size-requires c κs = search needs

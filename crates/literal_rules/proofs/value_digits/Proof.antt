@@ -4,8 +4,8 @@ use native.Mathlib.Omega.{arith}
 use mathlib.Core.Path.{sym}
 use denote.Ref.{now}
 use borrow.Author.Needs.{needs}
-use Rattle.literals.proofs.value_digits.Statement.{statement}
-use Rattle.literals.proofs.value_digits.Tie as tie
+use Rattle.literal_rules.proofs.value_digits.Statement.{statement}
+use Rattle.literal_rules.proofs.value_digits.Tie as tie
 use Rattle.lists.specs.Parts.{slice-past}
 
 sub-result : tie.Need-sub-result

@@ -2,10 +2,10 @@
 use mathlib.Core.Path.{_∙_}
 use Rattle.rules.specs.Numbers.{goodLiteral}
 use Rattle.tokens.specs.Rows.{literalIn}
-use Rattle.literals.proofs.CodeLaws.{read-fits}
+use Rattle.literal_rules.proofs.ReadLaws.{read-fits}
 use borrow.Author.Needs.{needs}
-use Rattle.literals.proofs.good_literal.Statement.{statement}
-use Rattle.literals.proofs.good_literal.Tie as tie
+use Rattle.literal_rules.proofs.good_literal.Statement.{statement}
+use Rattle.literal_rules.proofs.good_literal.Tie as tie
 
 enum-known-c : tie.Need-enum-known-c
 enum-known-c c = search needs

@@ -1,8 +1,8 @@
 -- The width is read with a cap that is above 2,048.
-use Rattle.literals.proofs.CodeLaws.{read-wide, read-good}
+use Rattle.literal_rules.proofs.ReadLaws.{read-wide, read-good}
 use borrow.Author.Needs.{needs}
-use Rattle.literals.proofs.good_value.Statement.{statement}
-use Rattle.literals.proofs.good_value.Tie as tie
+use Rattle.literal_rules.proofs.good_value.Statement.{statement}
+use Rattle.literal_rules.proofs.good_value.Tie as tie
 
 part-requires : tie.Need-part-requires
 part-requires c κs = search needs

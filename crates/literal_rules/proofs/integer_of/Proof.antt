@@ -1,9 +1,9 @@
 -- The size is read with a cap, above which no integer has a word.
 use mathlib.Core.Path.{sym, _∙_}
-use Rattle.literals.proofs.CodeLaws.{read-fits, read-word}
+use Rattle.literal_rules.proofs.ReadLaws.{read-fits, read-word}
 use borrow.Author.Needs.{needs}
-use Rattle.literals.proofs.integer_of.Statement.{statement}
-use Rattle.literals.proofs.integer_of.Tie as tie
+use Rattle.literal_rules.proofs.integer_of.Statement.{statement}
+use Rattle.literal_rules.proofs.integer_of.Tie as tie
 
 part-requires : tie.Need-part-requires
 part-requires c κs = search needs

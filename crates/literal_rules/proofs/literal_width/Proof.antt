@@ -6,8 +6,8 @@ use Rattle.scanner.specs.Numbers.{capped}
 use Rattle.scanner.proofs.NumberLaws.{capped-le}
 use Rattle.tokens.specs.Rows.{literalIn}
 use borrow.Author.Needs.{needs}
-use Rattle.literals.proofs.literal_width.Statement.{statement}
-use Rattle.literals.proofs.literal_width.Tie as tie
+use Rattle.literal_rules.proofs.literal_width.Statement.{statement}
+use Rattle.literal_rules.proofs.literal_width.Tie as tie
 
 enum-told : tie.Need-enum-told
 enum-told c = search needs
