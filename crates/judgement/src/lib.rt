@@ -18,7 +18,7 @@ use context::sizes::plus;
 use context::sizes::within;
 use line_forms::Span;
 use literal_rules::literal_width;
-use name_index::indexed_found;
+use name_search::indexed_found;
 use netlist::results::BAD_NUMBER;
 use netlist::results::NAME_TAKEN;
 use netlist::results::NO_SHAPE;

@@ -15,10 +15,11 @@ use Rattle.rules.specs.Tokens.{Name}
 use Rattle.lists.specs.Tests.{by-cond, by-test, by-order}
 use Rattle.lists.specs.Bytes.{same-eq}
 use Rattle.lists.specs.Elements.{any-chosen}
+use Rattle.wires.specs.Rows.{nameOf, spanAt}
 use Rattle.netlist.specs.Rows.{kindAt, nameAt, namesBetween}
 use Rattle.netlist.specs.Kinds.{hasName}
 use Rattle.name_index.specs.HashLaws.{hash-less}
-use Rattle.name_index.specs.Index.{keyCount, hashOf, keyAt, Named, youngest, Indexed}
+use Rattle.name_index.specs.Index.{keyCount, hashOf, keyAt, wireKey, Named, youngest, Indexed}
 
 module _ (key : ℕ → ℕ) (h : ℕ) where
   -- the turns of the definition
@@ -213,6 +214,18 @@ module _ (names rows heads chain : List ℕ) (row h : ℕ) (x : Indexed heads ch
   pub row-put : row < length chain → (heads' chain' : List ℕ) → heads' ≡ set heads h (row + 1) → chain' ≡ set chain row (getD heads h 0) →
       Indexed heads' chain' (keyAt names rows) (row + 1)
   row-put r heads' chain' a b = rw (a, b, eh) (indexed-more heads chain (keyAt names rows) row x (key-less names rows row) r)
+
+-- the wire behind those that are indexed, put by the hash of its name
+module _ (names wires heads chain : List ℕ) (k h : ℕ) (x : Indexed heads chain (wireKey names wires) k) (eh : h ≡ hashOf (spanAt names wires k 1)) where
+  pub wire-fits : h < length heads
+  wire-fits = omega (arith, x .keys, eh, hash-less (spanAt names wires k 1))
+
+  pub wire-put :
+      k < length chain → (heads′ chain′ : List ℕ) → heads′ ≡ set heads h (k + 1) → chain′ ≡ set chain k (getD heads h 0) →
+      Indexed heads′ chain′ (wireKey names wires) (k + 1)
+  unfolding wireKey nameOf
+  wire-put r heads′ chain′ a b =
+      rw (a, b, eh) (indexed-more heads chain (wireKey names wires) k x (omega (arith, hash-less (spanAt names wires k 1))) r)
 
 -- the rows of a part that ends with those that are indexed
 pub indexed-part : (heads chain : List ℕ) (key : ℕ → ℕ) (from n : ℕ) → from ≤ n → Indexed heads chain key n → Indexed heads chain key (from + (n - from))

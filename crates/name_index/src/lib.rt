@@ -6,32 +6,17 @@ use context::kinds::AUTOIDX;
 use context::kinds::CONNECTION;
 use context::kinds::END;
 use context::kinds::WIRE;
-use context::place::Place;
-use names::same_bytes;
-use netlist::rows::Kinds;
-use netlist::rows::has_name;
 use netlist::rows::row_kind;
 use netlist::rows::row_name;
-use netlist::spaces::space_from;
-use netlist::spaces::space_kinds;
-use numbers::kinds::WireNumber;
-use wires::Found;
 use wires::WIRE_NAME;
-use wires::WIRE_WIDTH;
 use wires::bytes_at;
-use wires::column;
 ghost use mathlib.Core.Path.{_≡_};
-ghost use Prim.Native.Nat.{_+_, _<_};
+ghost use Prim.Native.Nat.{_+_, _<_, _≤_};
 ghost use mathlib.Core.Bool.{cond};
 ghost use lib.Dec.{eqb};
 ghost use lib.ListN.{length, getD, set};
-ghost use Rattle.rules.specs.Bytes.{same, any};
-ghost use Rattle.netlist.specs.Rows.{namesBetween};
-ghost use Rattle.netlist.specs.Kinds.{isKind, hasName};
-ghost use Rattle.netlist.specs.Found.{foundIn};
-ghost use Rattle.context.specs.Place.{Bounds};
-ghost use Rattle.wires.specs.Found.{FoundIs};
-ghost use Rattle.name_index.specs.Index.{hashOf, keyAt, rowRoom, wireRoom, Named, Indexed, WiresIndexed, LinesIndexed};
+ghost use Rattle.netlist.specs.Kinds.{hasName};
+ghost use Rattle.name_index.specs.Index.{hashOf, keyAt, wireKey, rowRoom, wireRoom, Indexed, LinesIndexed};
 
 const FACTOR: usize = 31;
 
@@ -71,60 +56,6 @@ pub fn put(heads: &mut [u32], chain: &mut [u32], at: usize, h: usize, more: u32)
 {
     chain[at] = heads[h];
     heads[h] = more;
-}
-
-// Whether a statement of these kinds, in count rows from `from` on, has this name: of the rows with its hash only, the youngest first.
-pub fn indexed_taken(
-    names: &[u8],
-    rows: &[u32],
-    heads: &[u32],
-    chain: &[u32],
-    from: u32,
-    count: u32,
-    kinds: Kinds,
-    name: &[u8],
-) -> bool
-    requires { ⌜ Indexed (now heads) (now chain) (keyAt (now names) (now rows)) (from + count) ⌝ }
-    requires { ⌜ Named (now rows) (isKind kinds) from count ⌝ }
-    ensures { λ r. ⌜ r ≡ any (same (now (name .entry))) (namesBetween (now (names .entry)) (now (rows .entry)) (isKind kinds) from count) ⌝ }
-{
-    let h = hash(name);
-    let mut at = heads[h];
-    while from < at {
-        let row = (at - 1) as usize;
-        if has_name(names, rows, row, kinds, name) {
-            return true;
-        }
-        at = chain[row];
-    }
-    false
-}
-
-// Whether a statement's name of this kind, at this place, is taken in its name space.
-pub fn indexed_found(
-    names: &[u8],
-    rows: &[u32],
-    heads: &[u32],
-    chain: &[u32],
-    place: Place,
-    kind: u32,
-    name: &[u8],
-) -> bool
-    requires { ⌜ Bounds place ⌝ }
-    requires { ⌜ Indexed (now heads) (now chain) (keyAt (now names) (now rows)) (place .rows) ⌝ }
-    ensures { λ r. ⌜ r ≡ foundIn (now (names .entry)) (now (rows .entry)) place kind (now (name .entry)) ⌝ }
-{
-    let from = space_from(place, kind);
-    indexed_taken(
-        names,
-        rows,
-        heads,
-        chain,
-        from,
-        place.rows - from,
-        space_kinds(kind),
-        name,
-    )
 }
 
 // All kinds have a name but these.
@@ -185,28 +116,16 @@ pub fn index_line(
     put(heads, chain, ROW_CHAIN + at, ROW_HEADS + g, wire + 1);
 }
 
-// The last of the wires in count rows from first on that has this name: of those with its hash only.
-pub fn indexed_wire(
-    names: &[u8],
-    wires: &[u32],
-    heads: &[u32],
-    chain: &[u32],
-    first: u32,
-    count: u32,
-    name: &[u8],
-) -> Found
-    requires { ⌜ WiresIndexed (now heads) (now chain) (now names) (now wires) (first + count) ⌝ }
-    ensures { λ r. ⌜ FoundIs (now (names .entry)) (now (wires .entry)) first count (now (name .entry)) r ⌝ }
+// An index of the first wires by their own names.
+pub fn index_wires(names: &[u8], wires: &[u32], heads: &mut [u32], chain: &mut [u32], count: u32)
+    requires { ⌜ Indexed (now heads) (now chain) (wireKey (now names) (now wires)) 0 ⌝ }
+    requires { ⌜ count ≤ length (now chain) ⌝ }
+    ensures { λ _. ⌜ Indexed (now (heads .exit)) (now (chain .exit)) (wireKey (now (names .entry)) (now (wires .entry))) count ⌝ }
 {
-    let h = hash(name);
-    let mut at = heads[ROW_HEADS + h];
-    while first < at {
-        let last = at - 1;
-        let row = last as usize;
-        if same_bytes(bytes_at(names, wires, row, WIRE_NAME), name) {
-            return Found::At(WireNumber(last - first), column(wires, row, WIRE_WIDTH));
-        }
-        at = chain[ROW_CHAIN + row];
+    let mut k = 0;
+    while k < count {
+        let h = hash(bytes_at(names, wires, k as usize, WIRE_NAME));
+        put(heads, chain, k as usize, h, k + 1);
+        k = k + 1;
     }
-    Found::Nothing
 }

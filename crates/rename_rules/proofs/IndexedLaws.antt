@@ -6,7 +6,7 @@ use mathlib.Core.List.{List}
 use mathlib.Core.Bool.{Bool, true, false, _&&_, _||_, or-true, and-false}
 use native.Mathlib.Omega.{arith}
 use lib.Dec.{eqb, leb, ltb}
-use lib.ListN.{length, getD, set}
+use lib.ListN.{getD}
 use borrow.Author.Tests.{leb-true, leb-false, eqb-true, eqb-false}
 use Rattle.rules.specs.Bytes.{same, any}
 use Rattle.rules.specs.Tokens.{Name}
@@ -19,7 +19,7 @@ use Rattle.context.specs.declared.place.Place.{Place}
 use Rattle.netlist.specs.Rows.{kindAt, nameAt, namesBetween}
 use Rattle.netlist.specs.Kinds.{isKind, ofKinds, hasName}
 use Rattle.name_index.specs.Index.{hashOf, wireKey, Named, Indexed}
-use Rattle.name_index.specs.IndexLaws.{Walk, walk-first, walk-falls, walk-on, indexed-more}
+use Rattle.name_index.specs.IndexLaws.{Walk, walk-first, walk-falls, walk-on}
 use Rattle.name_index.specs.HashLaws.{hash-less}
 use Rattle.modules.specs.Ranges.{wireRange, rowRange, lineOf}
 use Rattle.modules.specs.RangeLaws.{where-le, where-next, line-le}
@@ -158,18 +158,6 @@ module _ (names wires rows : List ℕ) (m : Module) (n : Name) where
 
             pub kept-next : b ≡ false → KeptWalk (q .total) (getD chain (at - 1) 0)
             kept-next e = walk-on _ _ _ _ (λ k p. reach-other k) heads chain (q .indexed) at w (omega arith) (here ∙ rw e)
-
--- one wire more
-module _ (names wires heads chain : List ℕ) (k h : ℕ) (x : Indexed heads chain (wireKey names wires) k) (eh : h ≡ hashOf (spanAt names wires k 1)) where
-  pub wire-fits : h < length heads
-  wire-fits = omega (arith, x .keys, eh, hash-less (spanAt names wires k 1))
-
-  pub wire-put :
-      k < length chain → (heads′ chain′ : List ℕ) → heads′ ≡ set heads h (k + 1) → chain′ ≡ set chain k (getD heads h 0) →
-      Indexed heads′ chain′ (wireKey names wires) (k + 1)
-  unfolding wireKey nameOf
-  wire-put r heads′ chain′ a b =
-      rw (a, b, eh) (indexed-more heads chain (wireKey names wires) k x (omega (arith, hash-less (spanAt names wires k 1))) r)
 
 -- THE NUMBER
 module _ (names wires rows : List ℕ) (p : Place) (standing m : ℕ) (own : Module) (eo : own ≡ moduleBy wires p standing m) where

@@ -7,8 +7,7 @@ use context::sizes::MOST_RENAMES;
 use modules::module_rows;
 use modules::module_wires;
 use name_index::hash;
-use name_index::indexed_taken;
-use name_index::put;
+use name_search::indexed_taken;
 use names::legal;
 use names::same_bytes;
 use netlist::lengths::NAMES_LENGTH;
@@ -36,7 +35,6 @@ ghost use Rattle.rules.specs.Session.{isPort};
 ghost use Rattle.wires.specs.Rows.{wireOf};
 ghost use Rattle.wire_names.specs.Now.{wiresIn};
 ghost use Rattle.name_index.specs.Index.{keyAt, wireKey, Indexed};
-ghost use lib.ListN.{length};
 ghost use Rattle.rename_rules.specs.Search.{searchNow, named, Renamed, keepsName, rowKeeps};
 ghost use Rattle.rename_rules.specs.Judged.{objectTaken, nameTaken, exceedsRoom, moduleBy, ModuleIndexed, numberBy, judged};
 
@@ -179,20 +177,6 @@ fn is_taken(names: &[u8], wires: &[u32], rows: &[u32], m: Module, name: &[u8]) -
     }
     let number = m.number;
     object_name_taken(names, rows, m.from, number, name)
-}
-
-// An index of the first wires by their own names.
-pub fn index_wires(names: &[u8], wires: &[u32], heads: &mut [u32], chain: &mut [u32], count: u32)
-    requires { ⌜ Indexed (now heads) (now chain) (wireKey (now names) (now wires)) 0 ⌝ }
-    requires { ⌜ count ≤ length (now chain) ⌝ }
-    ensures { λ _. ⌜ Indexed (now (heads .exit)) (now (chain .exit)) (wireKey (now (names .entry)) (now (wires .entry))) count ⌝ }
-{
-    let mut k = 0;
-    while k < count {
-        let h = hash(bytes_at(names, wires, k as usize, WIRE_NAME));
-        put(heads, chain, k as usize, h, k + 1);
-        k = k + 1;
-    }
 }
 
 // Whether the wire in a row is the module's, has this name from its own line, and no rename.

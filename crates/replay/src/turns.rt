@@ -24,7 +24,7 @@ use context::sizes::Sizes;
 use context::sizes::kind_sizes;
 use context::sizes::plus;
 use context::sizes::within;
-use name_index::indexed_found;
+use name_search::indexed_found;
 use netlist::rows::row_name;
 use netlist::used::used_from;
 use tables::ROW_WORDS;

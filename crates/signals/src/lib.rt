@@ -1,7 +1,7 @@
 // Signals: the signal reader and the bundle reader call each other, the unread part of the line and the depth falling. Bits are put
 // into a scratch table from the top, the members of a bundle as they come; a slice moves its part down to where its operand began.
 use literal_rules::Number;
-use name_index::indexed_wire;
+use name_search::indexed_wire;
 use netlist::results::BAD_NUMBER;
 use netlist::results::BAD_WIDTH;
 use netlist::results::NOT_THERE;

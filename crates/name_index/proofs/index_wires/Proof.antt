@@ -5,11 +5,10 @@ use mathlib.Core.Path.{_≡_, refl, ap, _∙_}
 use native.Mathlib.Omega.{arith}
 use lib.ListN.{length, length-set}
 use borrow.Author.Needs.{needs}
 use Rattle.name_index.specs.Index.{hashOf, wireKey, Indexed}
-use Rattle.name_index.specs.IndexLaws.{indexed-upto}
-use Rattle.rename_rules.proofs.IndexedLaws.{wire-fits, wire-put}
-use Rattle.rename_rules.proofs.index_wires.Statement.{statement}
-use Rattle.rename_rules.proofs.index_wires.Tie as tie
+use Rattle.name_index.specs.IndexLaws.{wire-fits, wire-put, indexed-upto}
+use Rattle.name_index.proofs.index_wires.Statement.{statement}
+use Rattle.name_index.proofs.index_wires.Tie as tie
 
 abbrev Inv-loop : tie.InvT-loop
 Inv-loop names wires heads₀ chain₀ count k₀ heads chain k =

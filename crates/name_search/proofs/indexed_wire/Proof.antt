@@ -8,11 +8,11 @@ use lib.ListN.{length-drop}
 use borrow.Author.Needs.{needs}
 use Rattle.wires.specs.Rows.{nameOf, wireOf}
 use Rattle.wires.specs.Found.{widthFound, foundOf}
 use Rattle.name_index.specs.HashLaws.{hash-less}
-use Rattle.name_index.specs.WireLaws.{WireWalk, wire-first, wire-none, wire-less, wire-found, wire-next}
-use Rattle.name_index.proofs.indexed_wire.Statement.{statement}
-use Rattle.name_index.proofs.indexed_wire.Tie as tie
+use Rattle.name_search.proofs.WireLaws.{WireWalk, wire-first, wire-none, wire-less, wire-found, wire-next}
+use Rattle.name_search.proofs.indexed_wire.Statement.{statement}
+use Rattle.name_search.proofs.indexed_wire.Tie as tie
 use Rattle.name_index.specs.Index.{keyCount, rowRoom}
 
 abbrev Inv-loop : tie.InvT-loop
 Inv-loop names wires heads chain first count name h at₀ at = WireWalk names wires first name count at

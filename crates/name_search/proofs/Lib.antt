@@ -1,0 +1,2 @@
+mod SpaceLaws
+mod WireLaws
