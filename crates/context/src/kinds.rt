@@ -1,27 +1,27 @@
 // The kinds of statements by their codes (rules, Statements.code), with which a row of the table of statements begins.
-pub const AUTOIDX: u32 = 1;
+pub const AUTOIDX_KIND: u32 = 1;
 
-pub const ATTRIBUTE: u32 = 2;
+pub const ATTRIBUTE_KIND: u32 = 2;
 
-pub const MODULE: u32 = 3;
+pub const MODULE_KIND: u32 = 3;
 
-pub const PARAMETER: u32 = 4;
+pub const PARAMETER_KIND: u32 = 4;
 
-pub const WIRE: u32 = 5;
+pub const WIRE_KIND: u32 = 5;
 
-pub const MEMORY: u32 = 6;
+pub const MEMORY_KIND: u32 = 6;
 
-pub const CELL: u32 = 7;
+pub const CELL_KIND: u32 = 7;
 
-pub const CELL_PARAMETER: u32 = 8;
+pub const CELL_PARAMETER_KIND: u32 = 8;
 
-pub const CELL_CONNECTION: u32 = 9;
+pub const CELL_CONNECTION_KIND: u32 = 9;
 
-pub const CONNECTION: u32 = 10;
+pub const CONNECTION_KIND: u32 = 10;
 
-pub const PROCESS: u32 = 11;
+pub const PROCESS_KIND: u32 = 11;
 
-pub const END: u32 = 12;
+pub const END_KIND: u32 = 12;
 
 // A standing rename: no statement, but a row behind them.
-pub const RENAME: u32 = 13;
+pub const RENAME_KIND: u32 = 13;

@@ -1,9 +1,9 @@
 // Where a line stands: in what scope, behind what, and which rows of the table of statements its name spaces are.
-use crate::kinds::ATTRIBUTE;
-use crate::kinds::CELL;
-use crate::kinds::END;
-use crate::kinds::MODULE;
-use crate::kinds::WIRE;
+use crate::kinds::ATTRIBUTE_KIND;
+use crate::kinds::CELL_KIND;
+use crate::kinds::END_KIND;
+use crate::kinds::MODULE_KIND;
+use crate::kinds::WIRE_KIND;
 ghost use mathlib.Core.Path.{_≡_};
 ghost use mathlib.Core.Bool.{cond};
 ghost use mathlib.Core.List.{[]};
@@ -71,13 +71,13 @@ fn pick(test: bool, a: u32, b: u32) -> u32
 fn scope_after(scope: u32, kind: u32) -> u32
     ensures { λ r. ⌜ r ≡ scopeAfter scope kind ⌝ }
 {
-    if kind == MODULE {
+    if kind == MODULE_KIND {
         return IN_MODULE;
     }
-    if kind == CELL {
+    if kind == CELL_KIND {
         return IN_CELL;
     }
-    if kind != END {
+    if kind != END_KIND {
         return scope;
     }
     if scope == TOP {
@@ -93,17 +93,17 @@ pub fn after(p: Place, kind: u32) -> Place
     ensures { λ r. ⌜ r ≡ placeAfter p kind ⌝ }
 {
     let rows = p.rows + 1;
-    let wires = p.wires + pick(kind == WIRE, 1, 0);
+    let wires = p.wires + pick(kind == WIRE_KIND, 1, 0);
     Place {
         scope: scope_after(p.scope, kind),
         first: false,
-        attributed: kind == ATTRIBUTE,
+        attributed: kind == ATTRIBUTE_KIND,
         rows: rows,
-        module_from: pick(kind == MODULE, rows, p.module_from),
-        cell_from: pick(kind == CELL, rows, p.cell_from),
-        object_from: pick(kind == ATTRIBUTE, p.object_from, rows),
+        module_from: pick(kind == MODULE_KIND, rows, p.module_from),
+        cell_from: pick(kind == CELL_KIND, rows, p.cell_from),
+        object_from: pick(kind == ATTRIBUTE_KIND, p.object_from, rows),
         wires: wires,
-        wires_from: pick(kind == MODULE, wires, p.wires_from),
-        modules: p.modules + pick(kind == MODULE, 1, 0),
+        wires_from: pick(kind == MODULE_KIND, wires, p.wires_from),
+        modules: p.modules + pick(kind == MODULE_KIND, 1, 0),
     }
 }

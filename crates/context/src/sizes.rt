@@ -1,13 +1,13 @@
 // The sums of each size over the statements so far, and the limits of a design.
-use crate::kinds::ATTRIBUTE;
-use crate::kinds::CELL;
-use crate::kinds::CELL_CONNECTION;
-use crate::kinds::CELL_PARAMETER;
-use crate::kinds::CONNECTION;
-use crate::kinds::MEMORY;
-use crate::kinds::MODULE;
-use crate::kinds::PARAMETER;
-use crate::kinds::WIRE;
+use crate::kinds::ATTRIBUTE_KIND;
+use crate::kinds::CELL_CONNECTION_KIND;
+use crate::kinds::CELL_KIND;
+use crate::kinds::CELL_PARAMETER_KIND;
+use crate::kinds::CONNECTION_KIND;
+use crate::kinds::MEMORY_KIND;
+use crate::kinds::MODULE_KIND;
+use crate::kinds::PARAMETER_KIND;
+use crate::kinds::WIRE_KIND;
 ghost use mathlib.Core.Path.{_≡_};
 ghost use mathlib.Core.Bool.{not, cond};
 ghost use mathlib.Core.List.{[]};
@@ -135,14 +135,14 @@ pub fn kind_sizes(
     ensures { λ r. ⌜ r ≡ kindSizes kind «signal_bits» «value_bits» «string_bytes» «name_bytes» ⌝ }
 {
     Sizes {
-        modules: one_if(kind == MODULE),
-        wires: one_if(kind == WIRE),
-        memories: one_if(kind == MEMORY),
-        cells: one_if(kind == CELL),
-        parameters: one_if((kind == PARAMETER) | (kind == CELL_PARAMETER)),
-        attributes: one_if(kind == ATTRIBUTE),
-        ports: one_if(kind == CELL_CONNECTION),
-        connections: one_if(kind == CONNECTION),
+        modules: one_if(kind == MODULE_KIND),
+        wires: one_if(kind == WIRE_KIND),
+        memories: one_if(kind == MEMORY_KIND),
+        cells: one_if(kind == CELL_KIND),
+        parameters: one_if((kind == PARAMETER_KIND) | (kind == CELL_PARAMETER_KIND)),
+        attributes: one_if(kind == ATTRIBUTE_KIND),
+        ports: one_if(kind == CELL_CONNECTION_KIND),
+        connections: one_if(kind == CONNECTION_KIND),
         signal_bits: signal_bits,
         value_bits: value_bits,
         string_bytes: string_bytes,

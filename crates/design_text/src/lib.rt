@@ -1,15 +1,16 @@
 // The written text of design memory: passes over the rows of its statements, one for each kind of line.
 // All of it is total: a word past a table's end counts as 0, and a row that holds no statement is not written.
-use context::kinds::ATTRIBUTE;
-use context::kinds::AUTOIDX;
-use context::kinds::CELL;
-use context::kinds::CELL_CONNECTION;
-use context::kinds::CELL_PARAMETER;
-use context::kinds::CONNECTION;
-use context::kinds::END;
-use context::kinds::MEMORY;
-use context::kinds::PARAMETER;
-use context::kinds::WIRE;
+use context::kinds::ATTRIBUTE_KIND;
+use context::kinds::AUTOIDX_KIND;
+use context::kinds::CELL_CONNECTION_KIND;
+use context::kinds::CELL_KIND;
+use context::kinds::CELL_PARAMETER_KIND;
+use context::kinds::CONNECTION_KIND;
+use context::kinds::END_KIND;
+use context::kinds::MEMORY_KIND;
+use context::kinds::MODULE_KIND;
+use context::kinds::PARAMETER_KIND;
+use context::kinds::WIRE_KIND;
 use line_text::put_line;
 use modules::module_wires;
 use netlist::rows::row_kind;
@@ -26,9 +27,6 @@ ghost use Rattle.rules.specs.Limits.{bitsLength, pastText};
 ghost use Rattle.text.specs.Written.{Written};
 ghost use Rattle.netlist.specs.Tables.{tabled};
 ghost use Rattle.design_text.specs.Rows.{nextRow, waitingFrom, lineIf, kindRows, cellRows, objectIf, objectRows, bodyRows, moduleAt, moduleIf, moduleRows, textRows};
-
-// The kind of a module line (context, kinds): beside the type `Module` it has another name here.
-const KIND_MODULE: u32 = 3;
 
 // How many rows of each: statements, wires, standing renames.
 pub struct Counts {
@@ -69,7 +67,7 @@ fn waiting_from(kind: u32, first: u32, k: u32) -> u32
     requires { ⌜ k < 4294967295 ⌝ }
     ensures { λ r. ⌜ r ≡ waitingFrom kind first k ⌝ }
 {
-    if kind == ATTRIBUTE {
+    if kind == ATTRIBUTE_KIND {
         return first;
     }
     k + 1
@@ -153,7 +151,7 @@ fn put_cell(
     ensures { λ r. ⌜ Written at (cellRows (tabled (now (names .entry)) (now (strings .entry)) (now (bits .entry)) (now (wires .entry)) (now (rows .entry))) m k (to - (k + 1))) (now (out .entry)) (now (out .exit)) r ⌝ }
 {
     let from = k + 1;
-    let end = next_row(rows, END, from, to);
+    let end = next_row(rows, END_KIND, from, to);
     let span = Span {
         from: from,
         to: end,
@@ -166,7 +164,7 @@ fn put_cell(
         wires,
         rows,
         m,
-        CELL_PARAMETER,
+        CELL_PARAMETER_KIND,
         2,
         span,
         out,
@@ -179,7 +177,7 @@ fn put_cell(
         wires,
         rows,
         m,
-        CELL_CONNECTION,
+        CELL_CONNECTION_KIND,
         2,
         span,
         out,
@@ -219,13 +217,13 @@ fn put_object(
         wires,
         rows,
         m,
-        ATTRIBUTE,
+        ATTRIBUTE_KIND,
         1,
         span,
         out,
         at,
     );
-    if kind == CELL {
+    if kind == CELL_KIND {
         let to = object.to;
         return put_cell(names, strings, bits, wires, rows, m, k, to, out, line);
     }
@@ -296,13 +294,24 @@ fn put_body(
         wires,
         rows,
         m,
-        PARAMETER,
+        PARAMETER_KIND,
         1,
         span,
         out,
         at,
     );
-    let declared = put_objects(names, strings, bits, wires, rows, m, WIRE, span, out, set);
+    let declared = put_objects(
+        names,
+        strings,
+        bits,
+        wires,
+        rows,
+        m,
+        WIRE_KIND,
+        span,
+        out,
+        set,
+    );
     let memories = put_objects(
         names,
         strings,
@@ -310,7 +319,7 @@ fn put_body(
         wires,
         rows,
         m,
-        MEMORY,
+        MEMORY_KIND,
         span,
         out,
         declared,
@@ -322,7 +331,7 @@ fn put_body(
         wires,
         rows,
         m,
-        CELL,
+        CELL_KIND,
         span,
         out,
         memories,
@@ -334,7 +343,7 @@ fn put_body(
         wires,
         rows,
         m,
-        CONNECTION,
+        CONNECTION_KIND,
         1,
         span,
         out,
@@ -373,12 +382,12 @@ fn put_module(
     requires { ⌜ (at ≤ pastText) × (length (now bits) ≤ bitsLength) × (k < counts .statements) ⌝ }
     ensures { λ r. ⌜ Written at (moduleIf (tabled (now (names .entry)) (now (strings .entry)) (now (bits .entry)) (now (wires .entry)) (now (rows .entry))) counts (number .0) first k (counts .statements - (k + 1))) (now (out .entry)) (now (out .exit)) r ⌝ }
 {
-    if row_kind(rows, k) != KIND_MODULE {
+    if row_kind(rows, k) != MODULE_KIND {
         return at;
     }
     let m = module_of(wires, counts, number);
     let from = k + 1;
-    let to = next_row(rows, KIND_MODULE, from, counts.statements);
+    let to = next_row(rows, MODULE_KIND, from, counts.statements);
     let before = Span { from: first, to: k };
     let inside = Span { from: from, to: to };
     let set = put_kind(
@@ -388,7 +397,7 @@ fn put_module(
         wires,
         rows,
         m,
-        ATTRIBUTE,
+        ATTRIBUTE_KIND,
         0,
         before,
         out,
@@ -402,7 +411,7 @@ fn put_module(
 fn one_if_module(kind: u32) -> u32
     ensures { λ r. ⌜ r ≡ cond (eqb kind moduleKind) 1 0 ⌝ }
 {
-    if kind == KIND_MODULE {
+    if kind == MODULE_KIND {
         return 1;
     }
     0
@@ -482,7 +491,7 @@ pub fn put_text(
         wires,
         rows,
         m,
-        AUTOIDX,
+        AUTOIDX_KIND,
         0,
         span,
         out,

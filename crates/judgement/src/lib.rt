@@ -1,16 +1,16 @@
 // The verdict on one line after the statements so far: its statement with the sums of each size, or the lowest number that it is refused with.
-use context::kinds::ATTRIBUTE;
-use context::kinds::AUTOIDX;
-use context::kinds::CELL;
-use context::kinds::CELL_CONNECTION;
-use context::kinds::CELL_PARAMETER;
-use context::kinds::CONNECTION;
-use context::kinds::END;
-use context::kinds::MEMORY;
-use context::kinds::MODULE;
-use context::kinds::PARAMETER;
-use context::kinds::PROCESS;
-use context::kinds::WIRE;
+use context::kinds::ATTRIBUTE_KIND;
+use context::kinds::AUTOIDX_KIND;
+use context::kinds::CELL_CONNECTION_KIND;
+use context::kinds::CELL_KIND;
+use context::kinds::CELL_PARAMETER_KIND;
+use context::kinds::CONNECTION_KIND;
+use context::kinds::END_KIND;
+use context::kinds::MEMORY_KIND;
+use context::kinds::MODULE_KIND;
+use context::kinds::PARAMETER_KIND;
+use context::kinds::PROCESS_KIND;
+use context::kinds::WIRE_KIND;
 use context::place::Place;
 use context::sizes::Sizes;
 use context::sizes::kind_sizes;
@@ -20,10 +20,10 @@ use line_forms::Span;
 use literal_rules::literal_width;
 use name_search::indexed_found;
 use netlist::results::BAD_NUMBER;
-use netlist::results::NAME_TAKEN;
 use netlist::results::NO_SHAPE;
 use netlist::results::NOT_THERE;
 use netlist::results::PORT_OR_PROCESS;
+use netlist::results::TAKEN_NAME;
 use netlist::results::TOO_MANY;
 use scanner::parts::part;
 use signals::ModuleWires;
@@ -93,7 +93,7 @@ fn refusing(number: u32) -> Parts
     let name = no_name();
     Parts {
         number,
-        kind: PROCESS,
+        kind: PROCESS_KIND,
         first: name,
         name,
         value: ConstantSlot::Nothing,
@@ -124,39 +124,39 @@ fn parts_of(statement: Statement) -> Parts
 {
     let empty = no_name();
     match statement {
-        Statement::Autoidx(_) => named(AUTOIDX, empty, empty, ConstantSlot::Nothing),
+        Statement::Autoidx(_) => named(AUTOIDX_KIND, empty, empty, ConstantSlot::Nothing),
         Statement::Attribute { name, value } => named(
-            ATTRIBUTE,
+            ATTRIBUTE_KIND,
             empty,
             name,
             ConstantSlot::Read(value),
         ),
-        Statement::Module(name) => named(MODULE, empty, name, ConstantSlot::Nothing),
-        Statement::Parameter { name, value } => named(PARAMETER, empty, name, value),
-        Statement::Wire { name, .. } => named(WIRE, empty, name, ConstantSlot::Nothing),
-        Statement::Memory { name, .. } => named(MEMORY, empty, name, ConstantSlot::Nothing),
-        Statement::Cell { kind, name } => named(CELL, kind, name, ConstantSlot::Nothing),
+        Statement::Module(name) => named(MODULE_KIND, empty, name, ConstantSlot::Nothing),
+        Statement::Parameter { name, value } => named(PARAMETER_KIND, empty, name, value),
+        Statement::Wire { name, .. } => named(WIRE_KIND, empty, name, ConstantSlot::Nothing),
+        Statement::Memory { name, .. } => named(MEMORY_KIND, empty, name, ConstantSlot::Nothing),
+        Statement::Cell { kind, name } => named(CELL_KIND, kind, name, ConstantSlot::Nothing),
         Statement::CellParameter { name, value, .. } => named(
-            CELL_PARAMETER,
+            CELL_PARAMETER_KIND,
             empty,
             name,
             ConstantSlot::Read(value),
         ),
         Statement::CellConnection { name, width, fault } => connecting(
-            CELL_CONNECTION,
+            CELL_CONNECTION_KIND,
             name,
             width,
             0,
             fault,
         ),
         Statement::Connection { left, right, fault } => connecting(
-            CONNECTION,
+            CONNECTION_KIND,
             empty,
             left,
             right,
             fault,
         ),
-        Statement::End => named(END, empty, empty, ConstantSlot::Nothing),
+        Statement::End => named(END_KIND, empty, empty, ConstantSlot::Nothing),
         Statement::NoShape => refusing(NO_SHAPE),
         Statement::Process => refusing(PORT_OR_PROCESS),
         Statement::BadNumber => refusing(BAD_NUMBER),
@@ -274,7 +274,7 @@ fn judge_statement(
         return Judged::Refused(parts.number);
     }
     if name_is_taken(f, names, rows, place, statement, heads, chain) {
-        return Judged::Refused(NAME_TAKEN);
+        return Judged::Refused(TAKEN_NAME);
     }
     if parts.fault != 0 {
         return Judged::Refused(parts.fault);

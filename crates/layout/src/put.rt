@@ -1,15 +1,15 @@
 // The parts of a statement in design memory: names, string, bits and a wire's row behind what is used of their tables, and the statement's row of columns.
-use context::kinds::ATTRIBUTE;
-use context::kinds::AUTOIDX;
-use context::kinds::CELL;
-use context::kinds::CELL_CONNECTION;
-use context::kinds::CELL_PARAMETER;
-use context::kinds::CONNECTION;
-use context::kinds::END;
-use context::kinds::MEMORY;
-use context::kinds::MODULE;
-use context::kinds::PARAMETER;
-use context::kinds::WIRE;
+use context::kinds::ATTRIBUTE_KIND;
+use context::kinds::AUTOIDX_KIND;
+use context::kinds::CELL_CONNECTION_KIND;
+use context::kinds::CELL_KIND;
+use context::kinds::CELL_PARAMETER_KIND;
+use context::kinds::CONNECTION_KIND;
+use context::kinds::END_KIND;
+use context::kinds::MEMORY_KIND;
+use context::kinds::MODULE_KIND;
+use context::kinds::PARAMETER_KIND;
+use context::kinds::WIRE_KIND;
 use line_forms::Span;
 use literal_rules::literal_width;
 use literals::put_literal;
@@ -74,25 +74,25 @@ pub fn as_valued(statement: Statement) -> Valued
 {
     match statement {
         Statement::Attribute { name, value } => Valued::Named {
-            kind: ATTRIBUTE,
+            kind: ATTRIBUTE_KIND,
             name,
             value: ConstantSlot::Read(value),
             sort: 0,
         },
         Statement::Parameter { name, value } => Valued::Named {
-            kind: PARAMETER,
+            kind: PARAMETER_KIND,
             name,
             value,
             sort: 0,
         },
         Statement::CellParameter { sort, name, value } => Valued::Named {
-            kind: CELL_PARAMETER,
+            kind: CELL_PARAMETER_KIND,
             name,
             value: ConstantSlot::Read(value),
             sort,
         },
         Statement::Module(name) => Valued::Named {
-            kind: MODULE,
+            kind: MODULE_KIND,
             name,
             value: ConstantSlot::Nothing,
             sort: 0,
@@ -301,7 +301,7 @@ fn put_wire(
     requires { ⌜ 8 * u .rows + 8 ≤ length (now rows) ⌝ }
     ensures { λ _. ⌜ WirePut u (nameIn (now (f .entry)) name) width offset flags port (now (names .entry)) (now (names .exit)) (now (wires .entry)) (now (wires .exit)) (now (rows .entry)) (now (rows .exit)) ⌝ }
 {
-    let size = put_named(f, name, u, names, rows, WIRE, u.wires, 0, 0, 0);
+    let size = put_named(f, name, u, names, rows, WIRE_KIND, u.wires, 0, 0, 0);
     let module = last_module(u);
     put_columns(
         wires,
@@ -332,7 +332,7 @@ fn put_memory(
     ensures { λ _. ⌜ now (names .exit) ≡ store (now (names .entry)) (u .names) (nameIn (now (f .entry)) name) ⌝ }
     ensures { λ _. ⌜ now (rows .exit) ≡ store (now (rows .entry)) (8 * u .rows) (row (6 ∷ u .names ∷ length (nameIn (now (f .entry)) name) ∷ width ∷ size ∷ offset ∷ 0 ∷ [])) ⌝ }
 {
-    let _ = put_named(f, name, u, names, rows, MEMORY, width, size, offset, 0);
+    let _ = put_named(f, name, u, names, rows, MEMORY_KIND, width, size, offset, 0);
 }
 
 // A cell's type stands before its name.
@@ -347,7 +347,7 @@ fn put_cell(f: &[u8], kind: Span, name: Span, u: Used, names: &mut [u8], rows: &
     put_columns(
         rows,
         u.rows,
-        CELL,
+        CELL_KIND,
         u.names,
         first,
         u.names + first,
@@ -383,7 +383,7 @@ fn put_cell_connection(
         u,
         names,
         rows,
-        CELL_CONNECTION,
+        CELL_CONNECTION_KIND,
         u.bits,
         width as u32,
         0,
@@ -412,7 +412,7 @@ fn put_connection(
     put_columns(
         rows,
         u.rows,
-        CONNECTION,
+        CONNECTION_KIND,
         u.bits,
         left as u32,
         u.bits + left as u32,
@@ -437,7 +437,7 @@ pub fn put_plain(
     ensures { λ _. ⌜ PlainPut (now (f .entry)) (now (scratch .entry)) statement u (now (names .entry)) (now (names .exit)) (now (bits .entry)) (now (bits .exit)) (now (wires .entry)) (now (wires .exit)) (now (rows .entry)) (now (rows .exit)) ⌝ }
 {
     match statement {
-        Statement::Autoidx(word) => put_columns(rows, u.rows, AUTOIDX, word, 0, 0, 0, 0, 0),
+        Statement::Autoidx(word) => put_columns(rows, u.rows, AUTOIDX_KIND, word, 0, 0, 0, 0, 0),
         Statement::Wire {
             name,
             width,
@@ -458,7 +458,7 @@ pub fn put_plain(
         Statement::Connection { left, right, .. } => {
             put_connection(left, right, u, scratch, bits, rows)
         }
-        Statement::End => put_columns(rows, u.rows, END, 0, 0, 0, 0, 0, 0),
+        Statement::End => put_columns(rows, u.rows, END_KIND, 0, 0, 0, 0, 0, 0),
         _ => {}
     }
 }

@@ -2,16 +2,17 @@
 // All of it is total: a word past a table's end counts as 0, and a span past its end is cut.
 use constant_text::put_string;
 use constant_text::put_value;
-use context::kinds::ATTRIBUTE;
-use context::kinds::AUTOIDX;
-use context::kinds::CELL;
-use context::kinds::CELL_CONNECTION;
-use context::kinds::CELL_PARAMETER;
-use context::kinds::CONNECTION;
-use context::kinds::END;
-use context::kinds::MEMORY;
-use context::kinds::PARAMETER;
-use context::kinds::WIRE;
+use context::kinds::ATTRIBUTE_KIND;
+use context::kinds::AUTOIDX_KIND;
+use context::kinds::CELL_CONNECTION_KIND;
+use context::kinds::CELL_KIND;
+use context::kinds::CELL_PARAMETER_KIND;
+use context::kinds::CONNECTION_KIND;
+use context::kinds::END_KIND;
+use context::kinds::MEMORY_KIND;
+use context::kinds::MODULE_KIND;
+use context::kinds::PARAMETER_KIND;
+use context::kinds::WIRE_KIND;
 use numbers::kinds::SignalBit;
 use numbers::kinds::WireNumber;
 use numbers::kinds::decode;
@@ -54,9 +55,6 @@ ghost use Rattle.line_text.specs.Pieces.{spread};
 ghost use Rattle.signal_runs.specs.Runs.{firstRun};
 ghost use Rattle.line_text.specs.Runs.{runsText};
 ghost use Rattle.line_text.specs.Lines.{statementNow, bodyText, lineOf, PlainIs};
-
-// The kind of a module line (context, kinds): beside the type `Module` it has another name here.
-const KIND_MODULE: u32 = 3;
 
 // The columns of a statement's row. A name, a string, a value or a signal has its start in a column and its length behind it.
 const ROW_KIND: usize = 0;
@@ -576,28 +574,28 @@ fn put_plain(
     requires { ⌜ (at ≤ pastText) × (row < manyRows) × (length (now bits) ≤ bitsLength) ⌝ }
     ensures { λ r. ⌜ PlainIs (now (names .entry)) (now (strings .entry)) (now (bits .entry)) (now (rows .entry)) row kind at (now (out .entry)) (now (out .exit)) r ⌝ }
 {
-    if kind == AUTOIDX {
+    if kind == AUTOIDX_KIND {
         return put_autoidx(rows, row, out, at);
     }
-    if kind == ATTRIBUTE {
+    if kind == ATTRIBUTE_KIND {
         return put_attribute(names, strings, bits, rows, row, out, at);
     }
-    if kind == KIND_MODULE {
+    if kind == MODULE_KIND {
         return put_module(names, rows, row, out, at);
     }
-    if kind == PARAMETER {
+    if kind == PARAMETER_KIND {
         return put_parameter(names, strings, bits, rows, row, out, at);
     }
-    if kind == MEMORY {
+    if kind == MEMORY_KIND {
         return put_memory(names, rows, row, out, at);
     }
-    if kind == CELL {
+    if kind == CELL_KIND {
         return put_cell(names, rows, row, out, at);
     }
-    if kind == CELL_PARAMETER {
+    if kind == CELL_PARAMETER_KIND {
         return put_cell_parameter(names, strings, bits, rows, row, out, at);
     }
-    if kind == END {
+    if kind == END_KIND {
         return put_bytes(out, at, b"end");
     }
     at
@@ -618,13 +616,13 @@ fn put_statement(
     ensures { λ r. ⌜ Written at (bodyText (wiresIn (now (names .entry)) (now (wires .entry)) (now (rows .entry)) m) (statementNow (now (names .entry)) (now (strings .entry)) (now (bits .entry)) (now (wires .entry)) (now (rows .entry)) m row)) (now (out .entry)) (now (out .exit)) r ⌝ }
 {
     let kind = column(rows, row, ROW_KIND);
-    if kind == WIRE {
+    if kind == WIRE_KIND {
         return put_wire(names, wires, rows, m, row, out, at);
     }
-    if kind == CELL_CONNECTION {
+    if kind == CELL_CONNECTION_KIND {
         return put_cell_connection(names, bits, wires, rows, m, row, out, at);
     }
-    if kind == CONNECTION {
+    if kind == CONNECTION_KIND {
         return put_connection(names, bits, wires, rows, m, row, out, at);
     }
     put_plain(names, strings, bits, rows, row, kind, out, at)

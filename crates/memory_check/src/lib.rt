@@ -1,5 +1,5 @@
 // Whether design memory, whatever it contains, holds a design with its standing renames: refusal 3 otherwise.
-use context::kinds::RENAME;
+use context::kinds::RENAME_KIND;
 use context::place::Place;
 use context::sizes::Sizes;
 use name_index::ROW_CHAIN;
@@ -45,7 +45,7 @@ enum Renamed {
 fn is_rename(x: Row, used: u32) -> bool
     ensures { λ r. ⌜ r ≡ isRename x used ⌝ }
 {
-    if x.kind != RENAME {
+    if x.kind != RENAME_KIND {
         return false;
     }
     if x.a != used {

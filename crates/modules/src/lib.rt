@@ -1,6 +1,6 @@
 // A module of the design by its number: its wires in the table of wires, and its statements in the table of rows.
 // All of it is total: a word past a table's end counts as 0.
-use context::kinds::MODULE;
+use context::kinds::MODULE_KIND;
 use numbers::kinds::ModuleNumber;
 use wires::column;
 ghost use mathlib.Core.Path.{_≡_};
@@ -67,7 +67,7 @@ fn module_line(rows: &[u32], total: u32, number: usize) -> u32
     let mut lines = 0;
     let mut k = 0;
     while k < total {
-        let more = lines + one_if_same(first_column(rows, k), MODULE);
+        let more = lines + one_if_same(first_column(rows, k), MODULE_KIND);
         if number < more as usize {
             return k;
         }

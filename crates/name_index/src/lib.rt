@@ -2,10 +2,10 @@
 // heads: for each key one more than the youngest row of that key, or 0; chain: for each row one more than the next older row of its key, or 0.
 // The hash of a name goes byte by byte: hash × 31 + byte, modulo 512. A row's key is its name's hash, or 512 where its kind has no name.
 // Behind these, in the same two tables, stand the heads and the chain of the rows of wires.
-use context::kinds::AUTOIDX;
-use context::kinds::CONNECTION;
-use context::kinds::END;
-use context::kinds::WIRE;
+use context::kinds::AUTOIDX_KIND;
+use context::kinds::CONNECTION_KIND;
+use context::kinds::END_KIND;
+use context::kinds::WIRE_KIND;
 use netlist::rows::row_kind;
 use netlist::rows::row_name;
 use wires::WIRE_NAME;
@@ -62,13 +62,13 @@ pub fn put(heads: &mut [u32], chain: &mut [u32], at: usize, h: usize, more: u32)
 fn is_named(kind: u32) -> bool
     ensures { λ r. ⌜ r ≡ hasName kind ⌝ }
 {
-    if kind == AUTOIDX {
+    if kind == AUTOIDX_KIND {
         return false;
     }
-    if kind == CONNECTION {
+    if kind == CONNECTION_KIND {
         return false;
     }
-    kind != END
+    kind != END_KIND
 }
 
 fn row_key(names: &[u8], rows: &[u32], row: u32) -> usize
@@ -108,7 +108,7 @@ pub fn index_line(
 {
     let key = row_key(names, rows, row);
     put(heads, chain, row as usize, key, row + 1);
-    if kind != WIRE {
+    if kind != WIRE_KIND {
         return;
     }
     let at = wire as usize;

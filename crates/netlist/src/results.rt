@@ -23,7 +23,7 @@ pub const BAD_NUMBER: u32 = 7;
 
 pub const NOT_THERE: u32 = 8;
 
-pub const NAME_TAKEN: u32 = 9;
+pub const TAKEN_NAME: u32 = 9;
 
 pub const BAD_WIDTH: u32 = 10;
 

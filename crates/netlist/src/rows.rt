@@ -1,6 +1,6 @@
 // A row of eight words for each statement: its kind, then where its parts start and their lengths.
 // All of it is total: a word past the table's end counts as 0, and a span past the names' end is cut.
-use context::kinds::CELL;
+use context::kinds::CELL_KIND;
 use names::same_bytes;
 use wires::bytes_at;
 use wires::column;
@@ -44,7 +44,7 @@ fn kind_at(rows: &[u32], row: usize) -> u32
 fn name_column(kind: u32) -> usize
     ensures { λ r. ⌜ r ≡ nameColumn kind ⌝ }
 {
-    if kind == CELL {
+    if kind == CELL_KIND {
         return CELL_NAME;
     }
     NAME

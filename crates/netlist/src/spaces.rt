@@ -1,13 +1,13 @@
 // The name space of a statement's own name: which rows it is, behind the statements so far.
 use crate::rows::Kinds;
-use context::kinds::ATTRIBUTE;
-use context::kinds::CELL;
-use context::kinds::CELL_PARAMETER;
-use context::kinds::CONNECTION;
-use context::kinds::MEMORY;
-use context::kinds::MODULE;
-use context::kinds::PARAMETER;
-use context::kinds::WIRE;
+use context::kinds::ATTRIBUTE_KIND;
+use context::kinds::CELL_KIND;
+use context::kinds::CELL_PARAMETER_KIND;
+use context::kinds::CONNECTION_KIND;
+use context::kinds::MEMORY_KIND;
+use context::kinds::MODULE_KIND;
+use context::kinds::PARAMETER_KIND;
+use context::kinds::WIRE_KIND;
 use context::place::Place;
 ghost use mathlib.Core.Path.{_≡_};
 ghost use Rattle.netlist.specs.Found.{spaceFrom, kindsFrom};
@@ -16,19 +16,19 @@ ghost use Rattle.netlist.specs.Found.{spaceFrom, kindsFrom};
 pub fn space_from(place: Place, kind: u32) -> u32
     ensures { λ r. ⌜ r ≡ spaceFrom place kind ⌝ }
 {
-    if kind == ATTRIBUTE {
+    if kind == ATTRIBUTE_KIND {
         return place.object_from;
     }
-    if kind == MODULE {
+    if kind == MODULE_KIND {
         return 0;
     }
-    if kind < PARAMETER {
+    if kind < PARAMETER_KIND {
         return place.rows;
     }
-    if kind < CELL_PARAMETER {
+    if kind < CELL_PARAMETER_KIND {
         return place.module_from;
     }
-    if kind < CONNECTION {
+    if kind < CONNECTION_KIND {
         return place.cell_from;
     }
     place.rows
@@ -39,17 +39,21 @@ pub fn space_kinds(kind: u32) -> Kinds
     ensures { λ r. ⌜ r ≡ kindsFrom kind ⌝ }
 {
     let shared = Kinds {
-        a: WIRE,
-        b: MEMORY,
-        c: CELL,
+        a: WIRE_KIND,
+        b: MEMORY_KIND,
+        c: CELL_KIND,
     };
     let own = Kinds {
         a: kind,
         b: kind,
         c: kind,
     };
-    if kind < WIRE {
+    if kind < WIRE_KIND {
         return own;
     }
-    if kind < CELL_PARAMETER { shared } else { own }
+    if kind < CELL_PARAMETER_KIND {
+        shared
+    } else {
+        own
+    }
 }

@@ -1,16 +1,16 @@
 // One step of reading: a line's tokens, its verdict after the statements so far, and its statement stored behind them.
-use context::kinds::ATTRIBUTE;
-use context::kinds::AUTOIDX;
-use context::kinds::CELL;
-use context::kinds::CELL_CONNECTION;
-use context::kinds::CELL_PARAMETER;
-use context::kinds::CONNECTION;
-use context::kinds::END;
-use context::kinds::MEMORY;
-use context::kinds::MODULE;
-use context::kinds::PARAMETER;
-use context::kinds::PROCESS;
-use context::kinds::WIRE;
+use context::kinds::ATTRIBUTE_KIND;
+use context::kinds::AUTOIDX_KIND;
+use context::kinds::CELL_CONNECTION_KIND;
+use context::kinds::CELL_KIND;
+use context::kinds::CELL_PARAMETER_KIND;
+use context::kinds::CONNECTION_KIND;
+use context::kinds::END_KIND;
+use context::kinds::MEMORY_KIND;
+use context::kinds::MODULE_KIND;
+use context::kinds::PARAMETER_KIND;
+use context::kinds::PROCESS_KIND;
+use context::kinds::WIRE_KIND;
 use context::place::Place;
 use context::place::after;
 use context::sizes::Sizes;
@@ -169,20 +169,20 @@ fn kind_code(statement: Statement) -> u32
     ensures { λ r. ⌜ r ≡ code (kindIn statement) ⌝ }
 {
     match statement {
-        Statement::Autoidx(_) => AUTOIDX,
-        Statement::Attribute { .. } => ATTRIBUTE,
-        Statement::Module(_) => MODULE,
-        Statement::Parameter { .. } => PARAMETER,
-        Statement::Wire { .. } => WIRE,
-        Statement::Memory { .. } => MEMORY,
-        Statement::Cell { .. } => CELL,
-        Statement::CellParameter { .. } => CELL_PARAMETER,
-        Statement::CellConnection { .. } => CELL_CONNECTION,
-        Statement::Connection { .. } => CONNECTION,
-        Statement::End => END,
-        Statement::NoShape => PROCESS,
-        Statement::Process => PROCESS,
-        Statement::BadNumber => PROCESS,
-        Statement::MissingWire => PROCESS,
+        Statement::Autoidx(_) => AUTOIDX_KIND,
+        Statement::Attribute { .. } => ATTRIBUTE_KIND,
+        Statement::Module(_) => MODULE_KIND,
+        Statement::Parameter { .. } => PARAMETER_KIND,
+        Statement::Wire { .. } => WIRE_KIND,
+        Statement::Memory { .. } => MEMORY_KIND,
+        Statement::Cell { .. } => CELL_KIND,
+        Statement::CellParameter { .. } => CELL_PARAMETER_KIND,
+        Statement::CellConnection { .. } => CELL_CONNECTION_KIND,
+        Statement::Connection { .. } => CONNECTION_KIND,
+        Statement::End => END_KIND,
+        Statement::NoShape => PROCESS_KIND,
+        Statement::Process => PROCESS_KIND,
+        Statement::BadNumber => PROCESS_KIND,
+        Statement::MissingWire => PROCESS_KIND,
     }
 }

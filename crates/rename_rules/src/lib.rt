@@ -1,7 +1,7 @@
 // Whether a rename may stand behind the renames that stand already, by the tables that hold the design with them.
 // All of it is total: a word past a table's end counts as 0, and a span past its end is cut.
-use context::kinds::CELL;
-use context::kinds::MEMORY;
+use context::kinds::CELL_KIND;
+use context::kinds::MEMORY_KIND;
 use context::place::Place;
 use context::sizes::MOST_RENAMES;
 use modules::module_rows;
@@ -14,6 +14,7 @@ use netlist::lengths::NAMES_LENGTH;
 use netlist::results::BAD_TOKEN;
 use netlist::results::NOT_THERE;
 use netlist::results::PORT_OR_PROCESS;
+use netlist::results::TAKEN_NAME;
 use netlist::results::TOO_MANY;
 use netlist::rows::Kinds;
 use netlist::rows::name_taken;
@@ -48,9 +49,6 @@ const DIRECTION_FLAG: u32 = 4;
 
 // The last direction of a port, `inout`.
 const LAST_DIRECTION: u32 = 3;
-
-// The number of a refusal for a name that is taken (netlist, results): beside the search `name_taken` it has another name here.
-const NUMBER_TAKEN: u32 = 9;
 
 pub enum Named {
     At(WireNumber),
@@ -160,9 +158,9 @@ fn object_name_taken(names: &[u8], rows: &[u32], total: u32, m: ModuleNumber, na
         r.first,
         r.count,
         Kinds {
-            a: MEMORY,
-            b: CELL,
-            c: CELL,
+            a: MEMORY_KIND,
+            b: CELL_KIND,
+            c: CELL_KIND,
         },
         name,
     )
@@ -245,9 +243,9 @@ fn indexed_object(
         0,
         total,
         Kinds {
-            a: MEMORY,
-            b: CELL,
-            c: CELL,
+            a: MEMORY_KIND,
+            b: CELL_KIND,
+            c: CELL_KIND,
         },
         name,
     ) {
@@ -322,7 +320,7 @@ fn rename_number(wires: &[u32], m: Module, room: u32, w: WireNumber, new: &[u8],
         return PORT_OR_PROCESS;
     }
     if taken {
-        return NUMBER_TAKEN;
+        return TAKEN_NAME;
     }
     if exceeds_room(m.renames, room, new.len()) {
         return TOO_MANY;

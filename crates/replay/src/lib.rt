@@ -1,6 +1,6 @@
 // Whether tables hold statements that may stand one after another. The statements are replayed from the first row on, whatever the tables hold:
 // each row says where its parts are, and has to be the row of the statement that they make.
-use context::kinds::END;
+use context::kinds::END_KIND;
 use context::place::Place;
 use context::place::is_closed;
 use context::place::start;
@@ -36,7 +36,7 @@ fn is_statement(kind: u32) -> bool
     if kind == 0 {
         return false;
     }
-    kind <= END
+    kind <= END_KIND
 }
 
 // It fills an index of its rows by their names, which stays with the caller.

@@ -5,18 +5,18 @@ use crate::parts::name_stands;
 use crate::parts::text_stands;
 use crate::wiring::signal_stands;
 use crate::wiring::wire_fits;
-use context::kinds::ATTRIBUTE;
-use context::kinds::AUTOIDX;
-use context::kinds::CELL;
-use context::kinds::CELL_CONNECTION;
-use context::kinds::CELL_PARAMETER;
-use context::kinds::CONNECTION;
-use context::kinds::END;
-use context::kinds::MEMORY;
-use context::kinds::MODULE;
-use context::kinds::PARAMETER;
-use context::kinds::PROCESS;
-use context::kinds::WIRE;
+use context::kinds::ATTRIBUTE_KIND;
+use context::kinds::AUTOIDX_KIND;
+use context::kinds::CELL_CONNECTION_KIND;
+use context::kinds::CELL_KIND;
+use context::kinds::CELL_PARAMETER_KIND;
+use context::kinds::CONNECTION_KIND;
+use context::kinds::END_KIND;
+use context::kinds::MEMORY_KIND;
+use context::kinds::MODULE_KIND;
+use context::kinds::PARAMETER_KIND;
+use context::kinds::PROCESS_KIND;
+use context::kinds::WIRE_KIND;
 use netlist::rows::INTEGER_CONSTANT;
 use netlist::rows::STRING_CONSTANT;
 use netlist::rows::VALUE_CONSTANT;
@@ -219,16 +219,16 @@ fn parameter_at(names: &[u8], strings: &[u8], bits: &[u32], u: Used, r: Row) -> 
     ensures { λ f. ⌜ TellsParameter (now (names .entry)) (now (strings .entry)) (now (bits .entry)) (usedOf u) r f ⌝ }
 {
     if r.c == 0 {
-        return named(names, u, r, PARAMETER);
+        return named(names, u, r, PARAMETER_KIND);
     }
-    valued(names, strings, bits, u, r, PARAMETER, 0)
+    valued(names, strings, bits, u, r, PARAMETER_KIND, 0)
 }
 
 fn autoidx_at(u: Used, r: Row) -> Found
     ensures { λ f. ⌜ TellsAutoidx (usedOf u) r f ⌝ }
 {
     let x = Row {
-        kind: AUTOIDX,
+        kind: AUTOIDX_KIND,
         a: r.a,
         b: 0,
         c: 0,
@@ -244,7 +244,7 @@ fn end_at(u: Used, r: Row) -> Found
     ensures { λ f. ⌜ TellsEnd (usedOf u) r f ⌝ }
 {
     let x = Row {
-        kind: END,
+        kind: END_KIND,
         a: 0,
         b: 0,
         c: 0,
@@ -272,7 +272,7 @@ fn memory_at(names: &[u8], u: Used, r: Row) -> Found
         return Found::Nothing;
     }
     let x = Row {
-        kind: MEMORY,
+        kind: MEMORY_KIND,
         a: u.names,
         b: r.b,
         c: r.c,
@@ -297,7 +297,7 @@ fn cell_at(names: &[u8], u: Used, r: Row) -> Found
         return Found::Nothing;
     }
     let x = Row {
-        kind: CELL,
+        kind: CELL_KIND,
         a: u.names,
         b: r.b,
         c: second,
@@ -315,7 +315,7 @@ fn cell_parameter_at(names: &[u8], strings: &[u8], bits: &[u32], u: Used, r: Row
     if LAST_SORT < r.f {
         return Found::Nothing;
     }
-    valued(names, strings, bits, u, r, CELL_PARAMETER, r.f)
+    valued(names, strings, bits, u, r, CELL_PARAMETER_KIND, r.f)
 }
 
 // The module's wires before this one are those from row first on.
@@ -337,7 +337,7 @@ fn cell_connection_at(
         return Found::Nothing;
     }
     let x = Row {
-        kind: CELL_CONNECTION,
+        kind: CELL_CONNECTION_KIND,
         a: u.names,
         b: r.b,
         c: u.bits,
@@ -366,7 +366,7 @@ fn connection_at(bits: &[u32], wires: &[u32], u: Used, first: u32, r: Row) -> Fo
         return Found::Nothing;
     }
     let x = Row {
-        kind: CONNECTION,
+        kind: CONNECTION_KIND,
         a: u.bits,
         b: r.b,
         c: second,
@@ -429,7 +429,7 @@ fn wire_at(names: &[u8], wires: &[u32], u: Used, first: u32, r: Row) -> Found
         return Found::Nothing;
     }
     let x = Row {
-        kind: WIRE,
+        kind: WIRE_KIND,
         a: u.names,
         b: r.b,
         c: u.wires,
@@ -457,17 +457,17 @@ pub fn statement_at(
 {
     let kind = r.kind;
     match kind {
-        1 => autoidx_at(u, r),
-        2 => valued(names, strings, bits, u, r, ATTRIBUTE, 0),
-        3 => named(names, u, r, MODULE),
-        4 => parameter_at(names, strings, bits, u, r),
-        5 => wire_at(names, wires, u, first, r),
-        6 => memory_at(names, u, r),
-        7 => cell_at(names, u, r),
-        8 => cell_parameter_at(names, strings, bits, u, r),
-        9 => cell_connection_at(names, bits, wires, u, first, r),
-        10 => connection_at(bits, wires, u, first, r),
-        11 => named(names, u, r, PROCESS),
+        AUTOIDX_KIND => autoidx_at(u, r),
+        ATTRIBUTE_KIND => valued(names, strings, bits, u, r, ATTRIBUTE_KIND, 0),
+        MODULE_KIND => named(names, u, r, MODULE_KIND),
+        PARAMETER_KIND => parameter_at(names, strings, bits, u, r),
+        WIRE_KIND => wire_at(names, wires, u, first, r),
+        MEMORY_KIND => memory_at(names, u, r),
+        CELL_KIND => cell_at(names, u, r),
+        CELL_PARAMETER_KIND => cell_parameter_at(names, strings, bits, u, r),
+        CELL_CONNECTION_KIND => cell_connection_at(names, bits, wires, u, first, r),
+        CONNECTION_KIND => connection_at(bits, wires, u, first, r),
+        PROCESS_KIND => named(names, u, r, PROCESS_KIND),
         _ => end_at(u, r),
     }
 }

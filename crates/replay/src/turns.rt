@@ -1,17 +1,17 @@
 // One statement more behind those that stand.
 use crate::statements::Found;
 use crate::statements::statement_at;
-use context::kinds::ATTRIBUTE;
-use context::kinds::AUTOIDX;
-use context::kinds::CELL;
-use context::kinds::CELL_CONNECTION;
-use context::kinds::CELL_PARAMETER;
-use context::kinds::CONNECTION;
-use context::kinds::END;
-use context::kinds::MEMORY;
-use context::kinds::MODULE;
-use context::kinds::PARAMETER;
-use context::kinds::WIRE;
+use context::kinds::ATTRIBUTE_KIND;
+use context::kinds::AUTOIDX_KIND;
+use context::kinds::CELL_CONNECTION_KIND;
+use context::kinds::CELL_KIND;
+use context::kinds::CELL_PARAMETER_KIND;
+use context::kinds::CONNECTION_KIND;
+use context::kinds::END_KIND;
+use context::kinds::MEMORY_KIND;
+use context::kinds::MODULE_KIND;
+use context::kinds::PARAMETER_KIND;
+use context::kinds::WIRE_KIND;
 use context::place::IN_MODULE;
 use context::place::Place;
 use context::place::TOP;
@@ -48,16 +48,16 @@ pub enum Turn {
 fn is_object(kind: u32) -> bool
     ensures { λ r. ⌜ r ≡ ofKinds objectKinds kind ⌝ }
 {
-    if kind == ATTRIBUTE {
+    if kind == ATTRIBUTE_KIND {
         return true;
     }
-    if kind == WIRE {
+    if kind == WIRE_KIND {
         return true;
     }
-    if kind == MEMORY {
+    if kind == MEMORY_KIND {
         return true;
     }
-    if kind == CELL {
+    if kind == CELL_KIND {
         return true;
     }
     false
@@ -69,13 +69,13 @@ fn is_module_kind(first: bool, attributed: bool, kind: u32) -> bool
     if attributed {
         return is_object(kind);
     }
-    if kind == PARAMETER {
+    if kind == PARAMETER_KIND {
         return true;
     }
-    if kind == CONNECTION {
+    if kind == CONNECTION_KIND {
         return true;
     }
-    if kind == END {
+    if kind == END_KIND {
         return true;
     }
     is_object(kind)
@@ -84,13 +84,13 @@ fn is_module_kind(first: bool, attributed: bool, kind: u32) -> bool
 fn is_top_kind(first: bool, attributed: bool, kind: u32) -> bool
     ensures { λ r. ⌜ r ≡ ofKinds (kinds top first attributed) kind ⌝ }
 {
-    if kind == ATTRIBUTE {
+    if kind == ATTRIBUTE_KIND {
         return true;
     }
-    if kind == MODULE {
+    if kind == MODULE_KIND {
         return true;
     }
-    if kind == AUTOIDX {
+    if kind == AUTOIDX_KIND {
         return first;
     }
     false
@@ -106,13 +106,13 @@ fn stands_at(p: Place, kind: u32) -> bool
     if p.scope == IN_MODULE {
         return is_module_kind(p.first, p.attributed, kind);
     }
-    if kind == CELL_PARAMETER {
+    if kind == CELL_PARAMETER_KIND {
         return true;
     }
-    if kind == CELL_CONNECTION {
+    if kind == CELL_CONNECTION_KIND {
         return true;
     }
-    if kind == END {
+    if kind == END_KIND {
         return true;
     }
     false

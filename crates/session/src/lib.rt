@@ -1,5 +1,6 @@
 // The calls on design memory: rename, undo, look-up and the index of a bit. They take the lent tables, and the counts of the session card by value, in any
 // state.
+use context::kinds::RENAME_KIND;
 use context::place::Place;
 use memory_check::Held;
 use memory_check::judge_memory;
@@ -38,9 +39,6 @@ ghost use Rattle.netlist.specs.Results.{result, lent};
 ghost use Rattle.session.specs.Called.{CalledAs, answer, LookedUp, IndexGiven};
 ghost use Rattle.session.specs.Steps.{Holding, OpenedIs};
 ghost use Rattle.rename_rules.specs.Search.{searchNow};
-
-// The kind of a rename's row (context, kinds): beside the call `rename` it has another name here.
-const KIND_RENAME: u32 = 13;
 
 // The column of a rename's row where its new name's start stands.
 const RENAME_NAME: usize = 1;
@@ -107,7 +105,7 @@ fn put_rename(
         rows,
         ROW_WORDS * row as usize,
         Row {
-            kind: KIND_RENAME,
+            kind: RENAME_KIND,
             a: room,
             b: new.len() as u32,
             c: m.0,

@@ -1,7 +1,7 @@
 // The name to show of a wire: its attribute `\hdlname` if that is a string that isn't empty, else its name now, without the `\` if public. It is a part of
 // the strings or of the names, not a copy.
-use context::kinds::ATTRIBUTE;
-use context::kinds::WIRE;
+use context::kinds::ATTRIBUTE_KIND;
+use context::kinds::WIRE_KIND;
 use modules::module_wires;
 use names::same_bytes;
 use netlist::results::NOT_THERE;
@@ -77,7 +77,7 @@ fn span(s: &[u8], t: &[u32], row: usize, c: usize) -> Part
 fn declares(rows: &[u32], row: u32, wire: u32) -> bool
     ensures { λ r. ⌜ r ≡ declares (now (rows .entry)) row wire ⌝ }
 {
-    if row_kind(rows, row) != WIRE {
+    if row_kind(rows, row) != WIRE_KIND {
         return false;
     }
     column(rows, row as usize, ROW_WIRE) == wire
@@ -112,7 +112,7 @@ fn hdlname_row(names: &[u8], rows: &[u32], line: u32) -> u32
     let mut k = line;
     while 0 < k {
         let last = k - 1;
-        if row_kind(rows, last) != ATTRIBUTE {
+        if row_kind(rows, last) != ATTRIBUTE_KIND {
             return found;
         }
         found = if is_hdlname(names, rows, last) {
