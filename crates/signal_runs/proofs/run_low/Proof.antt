@@ -54,7 +54,11 @@ loop-less : tie.Need-loop-less Inv-loop μ-loop
 loop-less c = omega arith
 
 loop-again : tie.Need-loop-again Inv-loop μ-loop
-loop-again c = (omega arith, run-more (now (c .before .before .before .before .before .before .before .args .s)) (c .before .before .before .before .before .before .before .args .i) (c .before .before .before .before .before .loop .j) (c .before .before .before .before .before .loop .j - 1) (omega arith) (c .before .before .before .before .before .loop .inv .0) (omega arith) (sym (c .before .joins .ensures) ∙ not-false _ (c .if1 .left)) (c .before .before .before .before .before .loop .inv .1))
+loop-again c =
+    let args = c .before .before .before .before .before .before .before .args in
+    let loop = c .before .before .before .before .before .loop in
+    let joins = c .before .joins in
+    (omega arith, run-more (now (args .s)) (args .i) (loop .j) (loop .j - 1) (omega arith) (loop .inv .0) (omega arith) (sym (joins .ensures) ∙ not-false _ (c .if1 .left)) (loop .inv .1))
 
 returns-2 : tie.Need-returns-2 Inv-loop μ-loop
 returns-2 c = record { below = c .before .loop .inv .0; run = c .before .loop .inv .1; apart = λ a b. absurd (omega arith) }

@@ -38,7 +38,11 @@ same-length : tie.Need-same-length
 same-length c = search needs
 
 returns-3 : tie.Need-returns-3
-returns-3 c = write-short _ (c .before .before .before .before .before .before .before .before .before .put-text .result) (c .before .before .before .before .before .before .before .before .before .put-text .ensures .place) (now (c .before .before .before .before .before .before .before .before .before .before .before .before .before .before .before .before .before .args .out)) (omega arith) (omega arith) (c .before .before .before .before .before .before .before .before .before .put-text .ensures) (search needs) (c .before .before .put-bytes .ensures)
+returns-3 c =
+    let put-text = c .before .before .before .before .before .before .before .before .before .put-text in
+    let args = c .before .before .before .before .before .before .before .before .before .before .before .before .before .before .before .before .before .args in
+    let put-bytes = c .before .before .put-bytes in
+    write-short _ (put-text .result) (put-text .ensures .place) (now (args .out)) (omega arith) (omega arith) (put-text .ensures) (search needs) (put-bytes .ensures)
 
 pub write-rows-spec : {M : Type 1} → statement M
 write-rows-spec =
