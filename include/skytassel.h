@@ -20,9 +20,9 @@ extern "C" {
 
 enum { SKYTASSEL_NAMES = 16384, SKYTASSEL_STRINGS = 8192, SKYTASSEL_BITS = 16384, SKYTASSEL_WIRES = 8 * 512, SKYTASSEL_ROWS = 8 * 4769, SKYTASSEL_TEXT = 32768 };
 
-/* The session card: renames standing, name room used. A refusal's place is 0, but from number 4 on in reading: the position of the refused line's first byte that is
- * neither space nor tab, or the file's length. Look-up, index, show, measure and write give no place, since it would always be 0; refused, they give 0 beside their
- * number. */
+/* The session card: renames standing, name room used. A refusal's place is 0, but from number 4 on in reading: for 4 the first byte of the line's leftmost bad
+ * token, else the refused line's first byte that is neither space nor tab, or the file's length. Look-up, index, show, measure and write give no place, since it
+ * would always be 0; refused, they give 0 beside their number. */
 struct skytassel_card { uint32_t renames, room; };
 struct skytassel_answer { uint32_t number, place; };
 struct skytassel_wire_answer { uint32_t number, wire; };

@@ -92,7 +92,8 @@ impl fmt::Display for Refusal {
 
 impl Error for Refusal {}
 
-/// A refused file: why, and the place of the line's first byte that is neither space nor tab, or the file's length for its end; 0 for [`Refusal::FileTooLong`].
+/// A refused file: why, and where. The place is the first byte of the line's leftmost bad token for [`Refusal::BadToken`], 0 for [`Refusal::FileTooLong`], else
+/// the line's first byte that is neither space nor tab, or the file's length for its end.
 #[derive(Debug, Clone, Copy, PartialEq, Eq)]
 pub struct Refused {
     pub refusal: Refusal,

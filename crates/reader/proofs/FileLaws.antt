@@ -6,11 +6,10 @@ use mathlib.Core.Bool.{Bool, true, false, cond}
 use mathlib.Core.List.{List, [], reverse, flatMap}
 use native.Mathlib.Omega.{arith}
 use lib.Dec.{ltb}
-use lib.ListN.{length, take, drop, drop-of-length-le, replicate}
-use lib.Seq.{length-take-le}
+use lib.ListN.{length, drop, drop-of-length-le, replicate}
 use borrow.Author.Tests.{ltb-false, lt-ltb, le-ltb}
 use Rattle.rules.specs.Lines as rules
-use Rattle.rules.specs.Lines.{linesFrom, lines, place}
+use Rattle.rules.specs.Lines.{linesFrom, lines}
 use Rattle.rules.specs.Judgement.{Past}
 use Rattle.rules.specs.Reading as reading
 use Rattle.rules.specs.Reading.{outcome, finish, next, readLines, readAny, read}
@@ -22,8 +21,7 @@ use Rattle.scanner.specs.Runs.{endOf}
 use Rattle.scanner.specs.Lines.{lineFrom}
 use Rattle.lists.specs.Tests.{by-test, by-cond}
 use Rattle.scanner.specs.declared.lines.Line.{Line}
-use Rattle.scanner.proofs.ClassLaws.{class-blank}
-use Rattle.scanner.proofs.RunLaws.{endOf-low, endOf-high}
+use Rattle.scanner.proofs.RunLaws.{endOf-low}
 use Rattle.scanner.proofs.LineLaws.{lines-from, line-low, line-high, line-next, last-line}
 use Rattle.context.specs.Place.{placeOf, closesAt}
 use Rattle.context.specs.Sizes.{sumsOf}
@@ -41,7 +39,7 @@ use Rattle.layout.specs.Stored.{Sized}
 use Rattle.netlist.specs.Results.{Result, result, lent}
 use Rattle.reader.specs.Read.{leaves, readInto}
 use Rattle.reading_step.specs.Steps.{lineOf, LineFits, Done, Goes, StepIs, StepAs}
-use Rattle.reader.specs.Lines.{Reached, Before, refusalOf, finishOf, Landed, ReachAs}
+use Rattle.reader.specs.Lines.{Reached, Before, finishOf, Landed, ReachAs}
 use Rattle.reading_step.specs.declared.Step.{Step}
 use Rattle.reading_step.specs.declared.Step.the-variants.{Next, Stop}
 use Rattle.reader.specs.declared.Answer.{Answer}
@@ -50,17 +48,6 @@ use Rattle.reader.specs.declared.Reach.{Reach}
 use Rattle.reader.specs.declared.Reach.the-variants.{Ended, Longer}
 
 -- ---- the lines
-
--- the place of a line is where its blanks end
-pub place-end : (f : List ℕ) (l : Line) → place (lineOf f l) ≡ endOf (inClass 3 3) (take (l .end - 0) (drop 0 f)) (l .start)
-unfolding place lineOf endOf
-place-end f l = let q : l .end - 0 ≡ l .end = omega arith in rw (q, class-blank)
-
-pub end-small :
-    (f : List ℕ) (l : Line) (lo hi r : ℕ) → r ≡ endOf (inClass lo hi) (take (l .end - 0) (drop 0 f)) (l .start) → l .start ≤ l .end → l .end ≤ length f → length f ≤ 32768 → r ≤ 32768
-end-small f l lo hi r e low high file =
-    let q : length (take (l .end - 0) f) ≡ l .end - 0 = length-take-le (l .end - 0) f (omega arith) in
-    omega (arith, endOf-high (inClass lo hi) (take (l .end - 0) f) (l .start) (omega arith))
 
 module _ (f : List ℕ) (at : ℕ) (l : Line) (is : l ≡ lineFrom f at) where
   fits : (scratch : List ℕ) → at ≤ length f → length f ≤ 32768 → length scratch ≡ 36864 → LineFits f l scratch
@@ -101,10 +88,10 @@ module _ (f : List ℕ) (at : ℕ) (l : Line) (is : l ≡ lineFrom f at) where
       → readLines size (linesFrom at (drop at f)) ss ≡ readLines size (linesFrom (l .next) (drop (l .next) f)) ss′
   lines-more size ss ss′ go = lines-at size ss ∙ go _ ∙ rw is (behind size ss′)
 
-  pub lines-stop : (size n : ℕ) (ss : Past) → outcome ss (lineOf f l) ≡ reading.Outcome.refused n (place (lineOf f l))
-      → readLines size (linesFrom at (drop at f)) ss ≡ reading.refused n (place (lineOf f l))
+  pub lines-stop : (size n p : ℕ) (ss : Past) → outcome ss (lineOf f l) ≡ reading.Outcome.refused n p
+      → readLines size (linesFrom at (drop at f)) ss ≡ reading.refused n p
   unfolding next
-  lines-stop size n ss e = lines-at size ss ∙ ap (next _ ss) e
+  lines-stop size n p ss e = lines-at size ss ∙ ap (next _ ss) e
 
 -- ---- the loop over the lines
 
@@ -156,12 +143,10 @@ module _ {f scratch : List ℕ} {p : Place} {u : Sizes} {t : Tables} {at : ℕ} 
         }
 
     -- it is left where a line is refused
-    pub landed-stop : (n : ℕ) (a : Answer) → x ≡ Stop n → a ≡ refusalOf f l x → Landed (readAny f) t′ a
-    unfolding refusalOf
-    landed-stop n a e ea =
-        let o : outcome (r .past) (lineOf f l) ≡ reading.Outcome.refused n (place (lineOf f l)) = subst (StepIs (r .past) (lineOf f l) t′) e (st (r .past) (r .done)) in
-        let q : readAny f ≡ reading.refused n (place (lineOf f l)) = r .rest ∙ lines-stop f at l is (length f) n (r .past) o in
-        subst (λ (g : reading.Answer). Landed g t′ a) (sym q) (ea ∙ ap (refusalOf f l) e)
+    pub landed-stop : (n q : ℕ) → x ≡ Stop n q → Landed (readAny f) t′ (Refused n q)
+    landed-stop n q e =
+        let o : outcome (r .past) (lineOf f l) ≡ reading.Outcome.refused n q = subst (StepIs (r .past) (lineOf f l) t′) e (st (r .past) (r .done)) in
+        rw (r .rest ∙ lines-stop f at l is (length f) n q (r .past) o) refl
 
   room-used : u .«name_bytes» ≡ length (putAll empty (reverse (r .past)) .names)
   unfolding used

@@ -5,7 +5,7 @@ use mathlib.Core.Bool.{cond}
 use mathlib.Core.List.{List}
 use lib.ListN.{length, drop}
 use Rattle.rules.specs.Limits.{longestFile, scratchLength}
-use Rattle.rules.specs.Lines.{linesFrom, place}
+use Rattle.rules.specs.Lines.{linesFrom}
 use Rattle.rules.specs.Judgement.{Past}
 use Rattle.rules.specs.Reading as reading
 use Rattle.rules.specs.Reading.{readLines, readAny}
@@ -18,20 +18,13 @@ use Rattle.context.specs.declared.sizes.Sizes.{Sizes}
 use Rattle.netlist.specs.Tables.{Tables}
 use Rattle.layout.specs.Put.{tablesOf}
 use Rattle.name_index.specs.Index.{LinesIndexed}
-use Rattle.reading_step.specs.Steps.{lineOf, Done}
-use Rattle.reading_step.specs.declared.Step.{Step}
-use Rattle.reading_step.specs.declared.Step.the-variants.{Next, Stop}
+use Rattle.reading_step.specs.Steps.{Done}
 use Rattle.reader.specs.declared.Answer.{Answer}
 use Rattle.reader.specs.declared.Answer.the-variants as answer
 use Rattle.reader.specs.declared.Reach.{Reach}
 use Rattle.reader.specs.declared.Reach.the-variants.{Ended, Longer}
 
--- THE FILE. A refused line
-unfoldable pub refusalOf : List ℕ → Line → Step → Answer
-refusalOf f l (Next p u) = answer.Accepted 0
-refusalOf f l (Stop n) = answer.Refused n (place (lineOf f l))
-
--- and the file's end, by the place behind the last statement
+-- THE FILE. Its end, by the place behind the last statement
 unfoldable pub finishOf : ℕ → Place → Sizes → Answer
 finishOf size p u = cond (closesAt p) (answer.Accepted (u .«name_bytes»)) (answer.Refused 5 size)
 

@@ -15,7 +15,6 @@ use netlist::results::WRONG_LENGTH;
 use reading_step::Step;
 use reading_step::take_line;
 use scanner::lines::Line;
-use scanner::runs::blanks_end;
 use tables::clear_bytes;
 use tables::clear_words;
 ghost use mathlib.Core.Path.{_≡_};
@@ -30,7 +29,7 @@ ghost use Rattle.netlist.specs.Tables.{tabled};
 ghost use Rattle.layout.specs.Stored.{Sized};
 ghost use Rattle.netlist.specs.Results.{result, lent};
 ghost use Rattle.reader.specs.Read.{leaves, readInto};
-ghost use Rattle.reader.specs.Lines.{refusalOf, finishOf, Landed, Before, ReachAs};
+ghost use Rattle.reader.specs.Lines.{finishOf, Landed, Before, ReachAs};
 
 // The most bytes of a file that is read.
 const MOST_FILE_BYTES: usize = 32768;
@@ -64,23 +63,6 @@ enum Reach {
         place: Place,
         sums: Sizes,
     },
-}
-
-// A refusal at the line's first byte that is neither space nor tab.
-fn refusal(f: &[u8], line: Line, step: Step) -> Answer
-    requires { ⌜ (line .end ≤ length (now f)) × (length (now f) ≤ longestFile) × (line .start ≤ line .end) ⌝ }
-    ensures { λ r. ⌜ r ≡ refusalOf (now (f .entry)) line step ⌝ }
-{
-    match step {
-        Step::Next { place: _, sums: _ } => Answer::Accepted(0),
-        Step::Stop(number) => {
-            let end = line.end;
-            Answer::Refused {
-                number,
-                place: blanks_end(&f[0..end], line.start) as u32,
-            }
-        }
-    }
 }
 
 // The file ends inside a module or after attributes: its length is the place.
@@ -124,7 +106,7 @@ fn read_lines(
         if tokens.len() / TOKEN_SIZE < line.end - line.start {
             return Reach::Longer { line, place, sums };
         }
-        let step = take_line(
+        match take_line(
             f,
             line,
             place,
@@ -138,13 +120,16 @@ fn read_lines(
             rows,
             heads,
             chain,
-        );
-        let Step::Next { place: p, sums: u } = step else {
-            return Reach::Ended(refusal(f, line, step));
-        };
-        place = p;
-        sums = u;
-        line = line_at(f, line.next);
+        ) {
+            Step::Next { place: p, sums: u } => {
+                place = p;
+                sums = u;
+                line = line_at(f, line.next);
+            }
+            Step::Stop { number, place: at } => {
+                return Reach::Ended(Answer::Refused { number, place: at });
+            }
+        }
     }
     Reach::Ended(finish(f.len(), place, sums))
 }

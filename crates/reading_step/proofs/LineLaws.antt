@@ -7,7 +7,7 @@ use mathlib.Core.List.{List, [], _∷_}
 use native.Mathlib.Omega.{arith}
 use lib.Dec.{ltb}
 use lib.ListN.{length, take, drop, take-append-drop}
-use lib.Seq.{length-take-le}
+use lib.Seq.{slice, length-slice, length-take-le}
 use borrow.Author.Tests.{ltb-true}
 use Rattle.rules.specs.Lines as rules
 use Rattle.rules.specs.Lines.{place}
@@ -16,8 +16,12 @@ use Rattle.rules.specs.Shapes.{shape}
 use Rattle.rules.specs.Judgement.{Past, context}
 use Rattle.rules.specs.Reading as reading
 use Rattle.rules.specs.Reading.{shaped, stated, judged, lexed, outcome, skipped}
+use Rattle.scanner.specs.Class.{inClass}
+use Rattle.scanner.specs.Runs.{endOf}
 use Rattle.lists.specs.Tests.{by-test}
 use Rattle.scanner.specs.declared.lines.Line.{Line}
+use Rattle.scanner.proofs.ClassLaws.{class-blank}
+use Rattle.scanner.proofs.RunLaws.{endOf-high}
 use Rattle.tokens.specs.Rows.{rowOf, tokenAt, rowsFrom, line}
 use Rattle.tokens.specs.declared.ConstantSpan.the-variants as constant
 use Rattle.tokens.specs.declared.Token as row
@@ -33,8 +37,9 @@ use Rattle.judgement.specs.Judged as judgement
 use Rattle.judgement.specs.Judged.{Verdicts}
 use Rattle.judgement.specs.declared.Judged.{Judged}
 use Rattle.judgement.specs.declared.Judged.the-variants as judgedly
-use Rattle.reading_step.specs.Steps.{lineOf, judgedAs, OutcomeIs, Storable}
-use Rattle.reading_step.specs.declared.Outcome.{Outcome}
+use Rattle.reading_step.specs.Steps.{lineOf, judgedAs, AnswerIs, Storable}
+use Rattle.reading_step.specs.declared.LineAnswer.{LineAnswer}
+use Rattle.reading_step.specs.declared.Outcome.the-variants.{Refused}
 
 -- ---- the rows of a line
 
@@ -106,6 +111,18 @@ module _ (f old new : List ℕ) (l : Line) (x : Lexed) (L : LexedIs f (l .start)
         few = c;
       })
 
+-- ---- a bad token: it lies in the file, and what is left of the line from it on tells its place
+
+module _ (f old new : List ℕ) (l : Line) (x : Lexed) (L : LexedIs f (l .start) (l .end) old new x) (p : ℕ) (e : x ≡ Bad p) (inside : l .end ≤ length f) where
+  among-bad : Among f (l .start) (l .end) new (Bad p)
+  among-bad = subst (Among f (l .start) (l .end) new) e (L .among)
+
+  pub bad-low : p < length f
+  bad-low = omega (arith, among-bad .1)
+
+  left-from : l .start + (length (slice (l .start) (l .end) f) - length (slice p (l .end) f)) ≡ p
+  left-from = rw (length-slice (l .start) (l .end) f inside, length-slice p (l .end) f inside) (omega (arith, among-bad .0, among-bad .1))
+
 -- ---- the outcome
 
 lexed-some : (ss : Past) (l : rules.Line) (ts : List Token) → (ts ≡ [] → ⊥) → lexed ss l (good ts) ≡ judged (place l) (stated ss (l .ended) ts)
@@ -118,9 +135,9 @@ module _ (ss : Past) (f old new : List ℕ) (l : Line) (x : Lexed) (L : LexedIs 
   unfolding outcome lineOf
   by-lexed y e = ap (lexed ss (lineOf f l)) (L .is ∙ ap (lexedOf f (l .end) new) e)
 
-  pub outcome-bad : (p : ℕ) → x ≡ Bad p → outcome ss (lineOf f l) ≡ reading.Outcome.refused 4 (place (lineOf f l))
-  unfolding lexedOf lexed
-  outcome-bad p e = by-lexed (Bad p) e
+  pub outcome-bad : (p : ℕ) → x ≡ Bad p → l .end ≤ length f → outcome ss (lineOf f l) ≡ reading.Outcome.refused 4 p
+  unfolding lexedOf lexed lineOf
+  outcome-bad p e inside = by-lexed (Bad p) e ∙ ap (reading.Outcome.refused 4) (left-from f old new l x L p e inside)
 
   pub outcome-none : (n : ℕ) → x ≡ Tokens n → n ≡ 0 → outcome ss (lineOf f l) ≡ skipped
   unfolding lexedOf lexed line rowsFrom
@@ -146,15 +163,42 @@ module _ (ss : Past) (f old new : List ℕ) (l : Line) (x : Lexed) (L : LexedIs 
 
 -- ---- the verdict
 
-pub outcome-judged :
-    (ss : Past) (l : rules.Line) (f t s : List ℕ) (j : Judged) (r : Outcome) → r ≡ judgedAs j →
-    outcome ss l ≡ judged (place l) (shaped ss (shape (context ss) (line f t 0))) → Verdicts ss f t s j → OutcomeIs ss l f s r
-unfolding judgedAs judged
-outcome-judged ss l f t s (judgedly.Stated x u) r q e v =
-    rw q (record { statement = v .statement; is = e ∙ ap (judged (place l)) (v .accepts); stated = v .stated; sums-are = v .sums-are })
-outcome-judged ss l f t s (judgedly.Refused n) r q e v = rw q (e ∙ ap (judged (place l)) v)
+-- the place of a line is where its blanks end
+place-end : (f : List ℕ) (l : Line) → place (lineOf f l) ≡ endOf (inClass 3 3) (take (l .end - 0) (drop 0 f)) (l .start)
+unfolding place lineOf endOf
+place-end f l = let q : l .end - 0 ≡ l .end = omega arith in rw (q, class-blank)
 
-pub storable-judged : (f : List ℕ) (j : Judged) (r : Outcome) → r ≡ judgedAs j → judgement.Storable f j → Storable f r
+pub end-small :
+    (f : List ℕ) (l : Line) (lo hi r : ℕ) → r ≡ endOf (inClass lo hi) (take (l .end - 0) (drop 0 f)) (l .start) → l .start ≤ l .end → l .end ≤ length f → length f ≤ 32768 → r ≤ 32768
+end-small f l lo hi r e low high file =
+    let q : length (take (l .end - 0) f) ≡ l .end - 0 = length-take-le (l .end - 0) f (omega arith) in
+    omega (arith, endOf-high (inClass lo hi) (take (l .end - 0) f) (l .start) (omega arith))
+
+pub judged-refused :
+    (f : List ℕ) (l : Line) (j : Judged) (n p : ℕ) → j ≡ judgedly.Refused n → p ≡ endOf (inClass 3 3) (take (l .end - 0) (drop 0 f)) (l .start) →
+    _≡_ {A = LineAnswer} (record { outcome = Refused; number = n; place = p }) (judgedAs f l j)
 unfolding judgedAs
-storable-judged f (judgedly.Stated x u) r q h = rw q h
-storable-judged f (judgedly.Refused n) r q h = rw q tt
+judged-refused f l j n p e q = rw (e, place-end f l, ← q) refl
+
+pub answer-judged :
+    (ss : Past) (f t s : List ℕ) (l : Line) (j : Judged) (r : LineAnswer) → r ≡ judgedAs f l j →
+    outcome ss (lineOf f l) ≡ judged (place (lineOf f l)) (shaped ss (shape (context ss) (line f t 0))) → Verdicts ss f t s j → AnswerIs ss (lineOf f l) f s r
+unfolding judgedAs judged
+answer-judged ss f t s l (judgedly.Stated x u) r q e v =
+    rw q (record { statement = v .statement; is = e ∙ ap (judged (place (lineOf f l))) (v .accepts); stated = v .stated; sums-are = v .sums-are })
+answer-judged ss f t s l (judgedly.Refused n) r q e v = rw q (e ∙ ap (judged (place (lineOf f l))) v)
+
+pub storable-judged : (f : List ℕ) (l : Line) (j : Judged) (r : LineAnswer) → r ≡ judgedAs f l j → judgement.Storable f j → Storable f (r .outcome)
+unfolding judgedAs
+storable-judged f l (judgedly.Stated x u) r q h = rw q h
+storable-judged f l (judgedly.Refused n) r q h = rw q tt
+
+-- a verdict that is refused
+module _ (f : List ℕ) (l : Line) (n : ℕ) (r : LineAnswer) (q : r ≡ judgedAs f l (judgedly.Refused n)) where
+  pub answer-refused : (ss : Past) (s : List ℕ) → outcome ss (lineOf f l) ≡ reading.Outcome.refused n (place (lineOf f l)) → AnswerIs ss (lineOf f l) f s r
+  unfolding judgedAs
+  answer-refused ss s e = rw q e
+
+  pub storable-refused : Storable f (r .outcome)
+  unfolding judgedAs
+  storable-refused = rw q tt

@@ -3,12 +3,13 @@
 use Prim.Native.Nat.{ℕ, _*_, _≤_, _<_}
 use mathlib.Core.Path.{_≡_, refl, sym, ap, _∙_, subst, ap₂}
 use mathlib.Core.Bool.{true}
-use mathlib.Core.List.{List, _∷_}
+use mathlib.Core.List.{List, [], _∷_}
 use mathlib.Core.Option.{Option, some}
 use native.Mathlib.Omega.{arith}
+use types.Run.{OneOf, miss}
+use denote.Enum.Declared.{tagOf}
 use lib.ListN.{length}
 use Rattle.rules.specs.Lines as rules
-use Rattle.rules.specs.Lines.{place}
 use Rattle.rules.specs.Statements as statements
 use Rattle.rules.specs.Statements.{code, contents, statementsOpen}
 use Rattle.rules.specs.Judgement.{Past}
@@ -48,6 +49,7 @@ use Rattle.soundness.specs.ReadLaws.{states-admitted}
 use Rattle.reading_step.specs.Steps.{PlaceFits, States, OutcomeIs, Storable, Done, Goes, StepIndexed}
 use Rattle.reading_step.specs.declared.Outcome.{Outcome}
 use Rattle.reading_step.specs.declared.Outcome.the-variants as outcomes
+use Rattle.reading_step.proofs.Outcome.{the-type}
 use Rattle.reading_step.specs.declared.Step.{Step}
 use Rattle.reading_step.specs.declared.Step.the-variants.{Next}
 
@@ -139,9 +141,9 @@ unfolding placeOf
 wires-now ss e = sym (used-wires ss ∙ ap (λ (q : Place). q .wires) e)
 
 module _ {ss : Past} {p : Place} {u : Sizes} {t : Tables} (d : Done ss p u t) (l : rules.Line) (f s : List ℕ) (r : Statement) (more : Sizes)
-    (x : Outcome) (is : x ≡ outcomes.Stated r more) (st : OutcomeIs ss l f s x) (sound : Storable f x) where
+    (x : Outcome) (is : x ≡ outcomes.Stated r more) (i j : ℕ) (st : OutcomeIs ss l f s i j x) (sound : Storable f x) where
   states : States ss l f s r more
-  states = subst (OutcomeIs ss l f s) is st
+  states = subst (OutcomeIs ss l f s i j) is st
 
   storable : Sound f r × (faultOf r ≡ 0) × Within more
   storable = subst (Storable f) is sound
@@ -192,14 +194,20 @@ module _ {ss : Past} {p : Place} {u : Sizes} {t : Tables} (d : Done ss p u t) (l
         goes = λ m. ap (next m ss) (states .is);
       }
 
-module _ {ss : Past} {p : Place} {u : Sizes} {t : Tables} (d : Done ss p u t) (l : rules.Line) (f s : List ℕ) (x : Outcome) (st : OutcomeIs ss l f s x) where
+module _ {ss : Past} {p : Place} {u : Sizes} {t : Tables} (d : Done ss p u t) (l : rules.Line) (f s : List ℕ) (x : Outcome) (i j : ℕ) (st : OutcomeIs ss l f s i j x) where
   pub step-skipped : x ≡ outcomes.Skipped → Goes ss l p u t
   unfolding next
   step-skipped e =
-      let o : outcome ss l ≡ skipped = subst (OutcomeIs ss l f s) e st in record { past = ss; done = d; goes = λ m. ap (next m ss) o }
+      let o : outcome ss l ≡ skipped = subst (OutcomeIs ss l f s i j) e st in record { past = ss; done = d; goes = λ m. ap (next m ss) o }
 
-  pub step-refused : (n : ℕ) → x ≡ outcomes.Refused n → outcome ss l ≡ reading.Outcome.refused n (place l)
-  step-refused n e = subst (OutcomeIs ss l f s) e st
+  pub step-refused : x ≡ outcomes.Refused → outcome ss l ≡ reading.Outcome.refused i j
+  step-refused e = subst (OutcomeIs ss l f s i j) e st
+
+-- what is neither skipped nor stated is refused
+pub refused-left : (x : Outcome) → OneOf (1 ∷ 2 ∷ []) (tagOf the-type x) → OneOf (0 ∷ 2 ∷ []) (tagOf the-type x) → x ≡ outcomes.Refused
+refused-left outcomes.Skipped h k = absurd (miss (1 ∷ 2 ∷ []) 0 tt h)
+refused-left (outcomes.Stated r u) h k = absurd (miss (0 ∷ 2 ∷ []) 1 tt k)
+refused-left outcomes.Refused h k = refl
 
 pub next-indexed :
     {heads chain names wires rows : List ℕ} {r : Step} {p : Place} {u : Sizes} → r ≡ Next p u → StepIndexed heads chain names wires rows r →

@@ -31,6 +31,7 @@ use Rattle.judgement.specs.declared.Judged.{Judged}
 use Rattle.judgement.specs.declared.Judged.the-variants as judged
 use Rattle.reading_step.specs.declared.Outcome.{Outcome}
 use Rattle.reading_step.specs.declared.Outcome.the-variants.{Skipped, Stated, Refused}
+use Rattle.reading_step.specs.declared.LineAnswer.{LineAnswer}
 use Rattle.reading_step.specs.declared.Step.{Step}
 use Rattle.reading_step.specs.declared.Step.the-variants.{Next, Stop}
 
@@ -51,10 +52,10 @@ pub record PlaceFits (p : Place) (u : Sizes) : Type 0 where
   pub bounds : Bounds p
   pub few : p .wires - p .«wires_from» ≤ mostWires
 
--- ONE LINE. The verdict as an outcome
-unfoldable pub judgedAs : Judged → Outcome
-judgedAs (judged.Stated r u) = Stated r u
-judgedAs (judged.Refused n) = Refused n
+-- ONE LINE. The verdict as an answer; a refusal is at the line
+unfoldable pub judgedAs : List ℕ → Line → Judged → LineAnswer
+judgedAs f l (judged.Stated r u) = record { outcome = Stated r u; number = 0; place = 0 }
+judgedAs f l (judged.Refused n) = record { outcome = Refused; number = n; place = place (lineOf f l) }
 
 -- it states this statement, and these are the sums with it
 pub record States (ss : Past) (l : rules.Line) (f s : List ℕ) (r : Statement) (u : Sizes) : Type 0 where
@@ -63,20 +64,24 @@ pub record States (ss : Past) (l : rules.Line) (f s : List ℕ) (r : Statement) 
   pub stated : statementIn f s r ≡ some statement
   pub sums-are : sumsOf (statement ∷ ss) ≡ u
 
-abbrev pub OutcomeIs : Past → rules.Line → (f s : List ℕ) → Outcome → Type 0
-OutcomeIs ss l f s Skipped = outcome ss l ≡ reading.skipped
-OutcomeIs ss l f s (Stated r u) = States ss l f s r u
-OutcomeIs ss l f s (Refused n) = outcome ss l ≡ reading.Outcome.refused n (place l)
+-- the outcome, with the number and place of a refused one
+abbrev pub OutcomeIs : Past → rules.Line → (f s : List ℕ) → (n p : ℕ) → Outcome → Type 0
+OutcomeIs ss l f s n p Skipped = outcome ss l ≡ reading.skipped
+OutcomeIs ss l f s n p (Stated r u) = States ss l f s r u
+OutcomeIs ss l f s n p Refused = outcome ss l ≡ reading.Outcome.refused n p
 
--- the outcome after any statements that stand so
-abbrev pub OutcomeAs : (f s : List ℕ) → Line → Place → Sizes → (names wires rows : List ℕ) → Outcome → Type 0
-OutcomeAs f s l p u names wires rows r = (ss : Past) → Stands ss p u names wires rows → OutcomeIs ss (lineOf f l) f s r
+abbrev pub AnswerIs : Past → rules.Line → (f s : List ℕ) → LineAnswer → Type 0
+AnswerIs ss l f s r = OutcomeIs ss l f s (r .number) (r .place) (r .outcome)
+
+-- the answer after any statements that stand so
+abbrev pub AnswerAs : (f s : List ℕ) → Line → Place → Sizes → (names wires rows : List ℕ) → LineAnswer → Type 0
+AnswerAs f s l p u names wires rows r = (ss : Past) → Stands ss p u names wires rows → AnswerIs ss (lineOf f l) f s r
 
 -- what holds of a stated one whatever stands before it
 abbrev pub Storable : List ℕ → Outcome → Type 0
 Storable f Skipped = Unit {0}
 Storable f (Stated r u) = Sound f r × (faultOf r ≡ 0) × Within u
-Storable f (Refused n) = Unit {0}
+Storable f Refused = Unit {0}
 
 -- THE LINES SO FAR. These statements are admitted and lie in the tables; the next line stands behind them
 pub record Done (ss : Past) (p : Place) (u : Sizes) (t : Tables) : Type 0 where
@@ -97,7 +102,7 @@ pub record Goes (ss : Past) (l : rules.Line) (p : Place) (u : Sizes) (t : Tables
 
 abbrev pub StepIs : Past → rules.Line → Tables → Step → Type 0
 StepIs ss l t (Next p u) = Goes ss l p u t
-StepIs ss l t (Stop n) = outcome ss l ≡ reading.Outcome.refused n (place l)
+StepIs ss l t (Stop n p) = outcome ss l ≡ reading.Outcome.refused n p
 
 abbrev pub StepAs : List ℕ → Line → Place → Sizes → (t t′ : Tables) → Step → Type 0
 StepAs f l p u t t′ r = (ss : Past) → Done ss p u t → StepIs ss (lineOf f l) t′ r
@@ -105,4 +110,4 @@ StepAs f l p u t t′ r = (ss : Past) → Done ss p u t → StepIs ss (lineOf f 
 -- the names of the statements so far are indexed
 abbrev pub StepIndexed : (heads chain names wires rows : List ℕ) → Step → Type 0
 StepIndexed heads chain names wires rows (Next p u) = LinesIndexed heads chain names wires rows (p .rows) (p .wires)
-StepIndexed heads chain names wires rows (Stop n) = Unit {0}
+StepIndexed heads chain names wires rows (Stop n p) = Unit {0}

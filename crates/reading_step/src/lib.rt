@@ -24,43 +24,68 @@ use netlist::results::BAD_TOKEN;
 use netlist::results::NO_SHAPE;
 use netlist::used::used_from;
 use scanner::lines::Line;
+use scanner::runs::blanks_end;
 use syntax::Statement;
 ghost use mathlib.Core.Path.{_≡_};
 ghost use Prim.Native.Nat.{_-_, _*_, _≤_};
 ghost use lib.ListN.{length};
+ghost use Rattle.rules.specs.Limits.{longestFile};
 ghost use Rattle.rules.specs.Statements.{code};
 ghost use Rattle.syntax.specs.Statements.{kindIn};
 ghost use Rattle.name_index.specs.Index.{LinesIndexed};
 ghost use Rattle.netlist.specs.Tables.{tabled};
-ghost use Rattle.reading_step.specs.Steps.{LineFits, PlaceFits, judgedAs, OutcomeAs, Storable, SomeDone, StepAs, StepIndexed};
+ghost use Rattle.reading_step.specs.Steps.{LineFits, PlaceFits, judgedAs, AnswerAs, Storable, SomeDone, StepAs, StepIndexed};
 
 // The words of a token's row.
 const TOKEN_SIZE: usize = 4;
 
-// What a line gives: nothing, since it has no token; a statement, with the sums of each size; or a refusal's number.
+// What a line gives: nothing, since it has no token; a statement, with the sums of each size over it and all before it; or a refusal.
 enum Outcome {
     Skipped,
-    Stated { statement: Statement, sums: Sizes },
-    Refused(u32),
+    Stated { statement: Statement, more: Sizes },
+    Refused,
 }
 
-// Where the next line stands, or the refusal's number.
+// A line's answer: what it gives, and of a refused line the number and the place.
+struct LineAnswer {
+    outcome: Outcome,
+    number: u32,
+    place: u32,
+}
+
+// Where the next line stands; or a refusal.
 pub enum Step {
     Next { place: Place, sums: Sizes },
-    Stop(u32),
+    Stop { number: u32, place: u32 },
 }
 
-fn judged(j: Judged) -> Outcome
-    ensures { λ r. ⌜ r ≡ judgedAs j ⌝ }
+// A refused verdict's place is the line's first byte that is neither space nor tab.
+fn judged(f: &[u8], line: Line, j: Judged) -> LineAnswer
+    requires { ⌜ (line .start ≤ line .end) × (line .end ≤ length (now f)) × (length (now f) ≤ longestFile) ⌝ }
+    ensures { λ r. ⌜ r ≡ judgedAs (now (f .entry)) line j ⌝ }
 {
     match j {
-        Judged::Stated { statement, sums } => Outcome::Stated { statement, sums },
-        Judged::Refused(n) => Outcome::Refused(n),
+        Judged::Stated { statement, sums } => LineAnswer {
+            outcome: Outcome::Stated {
+                statement,
+                more: sums,
+            },
+            number: 0,
+            place: 0,
+        },
+        Judged::Refused(number) => {
+            let end = line.end;
+            LineAnswer {
+                outcome: Outcome::Refused,
+                number,
+                place: blanks_end(&f[0..end], line.start) as u32,
+            }
+        }
     }
 }
 
-// A bad token is 4 on any line; a line without its line end is 5.
-fn line_outcome(
+// A bad token is 4 on any line, at the token; a line without its line end is 5.
+fn line_answer(
     f: &[u8],
     line: Line,
     place: Place,
@@ -72,35 +97,49 @@ fn line_outcome(
     scratch: &mut [u32],
     heads: &[u32],
     chain: &[u32],
-) -> Outcome
+) -> LineAnswer
     requires { ⌜ LineFits (now f) line (now scratch) × (4 * (line .end - line .start) ≤ length (now tokens)) ⌝ }
     requires { ⌜ PlaceFits place sums ⌝ }
     requires { ⌜ LinesIndexed (now heads) (now chain) (now names) (now wires) (now rows) (place .rows) (place .wires) ⌝ }
-    ensures { λ r. ⌜ Storable (now (f .entry)) r ⌝ }
-    ensures { λ r. ⌜ OutcomeAs (now (f .entry)) (now (scratch .exit)) line place sums (now (names .entry)) (now (wires .entry)) (now (rows .entry)) r ⌝ }
+    ensures { λ r. ⌜ Storable (now (f .entry)) (r .outcome) ⌝ }
+    ensures { λ r. ⌜ AnswerAs (now (f .entry)) (now (scratch .exit)) line place sums (now (names .entry)) (now (wires .entry)) (now (rows .entry)) r ⌝ }
 {
-    let Lexed::Tokens(n) = lex_line(f, line.start, line.end, tokens) else {
-        return Outcome::Refused(BAD_TOKEN);
-    };
-    if n == 0 {
-        return Outcome::Skipped;
+    match lex_line(f, line.start, line.end, tokens) {
+        Lexed::Bad(p) => LineAnswer {
+            outcome: Outcome::Refused,
+            number: BAD_TOKEN,
+            place: p as u32,
+        },
+        Lexed::Tokens(n) => {
+            if n == 0 {
+                return LineAnswer {
+                    outcome: Outcome::Skipped,
+                    number: 0,
+                    place: 0,
+                };
+            }
+            if !line.ended {
+                return judged(f, line, Judged::Refused(NO_SHAPE));
+            }
+            let stop = TOKEN_SIZE * n;
+            judged(
+                f,
+                line,
+                judge_line(
+                    f,
+                    &tokens[0..stop],
+                    place,
+                    sums,
+                    names,
+                    wires,
+                    rows,
+                    scratch,
+                    heads,
+                    chain,
+                ),
+            )
+        }
     }
-    if !line.ended {
-        return Outcome::Refused(NO_SHAPE);
-    }
-    let stop = TOKEN_SIZE * n;
-    judged(judge_line(
-        f,
-        &tokens[0..stop],
-        place,
-        sums,
-        names,
-        wires,
-        rows,
-        scratch,
-        heads,
-        chain,
-    ))
 }
 
 pub fn take_line(
@@ -124,7 +163,7 @@ pub fn take_line(
     ensures { λ r. ⌜ StepAs (now (f .entry)) line place sums (tabled (now (names .entry)) (now (strings .entry)) (now (bits .entry)) (now (wires .entry)) (now (rows .entry))) (tabled (now (names .exit)) (now (strings .exit)) (now (bits .exit)) (now (wires .exit)) (now (rows .exit))) r ⌝ }
     ensures { λ r. ⌜ StepIndexed (now (heads .exit)) (now (chain .exit)) (now (names .exit)) (now (wires .exit)) (now (rows .exit)) r ⌝ }
 {
-    match line_outcome(
+    let answer = line_answer(
         f,
         line,
         place,
@@ -136,31 +175,33 @@ pub fn take_line(
         scratch,
         heads,
         chain,
-    ) {
-        Outcome::Skipped => Step::Next { place, sums },
-        Outcome::Refused(n) => Step::Stop(n),
-        Outcome::Stated {
-            statement,
-            sums: more,
-        } => {
-            let u = used_from(place, sums);
-            put_statement(f, statement, u, scratch, names, strings, bits, wires, rows);
-            let kind = kind_code(statement);
-            index_line(
-                names,
-                wires,
-                rows,
-                heads,
-                chain,
-                place.rows,
-                place.wires,
-                kind,
-            );
-            Step::Next {
-                place: after(place, kind),
-                sums: more,
-            }
-        }
+    );
+    let outcome = answer.outcome;
+    if let Outcome::Skipped = outcome {
+        return Step::Next { place, sums };
+    }
+    let Outcome::Stated { statement, more } = outcome else {
+        return Step::Stop {
+            number: answer.number,
+            place: answer.place,
+        };
+    };
+    let u = used_from(place, sums);
+    put_statement(f, statement, u, scratch, names, strings, bits, wires, rows);
+    let kind = kind_code(statement);
+    index_line(
+        names,
+        wires,
+        rows,
+        heads,
+        chain,
+        place.rows,
+        place.wires,
+        kind,
+    );
+    Step::Next {
+        place: after(place, kind),
+        sums: more,
     }
 }
 

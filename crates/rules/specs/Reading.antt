@@ -1,7 +1,7 @@
 -- Reading a file: its statements, or the number and place of its first refused line.
--- Source: document 01, "Numbers given back". Stricter than 004: a last line with tokens needs its line end, and a file
--- is at most 32,768 bytes.
-use Prim.Native.Nat.{ℕ}
+-- Source: document 01, "Numbers given back", and document 02's request 8 for the place of 4. Stricter than 004: a last
+-- line with tokens needs its line end, and a file is at most 32,768 bytes.
+use Prim.Native.Nat.{ℕ, _+_, _-_}
 use mathlib.Core.List.{List, [], _∷_, reverse}
 use mathlib.Core.Option.{Option, none, some}
 use mathlib.Core.Bool.{Bool, true, false, not, cond, _&&_}
@@ -33,9 +33,10 @@ unfoldable pub judged : ℕ → Verdict Statement → Outcome
 judged p (Verdict.accepted s) = states s
 judged p (Verdict.refused n) = refused n p
 
--- 4: bad token; on any line. A line without tokens is skipped
+-- 4: bad token; on any line. The place is the first byte of the leftmost bad token, which `left` starts with; an
+-- unfinished string or a token wrongly followed is itself the bad one. A line without tokens is skipped
 unfoldable pub lexed : Past → Line → Lexed → Outcome
-lexed ss l (bad left) = refused 4 (place l)
+lexed ss l (bad left) = refused 4 (l .start + (length (l .text) - length left))
 lexed ss l (good []) = skipped
 lexed ss l (good (t ∷ ts)) = judged (place l) (stated ss (l .ended) (t ∷ ts))
 

@@ -19,6 +19,8 @@ Case = List ℕ × List ℕ
 
 pub cases : List Case
 cases =
+    (bytes "module \\m\n  connect \\nope 99999999999 %\nend\n", bytes "4 38\n") ∷
+    (bytes "module \\m" ++ (13 ∷ []) ++ bytes "\n" ++ (9 ∷ []) ++ bytes " " ++ (9 ∷ []) ++ bytes "wire" ++ (9 ∷ []) ++ bytes " ?" ++ (13 ∷ []) ++ bytes "\nend" ++ (13 ∷ []) ++ bytes "\n", bytes "4 20\n") ∷
     (bytes "module \\m\n  parameter \\p0 6'01xzm-\n  parameter \\p1 1'x\nend\n", bytes "module \\m\n  parameter \\p0 6'01xzm-\n  parameter \\p1 1'x\nend\n") ∷
     (bytes "module \\m\nwire \\a\nassign \\a \\a\nend\n", bytes "5 18\n") ∷
     (bytes "attribute \\a 4'x\nmodule \\m\nend\n", bytes "attribute \\a 4'xxxx\nmodule \\m\nend\n") ∷
@@ -54,6 +56,8 @@ cases =
     (bytes "autoidx 4'1\n", bytes "5 0\n") ∷
     (bytes "autoidx\n", bytes "5 0\n") ∷
     (bytes "autoidx 0\n", bytes "autoidx 0\n") ∷
+    (bytes "module \\m\n  parameter \\p \"a\\400\"\nend\n", bytes "4 25\n") ∷
+    (bytes "module \\m\n  end # ? \"\n", bytes "module \\m\nend\n") ∷
     (bytes "\n" ++ (13 ∷ []) ++ bytes "\n " ++ (9 ∷ []) ++ bytes " \n" ++ (13 ∷ []) ++ bytes "module \\m\n\n  \n" ++ (9 ∷ []) ++ bytes "\nend\n\n \n", bytes "module \\m\nend\n") ∷
     (bytes "module \\m\n  wire \\a[3]\n  wire width 4 \\a\n  connect \\a[3] \\a [3]\nend\n", bytes "module \\m\n  wire \\a[3]\n  wire width 4 \\a\n  connect \\a[3] \\a [3]\nend\n") ∷
     (bytes "module \\m\nwire width 4 \\a\nwire width 2 \\b\nwire \\y\ncell \\t \\c\nconnect \\A { \\a } }\nend\nend\n", bytes "5 61\n") ∷
@@ -104,6 +108,7 @@ cases =
     (bytes "module \\m\n  wire width 4 \\a\n  connect \\a 4'x\n  connect \\a { 2'z 2'10 }\nend\n", bytes "module \\m\n  wire width 4 \\a\n  connect \\a 4'xxxx\n  connect \\a 4'zz10\nend\n") ∷
     (bytes "attribute \\a 1\nattribute \\b 1'1\nattribute \\c \"1\"\nattribute \\d 32'00000000000000000000000000000001\nattribute \\e \"\"\nattribute \\f 0'\nmodule \\m\n  parameter \\a\n  parameter \\b 0\n  parameter \\c 1'0\n  parameter \\d \"0\"\nend\n", bytes "attribute \\a 1\nattribute \\b 1'1\nattribute \\c \"1\"\nattribute \\d 32'00000000000000000000000000000001\nattribute \\e \"\"\nattribute \\f 0'\nmodule \\m\n  parameter \\a\n  parameter \\b 0\n  parameter \\c 1'0\n  parameter \\d \"0\"\nend\n") ∷
     (bytes "module \\constants\nwire width 32 \\a\nconnect \\a -1\nconnect \\a 32'11111111111111111111111111111111\nconnect \\a 1\nconnect \\a 32'1\nattribute \\escapes \"\\n\\t\\141\\\\\\\"\\r\"\nwire \\b\nend\n", bytes "module \\constants\n  wire width 32 \\a\n  attribute \\escapes \"\\n\\ta\\\\\\\"r\"\n  wire \\b\n  connect \\a 32'11111111111111111111111111111111\n  connect \\a 32'11111111111111111111111111111111\n  connect \\a 32'00000000000000000000000000000001\n  connect \\a 32'00000000000000000000000000000001\nend\n") ∷
+    (bytes "module \\m\n  wire \\a" ++ (11 ∷ []) ++ bytes "\nend\n", bytes "4 19\n") ∷
     (bytes "module \\m" ++ (13 ∷ []) ++ bytes "wire \\a" ++ (13 ∷ []) ++ bytes "end" ++ (13 ∷ []), bytes "module \\m\n  wire \\a\nend\n") ∷
     (bytes "module \\m" ++ (13 ∷ []) ++ bytes "\n" ++ (9 ∷ []) ++ bytes "wire \\a # x" ++ (13 ∷ []) ++ bytes "\nend" ++ (13 ∷ []) ++ bytes "\n", bytes "module \\m\n  wire \\a\nend\n") ∷
     (bytes "module \\m\n  parameter \\p0 8'-\n  parameter \\p1 4'-x\nend\n", bytes "module \\m\n  parameter \\p0 8'--------\n  parameter \\p1 4'---x\nend\n") ∷
@@ -126,8 +131,11 @@ cases =
     (bytes "module \\m\n# x\n  ", bytes "5 16\n") ∷
     (bytes "module \\m\n  {}[]:,\nend\n", bytes "5 12\n") ∷
     (bytes "module \\m\n  wire width 4 \\a\n  wire width 2 \\b\n  wire \\y\ncell \\t \\c\nconnect \\A { \\y 3'101 } [3:2]\nend\nend\n", bytes "module \\m\n  wire width 4 \\a\n  wire width 2 \\b\n  wire \\y\n  cell \\t \\c\n    connect \\A { \\y 1'1 }\n  end\nend\n") ∷
+    (bytes "module \\m\n  wire width 3000 \\a\n  ?\nend\n", bytes "7 12\n") ∷
     (bytes "module \\m\nwire \\a\nwire \\a\n%\nend\n", bytes "9 18\n") ∷
     (bytes "module \\m\n  parameter \\p# \"a # b\"\n  wire \\a#b\nend\n", bytes "module \\m\n  parameter \\p# \"a # b\"\n  wire \\a#b\nend\n") ∷
+    (bytes "module \\m\n  end#?\n", bytes "module \\m\nend\n") ∷
+    (bytes "module \\m\n  connect {} {3x}\nend\n", bytes "4 24\n") ∷
     (bytes "module \\m\n  wire input 1 inout 2 \\a\nend\n", bytes "7 12\n") ∷
     (bytes "module \\m\n  wire input 1 input 1 \\a\nend\n", bytes "7 12\n") ∷
     (bytes "module \\m\n  wire width 4 \\a\n  wire width 2 \\b\n  wire \\y\ncell \\t \\c\nconnect \\A 1\nend\nend\n", bytes "module \\m\n  wire width 4 \\a\n  wire width 2 \\b\n  wire \\y\n  cell \\t \\c\n    connect \\A 32'00000000000000000000000000000001\n  end\nend\n") ∷
@@ -136,11 +144,11 @@ cases =
     (bytes "module \\m\n  wire width 4 \\a\n  wire width 2 \\b\n  wire \\y\ncell \\t \\c\nconnect \\A -2\nend\nend\n", bytes "module \\m\n  wire width 4 \\a\n  wire width 2 \\b\n  wire \\y\n  cell \\t \\c\n    connect \\A 32'11111111111111111111111111111110\n  end\nend\n") ∷
     (bytes "module \\m\n  wire width 4 \\a\n  wire width 2 \\b\n  wire \\y\ncell \\t \\c\nconnect \\A -0\nend\nend\n", bytes "module \\m\n  wire width 4 \\a\n  wire width 2 \\b\n  wire \\y\n  cell \\t \\c\n    connect \\A 32'00000000000000000000000000000000\n  end\nend\n") ∷
     (bytes "module \\m\n  wire width 4 \\a\n  wire width 2 \\b\n  wire \\y\ncell \\t \\c\nconnect \\A 1337 [10:0]\nend\nend\n", bytes "module \\m\n  wire width 4 \\a\n  wire width 2 \\b\n  wire \\y\n  cell \\t \\c\n    connect \\A 11'10100111001\n  end\nend\n") ∷
-    (bytes "module \\m\n  parameter \\p 1.5\nend\n", bytes "4 12\n") ∷
-    (bytes "module \\m\n  parameter \\p 12a\nend\n", bytes "4 12\n") ∷
-    (bytes "module \\m\n  parameter \\p 1-\nend\n", bytes "4 12\n") ∷
-    (bytes "module \\m\n  parameter \\p 1\\a\nend\n", bytes "4 12\n") ∷
-    (bytes "module \\m\n  parameter \\p 1\"a\"\nend\n", bytes "4 12\n") ∷
+    (bytes "module \\m\n  parameter \\p 1.5\nend\n", bytes "4 25\n") ∷
+    (bytes "module \\m\n  parameter \\p 12a\nend\n", bytes "4 25\n") ∷
+    (bytes "module \\m\n  parameter \\p 1-\nend\n", bytes "4 25\n") ∷
+    (bytes "module \\m\n  parameter \\p 1\\a\nend\n", bytes "4 25\n") ∷
+    (bytes "module \\m\n  parameter \\p 1\"a\"\nend\n", bytes "4 25\n") ∷
     (bytes "module \\m\n  wire width 32 \\a\n  connect \\a 2147483648\nend\n", bytes "7 31\n") ∷
     (bytes "module \\m\nwire width 4 \\a\nwire width 2 \\b\nwire \\y\ncell \\t \\c\nconnect \\A { \\a 2147483648 }\nend\nend\n", bytes "7 61\n") ∷
     (bytes "autoidx 0017\nmodule \\m\nparameter \\a -0\nparameter \\b 000\nparameter \\c -0012\nparameter \\d 2147483647\nparameter \\e -2147483648\nparameter \\f 00000000000000000000000000001\nwire width 004 offset -0 \\w\nconnect \\w [003:0] \\w [3:000]\nend\n", bytes "autoidx 17\nmodule \\m\n  parameter \\a 0\n  parameter \\b 0\n  parameter \\c -12\n  parameter \\d 2147483647\n  parameter \\e -2147483648\n  parameter \\f 1\n  wire width 4 \\w\n  connect \\w \\w\nend\n") ∷
@@ -149,9 +157,10 @@ cases =
     (bytes "module \\m\n  wire width 4 \\a\n  wire width 2 \\b\n  wire \\y\ncell \\t \\c\nconnect \\A { \\y \\a } [4]\nend\nend\n", bytes "module \\m\n  wire width 4 \\a\n  wire width 2 \\b\n  wire \\y\n  cell \\t \\c\n    connect \\A \\y\n  end\nend\n") ∷
     (bytes "module \\m\n  parameter \\p0 004'x\nend\n", bytes "module \\m\n  parameter \\p0 4'xxxx\nend\n") ∷
     (bytes "module \\m\n" ++ (13 ∷ []) ++ bytes "wire \\a\n" ++ (13 ∷ []) ++ bytes "end\n" ++ (13 ∷ []), bytes "module \\m\n  wire \\a\nend\n") ∷
-    (bytes "module \\m\n  wire \\\nend\n", bytes "4 12\n") ∷
-    (bytes "module \\m\n  wire \\" ++ (9 ∷ []) ++ bytes "\nend\n", bytes "4 12\n") ∷
-    (bytes "module \\m\n  wire $\nend\n", bytes "4 12\n") ∷
+    (bytes "module \\m\n  wire \\\nend\n", bytes "4 17\n") ∷
+    (bytes "module \\m\n  wire \\" ++ (9 ∷ []) ++ bytes "\nend\n", bytes "4 17\n") ∷
+    (bytes "module \\m\n  wire $\nend\n", bytes "4 17\n") ∷
+    (bytes "module \\m\n  wire $ \\a\nend\n", bytes "4 17\n") ∷
     (bytes "module \\m\n  wire width 32 \\a\n  connect \\a -2147483648\nend\n", bytes "module \\m\n  wire width 32 \\a\n  connect \\a 32'10000000000000000000000000000000\nend\n") ∷
     (bytes "module \\m\n  parameter \\p0 8'm\n  parameter \\p1 4'm1\nend\n", bytes "module \\m\n  parameter \\p0 8'mmmmmmmm\n  parameter \\p1 4'mmm1\nend\n") ∷
     (bytes "module \\m\nwire width 4 \\a\nconnect \\a [ 3 : 2 ] { \\a [ 1 ] \\a" ++ (9 ∷ []) ++ bytes "[ 0 ] }\nend\n", bytes "module \\m\n  wire width 4 \\a\n  connect \\a [3:2] \\a [1:0]\nend\n") ∷
@@ -180,9 +189,12 @@ cases =
     (bytes "module \\m\n  memory width 2 width 2 \\a\nend\n", bytes "7 12\n") ∷
     (bytes "module \\m\nmemory width \\a\nend\n", bytes "5 10\n") ∷
     (bytes "module \\m\nmemory\nend\n", bytes "5 10\n") ∷
-    (bytes "module \\m\n  parameter \\p -\nend\n", bytes "4 12\n") ∷
-    (bytes "module \\m\n  parameter \\p --1\nend\n", bytes "4 12\n") ∷
-    (bytes "module \\m\n  parameter \\p - 1\nend\n", bytes "4 12\n") ∷
+    (bytes "module \\m\n  wire \\a memwr\nend\n", bytes "4 20\n") ∷
+    (bytes "module \\m\n  parameter \\p -\nend\n", bytes "4 25\n") ∷
+    (bytes "autoidx - 1\n", bytes "4 8\n") ∷
+    (bytes "module \\m\n  parameter \\p --1\nend\n", bytes "4 25\n") ∷
+    (bytes "module \\m\n  parameter \\p - 1\nend\n", bytes "4 25\n") ∷
+    (bytes "module \\m\n  parameter \\p -1'0\nend\n", bytes "4 25\n") ∷
     (bytes "module \\m\nwire width 4 \\a\nwire width 2 \\b\nwire \\y\ncell \\t \\c\nconnect \\A \\none\nend\nend\n", bytes "8 61\n") ∷
     (bytes "module \\m\n  wire \\a\n  connect \\a [7] \\b\nend\n", bytes "8 22\n") ∷
     (bytes "module \\m\nwire width 4 \\a\nwire width 2 \\b\nwire \\y\ncell \\t \\c\nconnect \\A { \\none \\y } [0]\nend\nend\n", bytes "8 61\n") ∷
@@ -205,35 +217,35 @@ cases =
     (bytes "module \\b\nend\nmodule \\a\nend\nattribute \\x 1\nmodule $c\nend\n", bytes "module \\b\nend\nmodule \\a\nend\nattribute \\x 1\nmodule $c\nend\n") ∷
     (bytes "module \\m\n  wire \\aaaaaaaaaaaaaaaaaaaaaaaaaaaaaaaaaaaaaaaaaaaaaaaaaaaaaaaaaaaaaaaaaaaaaaaaaaaaaaaaaaaaaaaaaaaaaaaaaaaaaaaaaaaaaaaaaaaaaaaaaaaaaaaaaaaaaaaaaaaaaaaaaaaaaaaaaaaaaaaaaaaaaaaaaaaaaaaaaaaaaaaaaaaaaaaaaaaaaaaaaaaaaaaaaaaaaaaaaaaaaaaaaaaaaaaaaaaaaaaaaaaaaaaaaaaaaa\nend\n", bytes "module \\m\n  wire \\aaaaaaaaaaaaaaaaaaaaaaaaaaaaaaaaaaaaaaaaaaaaaaaaaaaaaaaaaaaaaaaaaaaaaaaaaaaaaaaaaaaaaaaaaaaaaaaaaaaaaaaaaaaaaaaaaaaaaaaaaaaaaaaaaaaaaaaaaaaaaaaaaaaaaaaaaaaaaaaaaaaaaaaaaaaaaaaaaaaaaaaaaaaaaaaaaaaaaaaaaaaaaaaaaaaaaaaaaaaaaaaaaaaaaaaaaaaaaaaaaaaaaaaaaaaaaa\nend\n") ∷
     (bytes "module \\m\n  wire \\aaaaaaaaaaaaaaaaaaaaaaaaaaaaaaaaaaaaaaaaaaaaaaaaaaaaaaaaaaaaaaaaaaaaaaaaaaaaaaaaaaaaaaaaaaaaaaaaaaaaaaaaaaaaaaaaaaaaaaaaaaaaaaaaaaaaaaaaaaaaaaaaaaaaaaaaaaaaaaaaaaaaaaaaaaaaaaaaaaaaaaaaaaaaaaaaaaaaaaaaaaaaaaaaaaaaaaaaaaaaaaaaaaaaaaaaaaaaaaaaaaaaaaaaaaaaaa\n  connect \\aaaaaaaaaaaaaaaaaaaaaaaaaaaaaaaaaaaaaaaaaaaaaaaaaaaaaaaaaaaaaaaaaaaaaaaaaaaaaaaaaaaaaaaaaaaaaaaaaaaaaaaaaaaaaaaaaaaaaaaaaaaaaaaaaaaaaaaaaaaaaaaaaaaaaaaaaaaaaaaaaaaaaaaaaaaaaaaaaaaaaaaaaaaaaaaaaaaaaaaaaaaaaaaaaaaaaaaaaaaaaaaaaaaaaaaaaaaaaaaaaaaaaaaaaaaaaa 1'0\nend\n", bytes "module \\m\n  wire \\aaaaaaaaaaaaaaaaaaaaaaaaaaaaaaaaaaaaaaaaaaaaaaaaaaaaaaaaaaaaaaaaaaaaaaaaaaaaaaaaaaaaaaaaaaaaaaaaaaaaaaaaaaaaaaaaaaaaaaaaaaaaaaaaaaaaaaaaaaaaaaaaaaaaaaaaaaaaaaaaaaaaaaaaaaaaaaaaaaaaaaaaaaaaaaaaaaaaaaaaaaaaaaaaaaaaaaaaaaaaaaaaaaaaaaaaaaaaaaaaaaaaaaaaaaaaaa\n  connect \\aaaaaaaaaaaaaaaaaaaaaaaaaaaaaaaaaaaaaaaaaaaaaaaaaaaaaaaaaaaaaaaaaaaaaaaaaaaaaaaaaaaaaaaaaaaaaaaaaaaaaaaaaaaaaaaaaaaaaaaaaaaaaaaaaaaaaaaaaaaaaaaaaaaaaaaaaaaaaaaaaaaaaaaaaaaaaaaaaaaaaaaaaaaaaaaaaaaaaaaaaaaaaaaaaaaaaaaaaaaaaaaaaaaaaaaaaaaaaaaaaaaaaaaaaaaaaa 1'0\nend\n") ∷
-    (bytes "module \\m\n  wire \\aaaaaaaaaaaaaaaaaaaaaaaaaaaaaaaaaaaaaaaaaaaaaaaaaaaaaaaaaaaaaaaaaaaaaaaaaaaaaaaaaaaaaaaaaaaaaaaaaaaaaaaaaaaaaaaaaaaaaaaaaaaaaaaaaaaaaaaaaaaaaaaaaaaaaaaaaaaaaaaaaaaaaaaaaaaaaaaaaaaaaaaaaaaaaaaaaaaaaaaaaaaaaaaaaaaaaaaaaaaaaaaaaaaaaaaaaaaaaaaaaaaaaaaaaaaaaaa\nend\n", bytes "4 12\n") ∷
-    (bytes "module \\m\n  connect \\aaaaaaaaaaaaaaaaaaaaaaaaaaaaaaaaaaaaaaaaaaaaaaaaaaaaaaaaaaaaaaaaaaaaaaaaaaaaaaaaaaaaaaaaaaaaaaaaaaaaaaaaaaaaaaaaaaaaaaaaaaaaaaaaaaaaaaaaaaaaaaaaaaaaaaaaaaaaaaaaaaaaaaaaaaaaaaaaaaaaaaaaaaaaaaaaaaaaaaaaaaaaaaaaaaaaaaaaaaaaaaaaaaaaaaaaaaaaaaaaaaaaaaaaaaaaaaa { }\nend\n", bytes "4 12\n") ∷
+    (bytes "module \\m\n  wire \\aaaaaaaaaaaaaaaaaaaaaaaaaaaaaaaaaaaaaaaaaaaaaaaaaaaaaaaaaaaaaaaaaaaaaaaaaaaaaaaaaaaaaaaaaaaaaaaaaaaaaaaaaaaaaaaaaaaaaaaaaaaaaaaaaaaaaaaaaaaaaaaaaaaaaaaaaaaaaaaaaaaaaaaaaaaaaaaaaaaaaaaaaaaaaaaaaaaaaaaaaaaaaaaaaaaaaaaaaaaaaaaaaaaaaaaaaaaaaaaaaaaaaaaaaaaaaaa\nend\n", bytes "4 17\n") ∷
+    (bytes "module \\m\n  connect \\aaaaaaaaaaaaaaaaaaaaaaaaaaaaaaaaaaaaaaaaaaaaaaaaaaaaaaaaaaaaaaaaaaaaaaaaaaaaaaaaaaaaaaaaaaaaaaaaaaaaaaaaaaaaaaaaaaaaaaaaaaaaaaaaaaaaaaaaaaaaaaaaaaaaaaaaaaaaaaaaaaaaaaaaaaaaaaaaaaaaaaaaaaaaaaaaaaaaaaaaaaaaaaaaaaaaaaaaaaaaaaaaaaaaaaaaaaaaaaaaaaaaaaaaaaaaaaa { }\nend\n", bytes "4 20\n") ∷
     (bytes "module \\m\n  wire \\a width 2\nend\n", bytes "5 12\n") ∷
     (bytes "module \\m\nwire width 4 \\a\nconnect \\a[3] 1'0\nend\n", bytes "8 26\n") ∷
     (bytes "module \\m\nwire \\a\nconnect { \\a} 1'0\nend\n", bytes "5 18\n") ∷
     (bytes "module \\!\n  wire \\" ++ (127 ∷ []) ++ bytes "\n  wire \\" ++ (128 ∷ []) ++ bytes "\n  wire $" ++ (255 ∷ []) ++ bytes "\n  wire \\" ++ (254 ∷ []) ++ (255 ∷ []) ++ bytes "\nend\n", bytes "module \\!\n  wire \\" ++ (127 ∷ []) ++ bytes "\n  wire \\" ++ (128 ∷ []) ++ bytes "\n  wire $" ++ (255 ∷ []) ++ bytes "\n  wire \\" ++ (254 ∷ []) ++ (255 ∷ []) ++ bytes "\nend\n") ∷
     (bytes "module \\m\n  wire \\a\n  memory \\a\nend\n", bytes "9 22\n") ∷
-    (bytes "module \\m\n  wire \\a" ++ (0 ∷ []) ++ bytes "\nend\n", bytes "4 12\n") ∷
-    (bytes "module \\m\n  wire \\a" ++ (31 ∷ []) ++ bytes "\nend\n", bytes "4 12\n") ∷
+    (bytes "module \\m\n  wire \\a" ++ (0 ∷ []) ++ bytes "\nend\n", bytes "4 19\n") ∷
+    (bytes "module \\m\n  wire \\a" ++ (31 ∷ []) ++ bytes "\nend\n", bytes "4 19\n") ∷
     (bytes "module \\m\n  wire \\a\n  wire \\A\n  wire $a\n  wire \\m\nend\n", bytes "module \\m\n  wire \\a\n  wire \\A\n  wire $a\n  wire \\m\nend\n") ∷
     (bytes "module \\names\nwire \\sig42\nwire $sig42\nconnect \\sig42 $sig42\nend\n", bytes "module \\names\n  wire \\sig42\n  wire $sig42\n  connect \\sig42 $sig42\nend\n") ∷
     (bytes "module \\{\n  wire \\\"\n  wire \\'\n  wire \\[\n  wire \\,\n  wire $$\n  wire \\\\\n  wire \\$\n  wire $\\\n  wire \\#\n  wire \\end\n  wire \\1'0\nend\n", bytes "module \\{\n  wire \\\"\n  wire \\'\n  wire \\[\n  wire \\,\n  wire $$\n  wire \\\\\n  wire \\$\n  wire $\\\n  wire \\#\n  wire \\end\n  wire \\1'0\nend\n") ∷
-    (bytes "module \\m\n  parameter \\p -1'0\nend\n", bytes "4 12\n") ∷
+    (bytes "module \\m\n  parameter \\p -1'0\nend\n", bytes "4 25\n") ∷
     (bytes "module \\m\n  parameter \\p0 1'\n  parameter \\p1 8'\n  parameter \\p2 0'\nend\n", bytes "module \\m\n  parameter \\p0 1'x\n  parameter \\p1 8'xxxxxxxx\n  parameter \\p2 0'\nend\n") ∷
     (bytes "module \\m\nend", bytes "5 10\n") ∷
     (bytes "wire wire", bytes "5 0\n") ∷
-    (bytes "module \\m\nend %", bytes "4 10\n") ∷
+    (bytes "module \\m\nend %", bytes "4 14\n") ∷
     (bytes "module \\m\nwire \\a\nwire \\a", bytes "5 18\n") ∷
     (bytes "autoidx 2147483648", bytes "5 0\n") ∷
     (bytes "module \\m\n  process \\p", bytes "5 12\n") ∷
     (bytes "module \\m\nend  ", bytes "5 10\n") ∷
     (bytes "module \\m\nend # x", bytes "5 10\n") ∷
-    (bytes "module \\m\n  parameter \\p \"\\0\"\nend\n", bytes "4 12\n") ∷
-    (bytes "module \\m\n  parameter \\p \"\\08\"\nend\n", bytes "4 12\n") ∷
-    (bytes "module \\m\n  parameter \\p \"\\0001\"\nend\n", bytes "4 12\n") ∷
-    (bytes "module \\m\n  parameter \\p \"\\00\"\nend\n", bytes "4 12\n") ∷
-    (bytes "module \\m\n  parameter \\p \"\\400\"\nend\n", bytes "4 12\n") ∷
-    (bytes "module \\m\n  parameter \\p \"\\777\"\nend\n", bytes "4 12\n") ∷
-    (bytes "module \\m\n  parameter \\p \"\\000\"\nend\n", bytes "4 12\n") ∷
+    (bytes "module \\m\n  parameter \\p \"\\0\"\nend\n", bytes "4 25\n") ∷
+    (bytes "module \\m\n  parameter \\p \"\\08\"\nend\n", bytes "4 25\n") ∷
+    (bytes "module \\m\n  parameter \\p \"\\0001\"\nend\n", bytes "4 25\n") ∷
+    (bytes "module \\m\n  parameter \\p \"\\00\"\nend\n", bytes "4 25\n") ∷
+    (bytes "module \\m\n  parameter \\p \"\\400\"\nend\n", bytes "4 25\n") ∷
+    (bytes "module \\m\n  parameter \\p \"\\777\"\nend\n", bytes "4 25\n") ∷
+    (bytes "module \\m\n  parameter \\p \"\\000\"\nend\n", bytes "4 25\n") ∷
     (bytes "module \\m\n  wire width 4 offset 8 \\o\ncell \\t \\c\nconnect \\A \\o [1]\nend\nend\n", bytes "module \\m\n  wire width 4 offset 8 \\o\n  cell \\t \\c\n    connect \\A \\o [1]\n  end\nend\n") ∷
     (bytes "module \\m\n  wire width 2 offset 2147483647 \\a\nend\n", bytes "7 12\n") ∷
     (bytes " " ++ (9 ∷ []) ++ bytes "  ", []) ∷
@@ -241,6 +253,7 @@ cases =
     (bytes "\n" ++ (13 ∷ []) ++ bytes "\n" ++ (13 ∷ []) ++ (13 ∷ []) ++ bytes "\n", []) ∷
     (bytes "module \\m\n  wire upto upto \\a\nend\n", bytes "7 12\n") ∷
     (bytes "module \\m\n  wire signed input 3 upto offset -4 width 8 \\a\n  memory offset 2 size 16 width 8 \\ram\nend\n", bytes "module \\m\n  wire width 8 offset -4 upto input 3 signed \\a\n  memory width 8 size 16 offset 2 \\ram\nend\n") ∷
+    (bytes "module \\m\n  wire width 3000 \\a\nend\n", bytes "7 12\n") ∷
     (bytes "module \\m\n  wire output 1 inout 1 \\a\nend\n", bytes "7 12\n") ∷
     (bytes "parameter \\p 1\n", bytes "5 0\n") ∷
     (bytes "module \\m\n  parameter \\p 1\n  wire \\p\n  cell \\p \\c\n    parameter \\p 1\n    connect \\p \\p\n  end\n  cell \\p \\d\n    parameter \\p 1\n    connect \\p \\p\n  end\nend\nmodule \\n\n  parameter \\p 1\nend\n", bytes "module \\m\n  parameter \\p 1\n  wire \\p\n  cell \\p \\c\n    parameter \\p 1\n    connect \\p \\p\n  end\n  cell \\p \\d\n    parameter \\p 1\n    connect \\p \\p\n  end\nend\nmodule \\n\n  parameter \\p 1\nend\n") ∷
@@ -251,9 +264,9 @@ cases =
     (bytes "module \\m\ncell \\t \\c\nconnect \\A \"AAAAAAAAAAAAAAAAAAAAAAAAAAAAAAAAAAAAAAAAAAAAAAAAAAAAAAAAAAAAAAAAAAAAAAAAAAAAAAAAAAAAAAAAAAAAAAAAAAAAAAAAAAAAAAAAAAAAAAAAAAAAAAAAAAAAAAAAAAAAAAAAAAAAAAAAAAAAAAAAAAAAAAAAAAAAAAAAAAAAAAAAAAAAAAAAAAAAAAAAAAAAAAAAAAAAAAAAAAAAAAAAAAAAAAAAAAAAAAAAAAAAAAAAAAAAAAAAA\" [7:0]\nend\nend\n", bytes "11 21\n") ∷
     (bytes "module \\m\n  wire width 2048 \\a\n  cell \\t \\c\n    connect \\A { \\a \\a } [0]\n  end\nend\n", bytes "11 48\n") ∷
     (bytes "# one\n\n  # two\nmodule \\m\n" ++ (13 ∷ []) ++ bytes "  wire \\a\n  wire \\a\nend\n", bytes "9 38\n") ∷
-    (bytes "module \\m\n " ++ (9 ∷ []) ++ bytes "  wire %\nend\n", bytes "4 14\n") ∷
-    (bytes "module \\m\n  parameter \\p 1 2 3 %\nend\n", bytes "4 12\n") ∷
-    (bytes "module \\m\n  parameter \\p +1\nend\n", bytes "4 12\n") ∷
+    (bytes "module \\m\n " ++ (9 ∷ []) ++ bytes "  wire %\nend\n", bytes "4 19\n") ∷
+    (bytes "module \\m\n  parameter \\p 1 2 3 %\nend\n", bytes "4 31\n") ∷
+    (bytes "module \\m\n  parameter \\p +1\nend\n", bytes "4 25\n") ∷
     (bytes "module \\m\n  cell \\t \\c\n    connect \\A { }\n    connect \\B { }\n  end\n  cell \\t \\d\n    connect \\A { }\n  end\nend\n", bytes "module \\m\n  cell \\t \\c\n    connect \\A { }\n    connect \\B { }\n  end\n  cell \\t \\d\n    connect \\A { }\n  end\nend\n") ∷
     (bytes "module \\m\n  wire input 0 \\a\nend\n", bytes "7 12\n") ∷
     (bytes "module \\m\n  wire output 1024 \\a\nend\n", bytes "7 12\n") ∷
@@ -273,14 +286,15 @@ cases =
     (bytes "module \\m\n  process $p\nend\nend\n", bytes "6 12\n") ∷
     (bytes "module \\m\nprocess\nend\nend\n", bytes "5 10\n") ∷
     (bytes "module \\m\nassign switch case sync global init always low high posedge negedge edge update process\nend\n", bytes "5 10\n") ∷
+    (bytes "module \\m\n  parameter \\p 2 '0\nend\n", bytes "4 27\n") ∷
     (bytes "module \\m\ncell \\t \\c\nconnect \\A { { 2048' 1' } [0] 1'0 [1] }\nend\nend\n", bytes "10 21\n") ∷
     (bytes "module \\m\ncell \\t \\c\nconnect \\A { 2048' 2048' } [4096]\nend\nend\n", bytes "10 21\n") ∷
     (bytes "module \\m\nconnect { 2048' 1' } 1'0\nend\n", bytes "10 10\n") ∷
     (bytes "module \\m\nconnect { 2048' 1' } { 1' 2048' }\nend\n", bytes "11 10\n") ∷
     (bytes "module \\m\ncell \\t \\c\nconnect \\A { 2048' 2048' } [4095]\nend\nend\n", bytes "11 21\n") ∷
-    (bytes "module \\m\nend end %\nend\n", bytes "4 10\n") ∷
-    (bytes "module \\m\nprocess \\p %\nend\n", bytes "4 10\n") ∷
-    (bytes "module \\m\nparameter \\p 2147483648 1'2\nend\n", bytes "4 10\n") ∷
+    (bytes "module \\m\nend end %\nend\n", bytes "4 18\n") ∷
+    (bytes "module \\m\nprocess \\p %\nend\n", bytes "4 21\n") ∷
+    (bytes "module \\m\nparameter \\p 2147483648 1'2\nend\n", bytes "4 34\n") ∷
     (bytes "module \\m\nconnect 1'0 [1] 1'0 1'0\nend\n", bytes "5 10\n") ∷
     (bytes "module \\m\nwire width 2049 \\a \\b\nend\n", bytes "5 10\n") ∷
     (bytes "module \\m\nconnect \\none { \nend\n", bytes "5 10\n") ∷
@@ -317,6 +331,7 @@ cases =
     (bytes "module \\m\n  wire width 4 \\a\n  wire width 2 \\b\n  wire \\y\ncell \\t \\c\nconnect \\A { \\y [0] 1'0 }\nend\nend\n", bytes "module \\m\n  wire width 4 \\a\n  wire width 2 \\b\n  wire \\y\n  cell \\t \\c\n    connect \\A { \\y 1'0 }\n  end\nend\n") ∷
     (bytes "module \\m\n  wire width 4 \\a\n  wire width 2 \\b\n  wire \\y\ncell \\t \\c\nconnect \\A { \\b \\b }\nend\nend\n", bytes "module \\m\n  wire width 4 \\a\n  wire width 2 \\b\n  wire \\y\n  cell \\t \\c\n    connect \\A { \\b \\b }\n  end\nend\n") ∷
     (bytes "module \\m\n  wire \\a\n  memory \\b\nend\nmodule \\n\n  wire \\b\n  memory \\a\nend\n", bytes "module \\m\n  wire \\a\n  memory \\b\nend\nmodule \\n\n  wire \\b\n  memory \\a\nend\n") ∷
+    (bytes "module \\m\n  wire width \\a\nend\n", bytes "5 12\n") ∷
     (bytes "module \\m\n  parameter \\p 8'101\n  parameter \\q 3'\n  parameter \\r 0'\nend\n", bytes "module \\m\n  parameter \\p 8'00000101\n  parameter \\q 3'xxx\n  parameter \\r 0'\nend\n") ∷
     (bytes "module \\m\nconnect 4' 4'x1\nend\n", bytes "module \\m\n  connect 4'xxxx 4'xxx1\nend\n") ∷
     (bytes "module \\m\n  wire width 2048 \\a\ncell \\t \\c\nconnect \\A { \\a 1'0 }\nend\nend\n", bytes "11 42\n") ∷
@@ -327,7 +342,7 @@ cases =
     (bytes "module \\m\n  wire width 2048 \\a\ncell \\t \\c\nconnect \\0 \\a [0]\nconnect \\1 \\a [1]\nconnect \\2 \\a [2]\nconnect \\3 \\a [3]\nconnect \\4 \\a [4]\nconnect \\5 \\a [5]\nconnect \\6 \\a [6]\nconnect \\7 \\a [7]\nconnect \\8 \\a [8]\nconnect \\9 \\a [9]\nconnect \\10 \\a [10]\nconnect \\11 \\a [11]\nconnect \\12 \\a [12]\nconnect \\13 \\a [13]\nconnect \\14 \\a [14]\nconnect \\15 \\a [15]\nconnect \\16 \\a [16]\nconnect \\17 \\a [17]\nconnect \\18 \\a [18]\nconnect \\19 \\a [19]\nend\nend\n", bytes "module \\m\n  wire width 2048 \\a\n  cell \\t \\c\n    connect \\0 \\a [0]\n    connect \\1 \\a [1]\n    connect \\2 \\a [2]\n    connect \\3 \\a [3]\n    connect \\4 \\a [4]\n    connect \\5 \\a [5]\n    connect \\6 \\a [6]\n    connect \\7 \\a [7]\n    connect \\8 \\a [8]\n    connect \\9 \\a [9]\n    connect \\10 \\a [10]\n    connect \\11 \\a [11]\n    connect \\12 \\a [12]\n    connect \\13 \\a [13]\n    connect \\14 \\a [14]\n    connect \\15 \\a [15]\n    connect \\16 \\a [16]\n    connect \\17 \\a [17]\n    connect \\18 \\a [18]\n    connect \\19 \\a [19]\n  end\nend\n") ∷
     (bytes "module \\m\n  wire width 2048 \\a\n  connect \\a \\a\nend\nmodule \\n\n  wire width 2048 \\a\n  connect \\a \\a\n  cell \\t \\c\n    connect \\A 1'0\n  end\nend\n", bytes "11 115\n") ∷
     (bytes "# the signals that 000 gives as examples, spelled as RTLIL text\nmodule \\signals\nwire width 32 \\mywire\ncell \\any \\c\nconnect \\A 1337\nconnect \\B 16'0000010100111001\nconnect \\C 1'1\nconnect \\D 1'x\nconnect \\E \\mywire\nconnect \\F \\mywire [24]\nconnect \\G \\mywire [15:8]\nconnect \\H { 16'10100111001 \\mywire [15:8] }\nend\nend\n", bytes "module \\signals\n  wire width 32 \\mywire\n  cell \\any \\c\n    connect \\A 32'00000000000000000000010100111001\n    connect \\B 16'0000010100111001\n    connect \\C 1'1\n    connect \\D 1'x\n    connect \\E \\mywire\n    connect \\F \\mywire [24]\n    connect \\G \\mywire [15:8]\n    connect \\H { 16'0000010100111001 \\mywire [15:8] }\n  end\nend\n") ∷
-    (bytes "module \\m\n  parameter \\p '0\nend\n", bytes "4 12\n") ∷
+    (bytes "module \\m\n  parameter \\p '0\nend\n", bytes "4 25\n") ∷
     (bytes "module \\m\nwire width 4 \\a\nwire width 2 \\b\nwire \\y\ncell \\t \\c\nconnect \\A [0]\nend\nend\n", bytes "5 61\n") ∷
     (bytes "module \\m\n  wire width 4 \\a\n  wire width 2 \\b\n  wire \\y\ncell \\t \\c\nconnect \\A \\y [0]\nend\nend\n", bytes "module \\m\n  wire width 4 \\a\n  wire width 2 \\b\n  wire \\y\n  cell \\t \\c\n    connect \\A \\y\n  end\nend\n") ∷
     (bytes "module \\m\nwire width 4 offset 8 \\o\ncell \\t \\c\nconnect \\A \\o [8]\nend\nend\n", bytes "10 46\n") ∷
@@ -366,36 +381,40 @@ cases =
     (bytes "module \\m\n  wire \\a\n  connect \\a 4'x [3]\n  connect \\a 4'1x [3]\nend\n", bytes "module \\m\n  wire \\a\n  connect \\a 1'x\n  connect \\a 1'0\nend\n") ∷
     (bytes "module \\m\n  wire width 8 \\a\n  cell \\t \\c\n    connect \\A { \\a [7:4] { \\a [3:0] } [3:1] } [6:1] [4:2] [0]\n  end\nend\n", bytes "module \\m\n  wire width 8 \\a\n  cell \\t \\c\n    connect \\A \\a [4]\n  end\nend\n") ∷
     (bytes "autoidx 1\nattribute \\x 1\nattribute \\y \"s\"\nmodule \\m\n  parameter \\p\n  parameter \\q 1\n  parameter \\r 2'01\n  parameter \\s \"t\"\n  attribute \\x 1\n  wire width 2 offset 3 upto inout 4 signed \\a\n  attribute \\x 2'xz\n  memory width 2 size 3 offset 4 \\ram\n  attribute \\x \"\"\n  attribute \\y -1\n  cell $t $c\n    parameter \\p 1\n    parameter signed \\q 1'0\n    parameter real \\r \"1.5\"\n    connect \\A \\a\n    connect \\B { }\n  end\n  connect \\a 2'10\nend\nmodule \\n\nend\n", bytes "autoidx 1\nattribute \\x 1\nattribute \\y \"s\"\nmodule \\m\n  parameter \\p\n  parameter \\q 1\n  parameter \\r 2'01\n  parameter \\s \"t\"\n  attribute \\x 1\n  wire width 2 offset 3 upto inout 4 signed \\a\n  attribute \\x 2'xz\n  memory width 2 size 3 offset 4 \\ram\n  attribute \\x \"\"\n  attribute \\y -1\n  cell $t $c\n    parameter \\p 1\n    parameter signed \\q 1'0\n    parameter real \\r \"1.5\"\n    connect \\A \\a\n    connect \\B { }\n  end\n  connect \\a 2'10\nend\nmodule \\n\nend\n") ∷
-    (bytes "module \\m\n  parameter \\p \"abc\\" ++ (13 ∷ []) ++ bytes "\"\nend\n", bytes "4 12\n") ∷
-    (bytes "module \\m\n  parameter \\p \"abc\\\n\"\nend\n", bytes "4 12\n") ∷
-    (bytes "module \\m\n  parameter \\p \"a\\" ++ (0 ∷ []) ++ bytes "b\"\nend\n", bytes "4 12\n") ∷
-    (bytes "module \\m\n  parameter \\p \"abc # \"\" \nend\n", bytes "4 12\n") ∷
+    (bytes "module \\m\n  parameter \\p \"abc\\" ++ (13 ∷ []) ++ bytes "\"\nend\n", bytes "4 25\n") ∷
+    (bytes "module \\m\n  parameter \\p \"abc\\\n\"\nend\n", bytes "4 25\n") ∷
+    (bytes "module \\m\n  parameter \\p \"a\\" ++ (0 ∷ []) ++ bytes "b\"\nend\n", bytes "4 25\n") ∷
+    (bytes "module \\m\n  parameter \\p \"abc # \"\" \nend\n", bytes "4 25\n") ∷
     (bytes "module \\m\n  wire width 4 \\a\n  wire width 2 \\b\n  wire \\y\ncell \\t \\c\nconnect \\A \"\"\nend\nend\n", bytes "module \\m\n  wire width 4 \\a\n  wire width 2 \\b\n  wire \\y\n  cell \\t \\c\n    connect \\A { }\n  end\nend\n") ∷
+    (bytes "module \\m\n  parameter \\p \"abc\\\"\nend\n", bytes "4 25\n") ∷
     (bytes "module \\m\n  wire width 4 \\a\n  wire width 2 \\b\n  wire \\y\ncell \\t \\c\nconnect \\A \"\\n\\377\"\nend\nend\n", bytes "module \\m\n  wire width 4 \\a\n  wire width 2 \\b\n  wire \\y\n  cell \\t \\c\n    connect \\A 16'0000101011111111\n  end\nend\n") ∷
     (bytes "module \\m\nparameter \\a \"\\n\\t\\\"\\\\\"\nparameter \\b \"\\r\\a\\x\\e\\ \\8\\9\\#\\'\"\nparameter \\c \"\\1\\12\\123\\1234\\18\\377\\0409\"\nparameter \\d \"\"\nparameter \\e \"\\11\\012\\015\\177\"\nparameter \\f \"\\\"\\\\n\"\nend\n", bytes "module \\m\n  parameter \\a \"\\n\\t\\\"\\\\\"\n  parameter \\b \"raxe 89#'\"\n  parameter \\c \"\\001\\nSS4\\0018" ++ (255 ∷ []) ++ bytes " 9\"\n  parameter \\d \"\"\n  parameter \\e \"\\t\\n\\015" ++ (127 ∷ []) ++ bytes "\"\n  parameter \\f \"\\\"\\\\n\"\nend\n") ∷
     (bytes "module \\m\nparameter \\p \"\\" ++ (1 ∷ []) ++ bytes "\\" ++ (2 ∷ []) ++ bytes "\\" ++ (3 ∷ []) ++ bytes "\\" ++ (4 ∷ []) ++ bytes "\\" ++ (5 ∷ []) ++ bytes "\\" ++ (6 ∷ []) ++ bytes "\\" ++ (7 ∷ []) ++ bytes "\\" ++ (8 ∷ []) ++ bytes "\\" ++ (9 ∷ []) ++ bytes "\\" ++ (11 ∷ []) ++ bytes "\\" ++ (12 ∷ []) ++ bytes "\\" ++ (14 ∷ []) ++ bytes "\\" ++ (15 ∷ []) ++ bytes "\\" ++ (16 ∷ []) ++ bytes "\\" ++ (17 ∷ []) ++ bytes "\\" ++ (18 ∷ []) ++ bytes "\\" ++ (19 ∷ []) ++ bytes "\\" ++ (20 ∷ []) ++ bytes "\\" ++ (21 ∷ []) ++ bytes "\\" ++ (22 ∷ []) ++ bytes "\\" ++ (23 ∷ []) ++ bytes "\\" ++ (24 ∷ []) ++ bytes "\\" ++ (25 ∷ []) ++ bytes "\\" ++ (26 ∷ []) ++ bytes "\\" ++ (27 ∷ []) ++ bytes "\\" ++ (28 ∷ []) ++ bytes "\\" ++ (29 ∷ []) ++ bytes "\\" ++ (30 ∷ []) ++ bytes "\\" ++ (31 ∷ []) ++ bytes "\\ \\!\\\"\\#\\$\\%\\&\\'\\(\\)\\*\\+\\,\\-\\.\\/\\8\\9\\:\\;\\<\\=\\>\\?\\@\\A\\B\\C\\D\\E\\F\\G\\H\\I\\J\\K\\L\\M\\N\\O\\P\\Q\\R\\S\\T\\U\\V\\W\\X\\Y\\Z\\[\\\\\\]\\^\\_\\`\\a\\b\\c\\d\\e\\f\\g\\h\\i\\j\\k\\l\\m\\n\\o\\p\\q\\r\\s\\t\\u\\v\\w\\x\\y\\z\\{\\|\\}\\~\\" ++ (127 ∷ []) ++ bytes "\\" ++ (128 ∷ []) ++ bytes "\\" ++ (129 ∷ []) ++ bytes "\\" ++ (130 ∷ []) ++ bytes "\\" ++ (131 ∷ []) ++ bytes "\\" ++ (132 ∷ []) ++ bytes "\\" ++ (133 ∷ []) ++ bytes "\\" ++ (134 ∷ []) ++ bytes "\\" ++ (135 ∷ []) ++ bytes "\\" ++ (136 ∷ []) ++ bytes "\\" ++ (137 ∷ []) ++ bytes "\\" ++ (138 ∷ []) ++ bytes "\\" ++ (139 ∷ []) ++ bytes "\\" ++ (140 ∷ []) ++ bytes "\\" ++ (141 ∷ []) ++ bytes "\\" ++ (142 ∷ []) ++ bytes "\\" ++ (143 ∷ []) ++ bytes "\\" ++ (144 ∷ []) ++ bytes "\\" ++ (145 ∷ []) ++ bytes "\\" ++ (146 ∷ []) ++ bytes "\\" ++ (147 ∷ []) ++ bytes "\\" ++ (148 ∷ []) ++ bytes "\\" ++ (149 ∷ []) ++ bytes "\\" ++ (150 ∷ []) ++ bytes "\\" ++ (151 ∷ []) ++ bytes "\\" ++ (152 ∷ []) ++ bytes "\\" ++ (153 ∷ []) ++ bytes "\\" ++ (154 ∷ []) ++ bytes "\\" ++ (155 ∷ []) ++ bytes "\\" ++ (156 ∷ []) ++ bytes "\\" ++ (157 ∷ []) ++ bytes "\\" ++ (158 ∷ []) ++ bytes "\\" ++ (159 ∷ []) ++ bytes "\\" ++ (160 ∷ []) ++ bytes "\\" ++ (161 ∷ []) ++ bytes "\\" ++ (162 ∷ []) ++ bytes "\\" ++ (163 ∷ []) ++ bytes "\\" ++ (164 ∷ []) ++ bytes "\\" ++ (165 ∷ []) ++ bytes "\\" ++ (166 ∷ []) ++ bytes "\\" ++ (167 ∷ []) ++ bytes "\\" ++ (168 ∷ []) ++ bytes "\\" ++ (169 ∷ []) ++ bytes "\\" ++ (170 ∷ []) ++ bytes "\\" ++ (171 ∷ []) ++ bytes "\\" ++ (172 ∷ []) ++ bytes "\\" ++ (173 ∷ []) ++ bytes "\\" ++ (174 ∷ []) ++ bytes "\\" ++ (175 ∷ []) ++ bytes "\\" ++ (176 ∷ []) ++ bytes "\\" ++ (177 ∷ []) ++ bytes "\\" ++ (178 ∷ []) ++ bytes "\\" ++ (179 ∷ []) ++ bytes "\\" ++ (180 ∷ []) ++ bytes "\\" ++ (181 ∷ []) ++ bytes "\\" ++ (182 ∷ []) ++ bytes "\\" ++ (183 ∷ []) ++ bytes "\\" ++ (184 ∷ []) ++ bytes "\\" ++ (185 ∷ []) ++ bytes "\\" ++ (186 ∷ []) ++ bytes "\\" ++ (187 ∷ []) ++ bytes "\\" ++ (188 ∷ []) ++ bytes "\\" ++ (189 ∷ []) ++ bytes "\\" ++ (190 ∷ []) ++ bytes "\\" ++ (191 ∷ []) ++ bytes "\\" ++ (192 ∷ []) ++ bytes "\\" ++ (193 ∷ []) ++ bytes "\\" ++ (194 ∷ []) ++ bytes "\\" ++ (195 ∷ []) ++ bytes "\\" ++ (196 ∷ []) ++ bytes "\\" ++ (197 ∷ []) ++ bytes "\\" ++ (198 ∷ []) ++ bytes "\\" ++ (199 ∷ []) ++ bytes "\\" ++ (200 ∷ []) ++ bytes "\\" ++ (201 ∷ []) ++ bytes "\\" ++ (202 ∷ []) ++ bytes "\\" ++ (203 ∷ []) ++ bytes "\\" ++ (204 ∷ []) ++ bytes "\\" ++ (205 ∷ []) ++ bytes "\\" ++ (206 ∷ []) ++ bytes "\\" ++ (207 ∷ []) ++ bytes "\\" ++ (208 ∷ []) ++ bytes "\\" ++ (209 ∷ []) ++ bytes "\\" ++ (210 ∷ []) ++ bytes "\\" ++ (211 ∷ []) ++ bytes "\\" ++ (212 ∷ []) ++ bytes "\\" ++ (213 ∷ []) ++ bytes "\\" ++ (214 ∷ []) ++ bytes "\\" ++ (215 ∷ []) ++ bytes "\\" ++ (216 ∷ []) ++ bytes "\\" ++ (217 ∷ []) ++ bytes "\\" ++ (218 ∷ []) ++ bytes "\\" ++ (219 ∷ []) ++ bytes "\\" ++ (220 ∷ []) ++ bytes "\\" ++ (221 ∷ []) ++ bytes "\\" ++ (222 ∷ []) ++ bytes "\\" ++ (223 ∷ []) ++ bytes "\\" ++ (224 ∷ []) ++ bytes "\\" ++ (225 ∷ []) ++ bytes "\\" ++ (226 ∷ []) ++ bytes "\\" ++ (227 ∷ []) ++ bytes "\\" ++ (228 ∷ []) ++ bytes "\\" ++ (229 ∷ []) ++ bytes "\\" ++ (230 ∷ []) ++ bytes "\\" ++ (231 ∷ []) ++ bytes "\\" ++ (232 ∷ []) ++ bytes "\\" ++ (233 ∷ []) ++ bytes "\\" ++ (234 ∷ []) ++ bytes "\\" ++ (235 ∷ []) ++ bytes "\\" ++ (236 ∷ []) ++ bytes "\\" ++ (237 ∷ []) ++ bytes "\\" ++ (238 ∷ []) ++ bytes "\\" ++ (239 ∷ []) ++ bytes "\\" ++ (240 ∷ []) ++ bytes "\\" ++ (241 ∷ []) ++ bytes "\\" ++ (242 ∷ []) ++ bytes "\\" ++ (243 ∷ []) ++ bytes "\\" ++ (244 ∷ []) ++ bytes "\\" ++ (245 ∷ []) ++ bytes "\\" ++ (246 ∷ []) ++ bytes "\\" ++ (247 ∷ []) ++ bytes "\\" ++ (248 ∷ []) ++ bytes "\\" ++ (249 ∷ []) ++ bytes "\\" ++ (250 ∷ []) ++ bytes "\\" ++ (251 ∷ []) ++ bytes "\\" ++ (252 ∷ []) ++ bytes "\\" ++ (253 ∷ []) ++ bytes "\\" ++ (254 ∷ []) ++ bytes "\\" ++ (255 ∷ []) ++ bytes "\"\nend\n", bytes "module \\m\n  parameter \\p \"\\001\\002\\003\\004\\005\\006\\007\\010\\t\\013\\014\\016\\017\\020\\021\\022\\023\\024\\025\\026\\027\\030\\031\\032\\033\\034\\035\\036\\037 !\\\"#$%&'()*+,-./89:;<=>?@ABCDEFGHIJKLMNOPQRSTUVWXYZ[\\\\]^_`abcdefghijklm\\nopqrs\\tuvwxyz{|}~" ++ (127 ∷ []) ++ (128 ∷ []) ++ (129 ∷ []) ++ (130 ∷ []) ++ (131 ∷ []) ++ (132 ∷ []) ++ (133 ∷ []) ++ (134 ∷ []) ++ (135 ∷ []) ++ (136 ∷ []) ++ (137 ∷ []) ++ (138 ∷ []) ++ (139 ∷ []) ++ (140 ∷ []) ++ (141 ∷ []) ++ (142 ∷ []) ++ (143 ∷ []) ++ (144 ∷ []) ++ (145 ∷ []) ++ (146 ∷ []) ++ (147 ∷ []) ++ (148 ∷ []) ++ (149 ∷ []) ++ (150 ∷ []) ++ (151 ∷ []) ++ (152 ∷ []) ++ (153 ∷ []) ++ (154 ∷ []) ++ (155 ∷ []) ++ (156 ∷ []) ++ (157 ∷ []) ++ (158 ∷ []) ++ (159 ∷ []) ++ (160 ∷ []) ++ (161 ∷ []) ++ (162 ∷ []) ++ (163 ∷ []) ++ (164 ∷ []) ++ (165 ∷ []) ++ (166 ∷ []) ++ (167 ∷ []) ++ (168 ∷ []) ++ (169 ∷ []) ++ (170 ∷ []) ++ (171 ∷ []) ++ (172 ∷ []) ++ (173 ∷ []) ++ (174 ∷ []) ++ (175 ∷ []) ++ (176 ∷ []) ++ (177 ∷ []) ++ (178 ∷ []) ++ (179 ∷ []) ++ (180 ∷ []) ++ (181 ∷ []) ++ (182 ∷ []) ++ (183 ∷ []) ++ (184 ∷ []) ++ (185 ∷ []) ++ (186 ∷ []) ++ (187 ∷ []) ++ (188 ∷ []) ++ (189 ∷ []) ++ (190 ∷ []) ++ (191 ∷ []) ++ (192 ∷ []) ++ (193 ∷ []) ++ (194 ∷ []) ++ (195 ∷ []) ++ (196 ∷ []) ++ (197 ∷ []) ++ (198 ∷ []) ++ (199 ∷ []) ++ (200 ∷ []) ++ (201 ∷ []) ++ (202 ∷ []) ++ (203 ∷ []) ++ (204 ∷ []) ++ (205 ∷ []) ++ (206 ∷ []) ++ (207 ∷ []) ++ (208 ∷ []) ++ (209 ∷ []) ++ (210 ∷ []) ++ (211 ∷ []) ++ (212 ∷ []) ++ (213 ∷ []) ++ (214 ∷ []) ++ (215 ∷ []) ++ (216 ∷ []) ++ (217 ∷ []) ++ (218 ∷ []) ++ (219 ∷ []) ++ (220 ∷ []) ++ (221 ∷ []) ++ (222 ∷ []) ++ (223 ∷ []) ++ (224 ∷ []) ++ (225 ∷ []) ++ (226 ∷ []) ++ (227 ∷ []) ++ (228 ∷ []) ++ (229 ∷ []) ++ (230 ∷ []) ++ (231 ∷ []) ++ (232 ∷ []) ++ (233 ∷ []) ++ (234 ∷ []) ++ (235 ∷ []) ++ (236 ∷ []) ++ (237 ∷ []) ++ (238 ∷ []) ++ (239 ∷ []) ++ (240 ∷ []) ++ (241 ∷ []) ++ (242 ∷ []) ++ (243 ∷ []) ++ (244 ∷ []) ++ (245 ∷ []) ++ (246 ∷ []) ++ (247 ∷ []) ++ (248 ∷ []) ++ (249 ∷ []) ++ (250 ∷ []) ++ (251 ∷ []) ++ (252 ∷ []) ++ (253 ∷ []) ++ (254 ∷ []) ++ (255 ∷ []) ++ bytes "\"\nend\n") ∷
     (bytes "module \\m\nparameter \\p \"\\001\\002\\003\\004\\005\\006\\007\\010\\011\\012\\013\\014\\015\\016\\017\\020\\021\\022\\023\\024\\025\\026\\027\\030\\031\\032\\033\\034\\035\\036\\037\\040\\041\\042\\043\\044\\045\\046\\047\\050\\051\\052\\053\\054\\055\\056\\057\\060\\061\\062\\063\\064\\065\\066\\067\\070\\071\\072\\073\\074\\075\\076\\077\\100\\101\\102\\103\\104\\105\\106\\107\\110\\111\\112\\113\\114\\115\\116\\117\\120\\121\\122\\123\\124\\125\\126\\127\\130\\131\\132\\133\\134\\135\\136\\137\\140\\141\\142\\143\\144\\145\\146\\147\\150\\151\\152\\153\\154\\155\\156\\157\\160\\161\\162\\163\\164\\165\\166\\167\\170\\171\\172\\173\\174\\175\\176\\177\\200\\201\\202\\203\\204\\205\\206\\207\\210\\211\\212\\213\\214\\215\\216\\217\\220\\221\\222\\223\\224\\225\\226\\227\\230\\231\\232\\233\\234\\235\\236\\237\\240\\241\\242\\243\\244\\245\\246\\247\\250\\251\\252\\253\\254\\255\\256\\257\\260\\261\\262\\263\\264\\265\\266\\267\\270\\271\\272\\273\\274\\275\\276\\277\\300\\301\\302\\303\\304\\305\\306\\307\\310\\311\\312\\313\\314\\315\\316\\317\\320\\321\\322\\323\\324\\325\\326\\327\\330\\331\\332\\333\\334\\335\\336\\337\\340\\341\\342\\343\\344\\345\\346\\347\\350\\351\\352\\353\\354\\355\\356\\357\\360\\361\\362\\363\\364\\365\\366\\367\\370\\371\\372\\373\\374\\375\\376\\377\"\nend\n", bytes "module \\m\n  parameter \\p \"\\001\\002\\003\\004\\005\\006\\007\\010\\t\\n\\013\\014\\015\\016\\017\\020\\021\\022\\023\\024\\025\\026\\027\\030\\031\\032\\033\\034\\035\\036\\037 !\\\"#$%&'()*+,-./0123456789:;<=>?@ABCDEFGHIJKLMNOPQRSTUVWXYZ[\\\\]^_`abcdefghijklmnopqrstuvwxyz{|}~" ++ (127 ∷ []) ++ (128 ∷ []) ++ (129 ∷ []) ++ (130 ∷ []) ++ (131 ∷ []) ++ (132 ∷ []) ++ (133 ∷ []) ++ (134 ∷ []) ++ (135 ∷ []) ++ (136 ∷ []) ++ (137 ∷ []) ++ (138 ∷ []) ++ (139 ∷ []) ++ (140 ∷ []) ++ (141 ∷ []) ++ (142 ∷ []) ++ (143 ∷ []) ++ (144 ∷ []) ++ (145 ∷ []) ++ (146 ∷ []) ++ (147 ∷ []) ++ (148 ∷ []) ++ (149 ∷ []) ++ (150 ∷ []) ++ (151 ∷ []) ++ (152 ∷ []) ++ (153 ∷ []) ++ (154 ∷ []) ++ (155 ∷ []) ++ (156 ∷ []) ++ (157 ∷ []) ++ (158 ∷ []) ++ (159 ∷ []) ++ (160 ∷ []) ++ (161 ∷ []) ++ (162 ∷ []) ++ (163 ∷ []) ++ (164 ∷ []) ++ (165 ∷ []) ++ (166 ∷ []) ++ (167 ∷ []) ++ (168 ∷ []) ++ (169 ∷ []) ++ (170 ∷ []) ++ (171 ∷ []) ++ (172 ∷ []) ++ (173 ∷ []) ++ (174 ∷ []) ++ (175 ∷ []) ++ (176 ∷ []) ++ (177 ∷ []) ++ (178 ∷ []) ++ (179 ∷ []) ++ (180 ∷ []) ++ (181 ∷ []) ++ (182 ∷ []) ++ (183 ∷ []) ++ (184 ∷ []) ++ (185 ∷ []) ++ (186 ∷ []) ++ (187 ∷ []) ++ (188 ∷ []) ++ (189 ∷ []) ++ (190 ∷ []) ++ (191 ∷ []) ++ (192 ∷ []) ++ (193 ∷ []) ++ (194 ∷ []) ++ (195 ∷ []) ++ (196 ∷ []) ++ (197 ∷ []) ++ (198 ∷ []) ++ (199 ∷ []) ++ (200 ∷ []) ++ (201 ∷ []) ++ (202 ∷ []) ++ (203 ∷ []) ++ (204 ∷ []) ++ (205 ∷ []) ++ (206 ∷ []) ++ (207 ∷ []) ++ (208 ∷ []) ++ (209 ∷ []) ++ (210 ∷ []) ++ (211 ∷ []) ++ (212 ∷ []) ++ (213 ∷ []) ++ (214 ∷ []) ++ (215 ∷ []) ++ (216 ∷ []) ++ (217 ∷ []) ++ (218 ∷ []) ++ (219 ∷ []) ++ (220 ∷ []) ++ (221 ∷ []) ++ (222 ∷ []) ++ (223 ∷ []) ++ (224 ∷ []) ++ (225 ∷ []) ++ (226 ∷ []) ++ (227 ∷ []) ++ (228 ∷ []) ++ (229 ∷ []) ++ (230 ∷ []) ++ (231 ∷ []) ++ (232 ∷ []) ++ (233 ∷ []) ++ (234 ∷ []) ++ (235 ∷ []) ++ (236 ∷ []) ++ (237 ∷ []) ++ (238 ∷ []) ++ (239 ∷ []) ++ (240 ∷ []) ++ (241 ∷ []) ++ (242 ∷ []) ++ (243 ∷ []) ++ (244 ∷ []) ++ (245 ∷ []) ++ (246 ∷ []) ++ (247 ∷ []) ++ (248 ∷ []) ++ (249 ∷ []) ++ (250 ∷ []) ++ (251 ∷ []) ++ (252 ∷ []) ++ (253 ∷ []) ++ (254 ∷ []) ++ (255 ∷ []) ++ bytes "\"\nend\n") ∷
     (bytes "module \\m\nparameter \\p \"" ++ (1 ∷ []) ++ (2 ∷ []) ++ (3 ∷ []) ++ (4 ∷ []) ++ (5 ∷ []) ++ (6 ∷ []) ++ (7 ∷ []) ++ (8 ∷ []) ++ (9 ∷ []) ++ (11 ∷ []) ++ (12 ∷ []) ++ (14 ∷ []) ++ (15 ∷ []) ++ (16 ∷ []) ++ (17 ∷ []) ++ (18 ∷ []) ++ (19 ∷ []) ++ (20 ∷ []) ++ (21 ∷ []) ++ (22 ∷ []) ++ (23 ∷ []) ++ (24 ∷ []) ++ (25 ∷ []) ++ (26 ∷ []) ++ (27 ∷ []) ++ (28 ∷ []) ++ (29 ∷ []) ++ (30 ∷ []) ++ (31 ∷ []) ++ bytes " !\\\"#$%&'()*+,-./0123456789:;<=>?@ABCDEFGHIJKLMNOPQRSTUVWXYZ[\\\\]^_`abcdefghijklmnopqrstuvwxyz{|}~" ++ (127 ∷ []) ++ (128 ∷ []) ++ (129 ∷ []) ++ (130 ∷ []) ++ (131 ∷ []) ++ (132 ∷ []) ++ (133 ∷ []) ++ (134 ∷ []) ++ (135 ∷ []) ++ (136 ∷ []) ++ (137 ∷ []) ++ (138 ∷ []) ++ (139 ∷ []) ++ (140 ∷ []) ++ (141 ∷ []) ++ (142 ∷ []) ++ (143 ∷ []) ++ (144 ∷ []) ++ (145 ∷ []) ++ (146 ∷ []) ++ (147 ∷ []) ++ (148 ∷ []) ++ (149 ∷ []) ++ (150 ∷ []) ++ (151 ∷ []) ++ (152 ∷ []) ++ (153 ∷ []) ++ (154 ∷ []) ++ (155 ∷ []) ++ (156 ∷ []) ++ (157 ∷ []) ++ (158 ∷ []) ++ (159 ∷ []) ++ (160 ∷ []) ++ (161 ∷ []) ++ (162 ∷ []) ++ (163 ∷ []) ++ (164 ∷ []) ++ (165 ∷ []) ++ (166 ∷ []) ++ (167 ∷ []) ++ (168 ∷ []) ++ (169 ∷ []) ++ (170 ∷ []) ++ (171 ∷ []) ++ (172 ∷ []) ++ (173 ∷ []) ++ (174 ∷ []) ++ (175 ∷ []) ++ (176 ∷ []) ++ (177 ∷ []) ++ (178 ∷ []) ++ (179 ∷ []) ++ (180 ∷ []) ++ (181 ∷ []) ++ (182 ∷ []) ++ (183 ∷ []) ++ (184 ∷ []) ++ (185 ∷ []) ++ (186 ∷ []) ++ (187 ∷ []) ++ (188 ∷ []) ++ (189 ∷ []) ++ (190 ∷ []) ++ (191 ∷ []) ++ (192 ∷ []) ++ (193 ∷ []) ++ (194 ∷ []) ++ (195 ∷ []) ++ (196 ∷ []) ++ (197 ∷ []) ++ (198 ∷ []) ++ (199 ∷ []) ++ (200 ∷ []) ++ (201 ∷ []) ++ (202 ∷ []) ++ (203 ∷ []) ++ (204 ∷ []) ++ (205 ∷ []) ++ (206 ∷ []) ++ (207 ∷ []) ++ (208 ∷ []) ++ (209 ∷ []) ++ (210 ∷ []) ++ (211 ∷ []) ++ (212 ∷ []) ++ (213 ∷ []) ++ (214 ∷ []) ++ (215 ∷ []) ++ (216 ∷ []) ++ (217 ∷ []) ++ (218 ∷ []) ++ (219 ∷ []) ++ (220 ∷ []) ++ (221 ∷ []) ++ (222 ∷ []) ++ (223 ∷ []) ++ (224 ∷ []) ++ (225 ∷ []) ++ (226 ∷ []) ++ (227 ∷ []) ++ (228 ∷ []) ++ (229 ∷ []) ++ (230 ∷ []) ++ (231 ∷ []) ++ (232 ∷ []) ++ (233 ∷ []) ++ (234 ∷ []) ++ (235 ∷ []) ++ (236 ∷ []) ++ (237 ∷ []) ++ (238 ∷ []) ++ (239 ∷ []) ++ (240 ∷ []) ++ (241 ∷ []) ++ (242 ∷ []) ++ (243 ∷ []) ++ (244 ∷ []) ++ (245 ∷ []) ++ (246 ∷ []) ++ (247 ∷ []) ++ (248 ∷ []) ++ (249 ∷ []) ++ (250 ∷ []) ++ (251 ∷ []) ++ (252 ∷ []) ++ (253 ∷ []) ++ (254 ∷ []) ++ (255 ∷ []) ++ bytes "\"\nend\n", bytes "module \\m\n  parameter \\p \"\\001\\002\\003\\004\\005\\006\\007\\010\\t\\013\\014\\016\\017\\020\\021\\022\\023\\024\\025\\026\\027\\030\\031\\032\\033\\034\\035\\036\\037 !\\\"#$%&'()*+,-./0123456789:;<=>?@ABCDEFGHIJKLMNOPQRSTUVWXYZ[\\\\]^_`abcdefghijklmnopqrstuvwxyz{|}~" ++ (127 ∷ []) ++ (128 ∷ []) ++ (129 ∷ []) ++ (130 ∷ []) ++ (131 ∷ []) ++ (132 ∷ []) ++ (133 ∷ []) ++ (134 ∷ []) ++ (135 ∷ []) ++ (136 ∷ []) ++ (137 ∷ []) ++ (138 ∷ []) ++ (139 ∷ []) ++ (140 ∷ []) ++ (141 ∷ []) ++ (142 ∷ []) ++ (143 ∷ []) ++ (144 ∷ []) ++ (145 ∷ []) ++ (146 ∷ []) ++ (147 ∷ []) ++ (148 ∷ []) ++ (149 ∷ []) ++ (150 ∷ []) ++ (151 ∷ []) ++ (152 ∷ []) ++ (153 ∷ []) ++ (154 ∷ []) ++ (155 ∷ []) ++ (156 ∷ []) ++ (157 ∷ []) ++ (158 ∷ []) ++ (159 ∷ []) ++ (160 ∷ []) ++ (161 ∷ []) ++ (162 ∷ []) ++ (163 ∷ []) ++ (164 ∷ []) ++ (165 ∷ []) ++ (166 ∷ []) ++ (167 ∷ []) ++ (168 ∷ []) ++ (169 ∷ []) ++ (170 ∷ []) ++ (171 ∷ []) ++ (172 ∷ []) ++ (173 ∷ []) ++ (174 ∷ []) ++ (175 ∷ []) ++ (176 ∷ []) ++ (177 ∷ []) ++ (178 ∷ []) ++ (179 ∷ []) ++ (180 ∷ []) ++ (181 ∷ []) ++ (182 ∷ []) ++ (183 ∷ []) ++ (184 ∷ []) ++ (185 ∷ []) ++ (186 ∷ []) ++ (187 ∷ []) ++ (188 ∷ []) ++ (189 ∷ []) ++ (190 ∷ []) ++ (191 ∷ []) ++ (192 ∷ []) ++ (193 ∷ []) ++ (194 ∷ []) ++ (195 ∷ []) ++ (196 ∷ []) ++ (197 ∷ []) ++ (198 ∷ []) ++ (199 ∷ []) ++ (200 ∷ []) ++ (201 ∷ []) ++ (202 ∷ []) ++ (203 ∷ []) ++ (204 ∷ []) ++ (205 ∷ []) ++ (206 ∷ []) ++ (207 ∷ []) ++ (208 ∷ []) ++ (209 ∷ []) ++ (210 ∷ []) ++ (211 ∷ []) ++ (212 ∷ []) ++ (213 ∷ []) ++ (214 ∷ []) ++ (215 ∷ []) ++ (216 ∷ []) ++ (217 ∷ []) ++ (218 ∷ []) ++ (219 ∷ []) ++ (220 ∷ []) ++ (221 ∷ []) ++ (222 ∷ []) ++ (223 ∷ []) ++ (224 ∷ []) ++ (225 ∷ []) ++ (226 ∷ []) ++ (227 ∷ []) ++ (228 ∷ []) ++ (229 ∷ []) ++ (230 ∷ []) ++ (231 ∷ []) ++ (232 ∷ []) ++ (233 ∷ []) ++ (234 ∷ []) ++ (235 ∷ []) ++ (236 ∷ []) ++ (237 ∷ []) ++ (238 ∷ []) ++ (239 ∷ []) ++ (240 ∷ []) ++ (241 ∷ []) ++ (242 ∷ []) ++ (243 ∷ []) ++ (244 ∷ []) ++ (245 ∷ []) ++ (246 ∷ []) ++ (247 ∷ []) ++ (248 ∷ []) ++ (249 ∷ []) ++ (250 ∷ []) ++ (251 ∷ []) ++ (252 ∷ []) ++ (253 ∷ []) ++ (254 ∷ []) ++ (255 ∷ []) ++ bytes "\"\nend\n") ∷
     (bytes "module \\m\n  wire width 4 \\a\n  wire width 2 \\b\n  wire \\y\ncell \\t \\c\nconnect \\A \"AB\" [7:0]\nend\nend\n", bytes "module \\m\n  wire width 4 \\a\n  wire width 2 \\b\n  wire \\y\n  cell \\t \\c\n    connect \\A 8'01000010\n  end\nend\n") ∷
-    (bytes "module \\m\n  parameter \\p \"abc\\\"\nend\n", bytes "4 12\n") ∷
-    (bytes "module \\m\n  parameter \\p \"abc\ndef\"\nend\n", bytes "4 12\n") ∷
-    (bytes "module \\m\n  parameter \\p \"a" ++ (0 ∷ []) ++ bytes "b\"\nend\n", bytes "4 12\n") ∷
+    (bytes "module \\m\n  parameter \\p \"abc\\\"\nend\n", bytes "4 25\n") ∷
+    (bytes "module \\m\n  parameter \\p \"abc\ndef\"\nend\n", bytes "4 25\n") ∷
+    (bytes "module \\m\n  parameter \\p \"a" ++ (0 ∷ []) ++ bytes "b\"\nend\n", bytes "4 25\n") ∷
     (bytes "module \\m\n  wire width 8 \\a\n  connect \\a \"A\"\nend\n", bytes "module \\m\n  wire width 8 \\a\n  connect \\a 8'01000001\nend\n") ∷
-    (bytes "module \\m\n  parameter \\p \"a\"1\nend\n", bytes "4 12\n") ∷
-    (bytes "module \\m\n  parameter \\p \"a\"\\b\nend\n", bytes "4 12\n") ∷
-    (bytes "module \\m\n  parameter \\p \"a\"\"b\"\nend\n", bytes "4 12\n") ∷
-    (bytes "module \\m\n  parameter \\p \"a\"end\nend\n", bytes "4 12\n") ∷
+    (bytes "module \\m\n  parameter \\p \"a\"1\nend\n", bytes "4 25\n") ∷
+    (bytes "module \\m\n  parameter \\p \"a\"b\nend\n", bytes "4 25\n") ∷
+    (bytes "module \\m\n  parameter \\p \"a\"\\b\nend\n", bytes "4 25\n") ∷
+    (bytes "module \\m\n  parameter \\p \"a\"\"b\"\nend\n", bytes "4 25\n") ∷
+    (bytes "module \\m\n  parameter \\p \"a\"end\nend\n", bytes "4 25\n") ∷
     (bytes "module \\m\n  wire width 4 \\a\n  wire width 2 \\b\n  wire \\y\ncell \\t \\c\nconnect \\A \"AB\"\nend\nend\n", bytes "module \\m\n  wire width 4 \\a\n  wire width 2 \\b\n  wire \\y\n  cell \\t \\c\n    connect \\A 16'0100000101000010\n  end\nend\n") ∷
-    (bytes "module \\m\n  parameter \\p \"abc\nend\n", bytes "4 12\n") ∷
-    (bytes "module \\m\n  end end \"\nend\n", bytes "4 12\n") ∷
-    (bytes "module \\m\n  parameter \\p \"abc", bytes "4 12\n") ∷
-    (bytes "module \\m\n  parameter \\p \"abc" ++ (13 ∷ []) ++ bytes "def\"\nend\n", bytes "4 12\n") ∷
+    (bytes "module \\m\n  parameter \\p \"abc\nend\n", bytes "4 25\n") ∷
+    (bytes "module \\m\n  end end \"\nend\n", bytes "4 20\n") ∷
+    (bytes "module \\m\n  parameter \\p \"abc", bytes "4 25\n") ∷
+    (bytes "module \\m\n  parameter \\p \"abc" ++ (13 ∷ []) ++ bytes "def\"\nend\n", bytes "4 25\n") ∷
+    (bytes "module \\m\n  parameter \\p \"a" ++ (0 ∷ []) ++ bytes "b\"\nend\n", bytes "4 25\n") ∷
     (bytes "module \\m\nwire \\a\nswitch \\a\nend\n", bytes "5 18\n") ∷
     (bytes "module \\m\nwire \\a\nsync always\nend\n", bytes "5 18\n") ∷
     (bytes "module" ++ (9 ∷ []) ++ bytes "\\m\n" ++ (9 ∷ []) ++ bytes "wire" ++ (9 ∷ []) ++ (9 ∷ []) ++ bytes "width " ++ (9 ∷ []) ++ bytes "2" ++ (9 ∷ []) ++ bytes "\\a" ++ (9 ∷ []) ++ bytes "\nend" ++ (9 ∷ []) ++ bytes "\n", bytes "module \\m\n  wire width 2 \\a\nend\n") ∷
     (bytes "module \\m\nwire width 4 \\a\nwire \\y\nconnect{\\y }{\\a }[3:0][2:1][0]\nconnect \"A\"[0]1[0]\nconnect 1'0{\\a [ 3 ] }\nend\n", bytes "module \\m\n  wire width 4 \\a\n  wire \\y\n  connect \\y \\a [1]\n  connect 1'1 1'1\n  connect 1'0 \\a [3]\nend\n") ∷
     (bytes "module \\m\n  parameter \\p0 2'xxx\nend\n", bytes "7 12\n") ∷
     (bytes "module \\m\n  parameter \\p0 2049'x\nend\n", bytes "7 12\n") ∷
+    (bytes "module \\m\n  wire ? ! \\a\nend\n", bytes "4 17\n") ∷
     (bytes "module \\m\n  wire input 1 output 2 \\a\nend\n", bytes "7 12\n") ∷
     (bytes "# two ears\nmodule \\m\n  wire width 4 \\a\n  wire \\y\n  cell $mux $1\n    connect \\Y \\y\n    parameter \\WIDTH 1\n    connect \\A { \\a [2] \\a [1] } [0]\n    connect \\B -1 [31]\n    connect \\S \\a [3:0] [3]\n  end\n  connect \\y 1'x\nend\n", bytes "module \\m\n  wire width 4 \\a\n  wire \\y\n  cell $mux $1\n    parameter \\WIDTH 1\n    connect \\Y \\y\n    connect \\A \\a [1]\n    connect \\B 1'1\n    connect \\S \\a [3]\n  end\n  connect \\y 1'x\nend\n") ∷
     (bytes "module \\m\n  wire \\" ++ (195 ∷ []) ++ (169 ∷ []) ++ bytes "\n  wire \\e" ++ (204 ∷ []) ++ (129 ∷ []) ++ bytes "\nend\n", bytes "module \\m\n  wire \\" ++ (195 ∷ []) ++ (169 ∷ []) ++ bytes "\n  wire \\e" ++ (204 ∷ []) ++ (129 ∷ []) ++ bytes "\nend\n") ∷
@@ -403,27 +422,31 @@ cases =
     (bytes "module \\m\n  wire width 2 \\a\n  connect \\a 3'000\nend\n", bytes "10 30\n") ∷
     (bytes "module \\m\nwire \\a\nconnect \\a { }\nend\n", bytes "10 18\n") ∷
     (bytes "module \\m\nwire width 2 \\a\nconnect \\a 1'0\nend\n", bytes "10 26\n") ∷
+    (bytes "module \\m\n  parameter \\p \"abc\nend\n", bytes "4 25\n") ∷
+    (bytes "module \\m\n  wire widht 3 \\a\nend\n", bytes "4 17\n") ∷
     (bytes "module \\m\nwire \\a\nupdate \\a \\a\nend\n", bytes "5 18\n") ∷
     (bytes "MODULE \\m\nend\n", bytes "4 0\n") ∷
+    (bytes "module \\m\n  wire Width 3 \\a\nend\n", bytes "4 17\n") ∷
     (bytes "module \\m\n  wire width 4 offset -2 upto \\o\ncell \\t \\c\nconnect \\A \\o [3:2]\nend\nend\n", bytes "module \\m\n  wire width 4 offset -2 upto \\o\n  cell \\t \\c\n    connect \\A \\o [3:2]\n  end\nend\n") ∷
     (bytes "module \\m\nparameter \\p 2048'1\nend\n", bytes "module \\m\n  parameter \\p 2048'00000000000000000000000000000000000000000000000000000000000000000000000000000000000000000000000000000000000000000000000000000000000000000000000000000000000000000000000000000000000000000000000000000000000000000000000000000000000000000000000000000000000000000000000000000000000000000000000000000000000000000000000000000000000000000000000000000000000000000000000000000000000000000000000000000000000000000000000000000000000000000000000000000000000000000000000000000000000000000000000000000000000000000000000000000000000000000000000000000000000000000000000000000000000000000000000000000000000000000000000000000000000000000000000000000000000000000000000000000000000000000000000000000000000000000000000000000000000000000000000000000000000000000000000000000000000000000000000000000000000000000000000000000000000000000000000000000000000000000000000000000000000000000000000000000000000000000000000000000000000000000000000000000000000000000000000000000000000000000000000000000000000000000000000000000000000000000000000000000000000000000000000000000000000000000000000000000000000000000000000000000000000000000000000000000000000000000000000000000000000000000000000000000000000000000000000000000000000000000000000000000000000000000000000000000000000000000000000000000000000000000000000000000000000000000000000000000000000000000000000000000000000000000000000000000000000000000000000000000000000000000000000000000000000000000000000000000000000000000000000000000000000000000000000000000000000000000000000000000000000000000000000000000000000000000000000000000000000000000000000000000000000000000000000000000000000000000000000000000000000000000000000000000000000000000000000000000000000000000000000000000000000000000000000000000000000000000000000000000000000000000000000000000000000000000000000000000000000000000000000000000000000000000000000000000000000000000000000000000000000000000000000000000000000000000000000000000000000000000000000000000000000000000000000000000000000000000000000000000000000000000000000000000000000000000000000000000000000000000000000000000001\nend\n") ∷
     (bytes "attribute \\x 2048'\nmodule \\m\nparameter \\p 2048'\nparameter \\n 7\nparameter \\s \"abc\"\ncell \\t \\c\nparameter \\q 2048'1\nparameter \\r 2047'\nparameter \\o 1'x\nend\nconnect 8'0 8'0\nend\n", bytes "attribute \\x 2048'xxxxxxxxxxxxxxxxxxxxxxxxxxxxxxxxxxxxxxxxxxxxxxxxxxxxxxxxxxxxxxxxxxxxxxxxxxxxxxxxxxxxxxxxxxxxxxxxxxxxxxxxxxxxxxxxxxxxxxxxxxxxxxxxxxxxxxxxxxxxxxxxxxxxxxxxxxxxxxxxxxxxxxxxxxxxxxxxxxxxxxxxxxxxxxxxxxxxxxxxxxxxxxxxxxxxxxxxxxxxxxxxxxxxxxxxxxxxxxxxxxxxxxxxxxxxxxxxxxxxxxxxxxxxxxxxxxxxxxxxxxxxxxxxxxxxxxxxxxxxxxxxxxxxxxxxxxxxxxxxxxxxxxxxxxxxxxxxxxxxxxxxxxxxxxxxxxxxxxxxxxxxxxxxxxxxxxxxxxxxxxxxxxxxxxxxxxxxxxxxxxxxxxxxxxxxxxxxxxxxxxxxxxxxxxxxxxxxxxxxxxxxxxxxxxxxxxxxxxxxxxxxxxxxxxxxxxxxxxxxxxxxxxxxxxxxxxxxxxxxxxxxxxxxxxxxxxxxxxxxxxxxxxxxxxxxxxxxxxxxxxxxxxxxxxxxxxxxxxxxxxxxxxxxxxxxxxxxxxxxxxxxxxxxxxxxxxxxxxxxxxxxxxxxxxxxxxxxxxxxxxxxxxxxxxxxxxxxxxxxxxxxxxxxxxxxxxxxxxxxxxxxxxxxxxxxxxxxxxxxxxxxxxxxxxxxxxxxxxxxxxxxxxxxxxxxxxxxxxxxxxxxxxxxxxxxxxxxxxxxxxxxxxxxxxxxxxxxxxxxxxxxxxxxxxxxxxxxxxxxxxxxxxxxxxxxxxxxxxxxxxxxxxxxxxxxxxxxxxxxxxxxxxxxxxxxxxxxxxxxxxxxxxxxxxxxxxxxxxxxxxxxxxxxxxxxxxxxxxxxxxxxxxxxxxxxxxxxxxxxxxxxxxxxxxxxxxxxxxxxxxxxxxxxxxxxxxxxxxxxxxxxxxxxxxxxxxxxxxxxxxxxxxxxxxxxxxxxxxxxxxxxxxxxxxxxxxxxxxxxxxxxxxxxxxxxxxxxxxxxxxxxxxxxxxxxxxxxxxxxxxxxxxxxxxxxxxxxxxxxxxxxxxxxxxxxxxxxxxxxxxxxxxxxxxxxxxxxxxxxxxxxxxxxxxxxxxxxxxxxxxxxxxxxxxxxxxxxxxxxxxxxxxxxxxxxxxxxxxxxxxxxxxxxxxxxxxxxxxxxxxxxxxxxxxxxxxxxxxxxxxxxxxxxxxxxxxxxxxxxxxxxxxxxxxxxxxxxxxxxxxxxxxxxxxxxxxxxxxxxxxxxxxxxxxxxxxxxxxxxxxxxxxxxxxxxxxxxxxxxxxxxxxxxxxxxxxxxxxxxxxxxxxxxxxxxxxxxxxxxxxxxxxxxxxxxxxxxxxxxxxxxxxxxxxxxxxxxxxxxxxxxxxxxxxxxxxxxxxxxxxxxxxxxxxxxxxxxxxxxxxxxxxxxxxxxxxxxxxxxxxxxxxxxxxxxxxxxxxxxxxxxxxxxxxxxxxxxxxxxxxxxxxxxxxxxxxxxxxxxxxxxxxxxxxxxxxxxxxxxxxxxxxxxxxxxxxxxxxxxxxxxxxxxxxxxxxxxxxxxxxxxxxxxxxxxxxxxxxxxxxxxxxxxxxxxxxxxxxxxxxxxxxxxxxxxxxxxxxxxxxxxxxxxxxxxxxxxxxxxxxxxxxxxxxxxxxxxxxxxxxxxxxxxxxxxxxxxxxxxxxxxxxxxxxxxxxxxxxxxxxxxxxxxxxxxxxxxxxxxxxxxxxxxxxxxxxxxxxxxxxxxxxxxxxxxxxxxxxxxxxxxxxxxxxxxxxxxxxxxxxxxxxxxxxxxxxxxxxxxxxxxxxxxxxxxxxxxxxxxxxxxxxxxxxxxxxxxxxxxxxxxxxxxxxxxxxxxxxxxxxxxxxxxxxxxxxxxxxxxxxxxxxxxxxxxxxxxxxxxxxxxxxxxxxxxxxxxxxxxxxxxxxxxxxxxxxxxxxxxxxxxxxxxxxxxxxxxxxxxxxxxxxxxxxxxxxxxxxxxxxxxxxxxxxxxxxxxxxxxxxxxxxxxxxxxxxxxxxxxxxxxxxxxxxxxxxxxxxxxxxxxxxxx\nmodule \\m\n  parameter \\p 2048'xxxxxxxxxxxxxxxxxxxxxxxxxxxxxxxxxxxxxxxxxxxxxxxxxxxxxxxxxxxxxxxxxxxxxxxxxxxxxxxxxxxxxxxxxxxxxxxxxxxxxxxxxxxxxxxxxxxxxxxxxxxxxxxxxxxxxxxxxxxxxxxxxxxxxxxxxxxxxxxxxxxxxxxxxxxxxxxxxxxxxxxxxxxxxxxxxxxxxxxxxxxxxxxxxxxxxxxxxxxxxxxxxxxxxxxxxxxxxxxxxxxxxxxxxxxxxxxxxxxxxxxxxxxxxxxxxxxxxxxxxxxxxxxxxxxxxxxxxxxxxxxxxxxxxxxxxxxxxxxxxxxxxxxxxxxxxxxxxxxxxxxxxxxxxxxxxxxxxxxxxxxxxxxxxxxxxxxxxxxxxxxxxxxxxxxxxxxxxxxxxxxxxxxxxxxxxxxxxxxxxxxxxxxxxxxxxxxxxxxxxxxxxxxxxxxxxxxxxxxxxxxxxxxxxxxxxxxxxxxxxxxxxxxxxxxxxxxxxxxxxxxxxxxxxxxxxxxxxxxxxxxxxxxxxxxxxxxxxxxxxxxxxxxxxxxxxxxxxxxxxxxxxxxxxxxxxxxxxxxxxxxxxxxxxxxxxxxxxxxxxxxxxxxxxxxxxxxxxxxxxxxxxxxxxxxxxxxxxxxxxxxxxxxxxxxxxxxxxxxxxxxxxxxxxxxxxxxxxxxxxxxxxxxxxxxxxxxxxxxxxxxxxxxxxxxxxxxxxxxxxxxxxxxxxxxxxxxxxxxxxxxxxxxxxxxxxxxxxxxxxxxxxxxxxxxxxxxxxxxxxxxxxxxxxxxxxxxxxxxxxxxxxxxxxxxxxxxxxxxxxxxxxxxxxxxxxxxxxxxxxxxxxxxxxxxxxxxxxxxxxxxxxxxxxxxxxxxxxxxxxxxxxxxxxxxxxxxxxxxxxxxxxxxxxxxxxxxxxxxxxxxxxxxxxxxxxxxxxxxxxxxxxxxxxxxxxxxxxxxxxxxxxxxxxxxxxxxxxxxxxxxxxxxxxxxxxxxxxxxxxxxxxxxxxxxxxxxxxxxxxxxxxxxxxxxxxxxxxxxxxxxxxxxxxxxxxxxxxxxxxxxxxxxxxxxxxxxxxxxxxxxxxxxxxxxxxxxxxxxxxxxxxxxxxxxxxxxxxxxxxxxxxxxxxxxxxxxxxxxxxxxxxxxxxxxxxxxxxxxxxxxxxxxxxxxxxxxxxxxxxxxxxxxxxxxxxxxxxxxxxxxxxxxxxxxxxxxxxxxxxxxxxxxxxxxxxxxxxxxxxxxxxxxxxxxxxxxxxxxxxxxxxxxxxxxxxxxxxxxxxxxxxxxxxxxxxxxxxxxxxxxxxxxxxxxxxxxxxxxxxxxxxxxxxxxxxxxxxxxxxxxxxxxxxxxxxxxxxxxxxxxxxxxxxxxxxxxxxxxxxxxxxxxxxxxxxxxxxxxxxxxxxxxxxxxxxxxxxxxxxxxxxxxxxxxxxxxxxxxxxxxxxxxxxxxxxxxxxxxxxxxxxxxxxxxxxxxxxxxxxxxxxxxxxxxxxxxxxxxxxxxxxxxxxxxxxxxxxxxxxxxxxxxxxxxxxxxxxxxxxxxxxxxxxxxxxxxxxxxxxxxxxxxxxxxxxxxxxxxxxxxxxxxxxxxxxxxxxxxxxxxxxxxxxxxxxxxxxxxxxxxxxxxxxxxxxxxxxxxxxxxxxxxxxxxxxxxxxxxxxxxxxxxxxxxxxxxxxxxxxxxxxxxxxxxxxxxxxxxxxxxxxxxxxxxxxxxxxxxxxxxxxxxxxxxxxxxxxxxxxxxxxxxxxxxxxxxxxxxxxxxxxxxxxxxxxxxxxxxxxxxxxxxxxxxxxxxxxxxxxxxxxxxxxxxxxxxxxxxxxxxxxxxxxxxxxxxxxxxxxxxxxxxxxxxxxxxxxxxxxxxxxxxxxxxxxxxxxxxxxxxxxxxxxxxxxxxxxxxxxxxxxxxxxxxxxxxxxxxxxxxxxxxxxxxxxxxxxxxxxxxxxxxxxxxxxxxxxxxxxxxxxxxxxxxxxxxxxxxxxxxxxxxxxxxxxxxxxxxxxxxxxxxxxxxxxxxxxxxxxxxxxxxxxxxxxxxxxxxxxxxxxxxx\n  parameter \\n 7\n  parameter \\s \"abc\"\n  cell \\t \\c\n    parameter \\q 2048'00000000000000000000000000000000000000000000000000000000000000000000000000000000000000000000000000000000000000000000000000000000000000000000000000000000000000000000000000000000000000000000000000000000000000000000000000000000000000000000000000000000000000000000000000000000000000000000000000000000000000000000000000000000000000000000000000000000000000000000000000000000000000000000000000000000000000000000000000000000000000000000000000000000000000000000000000000000000000000000000000000000000000000000000000000000000000000000000000000000000000000000000000000000000000000000000000000000000000000000000000000000000000000000000000000000000000000000000000000000000000000000000000000000000000000000000000000000000000000000000000000000000000000000000000000000000000000000000000000000000000000000000000000000000000000000000000000000000000000000000000000000000000000000000000000000000000000000000000000000000000000000000000000000000000000000000000000000000000000000000000000000000000000000000000000000000000000000000000000000000000000000000000000000000000000000000000000000000000000000000000000000000000000000000000000000000000000000000000000000000000000000000000000000000000000000000000000000000000000000000000000000000000000000000000000000000000000000000000000000000000000000000000000000000000000000000000000000000000000000000000000000000000000000000000000000000000000000000000000000000000000000000000000000000000000000000000000000000000000000000000000000000000000000000000000000000000000000000000000000000000000000000000000000000000000000000000000000000000000000000000000000000000000000000000000000000000000000000000000000000000000000000000000000000000000000000000000000000000000000000000000000000000000000000000000000000000000000000000000000000000000000000000000000000000000000000000000000000000000000000000000000000000000000000000000000000000000000000000000000000000000000000000000000000000000000000000000000000000000000000000000000000000000000000000000000000000000000000000000000000000000000000000000000000000000000000000000000000000000000000000000001\n    parameter \\r 2047'xxxxxxxxxxxxxxxxxxxxxxxxxxxxxxxxxxxxxxxxxxxxxxxxxxxxxxxxxxxxxxxxxxxxxxxxxxxxxxxxxxxxxxxxxxxxxxxxxxxxxxxxxxxxxxxxxxxxxxxxxxxxxxxxxxxxxxxxxxxxxxxxxxxxxxxxxxxxxxxxxxxxxxxxxxxxxxxxxxxxxxxxxxxxxxxxxxxxxxxxxxxxxxxxxxxxxxxxxxxxxxxxxxxxxxxxxxxxxxxxxxxxxxxxxxxxxxxxxxxxxxxxxxxxxxxxxxxxxxxxxxxxxxxxxxxxxxxxxxxxxxxxxxxxxxxxxxxxxxxxxxxxxxxxxxxxxxxxxxxxxxxxxxxxxxxxxxxxxxxxxxxxxxxxxxxxxxxxxxxxxxxxxxxxxxxxxxxxxxxxxxxxxxxxxxxxxxxxxxxxxxxxxxxxxxxxxxxxxxxxxxxxxxxxxxxxxxxxxxxxxxxxxxxxxxxxxxxxxxxxxxxxxxxxxxxxxxxxxxxxxxxxxxxxxxxxxxxxxxxxxxxxxxxxxxxxxxxxxxxxxxxxxxxxxxxxxxxxxxxxxxxxxxxxxxxxxxxxxxxxxxxxxxxxxxxxxxxxxxxxxxxxxxxxxxxxxxxxxxxxxxxxxxxxxxxxxxxxxxxxxxxxxxxxxxxxxxxxxxxxxxxxxxxxxxxxxxxxxxxxxxxxxxxxxxxxxxxxxxxxxxxxxxxxxxxxxxxxxxxxxxxxxxxxxxxxxxxxxxxxxxxxxxxxxxxxxxxxxxxxxxxxxxxxxxxxxxxxxxxxxxxxxxxxxxxxxxxxxxxxxxxxxxxxxxxxxxxxxxxxxxxxxxxxxxxxxxxxxxxxxxxxxxxxxxxxxxxxxxxxxxxxxxxxxxxxxxxxxxxxxxxxxxxxxxxxxxxxxxxxxxxxxxxxxxxxxxxxxxxxxxxxxxxxxxxxxxxxxxxxxxxxxxxxxxxxxxxxxxxxxxxxxxxxxxxxxxxxxxxxxxxxxxxxxxxxxxxxxxxxxxxxxxxxxxxxxxxxxxxxxxxxxxxxxxxxxxxxxxxxxxxxxxxxxxxxxxxxxxxxxxxxxxxxxxxxxxxxxxxxxxxxxxxxxxxxxxxxxxxxxxxxxxxxxxxxxxxxxxxxxxxxxxxxxxxxxxxxxxxxxxxxxxxxxxxxxxxxxxxxxxxxxxxxxxxxxxxxxxxxxxxxxxxxxxxxxxxxxxxxxxxxxxxxxxxxxxxxxxxxxxxxxxxxxxxxxxxxxxxxxxxxxxxxxxxxxxxxxxxxxxxxxxxxxxxxxxxxxxxxxxxxxxxxxxxxxxxxxxxxxxxxxxxxxxxxxxxxxxxxxxxxxxxxxxxxxxxxxxxxxxxxxxxxxxxxxxxxxxxxxxxxxxxxxxxxxxxxxxxxxxxxxxxxxxxxxxxxxxxxxxxxxxxxxxxxxxxxxxxxxxxxxxxxxxxxxxxxxxxxxxxxxxxxxxxxxxxxxxxxxxxxxxxxxxxxxxxxxxxxxxxxxxxxxxxxxxxxxxxxxxxxxxxxxxxxxxxxxxxxxxxxxxxxxxxxxxxxxxxxxxxxxxxxxxxxxxxxxxxxxxxxxxxxxxxxxxxxxxxxxxxxxxxxxxxxxxxxxxxxxxxxxxxxxxxxxxxxxxxxxxxxxxxxxxxxxxxxxxxxxxxxxxxxxxxxxxxxxxxxxxxxxxxxxxxxxxxxxxxxxxxxxxxxxxxxxxxxxxxxxxxxxxxxxxxxxxxxxxxxxxxxxxxxxxxxxxxxxxxxxxxxxxxxxxxxxxxxxxxxxxxxxxxxxxxxxxxxxxxxxxxxxxxxxxxxxxxxxxxxxxxxxxxxxxxxxxxxxxxxxxxxxxxxxxxxxxxxxxxxxxxxxxxxxxxxxxxxxxxxxxxxxxxxxxxxxxxxxxxxxxxxxxxxxxxxxxxxxxxxxxxxxxxxxxxxxxxxxxxxxxxxxxxxxxxxxxxxxxxxxxxxxxxxxxxxxxxxxxxxxxxxxxxxxxxxxxxxxxxxxxxxxxxxxxxxxxxxxxxxxxxxxxxxxxxxxxxxxxxxxxxxxxxxxxxxxxxxxxxxxxxxxxx\n    parameter \\o 1'x\n  end\n  connect 8'00000000 8'00000000\nend\n") ∷
     (bytes "attribute \\x 2048'\nmodule \\m\nparameter \\p 2048'\ncell \\t \\c\nparameter \\q 2048'1\nparameter \\r 2048'\nparameter \\o 1'x\nend\nend\n", bytes "11 98\n") ∷
     (bytes "module \\m\nparameter \\p 2048'\nparameter \\q 2048'\nparameter \\r 2048'\nparameter \\s 2047'\nattribute \\x 2'\nwire \\a\nend\n", bytes "11 86\n") ∷
     (bytes "module \\m\n  parameter \\p 1' 0\nend\n", bytes "5 12\n") ∷
-    (bytes "module \\m\n  parameter \\p 4'012\nend\n", bytes "4 12\n") ∷
+    (bytes "module \\m\n  parameter \\p 9'012\nend\n", bytes "4 25\n") ∷
+    (bytes "module \\m\n  parameter \\p 4'012\nend\n", bytes "4 25\n") ∷
     (bytes "module \\m\n  parameter \\p 6'01xzm-\n  connect 6'01xzm- 6'-mzx10\nend\n", bytes "module \\m\n  parameter \\p 6'01xzm-\n  connect 6'01xzm- 6'-mzx10\nend\n") ∷
     (bytes "module \\m\nparameter \\p 4'x\nparameter \\q 4'z1\nend\n", bytes "module \\m\n  parameter \\p 4'xxxx\n  parameter \\q 4'zzz1\nend\n") ∷
     (bytes "attribute \\none 4'\nattribute \\zero 4'01\nattribute \\one 4'11\nattribute \\x 4'x1\nattribute \\z 4'z1\nattribute \\m 4'm1\nattribute \\dash 4'-1\nmodule \\m\n  parameter \\none 4'\n  parameter \\zero 4'01\n  parameter \\one 4'11\n  parameter \\x 4'x1\n  parameter \\z 4'z1\n  parameter \\m 4'm1\n  parameter \\dash 4'-1\n  cell \\t \\c\n    parameter \\none 3'\n    parameter \\zero 3'0\n    parameter \\one 3'1\n    parameter \\x 3'x\n    parameter \\z 3'z\n    parameter \\m 3'm\n    parameter \\dash 3'-\n    connect \\none 4'\n    connect \\zero 4'01\n    connect \\one 4'11\n    connect \\x 4'x1\n    connect \\z 4'z1\n    connect \\m 4'm1\n    connect \\dash 4'-1\n  end\n  connect 3' 3'\n  connect 3'0 3'0\n  connect 3'1 3'1\n  connect 3'x 3'x\n  connect 3'z 3'z\n  connect 3'm 3'm\n  connect 3'- 3'-\nend\n", bytes "attribute \\none 4'xxxx\nattribute \\zero 4'0001\nattribute \\one 4'0011\nattribute \\x 4'xxx1\nattribute \\z 4'zzz1\nattribute \\m 4'mmm1\nattribute \\dash 4'---1\nmodule \\m\n  parameter \\none 4'xxxx\n  parameter \\zero 4'0001\n  parameter \\one 4'0011\n  parameter \\x 4'xxx1\n  parameter \\z 4'zzz1\n  parameter \\m 4'mmm1\n  parameter \\dash 4'---1\n  cell \\t \\c\n    parameter \\none 3'xxx\n    parameter \\zero 3'000\n    parameter \\one 3'001\n    parameter \\x 3'xxx\n    parameter \\z 3'zzz\n    parameter \\m 3'mmm\n    parameter \\dash 3'---\n    connect \\none 4'xxxx\n    connect \\zero 4'0001\n    connect \\one 4'0011\n    connect \\x 4'xxx1\n    connect \\z 4'zzz1\n    connect \\m 4'mmm1\n    connect \\dash 4'---1\n  end\n  connect 3'xxx 3'xxx\n  connect 3'000 3'000\n  connect 3'001 3'001\n  connect 3'xxx 3'xxx\n  connect 3'zzz 3'zzz\n  connect 3'mmm 3'mmm\n  connect 3'--- 3'---\nend\n") ∷
-    (bytes "module \\m\nwire width 16 \\a\nconnect \\a 16'b0000010100111001\nend\n", bytes "4 27\n") ∷
-    (bytes "module \\m\n  parameter \\p 1'0\\a\nend\n", bytes "4 12\n") ∷
-    (bytes "module \\m\n  parameter \\p 1'0\"a\"\nend\n", bytes "4 12\n") ∷
+    (bytes "module \\m\nwire width 16 \\a\nconnect \\a 16'b0000010100111001\nend\n", bytes "4 38\n") ∷
+    (bytes "module \\m\n  parameter \\p 1'0\\a\nend\n", bytes "4 25\n") ∷
+    (bytes "module \\m\n  parameter \\p 1'0\"a\"\nend\n", bytes "4 25\n") ∷
     (bytes "module \\m\n  parameter \\p 2'000\nend\n", bytes "7 12\n") ∷
     (bytes "module \\m\n  connect { 1'00 } 1'0\nend\n", bytes "7 12\n") ∷
     (bytes "module \\m\n  parameter \\p 2049'0\nend\n", bytes "7 12\n") ∷
     (bytes "module \\m\n  connect 2049' 2049'\nend\n", bytes "7 12\n") ∷
-    (bytes "module \\m\n  parameter \\p 1'0'0\nend\n", bytes "4 12\n") ∷
-    (bytes "module \\m\n  parameter \\p 1'X\nend\n", bytes "4 12\n") ∷
+    (bytes "module \\m\n  parameter \\p 1'0'0\nend\n", bytes "4 25\n") ∷
+    (bytes "module \\m\n  parameter \\p 1'X\nend\n", bytes "4 25\n") ∷
     (bytes "module \\m\n  parameter \\p 18446744073709551617'0\nend\n", bytes "7 12\n") ∷
     (bytes "module \\m\nparameter \\p 0004'1x\nend\n", bytes "module \\m\n  parameter \\p 4'001x\nend\n") ∷
     (bytes "module \\m\n  wire width 4 \\a\n  wire width 2 \\b\n  wire \\y\ncell \\t \\c\nconnect \\A 0'\nend\nend\n", bytes "module \\m\n  wire width 4 \\a\n  wire width 2 \\b\n  wire \\y\n  cell \\t \\c\n    connect \\A { }\n  end\nend\n") ∷
@@ -459,6 +482,7 @@ cases =
     (bytes "module \\m\nwire width 2'10 \\a\nend\n", bytes "5 10\n") ∷
     (bytes "module \\m\nwire width \\a\nend\n", bytes "5 10\n") ∷
     (bytes "module \\m\nwire\nend\n", bytes "5 10\n") ∷
+    (bytes "module \\m\n  end x", bytes "4 16\n") ∷
     (bytes "module \\m\n  wir \\a\nend\n", bytes "4 12\n") ∷
     (bytes "module \\m\n  end" ++ (0 ∷ []) ++ bytes "\nend\n", bytes "4 12\n") ∷
     (bytes "module \\m\n  wire1 \\a\nend\n", bytes "4 12\n") ∷
@@ -468,6 +492,8 @@ cases =
     (bytes "module \\m\n  wires \\a\nend\n", bytes "4 12\n") ∷
     (bytes "module \\m\n  foo \\a\nend\n", bytes "4 12\n") ∷
     (bytes "module \\m\n  wire\\a\nend\n", bytes "4 12\n") ∷
+    (bytes "module \\m\n  wire width 3x \\a\nend\n", bytes "4 23\n") ∷
+    (bytes "module \\m\n  end?\n", bytes "4 12\n") ∷
     (bytes "module \\m\n  parameter \\p0 8'x\n  parameter \\p1 8'x1\n  parameter \\p2 8'0x\n  parameter \\p3 8'1x\nend\n", bytes "module \\m\n  parameter \\p0 8'xxxxxxxx\n  parameter \\p1 8'xxxxxxx1\n  parameter \\p2 8'0000000x\n  parameter \\p3 8'0000001x\nend\n") ∷
     (bytes "# Generated by Yosys 0.23 (git sha1 7ce5011c24b)\nautoidx 7\nattribute \\dynports 1\nattribute \\cells_not_processed 1\nattribute \\src \"counter.v:1.1-5.10\"\nmodule \\counter\n  parameter \\WIDTH 8\n  attribute \\src \"counter.v:4.23-4.31\"\n  wire width 8 $add$counter.v:4$2_Y\n  attribute \\src \"counter.v:1.46-1.49\"\n  wire input 1 \\clk\n  attribute \\src \"counter.v:1.68-1.70\"\n  wire input 3 \\en\n  attribute \\src \"counter.v:1.95-1.96\"\n  wire width 8 output 4 \\q\n  attribute \\src \"counter.v:1.57-1.60\"\n  wire input 2 \\rst\n  attribute \\src \"counter.v:4.23-4.31\"\n  cell $add $add$counter.v:4$2\n    parameter \\A_SIGNED 0\n    parameter \\A_WIDTH 8\n    parameter \\B_SIGNED 0\n    parameter \\B_WIDTH 1\n    parameter \\Y_WIDTH 8\n    connect \\A \\q\n    connect \\B 1'1\n    connect \\Y $add$counter.v:4$2_Y\n  end\n  attribute \\src \"counter.v:2.3-4.32\"\n  cell $adffe $auto$ff.cc:266:slice$6\n    parameter \\ARST_POLARITY 1\n    parameter \\ARST_VALUE 8'00000000\n    parameter \\CLK_POLARITY 1\n    parameter \\EN_POLARITY 1\n    parameter \\WIDTH 8\n    connect \\ARST \\rst\n    connect \\CLK \\clk\n    connect \\D $add$counter.v:4$2_Y\n    connect \\EN \\en\n    connect \\Q \\q\n  end\nend\n", bytes "autoidx 7\nattribute \\dynports 1\nattribute \\cells_not_processed 1\nattribute \\src \"counter.v:1.1-5.10\"\nmodule \\counter\n  parameter \\WIDTH 8\n  attribute \\src \"counter.v:4.23-4.31\"\n  wire width 8 $add$counter.v:4$2_Y\n  attribute \\src \"counter.v:1.46-1.49\"\n  wire input 1 \\clk\n  attribute \\src \"counter.v:1.68-1.70\"\n  wire input 3 \\en\n  attribute \\src \"counter.v:1.95-1.96\"\n  wire width 8 output 4 \\q\n  attribute \\src \"counter.v:1.57-1.60\"\n  wire input 2 \\rst\n  attribute \\src \"counter.v:4.23-4.31\"\n  cell $add $add$counter.v:4$2\n    parameter \\A_SIGNED 0\n    parameter \\A_WIDTH 8\n    parameter \\B_SIGNED 0\n    parameter \\B_WIDTH 1\n    parameter \\Y_WIDTH 8\n    connect \\A \\q\n    connect \\B 1'1\n    connect \\Y $add$counter.v:4$2_Y\n  end\n  attribute \\src \"counter.v:2.3-4.32\"\n  cell $adffe $auto$ff.cc:266:slice$6\n    parameter \\ARST_POLARITY 1\n    parameter \\ARST_VALUE 8'00000000\n    parameter \\CLK_POLARITY 1\n    parameter \\EN_POLARITY 1\n    parameter \\WIDTH 8\n    connect \\ARST \\rst\n    connect \\CLK \\clk\n    connect \\D $add$counter.v:4$2_Y\n    connect \\EN \\en\n    connect \\Q \\q\n  end\nend\n") ∷
     (bytes "# Generated by Yosys 0.23 (git sha1 7ce5011c24b)\nautoidx 5\nattribute \\top 1\nattribute \\src \"ff_with_en_and_async_reset.v:1.1-9.10\"\nmodule \\ff_with_en_and_async_reset\n  attribute \\src \"ff_with_en_and_async_reset.v:4.1-8.16\"\n  wire $0\\q[0:0]\n  attribute \\src \"ff_with_en_and_async_reset.v:2.7-2.12\"\n  wire input 1 \\clock\n  attribute \\src \"ff_with_en_and_async_reset.v:2.29-2.30\"\n  wire input 4 \\d\n  attribute \\src \"ff_with_en_and_async_reset.v:2.21-2.27\"\n  wire input 3 \\enable\n  attribute \\src \"ff_with_en_and_async_reset.v:3.12-3.13\"\n  wire output 5 \\q\n  attribute \\src \"ff_with_en_and_async_reset.v:2.14-2.19\"\n  wire input 2 \\reset\n  attribute \\src \"ff_with_en_and_async_reset.v:4.1-8.16\"\n  cell $adff $procdff$4\n    parameter \\ARST_POLARITY 1'1\n    parameter \\ARST_VALUE 1'0\n    parameter \\CLK_POLARITY 1'1\n    parameter \\WIDTH 1\n    connect \\ARST \\reset\n    connect \\CLK \\clock\n    connect \\D $0\\q[0:0]\n    connect \\Q \\q\n  end\n  attribute \\src \"ff_with_en_and_async_reset.v:7.14-7.20|ff_with_en_and_async_reset.v:7.10-8.16\"\n  cell $mux $procmux$2\n    parameter \\WIDTH 1\n    connect \\A \\q\n    connect \\B \\d\n    connect \\S \\enable\n    connect \\Y $0\\q[0:0]\n  end\nend\n", bytes "autoidx 5\nattribute \\top 1\nattribute \\src \"ff_with_en_and_async_reset.v:1.1-9.10\"\nmodule \\ff_with_en_and_async_reset\n  attribute \\src \"ff_with_en_and_async_reset.v:4.1-8.16\"\n  wire $0\\q[0:0]\n  attribute \\src \"ff_with_en_and_async_reset.v:2.7-2.12\"\n  wire input 1 \\clock\n  attribute \\src \"ff_with_en_and_async_reset.v:2.29-2.30\"\n  wire input 4 \\d\n  attribute \\src \"ff_with_en_and_async_reset.v:2.21-2.27\"\n  wire input 3 \\enable\n  attribute \\src \"ff_with_en_and_async_reset.v:3.12-3.13\"\n  wire output 5 \\q\n  attribute \\src \"ff_with_en_and_async_reset.v:2.14-2.19\"\n  wire input 2 \\reset\n  attribute \\src \"ff_with_en_and_async_reset.v:4.1-8.16\"\n  cell $adff $procdff$4\n    parameter \\ARST_POLARITY 1'1\n    parameter \\ARST_VALUE 1'0\n    parameter \\CLK_POLARITY 1'1\n    parameter \\WIDTH 1\n    connect \\ARST \\reset\n    connect \\CLK \\clock\n    connect \\D $0\\q[0:0]\n    connect \\Q \\q\n  end\n  attribute \\src \"ff_with_en_and_async_reset.v:7.14-7.20|ff_with_en_and_async_reset.v:7.10-8.16\"\n  cell $mux $procmux$2\n    parameter \\WIDTH 1\n    connect \\A \\q\n    connect \\B \\d\n    connect \\S \\enable\n    connect \\Y $0\\q[0:0]\n  end\nend\n") ∷
@@ -482,7 +508,7 @@ cases =
     (bytes "attribute \\hdlname 01'z\nmodule \\Y\nconnect -685053137 [ 29 : 3 ] { \"7 \\143\" [ 23 : 21 ] \"\\142\\40c\" }\nend\n", bytes "attribute \\hdlname 1'z\nmodule \\Y\n  connect 27'010111001010101110101100101 27'001011000100010000001100011\nend\n") ∷
     (bytes "autoidx 25\nmodule \\140\nattribute \\hdlname \".{\\bc n\"\nwire offset -2147483648 \\Ye\nconnect \\Ye 1'-\nend\nmodule \\{\nwire inout 3 $e" ++ (204 ∷ []) ++ (129 ∷ []) ++ bytes "\ncell \\8 $6\nconnect \\Z 686293817\nconnect $}+}" ++ (213 ∷ []) ++ bytes " $e" ++ (204 ∷ []) ++ (129 ∷ []) ++ bytes "\nend\nend\n", bytes "autoidx 25\nmodule \\140\n  attribute \\hdlname \".{bc n\"\n  wire offset -2147483648 \\Ye\n  connect \\Ye 1'-\nend\nmodule \\{\n  wire inout 3 $e" ++ (204 ∷ []) ++ (129 ∷ []) ++ bytes "\n  cell \\8 $6\n    connect \\Z 32'00101000111010000000001100111001\n    connect $}+}" ++ (213 ∷ []) ++ bytes " $e" ++ (204 ∷ []) ++ (129 ∷ []) ++ bytes "\n  end\nend\n") ∷
     (bytes "module $.B\nmemory \\4\nwire width 1 \\3\nmemory width 3 \\1\nconnect \\3 \\3\ncell \\e" ++ (204 ∷ []) ++ (129 ∷ []) ++ bytes " \\7_Y\nparameter signed \\655 39\nconnect $$ { { -286138257 [ 21 ] \\3 } \\3 }\nconnect \\X \\3\nend\nend\n", bytes "module $.B\n  wire \\3\n  memory \\4\n  memory width 3 \\1\n  cell \\e" ++ (204 ∷ []) ++ (129 ∷ []) ++ bytes " \\7_Y\n    parameter signed \\655 39\n    connect $$ { 1'1 \\3 \\3 }\n    connect \\X \\3\n  end\n  connect \\3 \\3\nend\n") ∷
-    (bytes "  autoidx -817714284" ++ (13 ∷ []) ++ bytes "attribute \\$ \"\"#" ++ (191 ∷ []) ++ (181 ∷ []) ++ (160 ∷ []) ++ (196 ∷ []) ++ bytes "q" ++ (6 ∷ []) ++ (182 ∷ []) ++ bytes "\nattribute $" ++ (1 ∷ []) ++ bytes "za9" ++ (9 ∷ []) ++ bytes "73532899\n  autoidx -817714284" ++ (13 ∷ []) ++ bytes "attribute \\$ \"\"#" ++ (191 ∷ []) ++ (181 ∷ []) ++ (160 ∷ []) ++ (196 ∷ []) ++ bytes "q" ++ (6 ∷ []) ++ (182 ∷ []) ++ bytes "\n  # note " ++ (0 ∷ []) ++ (13 ∷ []) ++ bytes "attribute" ++ (9 ∷ []) ++ bytes "\\x50 38" ++ (13 ∷ []) ++ bytes "\nmodule \\XBB" ++ (13 ∷ []) ++ bytes "end\n", bytes "4 45\n") ∷
+    (bytes "  autoidx -817714284" ++ (13 ∷ []) ++ bytes "attribute \\$ \"\"#" ++ (191 ∷ []) ++ (181 ∷ []) ++ (160 ∷ []) ++ (196 ∷ []) ++ bytes "q" ++ (6 ∷ []) ++ (182 ∷ []) ++ bytes "\nattribute $" ++ (1 ∷ []) ++ bytes "za9" ++ (9 ∷ []) ++ bytes "73532899\n  autoidx -817714284" ++ (13 ∷ []) ++ bytes "attribute \\$ \"\"#" ++ (191 ∷ []) ++ (181 ∷ []) ++ (160 ∷ []) ++ (196 ∷ []) ++ bytes "q" ++ (6 ∷ []) ++ (182 ∷ []) ++ bytes "\n  # note " ++ (0 ∷ []) ++ (13 ∷ []) ++ bytes "attribute" ++ (9 ∷ []) ++ bytes "\\x50 38" ++ (13 ∷ []) ++ bytes "\nmodule \\XBB" ++ (13 ∷ []) ++ bytes "end\n", bytes "4 55\n") ∷
     (bytes "autoidx 25\nmodule $\\" ++ (13 ∷ []) ++ bytes "\nattribute   \\hdlname 0\nwire offset 0" ++ (9 ∷ []) ++ bytes "inout" ++ (9 ∷ []) ++ bytes "11 upto $67x  \n  # note " ++ (0 ∷ []) ++ (13 ∷ []) ++ bytes "end" ++ (13 ∷ []) ++ bytes " module" ++ (9 ∷ []) ++ bytes "$X\n\nwire signed" ++ (9 ∷ []) ++ bytes "offset  -2147483648 \\c_0 #g" ++ (1 ∷ []) ++ (24 ∷ []) ++ (144 ∷ []) ++ (22 ∷ []) ++ (250 ∷ []) ++ (211 ∷ []) ++ (13 ∷ []) ++ bytes " end\n", bytes "autoidx 25\nmodule $\\\n  attribute \\hdlname 0\n  wire upto inout 11 $67x\nend\nmodule $X\n  wire offset -2147483648 signed \\c_0\nend\n") ∷
     (bytes "module $B #U" ++ (232 ∷ []) ++ (3 ∷ []) ++ (228 ∷ []) ++ bytes "C\n[ # note " ++ (0 ∷ []) ++ (13 ∷ []) ++ bytes "cell " ++ (9 ∷ []) ++ bytes "\\t" ++ (9 ∷ []) ++ bytes "  $z.a\nend#H" ++ (185 ∷ []) ++ bytes "~b" ++ (17 ∷ []) ++ bytes "\n  wire \\x\nend\n  # note " ++ (0 ∷ []) ++ (13 ∷ []), bytes "5 17\n") ∷
     (bytes "module \\1" ++ (13 ∷ []) ++ bytes "\nattribute $y 365891370\nwire" ++ (9 ∷ []) ++ bytes "width  6 signed inout" ++ (9 ∷ []) ++ bytes "15" ++ (9 ∷ []) ++ bytes "offset 0" ++ (9 ∷ []) ++ bytes "$U\nprocess $U\n  # note " ++ (0 ∷ []) ++ (13 ∷ []) ++ bytes "end\nend\n", bytes "6 76\n") ∷
@@ -493,14 +519,14 @@ cases =
     (bytes "  attribu\"te" ++ (9 ∷ []) ++ bytes "$gYb 131755023" ++ (13 ∷ []) ++ bytes "\nmodule $c #\"" ++ (223 ∷ []) ++ (217 ∷ []) ++ (191 ∷ []) ++ bytes "\"J" ++ (13 ∷ []) ++ bytes "e9d  ", bytes "4 2\n") ∷
     (bytes "module output 3 width 5 $G%" ++ (175 ∷ []) ++ bytes "$\nmemory offset -1117491727 size 2147\\483647 \\0_B\nwire inp0 width 4 offset -2147483648 \\]\nend\n", bytes "5 0\n") ∷
     (bytes "module " ++ (9 ∷ []) ++ (9 ∷ []) ++ bytes "\\" ++ (174 ∷ []) ++ (176 ∷ []) ++ bytes "r" ++ (164 ∷ []) ++ (13 ∷ []) ++ bytes " attribute " ++ (9 ∷ []) ++ bytes "\\Cb9" ++ (9 ∷ []) ++ bytes "  \":}{#b\"\n  # note " ++ (0 ∷ []) ++ (13 ∷ []) ++ bytes "wire inout 11 signed" ++ (9 ∷ []) ++ bytes "  $cY\nend\n  # note " ++ (0 ∷ []) ++ (13 ∷ []) ++ bytes "attribute \\0 3'1-1\nmodule \\c\n\n " ++ (9 ∷ []) ++ bytes "end\n", bytes "module \\" ++ (174 ∷ []) ++ (176 ∷ []) ++ bytes "r" ++ (164 ∷ []) ++ bytes "\n  attribute \\Cb9 \":}{#b\"\n  wire inout 11 signed $cY\nend\nattribute \\0 3'1-1\nmodule \\c\nend\n") ∷
-    (bytes "module \\Cc1\ncell \\sub $Zy9\nparameter real \\985 \"}a\\04\\  \"\nparameter re" ++ (217 ∷ []) ++ bytes "l $6g 0'\nconn'ct $\" 00'\nparameter \\z 007\nend\ne,nd\n", bytes "4 58\n") ∷
+    (bytes "module \\Cc1\ncell \\sub $Zy9\nparameter real \\985 \"}a\\04\\  \"\nparameter re" ++ (217 ∷ []) ++ bytes "l $6g 0'\nconn'ct $\" 00'\nparameter \\z 007\nend\ne,nd\n", bytes "4 68\n") ∷
     (bytes "attribute \\hdlname  " ++ (9 ∷ []) ++ bytes "6'00x11m\n  # note " ++ (0 ∷ []) ++ (13 ∷ []) ++ bytes "module \\# #l" ++ (154 ∷ []) ++ bytes "\n\nwire" ++ (9 ∷ []) ++ bytes "width" ++ (9 ∷ []) ++ bytes "5" ++ (9 ∷ []) ++ bytes "\\" ++ (128 ∷ []) ++ bytes " \n  # note " ++ (0 ∷ []) ++ (13 ∷ []) ++ bytes "wire width 9 offset 0 \\Q" ++ (192 ∷ []) ++ bytes "`" ++ (128 ∷ []) ++ bytes "\nend\n\nattribute \\y 1" ++ (13 ∷ []) ++ bytes "autoidx  " ++ (9 ∷ []) ++ bytes "3#" ++ (22 ∷ []) ++ (234 ∷ []) ++ bytes ")" ++ (13 ∷ []) ++ bytes "module" ++ (9 ∷ []) ++ bytes "\\after\n  # note " ++ (0 ∷ []) ++ (13 ∷ []) ++ bytes "end\n", bytes "5 132\n") ∷
     (bytes "attribute \\hdlname \"ccn.n:\"\nmodule \\z0.\nattribute \\z 8'1\nwire width 1 $2c\nwire $d8\nattribute $" ++ (170 ∷ []) ++ bytes " \"\"\nwire width 4 output 17 $y6\nwire width 1 width 1 \\22\nattribute \\x 1\nwire width -1 \\x\nmemory size -1 \\end\nend\n", bytes "7 126\n") ∷
     (bytes "module \\8b" ++ (13 ∷ []) ++ bytes "\n " ++ (9 ∷ []) ++ bytes "wire width" ++ (9 ∷ []) ++ bytes "5 signed $g6" ++ (13 ∷ []) ++ (9 ∷ []) ++ bytes "connect 7 [ 22:" ++ (9 ∷ []) ++ bytes "20  ]3" ++ (9 ∷ []) ++ bytes "[ 29 :  18 ] [" ++ (9 ∷ []) ++ bytes "7" ++ (9 ∷ []) ++ bytes ":" ++ (9 ∷ []) ++ bytes " 5" ++ (9 ∷ []) ++ bytes "]\n\nend\n  # note " ++ (0 ∷ []) ++ (13 ∷ []), bytes "module \\8b\n  wire width 5 signed $g6\n  connect 3'000 3'000\nend\n") ∷
     (bytes " \\2C.  \\y0 \\Z.  #" ++ (131 ∷ []) ++ (13 ∷ []) ++ bytes "\n\\m" ++ (13 ∷ []) ++ bytes "\n  ,attribute" ++ (9 ∷ []) ++ bytes "[\n1440126500 process  \\b 1337 $9z2 \n", bytes "5 1\n") ∷
     (bytes "module $ebe\nwire inout 4 upto width 1 $BA5\nwire width 6 output 6 \\B\nwire width 5 $$\ncell \\sub \\8._\nconnect \\A 1'0\nconnect \\B { 4'01xz 2147483648 $BA5 }\nend\nend\n", bytes "7 114\n") ∷
     (bytes "module \\m\n[} \\YfA\n,high  \\155   \\b  } \n\\m\n\nmodule  memory{ memory\n  # note " ++ (0 ∷ []) ++ (13 ∷ []) ++ bytes " " ++ (9 ∷ []) ++ bytes "{ memory:  \\a #" ++ (191 ∷ []) ++ (184 ∷ []) ++ bytes ",Z)\n\\b  6'x1011 8'x--xmz0\n\n", bytes "5 10\n") ∷
-    (bytes "module \\" ++ (147 ∷ []) ++ bytes "\nwire width 0 ino{t 23 \\[0:0]", bytes "4 10\n") ∷
+    (bytes "module \\" ++ (147 ∷ []) ++ bytes "\nwire width 0 ino{t 23 \\[0:0]", bytes "4 23\n") ∷
     (bytes "module $z92\nattribute \\hdlname -2147483648\nwire input 9 signed \\x.1\nend\nmodule \\g81\ncell \\sub \\8B5\nparameter real \\Z 8'1zm1mmxz\nconnect \\48 32\nparameter signed \\{ \"1c\"\nend\nend\nmodule $x\nend\n", bytes "module $z92\n  attribute \\hdlname -2147483648\n  wire input 9 signed \\x.1\nend\nmodule \\g81\n  cell \\sub \\8B5\n    parameter real \\Z 8'1zm1mmxz\n    parameter signed \\{ \"1c\"\n    connect \\48 32'00000000000000000000000000100000\n  end\nend\nmodule $x\nend\n") ∷
     (bytes "module  \\2 \ncell \\<j" ++ (233 ∷ []) ++ bytes " \\0 #" ++ (147 ∷ []) ++ (196 ∷ []) ++ (187 ∷ []) ++ bytes "4T" ++ (216 ∷ []) ++ bytes "\nconnect \\A 1'0\n " ++ (9 ∷ []) ++ bytes "connect \\B { {  }  }#" ++ (27 ∷ []) ++ bytes "1s" ++ (13 ∷ []) ++ bytes "end\nend\n  # note " ++ (0 ∷ []) ++ (13 ∷ []), bytes "module \\2\n  cell \\<j" ++ (233 ∷ []) ++ bytes " \\0\n    connect \\A 1'0\n    connect \\B { }\n  end\nend\n") ∷
     (bytes "module" ++ (9 ∷ []) ++ bytes "\\A\ncell" ++ (9 ∷ []) ++ bytes "\\9C4" ++ (9 ∷ []) ++ bytes " " ++ (9 ∷ []) ++ bytes "\\1yg\n\nparameter signed \\\" \" a {\\175 \"" ++ (13 ∷ []) ++ bytes "\n\nend \n  # note " ++ (0 ∷ []) ++ (13 ∷ []) ++ bytes " end\n", bytes "module \\A\n  cell \\9C4 \\1yg\n    parameter signed \\\" \" a {} \"\n  end\nend\n") ∷
@@ -511,18 +537,18 @@ cases =
     (bytes "attribute \\hdlname 1984102911\nmodule $3B\nwire input 19 \\a[3]\nwire width 9 upto \\45\nwire input 0 \\13.\nmemory width 0 \\#\nend\n", bytes "7 83\n") ∷
     ((249 ∷ []) ++ bytes "X" ++ (151 ∷ []) ++ bytes "u" ++ (196 ∷ []) ++ bytes "x" ++ (184 ∷ []) ++ bytes "<" ++ (189 ∷ []) ++ (207 ∷ []) ++ (253 ∷ []) ++ bytes "M'F" ++ (223 ∷ []) ++ (181 ∷ []) ++ bytes "%M>N" ++ (147 ∷ []) ++ (5 ∷ []) ++ (185 ∷ []) ++ bytes "JF" ++ (252 ∷ []) ++ bytes "B" ++ (209 ∷ []) ++ (213 ∷ []) ++ (129 ∷ []) ++ (252 ∷ []) ++ (246 ∷ []) ++ bytes "J" ++ (215 ∷ []) ++ (14 ∷ []) ++ bytes "\"" ++ (8 ∷ []) ++ bytes "H|J" ++ (189 ∷ []) ++ bytes "f" ++ (186 ∷ []) ++ (30 ∷ []) ++ (28 ∷ []) ++ (237 ∷ []) ++ (204 ∷ []) ++ (210 ∷ []) ++ bytes "g" ++ (184 ∷ []) ++ (174 ∷ []) ++ bytes "C" ++ (151 ∷ []), bytes "4 0\n") ∷
     ([], []) ∷
-    (bytes "autoidx 35\nmodule $6\nwire offset 2147483640 widt] 8 input 7 \\2_y\nconnect { \\2_y $6\nwire \\2_y 22 } 48'0m0--1z1zz11-1mmxxx-1m-z1m0m\nend\n", bytes "4 21\n") ∷
+    (bytes "autoidx 35\nmodule $6\nwire offset 2147483640 widt] 8 input 7 \\2_y\nconnect { \\2_y $6\nwire \\2_y 22 } 48'0m0--1z1zz11-1mmxxx-1m-z1m0m\nend\n", bytes "4 44\n") ∷
     (bytes "module" ++ (9 ∷ []) ++ bytes "\\ZY\nwire width \\ax\ncell \\ ye" ++ (9 ∷ []) ++ bytes "$Z\nconneCt \\A" ++ (9 ∷ []) ++ bytes "1'0\n   note " ++ (0 ∷ []) ++ (13 ∷ []) ++ bytes "connect" ++ (9 ∷ []) ++ bytes "\\B" ++ (9 ∷ []) ++ bytes "{" ++ (9 ∷ []) ++ bytes "\\ax \\ax   2147483648 } [ 0" ++ (9 ∷ []) ++ bytes "]" ++ (13 ∷ []) ++ bytes "\n  end\n  # note " ++ (0 ∷ []) ++ (13 ∷ []) ++ bytes "  end" ++ (13 ∷ []) ++ bytes "\n", bytes "5 11\n") ∷
     (bytes "module" ++ (9 ∷ []) ++ (9 ∷ []) ++ bytes "\\49" ++ (13 ∷ []) ++ bytes "\nwire signed inout 3" ++ (9 ∷ []) ++ bytes "upto width 3" ++ (9 ∷ []) ++ bytes "\\Y_" ++ (13 ∷ []) ++ bytes "\nconnect" ++ (9 ∷ []) ++ bytes "{  {  0'" ++ (9 ∷ []) ++ bytes "20 [16 :16" ++ (9 ∷ []) ++ bytes "]}  {} }\\Y_ [0:0 ][0 : 0]\n\nwire  offset 0 width 8 \\H" ++ (138 ∷ []) ++ bytes "\nend" ++ (13 ∷ []) ++ bytes "module \\Y\nwire \\end " ++ (13 ∷ []) ++ bytes "\nattribute" ++ (9 ∷ []) ++ bytes "\\afz 1509838484" ++ (13 ∷ []) ++ bytes "\ncell  \\a \\53\n  # note " ++ (0 ∷ []) ++ (13 ∷ []) ++ bytes "parameter signed \\" ++ (237 ∷ []) ++ bytes "= 1023106163\nend\nend  \n  # note " ++ (0 ∷ []) ++ (13 ∷ []), bytes "module \\49\n  wire width 3 upto inout 3 signed \\Y_\n  wire width 8 \\H" ++ (138 ∷ []) ++ bytes "\n  connect 1'0 \\Y_ [0]\nend\nmodule \\Y\n  wire \\end\n  attribute \\afz 1509838484\n  cell \\a \\53\n    parameter signed \\" ++ (237 ∷ []) ++ bytes "= 1023106163\n  end\nend\n") ∷
-    (bytes "module \\zCX\nwire width 4 \\$\nparameter \\p --1\nend\n", bytes "4 28\n") ∷
+    (bytes "module \\zCX\nwire width 4 \\$\nparameter \\p --1\nend\n", bytes "4 41\n") ∷
     (bytes "module" ++ (9 ∷ []) ++ bytes "$8z" ++ (9 ∷ []) ++ bytes "\nconnect 9'mx-1 -2135532783[" ++ (9 ∷ []) ++ bytes "31:23 ]\n\nwire width 4 $z\nend" ++ (13 ∷ []) ++ bytes "module" ++ (9 ∷ []) ++ bytes "$0" ++ (152 ∷ []) ++ (13 ∷ []) ++ bytes "connect  2'm 1[" ++ (9 ∷ []) ++ bytes "18: 17" ++ (9 ∷ []) ++ bytes "  ]\nend\n", bytes "module $8z\n  wire width 4 $z\n  connect 9'mmmmmmx-1 9'100000001\nend\nmodule $0" ++ (152 ∷ []) ++ bytes "\n  connect 2'mm 2'00\nend\n") ∷
     (bytes "module \\648\nattribute" ++ (9 ∷ []) ++ bytes "\\B.  \"t\\134.{\"" ++ (13 ∷ []) ++ bytes " wire" ++ (9 ∷ []) ++ bytes " signed width 5  $a" ++ (13 ∷ []) ++ bytes "wire width " ++ (9 ∷ []) ++ bytes "5 offset 2147483643" ++ (9 ∷ []) ++ bytes "\\6\n\nwire input  7 input 7 $a\nwire width -1 \\_\nwire input " ++ (9 ∷ []) ++ bytes " 7 output 8 $a" ++ (13 ∷ []) ++ bytes "end\n", bytes "7 99\n") ∷
     (bytes "module $#\nparameter \\Yd \"n\"\nconnect \"\" { }\ncell \\B \\6y\nend\nattribute \\hdlname 6'mx01xx\nattribute \\" ++ (217 ∷ []) ++ bytes " 9'-0xz1xzzm\ncell \\X7g \\%&" ++ (244 ∷ []) ++ bytes "c\nend\nend\n", bytes "module $#\n  parameter \\Yd \"n\"\n  cell \\B \\6y\n  end\n  attribute \\hdlname 6'mx01xx\n  attribute \\" ++ (217 ∷ []) ++ bytes " 9'-0xz1xzzm\n  cell \\X7g \\%&" ++ (244 ∷ []) ++ bytes "c\n  end\n  connect { } { }\nend\n") ∷
-    (bytes "module \\4X\nwire signed" ++ (9 ∷ []) ++ bytes "offset 2147483647  \\" ++ (230 ∷ []) ++ (136 ∷ []) ++ (9 ∷ []) ++ bytes "#" ++ (215 ∷ []) ++ bytes "n\nwire output" ++ (9 ∷ []) ++ bytes "13 width 5 $A6\n  # note " ++ (0 ∷ []) ++ (13 ∷ []) ++ bytes "wire $ \\a\nend " ++ (9 ∷ []) ++ (13 ∷ []) ++ bytes "\n", bytes "4 88\n") ∷
+    (bytes "module \\4X\nwire signed" ++ (9 ∷ []) ++ bytes "offset 2147483647  \\" ++ (230 ∷ []) ++ (136 ∷ []) ++ (9 ∷ []) ++ bytes "#" ++ (215 ∷ []) ++ bytes "n\nwire output" ++ (9 ∷ []) ++ bytes "13 width 5 $A6\n  # note " ++ (0 ∷ []) ++ (13 ∷ []) ++ bytes "wire $ \\a\nend " ++ (9 ∷ []) ++ (13 ∷ []) ++ bytes "\n", bytes "4 93\n") ∷
     (bytes "module $A\nattribute \\hdlname \"\\143n\"\nattribute \\B3 -1\ncell \\cf3 \\4c\nconnect \\Z { 9' 4'x-1x }\nconnect \\fBg 5'1m-z\nconnect \\4 { }\nconnect \\ZAZ 1'\nend\nend\n", bytes "module $A\n  attribute \\hdlname \"cn\"\n  attribute \\B3 -1\n  cell \\cf3 \\4c\n    connect \\Z 13'xxxxxxxxxx-1x\n    connect \\fBg 5'01m-z\n    connect \\4 { }\n    connect \\ZAZ 1'x\n  end\nend\n") ∷
     (bytes "module \\g3\nmemory width 2048 offset 2147483647 $dB8\nwire offset -2147483649 \\_Z\nwire input 1024 $a\nend\n", bytes "7 52\n") ∷
     (bytes "module \\y2b\nattribute \\hdlname 4'101x\nwire signed \\2B\nwire signed \\egf\nattribute $C3 1337\nwire offset -2147483648 width 7 \\b43\nconnect { \\egf 2049' } { \\egf 2049' }\nend\n", bytes "7 127\n") ∷
-    (bytes "module \\U\nwire \\Zd\nparameter \\1'0 \"\\173c#\"\nwire \\f6\nconnect \\Zd \\Zd\nparameter \\1\nconnect { \\Zd [ 0 : 0 ] 0' } \\f6\nend\nmodule $A8Y\ncell \\ba \\40\nparameter \\g " ++ (143 ∷ []) ++ bytes "1476802159\nend\nend\n", bytes "4 143\n") ∷
+    (bytes "module \\U\nwire \\Zd\nparameter \\1'0 \"\\173c#\"\nwire \\f6\nconnect \\Zd \\Zd\nparameter \\1\nconnect { \\Zd [ 0 : 0 ] 0' } \\f6\nend\nmodule $A8Y\ncell \\ba \\40\nparameter \\g " ++ (143 ∷ []) ++ bytes "1476802159\nend\nend\n", bytes "4 156\n") ∷
     (bytes "attribute \\hdlname -2147483648 \n  # note " ++ (0 ∷ []) ++ (13 ∷ []) ++ bytes "module \\e" ++ (204 ∷ []) ++ (129 ∷ []) ++ bytes "\nprocess" ++ (9 ∷ []) ++ bytes "\\786\nend \nend" ++ (13 ∷ []), bytes "6 55\n") ∷
     (bytes "module \\764  \n" ++ (9 ∷ []) ++ bytes "wire" ++ (9 ∷ []) ++ bytes "signed width" ++ (9 ∷ []) ++ bytes "2 output 19 \\6zb  " ++ (13 ∷ []) ++ bytes "\nwire  inout 24 offset 0" ++ (9 ∷ []) ++ bytes "$" ++ (167 ∷ []) ++ (168 ∷ []) ++ (175 ∷ []) ++ bytes "\n\nconnect{1'0[1]\\6zb  {2048'   2048'" ++ (9 ∷ []) ++ bytes "}[4095:4095] [" ++ (9 ∷ []) ++ bytes "0] } { \\missing [ 0" ++ (9 ∷ []) ++ bytes "] { 2048'" ++ (9 ∷ []) ++ bytes "2048'} [4095:4095] [0 ]" ++ (9 ∷ []) ++ bytes "}\nend  \n  # note " ++ (0 ∷ []) ++ (13 ∷ []), bytes "8 83\n") ∷
     (bytes "attribute \\hdlname 1'-\nmodule \\g\nattribute \\hdlname 0'\nwire width 0 inout 6 \\a[3]\nwire signed width 6 input 8 $" ++ (201 ∷ []) ++ (155 ∷ []) ++ bytes "\nwire width 9 inout 10 signed \\CBg\ncell $adff $c\n", bytes "5 162\n") ∷
@@ -566,8 +592,8 @@ cases =
     (bytes "\\W" ++ (227 ∷ []) ++ bytes "\nend\n module $end\nen1\nmodule \\W" ++ (227 ∷ []) ++ bytes "\nend\n", bytes "5 0\n") ∷
     (bytes "module" ++ (9 ∷ []) ++ (9 ∷ []) ++ bytes "\\gZ2" ++ (13 ∷ []) ++ bytes "wire output 9 \\#\nwire  signed \\$\nwire input 15" ++ (9 ∷ []) ++ bytes "offset   -2147483648" ++ (9 ∷ []) ++ bytes "width" ++ (9 ∷ []) ++ bytes "1" ++ (9 ∷ []) ++ bytes "upto" ++ (9 ∷ []) ++ bytes "$7c" ++ (13 ∷ []) ++ bytes "\nattribute \\hdlname 6'0-xzmx\ncell \\sub \\a[3]\n  # note " ++ (0 ∷ []) ++ (13 ∷ []) ++ bytes "connect \\A" ++ (9 ∷ []) ++ bytes "1'0\nconnect  \\A  {   \"A\" " ++ (9 ∷ []) ++ (9 ∷ []) ++ bytes "{ } }\n end #\nend\n", bytes "9 169\n") ∷
     (bytes "module" ++ (9 ∷ []) ++ bytes "\\[0:0] " ++ (13 ∷ []) ++ bytes "\nwire" ++ (9 ∷ []) ++ bytes "offset" ++ (9 ∷ []) ++ bytes "0  upto width 1 \\1'0\nwire \\x.0\nwire width 4" ++ (9 ∷ []) ++ bytes "offset" ++ (9 ∷ []) ++ bytes "  $2_ -1 \nend\nmodule $" ++ (250 ∷ []) ++ bytes " \n\nend\n", bytes "5 59\n") ∷
-    (bytes "module  $y52" ++ (13 ∷ []) ++ bytes "\nwire" ++ (9 ∷ []) ++ (9 ∷ []) ++ bytes " i" ++ (148 ∷ []) ++ bytes "out 1023 $CZZ #" ++ (177 ∷ []) ++ (164 ∷ []) ++ bytes "]" ++ (127 ∷ []) ++ bytes "r" ++ (13 ∷ []) ++ bytes "\nend" ++ (13 ∷ []), bytes "4 14\n") ∷
-    (bytes "module \\a\nwire \\7e2\nwire input 14 \\" ++ (127 ∷ []) ++ (221 ∷ []) ++ bytes "\nwire width 1 \\_2\ncell \\sub \\5ab\nconnect \\A 1'0\nconnect \\B { \\missing [ 0 ] 4'01xz 1'0 } 1'2\nend\nend\n", bytes "4 85\n") ∷
+    (bytes "module  $y52" ++ (13 ∷ []) ++ bytes "\nwire" ++ (9 ∷ []) ++ (9 ∷ []) ++ bytes " i" ++ (148 ∷ []) ++ bytes "out 1023 $CZZ #" ++ (177 ∷ []) ++ (164 ∷ []) ++ bytes "]" ++ (127 ∷ []) ++ bytes "r" ++ (13 ∷ []) ++ bytes "\nend" ++ (13 ∷ []), bytes "4 21\n") ∷
+    (bytes "module \\a\nwire \\7e2\nwire input 14 \\" ++ (127 ∷ []) ++ (221 ∷ []) ++ bytes "\nwire width 1 \\_2\ncell \\sub \\5ab\nconnect \\A 1'0\nconnect \\B { \\missing [ 0 ] 4'01xz 1'0 } 1'2\nend\nend\n", bytes "4 126\n") ∷
     (bytes "module \\_c\nattribute $46 1'-\nwire width 4 signed $1Z\nwire width 9 \\adc\nwire \\5\nattribute \\x 1\nprocess \\5\nend\nend\n", bytes "6 94\n") ∷
     (bytes "module" ++ (9 ∷ []) ++ bytes "\\C5 " ++ (9 ∷ []) ++ bytes "\ncell $C3A" ++ (9 ∷ []) ++ bytes "  \\eZ7\nconnect" ++ (9 ∷ []) ++ bytes "$.X \".\\\\\"" ++ (9 ∷ []) ++ bytes " \nconnect $V" ++ (9 ∷ []) ++ (9 ∷ []) ++ bytes " 6'm0m-z1\n  # note " ++ (0 ∷ []) ++ (13 ∷ []) ++ bytes "end" ++ (9 ∷ []) ++ (13 ∷ []) ++ bytes " wire output 7" ++ (9 ∷ []) ++ bytes "\\xAy\nwire  offset 1   width 2" ++ (9 ∷ []) ++ bytes "\\5B" ++ (13 ∷ []) ++ bytes "\nattribute \\hdlname 26" ++ (13 ∷ []) ++ bytes "\nattribute $C 4'0\nwire upto" ++ (9 ∷ []) ++ bytes "$ayd\nend" ++ (13 ∷ []) ++ bytes "\n", bytes "module \\C5\n  wire output 7 \\xAy\n  wire width 2 offset 1 \\5B\n  attribute \\hdlname 26\n  attribute $C 4'0000\n  wire upto $ayd\n  cell $C3A \\eZ7\n    connect $.X 16'0010111001011100\n    connect $V 6'm0m-z1\n  end\nend\n") ∷
     (bytes "module" ++ (9 ∷ []) ++ bytes "$$\nconnect" ++ (9 ∷ []) ++ bytes "8'-1-z11-0 [ 4 ][0 " ++ (9 ∷ []) ++ bytes "][ 0 " ++ (9 ∷ []) ++ bytes ":" ++ (9 ∷ []) ++ bytes "0 " ++ (9 ∷ []) ++ bytes "] [ 0] [  0:0]1'm  \nconnect 32'x01z1x10z-xz-z-x---xx-zmmm-xxm-1 23#\n" ++ (9 ∷ []) ++ bytes "end\nmodule \\M" ++ (215 ∷ []) ++ (158 ∷ []) ++ bytes " #" ++ (13 ∷ []) ++ bytes "\nwire input" ++ (9 ∷ []) ++ bytes "15 signed $X6b\nattribute \\[0:0] 2\n  # note " ++ (0 ∷ []) ++ (13 ∷ []) ++ bytes "wire width " ++ (9 ∷ []) ++ bytes " 1 \\d6_\n  # note " ++ (0 ∷ []) ++ (13 ∷ []) ++ bytes "end\n", bytes "module $$\n  connect 1'z 1'm\n  connect 32'x01z1x10z-xz-z-x---xx-zmmm-xxm-1 32'00000000000000000000000000010111\nend\nmodule \\M" ++ (215 ∷ []) ++ (158 ∷ []) ++ bytes "\n  wire input 15 signed $X6b\n  attribute \\[0:0] 2\n  wire \\d6_\nend\n") ∷
@@ -592,7 +618,7 @@ cases =
     (bytes "attribute \\hdlname -446024748\n  # note " ++ (0 ∷ []) ++ (13 ∷ []) ++ bytes "module $X1\n" ++ (9 ∷ []) ++ bytes "cell \\sub  \\b\n", bytes "5 67\n") ∷
     (bytes "attribute $#" ++ (9 ∷ []) ++ bytes "1'\n\nmodule \\d\nattribute \\hdlname" ++ (9 ∷ []) ++ bytes "4'1m-\nattribute \\62 1'z\nwire upto \\1d\n wire \\2cc  \n\n wire" ++ (9 ∷ []) ++ bytes "offset 1 \\b #" ++ (166 ∷ []) ++ (198 ∷ []) ++ (2 ∷ []) ++ (190 ∷ []) ++ (204 ∷ []) ++ (13 ∷ []) ++ bytes "connect{{}}[" ++ (9 ∷ []) ++ bytes "0 ]{\\1d" ++ (9 ∷ []) ++ bytes "[0" ++ (9 ∷ []) ++ bytes "]} " ++ (13 ∷ []) ++ bytes "end\n\n", bytes "10 123\n") ∷
     (bytes "module \\F}\ncell \\sub \\}\nconnect \\9Z7 8'x-0-xm1- [ 7 : 7 ]\nend\ncell $adff \\7\nconnect $_ 8'z--xx1-m [ 7 : 7 ]\nend\nwire width 8 \\C9\nend\n", bytes "module \\F}\n  wire width 8 \\C9\n  cell \\sub \\}\n    connect \\9Z7 1'x\n  end\n  cell $adff \\7\n    connect $_ 1'z\n  end\nend\n") ∷
-    (bytes "attribute  \\a 1'x" ++ (26 ∷ []) ++ bytes "module $4xf" ++ (13 ∷ []) ++ bytes "cell $mux   \\Xz \n\nconnect \\A 4'-0-0#9*" ++ (242 ∷ []) ++ (174 ∷ []) ++ (253 ∷ []) ++ bytes "z" ++ (153 ∷ []) ++ (13 ∷ []) ++ bytes "connect $13" ++ (9 ∷ []) ++ bytes "0'\n end" ++ (13 ∷ []) ++ bytes "connect" ++ (9 ∷ []) ++ bytes "1337" ++ (9 ∷ []) ++ (9 ∷ []) ++ bytes "[18 : 14]" ++ (9 ∷ []) ++ bytes "05'-z-00\n\nconnect" ++ (9 ∷ []) ++ bytes " " ++ (9 ∷ []) ++ bytes "0' \"\"\n  # note " ++ (0 ∷ []) ++ (13 ∷ []) ++ bytes "  end" ++ (13 ∷ []), bytes "4 0\n") ∷
+    (bytes "attribute  \\a 1'x" ++ (26 ∷ []) ++ bytes "module $4xf" ++ (13 ∷ []) ++ bytes "cell $mux   \\Xz \n\nconnect \\A 4'-0-0#9*" ++ (242 ∷ []) ++ (174 ∷ []) ++ (253 ∷ []) ++ bytes "z" ++ (153 ∷ []) ++ (13 ∷ []) ++ bytes "connect $13" ++ (9 ∷ []) ++ bytes "0'\n end" ++ (13 ∷ []) ++ bytes "connect" ++ (9 ∷ []) ++ bytes "1337" ++ (9 ∷ []) ++ (9 ∷ []) ++ bytes "[18 : 14]" ++ (9 ∷ []) ++ bytes "05'-z-00\n\nconnect" ++ (9 ∷ []) ++ bytes " " ++ (9 ∷ []) ++ bytes "0' \"\"\n  # note " ++ (0 ∷ []) ++ (13 ∷ []) ++ bytes "  end" ++ (13 ∷ []), bytes "4 14\n") ∷
     (bytes "moduLe", bytes "4 0\n") ∷
     (bytes "autoidx ", bytes "5 0\n") ∷
     (bytes "attribute \\hdlname -2147483648\nmodule $aZ\nend\nmodule $g\nconnect 0' \"\"\ncell \\g5g $e" ++ (204 ∷ []) ++ (129 ∷ []) ++ bytes "\nparameter \\_5 1280864953\nparameter signed \\eY 2'z\nconnect $" ++ (230 ∷ []) ++ bytes "o -2147483648\nconnect $0 -592275898\nend\nend\n", bytes "attribute \\hdlname -2147483648\nmodule $aZ\nend\nmodule $g\n  cell \\g5g $e" ++ (204 ∷ []) ++ (129 ∷ []) ++ bytes "\n    parameter \\_5 1280864953\n    parameter signed \\eY 2'zz\n    connect $" ++ (230 ∷ []) ++ bytes "o 32'10000000000000000000000000000000\n    connect $0 32'11011100101100101001011001000110\n  end\n  connect { } { }\nend\n") ∷
@@ -603,11 +629,11 @@ cases =
     (bytes "attribute $A8 4'x1\nmodule \\g\nprocess \\.\nend\nend\n", bytes "6 29\n") ∷
     (bytes "autoidx 11\nmodule $3Y\nconnect { { 29'mzmzmz10z01m-x0xmxz10-0-z-zz- 6 [ 16 : 14 ] } { } } -775713460\nend\n", bytes "autoidx 11\nmodule $3Y\n  connect 32'mzmzmz10z01m-x0xmxz10-0-z-zz-000 32'11010001110000111000110101001100\nend\n") ∷
     (bytes "module $6_7\nattribute \\hdlname \".7#\\134\\\"1\"\nattribute $" ++ (182 ∷ []) ++ bytes " 9'0zzx-m0z0\nattribute \\8x5 3'mz1\nwire \\+" ++ (131 ∷ []) ++ bytes "\nend\nattribute \\y 1\nconnect { } { }\nmodule \\after\nend\n", bytes "5 118\n") ∷
-    (bytes "module \\3\nmemory wizdth 2048 offset 2147483647 \\", bytes "4 10\n") ∷
+    (bytes "module \\3\nmemory wizdth 2048 offset 2147483647 \\", bytes "4 17\n") ∷
     (bytes "\n" ++ (165 ∷ []) ++ bytes "c" ++ (168 ∷ []) ++ bytes "^f" ++ (157 ∷ []) ++ (9 ∷ []) ++ (150 ∷ []) ++ bytes "p" ++ (5 ∷ []) ++ (253 ∷ []) ++ bytes "2" ++ (9 ∷ []) ++ (12 ∷ []) ++ (151 ∷ []) ++ (184 ∷ []) ++ bytes "j%" ++ (246 ∷ []) ++ bytes "?" ++ (246 ∷ []) ++ (140 ∷ []) ++ bytes "$" ++ (6 ∷ []) ++ (224 ∷ []) ++ bytes "W" ++ (184 ∷ []) ++ (136 ∷ []) ++ (227 ∷ []) ++ bytes "Z" ++ (192 ∷ []) ++ (179 ∷ []) ++ bytes "H'" ++ (143 ∷ []) ++ bytes ",t" ++ (141 ∷ []) ++ (239 ∷ []) ++ bytes "?Tp" ++ (249 ∷ []) ++ (205 ∷ []) ++ (225 ∷ []) ++ bytes "lu" ++ (181 ∷ []) ++ bytes "/" ++ (252 ∷ []) ++ bytes "~n" ++ (164 ∷ []) ++ bytes "il" ++ (22 ∷ []) ++ bytes "G^" ++ (202 ∷ []) ++ (4 ∷ []) ++ bytes "S" ++ (14 ∷ []) ++ (30 ∷ []) ++ bytes "-" ++ (137 ∷ []) ++ bytes "l" ++ (218 ∷ []) ++ bytes "c" ++ (217 ∷ []) ++ (24 ∷ []) ++ (193 ∷ []) ++ bytes "k" ++ (213 ∷ []) ++ bytes "4i" ++ (15 ∷ []) ++ (7 ∷ []) ++ (157 ∷ []) ++ bytes "n" ++ (185 ∷ []) ++ (166 ∷ []) ++ bytes "U" ++ (230 ∷ []) ++ (17 ∷ []) ++ (173 ∷ []) ++ (168 ∷ []) ++ (168 ∷ []) ++ (197 ∷ []) ++ (196 ∷ []) ++ (209 ∷ []) ++ bytes "$'" ++ (170 ∷ []) ++ (211 ∷ []) ++ (185 ∷ []) ++ (195 ∷ []) ++ (219 ∷ []) ++ bytes "?" ++ (131 ∷ []) ++ bytes "g" ++ (170 ∷ []) ++ bytes "H" ++ (163 ∷ []) ++ bytes ")" ++ (8 ∷ []) ++ (238 ∷ []) ++ bytes "ehc" ++ (158 ∷ []) ++ bytes "`i" ++ (146 ∷ []) ++ (158 ∷ []) ++ (239 ∷ []) ++ (223 ∷ []) ++ bytes "2" ++ (253 ∷ []) ++ (0 ∷ []) ++ (193 ∷ []) ++ bytes "Y" ++ (188 ∷ []) ++ (138 ∷ []) ++ (189 ∷ []) ++ (228 ∷ []) ++ (136 ∷ []) ++ (175 ∷ []) ++ bytes "v" ++ (25 ∷ []) ++ bytes "2a", bytes "4 1\n") ∷
     (bytes "autoidx" ++ (9 ∷ []) ++ bytes "-0001\nmodule \\58c\nattribute \\hdlname  -1172993001\n " ++ (9 ∷ []) ++ bytes "wire input" ++ (9 ∷ []) ++ bytes "15 \\}" ++ (13 ∷ []) ++ bytes "parameter \\y9" ++ (9 ∷ []) ++ bytes " 2'x\n\n" ++ (9 ∷ []) ++ bytes "connect  \"1\" [   7:  3 ][4" ++ (9 ∷ []) ++ bytes ": 1" ++ (9 ∷ []) ++ bytes "][2" ++ (9 ∷ []) ++ bytes ":2" ++ (9 ∷ []) ++ bytes " ]{ 0'" ++ (9 ∷ []) ++ bytes "22  " ++ (9 ∷ []) ++ bytes "[ 1" ++ (9 ∷ []) ++ bytes ": 1 ]" ++ (9 ∷ []) ++ bytes "} #" ++ (153 ∷ []) ++ bytes "\nend #" ++ (251 ∷ []) ++ (212 ∷ []) ++ bytes "u" ++ (143 ∷ []) ++ (250 ∷ []) ++ (13 ∷ []) ++ bytes "\n", bytes "autoidx -1\nmodule \\58c\n  parameter \\y9 2'xx\n  attribute \\hdlname -1172993001\n  wire input 15 \\}\n  connect 1'0 1'1\nend\n") ∷
     (bytes "module \\x2\nwire width 5 \\Cxz\nwire $GW\nwire inout 1023 \\Cxz\nend\n", bytes "9 38\n") ∷
-    (bytes "attribute" ++ (9 ∷ []) ++ bytes "\\x39 6'z\n  # note " ++ (0 ∷ []) ++ (13 ∷ []) ++ bytes "attribute \\hdlname  \"{\"\"\nmodule" ++ (9 ∷ []) ++ bytes "\\51_\nend" ++ (13 ∷ []), bytes "4 30\n") ∷
+    (bytes "attribute" ++ (9 ∷ []) ++ bytes "\\x39 6'z\n  # note " ++ (0 ∷ []) ++ (13 ∷ []) ++ bytes "attribute \\hdlname  \"{\"\"\nmodule" ++ (9 ∷ []) ++ bytes "\\51_\nend" ++ (13 ∷ []), bytes "4 50\n") ∷
     (bytes "module \\c3\n  # note " ++ (0 ∷ []) ++ (13 ∷ []) ++ bytes "parameter $bX 6'0z-xxx#" ++ (12 ∷ []) ++ (156 ∷ []) ++ bytes "G" ++ (250 ∷ []) ++ (176 ∷ []) ++ (165 ∷ []) ++ (127 ∷ []) ++ bytes "\n\nattribute \\hdlname" ++ (9 ∷ []) ++ bytes "\"0.\"\n attribute  \\84_" ++ (9 ∷ []) ++ bytes "-0001\ncell" ++ (9 ∷ []) ++ bytes "$adff $#\n  end" ++ (13 ∷ []) ++ bytes "end#:g`" ++ (228 ∷ []) ++ (160 ∷ []) ++ (137 ∷ []) ++ (225 ∷ []) ++ bytes "\n", bytes "module \\c3\n  parameter $bX 6'0z-xxx\n  attribute \\hdlname \"0.\"\n  attribute \\84_ -1\n  cell $adff $#\n  end\nend\n") ∷
     (bytes "attribute $" ++ (139 ∷ []) ++ bytes " 698438015\nmodule \\7f.\ncell $mux \\c1\nparameter $c 1'1\nconnect \\C -1\nparameter $` 7'\nend\nend\nmodule \\^" ++ (153 ∷ []) ++ bytes "\nwire width 1 output 2 \\z\nend\n", bytes "attribute $" ++ (139 ∷ []) ++ bytes " 698438015\nmodule \\7f.\n  cell $mux \\c1\n    parameter $c 1'1\n    parameter $` 7'xxxxxxx\n    connect \\C 32'11111111111111111111111111111111\n  end\nend\nmodule \\^" ++ (153 ∷ []) ++ bytes "\n  wire output 2 \\z\nend\n") ∷
     (bytes "attribute $2" ++ (147 ∷ []) ++ (160 ∷ []) ++ (9 ∷ []) ++ bytes "0  #" ++ (157 ∷ []) ++ bytes "w:" ++ (0 ∷ []) ++ (5 ∷ []) ++ (203 ∷ []) ++ bytes "\nattribute" ++ (9 ∷ []) ++ bytes "\\hdlname 2132467697\n\nmodule $" ++ (147 ∷ []) ++ (142 ∷ []) ++ bytes "x \n\nparameter \\74\n connect{" ++ (9 ∷ []) ++ bytes "} 00'\n  # note " ++ (0 ∷ []) ++ (13 ∷ []) ++ (9 ∷ []) ++ (9 ∷ []) ++ bytes "end\nattribute \\hdlname  " ++ (9 ∷ []) ++ bytes "-1038253036\nmodule $f9\nend\n\n", bytes "attribute $2" ++ (147 ∷ []) ++ (160 ∷ []) ++ bytes " 0\nattribute \\hdlname 2132467697\nmodule $" ++ (147 ∷ []) ++ (142 ∷ []) ++ bytes "x\n  parameter \\74\n  connect { } { }\nend\nattribute \\hdlname -1038253036\nmodule $f9\nend\n") ∷
@@ -624,9 +650,9 @@ cases =
     (bytes " module" ++ (9 ∷ []) ++ bytes "  \\Yd \n  # note " ++ (0 ∷ []) ++ (13 ∷ []) ++ bytes "cell \\gZ \\gb" ++ (13 ∷ []) ++ bytes "connect \\A 1'0" ++ (13 ∷ []) ++ bytes "connect \\B" ++ (9 ∷ []) ++ bytes "{1'0 4'01xz  1'0 } " ++ (9 ∷ []) ++ (9 ∷ []) ++ bytes "[0]" ++ (13 ∷ []) ++ bytes "\nend" ++ (13 ∷ []) ++ bytes "  end \n", bytes "module \\Yd\n  cell \\gZ \\gb\n    connect \\A 1'0\n    connect \\B 1'0\n  end\nend\n") ∷
     (bytes "module \\c  \nattribute \\hdlname" ++ (9 ∷ []) ++ bytes "\"\\56\"\n\nwire width" ++ (9 ∷ []) ++ bytes "0 \\7  \nconnect { \"A\" 1'1  [ 99999999999]}{  \"A\" 1'1[99999999999]}\n end \n", bytes "7 56\n") ∷
     (bytes "attribute \\f \"n\\\\{\"\nmodule $91f\nwire width 6 offset 6 \\c\nend\nmodule $5Ya\nconnect 7'x-xx11m 7'zxxm110\nwire width 6 $xY\nwire signed \\bX\nconnect { } 0'\nend\n", bytes "attribute \\f \"n\\\\{\"\nmodule $91f\n  wire width 6 offset 6 \\c\nend\nmodule $5Ya\n  wire width 6 $xY\n  wire signed \\bX\n  connect 7'x-xx11m 7'zxxm110\n  connect { } { }\nend\n") ∷
-    (bytes " module" ++ (9 ∷ []) ++ bytes "\\4B\n  # note " ++ (0 ∷ []) ++ (13 ∷ []) ++ bytes "wire width 7 \\2#" ++ (172 ∷ []) ++ bytes "\n\nwire width 1 sign", bytes "4 42\n") ∷
+    (bytes " module" ++ (9 ∷ []) ++ bytes "\\4B\n  # note " ++ (0 ∷ []) ++ (13 ∷ []) ++ bytes "wire width 7 \\2#" ++ (172 ∷ []) ++ bytes "\n\nwire width 1 sign", bytes "4 55\n") ∷
     (bytes "autoidx 1731764574\nmodule \\A8\nwire width 1 output 6 offset 2147483647 \\Yfx\nparameter \\" ++ (195 ∷ []) ++ (169 ∷ []) ++ bytes "\nattribute \\hdlname \" c\\\"##\"\nwire width 7 signed offset -1 \\42\nend\nmodule $ezb\nwire \\\\\nwire width 9 input 5 \\6\nend\n", bytes "autoidx 1731764574\nmodule \\A8\n  parameter \\" ++ (195 ∷ []) ++ (169 ∷ []) ++ bytes "\n  wire offset 2147483647 output 6 \\Yfx\n  attribute \\hdlname \" c\\\"##\"\n  wire width 7 offset -1 signed \\42\nend\nmodule $ezb\n  wire \\\\\n  wire width 9 input 5 \\6\nend\n") ∷
-    (bytes "module \\\\\n  # note " ++ (0 ∷ []) ++ (13 ∷ []) ++ bytes "wire width " ++ (9 ∷ []) ++ bytes " 8" ++ (9 ∷ []) ++ bytes "input" ++ (9 ∷ []) ++ bytes "15 offset 0 \\69g\n  # note " ++ (0 ∷ []) ++ (13 ∷ []) ++ bytes " connect" ++ (9 ∷ []) ++ bytes "\\69g 1[ 20 : " ++ (9 ∷ []) ++ bytes "13" ++ (217 ∷ []) ++ bytes "]" ++ (13 ∷ []) ++ bytes "\ncell " ++ (9 ∷ []) ++ bytes "\\f \\Z\nconnect \\0gy {\\69g  [ 2:0 ]00' \\69g [ 7 :7] }[2" ++ (9 ∷ []) ++ bytes ": 1 ]#" ++ (170 ∷ []) ++ bytes "\n  # note " ++ (0 ∷ []) ++ (13 ∷ []) ++ bytes "connect \\Q" ++ (9 ∷ []) ++ bytes "{" ++ (9 ∷ []) ++ bytes "\\69g 2'zz[0 : 0 ][ 0] [0" ++ (9 ∷ []) ++ bytes "]\\69g }\n\nend" ++ (13 ∷ []) ++ bytes "\nend\n", bytes "4 71\n") ∷
+    (bytes "module \\\\\n  # note " ++ (0 ∷ []) ++ (13 ∷ []) ++ bytes "wire width " ++ (9 ∷ []) ++ bytes " 8" ++ (9 ∷ []) ++ bytes "input" ++ (9 ∷ []) ++ bytes "15 offset 0 \\69g\n  # note " ++ (0 ∷ []) ++ (13 ∷ []) ++ bytes " connect" ++ (9 ∷ []) ++ bytes "\\69g 1[ 20 : " ++ (9 ∷ []) ++ bytes "13" ++ (217 ∷ []) ++ bytes "]" ++ (13 ∷ []) ++ bytes "\ncell " ++ (9 ∷ []) ++ bytes "\\f \\Z\nconnect \\0gy {\\69g  [ 2:0 ]00' \\69g [ 7 :7] }[2" ++ (9 ∷ []) ++ bytes ": 1 ]#" ++ (170 ∷ []) ++ bytes "\n  # note " ++ (0 ∷ []) ++ (13 ∷ []) ++ bytes "connect \\Q" ++ (9 ∷ []) ++ bytes "{" ++ (9 ∷ []) ++ bytes "\\69g 2'zz[0 : 0 ][ 0] [0" ++ (9 ∷ []) ++ bytes "]\\69g }\n\nend" ++ (13 ∷ []) ++ bytes "\nend\n", bytes "4 93\n") ∷
     (bytes "module $b  \nattribute \\hdlname \"\\)" ++ (140 ∷ []) ++ bytes "\\341" ++ (4 ∷ []) ++ bytes "\"\nwire" ++ (9 ∷ []) ++ bytes "$ba\n\nwire" ++ (9 ∷ []) ++ bytes "output 6 upto width 6   \\" ++ (211 ∷ []) ++ bytes "?X" ++ (169 ∷ []) ++ bytes "\ncell \\sub " ++ (9 ∷ []) ++ bytes " \\fC0\n connect \\A 1'0 \n\nconnect \\A {  \"A\" }\nend#rh" ++ (143 ∷ []) ++ bytes "?\nend\n", bytes "9 122\n") ∷
     (bytes "module $2" ++ (9 ∷ []) ++ bytes " \n  # note " ++ (0 ∷ []) ++ (13 ∷ []) ++ bytes "wire  output 17 \\1\nwire " ++ (9 ∷ []) ++ bytes "$8d\nattribute" ++ (9 ∷ []) ++ bytes "\\X" ++ (9 ∷ []) ++ bytes "\"#} }a\\\\\"\n  # note " ++ (0 ∷ []) ++ (13 ∷ []) ++ bytes "cell \\4Ba $" ++ (178 ∷ []) ++ bytes " \nparameter \\p 0'\nend" ++ (13 ∷ []) ++ bytes "end" ++ (13 ∷ []), bytes "module $2\n  wire output 17 \\1\n  wire $8d\n  attribute \\X \"#} }a\\\\\"\n  cell \\4Ba $" ++ (178 ∷ []) ++ bytes "\n    parameter \\p 0'\n  end\nend\n") ∷
     (bytes "module \\Yg\nend\n", bytes "module \\Yg\nend\n") ∷
@@ -658,7 +684,7 @@ cases =
     (bytes "module $c\nwire offset -5 output 3 $gy\nwire width 8 upto \\C77\nconnect 0' { }\nwire $\\\nattribute $a \"n \\\\}\\72\"\nwire width 4 \\Y66\ncell $ZCg \\" ++ (158 ∷ []) ++ (205 ∷ []) ++ (229 ∷ []) ++ (156 ∷ []) ++ bytes "\nconnect $_y \\Y66\nend\nend\n", bytes "module $c\n  wire offset -5 output 3 $gy\n  wire width 8 upto \\C77\n  wire $\\\n  attribute $a \"n \\\\}:\"\n  wire width 4 \\Y66\n  cell $ZCg \\" ++ (158 ∷ []) ++ (205 ∷ []) ++ (229 ∷ []) ++ (156 ∷ []) ++ bytes "\n    connect $_y \\Y66\n  end\n  connect { } { }\nend\n") ∷
     (bytes "autoidx -1949255543\nmodule \\B32\nconnect 0' { }\nend\n", bytes "autoidx -1949255543\nmodule \\B32\n  connect { } { }\nend\n") ∷
     (bytes "module $0B\nwire signed width 2 $76\nwire offset -2147483648 width 5 signed $bg\nend\nmodule \\zz\nmemory offset 596153827 \\6\nend\n", bytes "module $0B\n  wire width 2 signed $76\n  wire width 5 offset -2147483648 signed $bg\nend\nmodule \\zz\n  memory offset 596153827 \\6\nend\n") ∷
-    (bytes "autoidx 16\nmodule \\5A9\nconnect 007 32'zx-x10z0xz10xmz" ++ (255 ∷ []) ++ bytes "mm0\nconnect { 5'zz011 0' } 8'zxx00z1m [ 6 : 2 ]\nend\n", bytes "4 23\n") ∷
+    (bytes "autoidx 16\nmodule \\5A9\nconnect 007 32'zx-x10z0xz10xmz" ++ (255 ∷ []) ++ bytes "mm0\nconnect { 5'zz011 0' } 8'zxx00z1m [ 6 : 2 ]\nend\n", bytes "4 35\n") ∷
     (bytes "module \\A5\nwire input 5 width 6 $49f\nwire input 22 width 1 \\9ZC\nwire width 1 \\" ++ (253 ∷ []) ++ bytes "l" ++ (198 ∷ []) ++ bytes "`\n=\nend\n", bytes "4 83\n") ∷
     (bytes "autoidx  8\n  # note " ++ (0 ∷ []) ++ (13 ∷ []) ++ bytes "module \\" ++ (157 ∷ []) ++ (253 ∷ []) ++ (9 ∷ []) ++ bytes "\nwire" ++ (9 ∷ []) ++ bytes "signed " ++ (9 ∷ []) ++ bytes " \\z.\n\nwire" ++ (9 ∷ []) ++ bytes "\\6\nconnect 1'0 \\z. [ 0" ++ (9 ∷ []) ++ bytes ":   0 ][0:" ++ (9 ∷ []) ++ bytes " 0" ++ (9 ∷ []) ++ bytes "  ]\nend\n\nmodule \\y  \nconnect { { 1'0" ++ (9 ∷ []) ++ bytes "272044655   [4: 0 ] }" ++ (9 ∷ []) ++ bytes "{{ { 1'1  " ++ (9 ∷ []) ++ bytes "0'}0' }" ++ (9 ∷ []) ++ bytes " 1'} }\"b\"" ++ (13 ∷ []) ++ bytes "\nend\n", bytes "autoidx 8\nmodule \\" ++ (157 ∷ []) ++ (253 ∷ []) ++ bytes "\n  wire signed \\z.\n  wire \\6\n  connect 1'0 \\z.\nend\nmodule \\y\n  connect 8'0011111x 8'01100010\nend\n") ∷
     (bytes "module \\" ++ (245 ∷ []) ++ bytes "b" ++ (244 ∷ []) ++ (154 ∷ []) ++ bytes "\nwire inout 8 width 8 upto offset -1 signed \\{\nconnect \\{ \\{ [ 7 : 0 ]\nend\n", bytes "module \\" ++ (245 ∷ []) ++ bytes "b" ++ (244 ∷ []) ++ (154 ∷ []) ++ bytes "\n  wire width 8 offset -1 upto inout 8 signed \\{\n  connect \\{ \\{\nend\n") ∷
@@ -675,13 +701,13 @@ cases =
     (bytes "module \\A4\nwire upto width 1 output 6 \\Y\nconnect \\Y \\Y\nend\nmodule \\}\nend\n", bytes "module \\A4\n  wire upto output 6 \\Y\n  connect \\Y \\Y\nend\nmodule \\}\nend\n") ∷
     ((9 ∷ []) ++ bytes "module ${\nparameter $788 #" ++ (213 ∷ []) ++ (205 ∷ []) ++ bytes "`" ++ (155 ∷ []) ++ (232 ∷ []) ++ (25 ∷ []) ++ (204 ∷ []) ++ bytes "\nend\n", bytes "module ${\n  parameter $788\nend\n") ∷
     (bytes "module \\m\n,," ++ (13 ∷ []) ++ bytes "\n\\b \\m" ++ (9 ∷ []) ++ bytes "\\m\n\n, size \"n1.\"" ++ (9 ∷ []) ++ bytes "attribute wire" ++ (13 ∷ []) ++ bytes "\"\\\\\\\"\" memory \\z6 \\m\n\n", bytes "5 10\n") ∷
-    (bytes "autoidx 33\nmodule $" ++ (195 ∷ []) ++ (169 ∷ []) ++ bytes "=connect 0` 0'\nend\n", bytes "4 11\n") ∷
+    (bytes "autoidx 33\nmodule $" ++ (195 ∷ []) ++ (169 ∷ []) ++ bytes "=connect 0` 0'\nend\n", bytes "4 30\n") ∷
     ((9 ∷ []) ++ bytes "attribute " ++ (9 ∷ []) ++ bytes "\\hdlname 38" ++ (9 ∷ []) ++ (13 ∷ []) ++ bytes "module" ++ (9 ∷ []) ++ bytes "\\61" ++ (13 ∷ []) ++ bytes " cell $adff $Y1\n\nparameter" ++ (9 ∷ []) ++ bytes "signed \\_" ++ (9 ∷ []) ++ bytes "  5'mx0\n\nparameter signed \\y3 5'1mmz0" ++ (13 ∷ []) ++ bytes "\nend" ++ (13 ∷ []) ++ bytes "\nend\n\n", bytes "attribute \\hdlname 38\nmodule \\61\n  cell $adff $Y1\n    parameter signed \\_ 5'mmmx0\n    parameter signed \\y3 5'1mmz0\n  end\nend\n") ∷
     (bytes "module" ++ (9 ∷ []) ++ bytes "\\" ++ (147 ∷ []) ++ bytes "X #c" ++ (238 ∷ []) ++ (192 ∷ []) ++ bytes "\nwire width 2" ++ (9 ∷ []) ++ bytes "signed" ++ (9 ∷ []) ++ bytes "\\[0:0]\nconnect { 8'z0-0{ \\[0:0]" ++ (9 ∷ []) ++ bytes "[" ++ (9 ∷ []) ++ bytes "0  : 0] 23'1m1xmmm1-z00-10-z-zzmm-} } -532498962" ++ (9 ∷ []) ++ bytes "#H" ++ (136 ∷ []) ++ (254 ∷ []) ++ bytes "8" ++ (212 ∷ []) ++ bytes "\n  # note " ++ (0 ∷ []) ++ (13 ∷ []) ++ bytes "end" ++ (9 ∷ []) ++ bytes "\n\n", bytes "module \\" ++ (147 ∷ []) ++ bytes "X\n  wire width 2 signed \\[0:0]\n  connect { 8'zzzzz0-0 \\[0:0] [0] 23'1m1xmmm1-z00-10-z-zzmm- } 32'11100000010000101011010111101110\nend\n") ∷
     (bytes " au", bytes "4 1\n") ∷
     (bytes "module \\22.\nwire offset -2147483648" ++ (9 ∷ []) ++ bytes "width" ++ (9 ∷ []) ++ bytes "0 input 2" ++ (9 ∷ []) ++ bytes "  $e9d" ++ (13 ∷ []) ++ bytes "\ncell " ++ (9 ∷ []) ++ bytes "$mux $_ " ++ (9 ∷ []) ++ bytes "\n  connect" ++ (9 ∷ []) ++ bytes "\\A " ++ (9 ∷ []) ++ bytes "1'0\n\nconnect \\A   { $e9d [0] 1'1 [99999999999]  }\nend\nend\n  # note " ++ (0 ∷ []) ++ (13 ∷ []), bytes "7 95\n") ∷
     (bytes "module \\2." ++ (13 ∷ []) ++ bytes "wire" ++ (9 ∷ []) ++ bytes "offset 0" ++ (9 ∷ []) ++ bytes "width " ++ (9 ∷ []) ++ bytes "9 signed \\# " ++ (9 ∷ []) ++ bytes "\nattribute \\a" ++ (9 ∷ []) ++ bytes "1'm\nwire signed upto" ++ (9 ∷ []) ++ (9 ∷ []) ++ bytes "\\2g  #\nwire  width" ++ (9 ∷ []) ++ bytes "1 \\$ #" ++ (186 ∷ []) ++ (173 ∷ []) ++ (221 ∷ []) ++ (13 ∷ []) ++ bytes "\nend" ++ (13 ∷ []) ++ bytes "\nattribute " ++ (9 ∷ []) ++ (9 ∷ []) ++ bytes "\\x" ++ (9 ∷ []) ++ bytes " 1" ++ (13 ∷ []), bytes "5 134\n") ∷
-    (bytes "[$\\[" ++ (9 ∷ []) ++ bytes "ax#\n#e0n}" ++ (13 ∷ []) ++ bytes "d\n$'[a" ++ (13 ∷ []) ++ bytes "'#m'az[101'$a'$\"}$a]\na][" ++ (13 ∷ []) ++ bytes "}$}\"{\"" ++ (9 ∷ []) ++ bytes "\"]ddd\"" ++ (9 ∷ []) ++ bytes "ddn#1e#e1n${\n" ++ (13 ∷ []) ++ bytes "{\"}}d 0-dm\\d" ++ (13 ∷ []) ++ bytes ":xz}{a:\\{m$z\\e'" ++ (13 ∷ []) ++ bytes "\"m\\##\\n'::,nz-$\\a" ++ (13 ∷ []) ++ bytes "xn$,e#]-[ }'$'1{m{e\"1 :z-e-", bytes "4 0\n") ∷
+    (bytes "[$\\[" ++ (9 ∷ []) ++ bytes "ax#\n#e0n}" ++ (13 ∷ []) ++ bytes "d\n$'[a" ++ (13 ∷ []) ++ bytes "'#m'az[101'$a'$\"}$a]\na][" ++ (13 ∷ []) ++ bytes "}$}\"{\"" ++ (9 ∷ []) ++ bytes "\"]ddd\"" ++ (9 ∷ []) ++ bytes "ddn#1e#e1n${\n" ++ (13 ∷ []) ++ bytes "{\"}}d 0-dm\\d" ++ (13 ∷ []) ++ bytes ":xz}{a:\\{m$z\\e'" ++ (13 ∷ []) ++ bytes "\"m\\##\\n'::,nz-$\\a" ++ (13 ∷ []) ++ bytes "xn$,e#]-[ }'$'1{m{e\"1 :z-e-", bytes "4 5\n") ∷
     (bytes "module $b0\nwire" ++ (9 ∷ []) ++ bytes "input 1024 \\Y7 " ++ (9 ∷ []) ++ bytes "\n  # note " ++ (0 ∷ []) ++ (13 ∷ []) ++ bytes "attribute \\x " ++ (9 ∷ []) ++ bytes "1\nmemory  " ++ (9 ∷ []) ++ bytes "width 2048 offset" ++ (9 ∷ []) ++ bytes "  2147483647 \\a[3]" ++ (9 ∷ []) ++ bytes " \nwire width 99999999999999999999" ++ (9 ∷ []) ++ bytes "\\9c " ++ (9 ∷ []) ++ bytes "\n\nend" ++ (13 ∷ []) ++ bytes "\n", bytes "7 11\n") ∷
     (bytes "attribute \\\\ 1'1\nmodule \\Y\nwire width 4 upto signed \\f0\ncell \\C7 \\B\nconnect \\A 1'0\nconnect \\B { { \\missing } [ 0 ] 1'0 }\nend\nend\n", bytes "8 83\n") ∷
     (bytes "module \\81\nwire signed inout 6 \\z4\nwire offset -2147483648 width 1 $1_X\nconnect { \\missing } { \\missing }\nend\n", bytes "8 72\n") ∷
@@ -699,14 +725,14 @@ cases =
     (bytes "module \\X3_\nwire upto width 3 output 13 \\BC\nwire $dZa\nwire offset 2147483639 width 9 input 14 \\ZX\nconnect\nend\nend\n", bytes "5 98\n") ∷
     (bytes "module" ++ (9 ∷ []) ++ bytes "  \\$ " ++ (13 ∷ []) ++ bytes "attribute \\703 1337 \n  wire \\5\nparameter \\q 99999999999'1" ++ (13 ∷ []) ++ bytes "attribute \\p" ++ (9 ∷ []) ++ bytes "0'0\nend\n\n", bytes "7 44\n") ∷
     (bytes "autoidx 11\nmodule $5\ncell $mux $d.\nconnect $f \"\"\nconnect \\13 5'x0z-1\nend\nparameter \\A5 7'm\nconnect 0' 0'\nconnect 8' 08'1xx-0--1\nend\nmodule \\9\nmemory width 1 size 0 $.7\nwire width 9 \\dC1\nattribute $Xe2 1'-\nwire width 4 $_Cc\nend\n", bytes "autoidx 11\nmodule $5\n  parameter \\A5 7'mmmmmmm\n  cell $mux $d.\n    connect $f { }\n    connect \\13 5'x0z-1\n  end\n  connect { } { }\n  connect 8'xxxxxxxx 8'1xx-0--1\nend\nmodule \\9\n  wire width 9 \\dC1\n  attribute $Xe2 1'-\n  wire width 4 $_Cc\n  memory $.7\nend\n") ∷
-    (bytes "module \\e7\n\nwire" ++ (9 ∷ []) ++ bytes "\\Y" ++ (13 ∷ []) ++ bytes "\nwire upto offset -2147483648 \\(" ++ (243 ∷ []) ++ (9 ∷ []) ++ bytes "#" ++ (183 ∷ []) ++ bytes "\n  process" ++ (9 ∷ []) ++ bytes "\\(" ++ (243 ∷ []) ++ bytes " \\ #" ++ (185 ∷ []) ++ (16 ∷ []) ++ bytes " " ++ (193 ∷ []) ++ bytes "%3\n  # note " ++ (0 ∷ []) ++ (13 ∷ []) ++ bytes "end" ++ (13 ∷ []) ++ bytes "end " ++ (9 ∷ []) ++ bytes "\n", bytes "4 59\n") ∷
+    (bytes "module \\e7\n\nwire" ++ (9 ∷ []) ++ bytes "\\Y" ++ (13 ∷ []) ++ bytes "\nwire upto offset -2147483648 \\(" ++ (243 ∷ []) ++ (9 ∷ []) ++ bytes "#" ++ (183 ∷ []) ++ bytes "\n  process" ++ (9 ∷ []) ++ bytes "\\(" ++ (243 ∷ []) ++ bytes " \\ #" ++ (185 ∷ []) ++ (16 ∷ []) ++ bytes " " ++ (193 ∷ []) ++ bytes "%3\n  # note " ++ (0 ∷ []) ++ (13 ∷ []) ++ bytes "end" ++ (13 ∷ []) ++ bytes "end " ++ (9 ∷ []) ++ bytes "\n", bytes "4 71\n") ∷
     (bytes " autoidx 297758171" ++ (13 ∷ []) ++ bytes "module \\#" ++ (9 ∷ []) ++ bytes " \n\n \"\\143\" " ++ (9 ∷ []) ++ bytes "connect 7'" ++ (9 ∷ []) ++ bytes "7'x1mxz0m" ++ (9 ∷ []) ++ (9 ∷ []) ++ bytes "#o" ++ (220 ∷ []) ++ (136 ∷ []) ++ (167 ∷ []) ++ bytes "\nconnect \"\\143\" 1960403765 [" ++ (9 ∷ []) ++ bytes "12 : 5]\n  # note " ++ (0 ∷ []) ++ (13 ∷ []) ++ bytes "end\nmodule" ++ (9 ∷ []) ++ bytes "$yz\n\nconnect  1'x" ++ (9 ∷ []) ++ bytes "1'\n\nend" ++ (13 ∷ []), bytes "5 33\n") ∷
     (bytes " autoidx -0001\nmodule $B\n wire width 8 input 15 signed   $1 #" ++ (186 ∷ []) ++ (161 ∷ []) ++ (233 ∷ []) ++ bytes "\nend" ++ (13 ∷ []), bytes "autoidx -1\nmodule $B\n  wire width 8 input 15 signed $1\nend\n") ∷
     (bytes "module $f7\nwire width 1 upto \\a[3]\nwire width 8 \\" ++ (195 ∷ []) ++ (169 ∷ []) ++ bytes "\nwire inout 12 \\#\ncell \\t\nend\nend\n", bytes "5 69\n") ∷
     (bytes "attribute \\hdlname 467475600\nmodule $1\nwire width 3 \\a5\nwire signed width 7 $z2\nwire input 3 \\" ++ (235 ∷ []) ++ bytes "!\nattribute \\x 1\nmemory width 2048 offset 2147483647 $z2\nwire input 0 \\" ++ (235 ∷ []) ++ bytes "!\nend\n", bytes "9 112\n") ∷
     (bytes "module \\1'0\nparameter $" ++ (191 ∷ []) ++ bytes "\nwire width 9 \\8\nattribute \\hdlname 284058026\nmemory $dC_\nparameter \\B 24\nconnect { \\8 [ 4 : 2 ] \\8 [ 5 : 0 ] } \\8\nend\nmodule \\" ++ (179 ∷ []) ++ bytes "x" ++ (138 ∷ []) ++ (184 ∷ []) ++ bytes "\nwire signed input 5 $\\\nend\n", bytes "module \\1'0\n  parameter $" ++ (191 ∷ []) ++ bytes "\n  parameter \\B 24\n  wire width 9 \\8\n  attribute \\hdlname 284058026\n  memory $dC_\n  connect { \\8 [4:2] \\8 [5:0] } \\8\nend\nmodule \\" ++ (179 ∷ []) ++ bytes "x" ++ (138 ∷ []) ++ (184 ∷ []) ++ bytes "\n  wire input 5 signed $\\\nend\n") ∷
-    (bytes "module" ++ (9 ∷ []) ++ bytes " \\2e9\n wire signed \\_Z_\n\nwire $e  \n\nwire upto width 1 inout 4 \\# \n\nparameter \\p \"a\"1", bytes "4 74\n") ∷
-    (bytes "autoidx -1770145506\nattribute \\" ++ (138 ∷ []) ++ bytes " -18892763" ++ (0 ∷ []) ++ bytes "0\nmodule \\" ++ (138 ∷ []) ++ bytes " \\aX5\nconnect 4'1xxm \\" ++ (138 ∷ []) ++ bytes " 6'xz0z-m [ 3 : 0 ]\nend\n", bytes "4 20\n") ∷
+    (bytes "module" ++ (9 ∷ []) ++ bytes " \\2e9\n wire signed \\_Z_\n\nwire $e  \n\nwire upto width 1 inout 4 \\# \n\nparameter \\p \"a\"1", bytes "4 87\n") ∷
+    (bytes "autoidx -1770145506\nattribute \\" ++ (138 ∷ []) ++ bytes " -18892763" ++ (0 ∷ []) ++ bytes "0\nmodule \\" ++ (138 ∷ []) ++ bytes " \\aX5\nconnect 4'1xxm \\" ++ (138 ∷ []) ++ bytes " 6'xz0z-m [ 3 : 0 ]\nend\n", bytes "4 33\n") ∷
     (bytes "autoidx 445284512\nmodule \\.\nmemory \\X6a\nparameter $C5\nend\nmodule $A1_\nend\n", bytes "autoidx 445284512\nmodule \\.\n  parameter $C5\n  memory \\X6a\nend\nmodule $A1_\nend\n") ∷
     (bytes "module" ++ (9 ∷ []) ++ bytes "\\bg" ++ (9 ∷ []) ++ bytes " \n\nwire" ++ (9 ∷ []) ++ bytes "signed $z\n\nwire input" ++ (9 ∷ []) ++ bytes "23 signed \\8B" ++ (13 ∷ []) ++ bytes "\n wire   upto  width 6 \\\"\n  # note " ++ (0 ∷ []) ++ (13 ∷ []) ++ bytes "memory upto " ++ (9 ∷ []) ++ bytes " \\a\nend" ++ (13 ∷ []) ++ bytes "\nend\n  # note " ++ (0 ∷ []) ++ (13 ∷ []), bytes "5 92\n") ∷
     (bytes "module \\0\nwire offset 2147483640 width 8" ++ (9 ∷ []) ++ bytes "\\YZc #\nend" ++ (13 ∷ []), bytes "module \\0\n  wire width 8 offset 2147483640 \\YZc\nend\n") ∷
@@ -717,7 +743,7 @@ cases =
     (bytes "autoidx" ++ (9 ∷ []) ++ (9 ∷ []) ++ bytes " 1337\n module \\xd4\n\nend\n\n", bytes "autoidx 1337\nmodule \\xd4\nend\n") ∷
     (bytes "module  \\27  #" ++ (26 ∷ []) ++ (24 ∷ []) ++ bytes "b" ++ (13 ∷ []) ++ bytes "\nend" ++ (13 ∷ []) ++ bytes "  # last " ++ (0 ∷ []), bytes "module \\27\nend\n") ∷
     (bytes "module $_\nwire input 0 \\OR\nmemory width 0 \\80a\nwire inout 1023 \\Z\nend\n", bytes "7 10\n") ∷
-    (bytes "autoidx 1417z525855\nmodule $c_\ncell $adff \\1A\nconnect \\x" ++ (132 ∷ []) ++ bytes "r 758894229\nparameter signed \\b 3'1-0m\nconnect $d \"\"\nconnect $a10 05'z1z\nend\nend\n", bytes "4 0\n") ∷
+    (bytes "autoidx 1417z525855\nmodule $c_\ncell $adff \\1A\nconnect \\x" ++ (132 ∷ []) ++ bytes "r 758894229\nparameter signed \\b 3'1-0m\nconnect $d \"\"\nconnect $a10 05'z1z\nend\nend\n", bytes "4 8\n") ∷
     (bytes "attribute $1z \"\\" ++ (7 ∷ []) ++ bytes "cN?\"\nmodule \\c\ncell $adff $6\n", bytes "5 46\n") ∷
     (bytes "\"1x\nx" ++ (13 ∷ []) ++ bytes "}:}e1-\n:\"" ++ (13 ∷ []) ++ bytes "z\\#" ++ (9 ∷ []) ++ bytes "\\-", bytes "4 0\n") ∷
     (bytes "attribute \\.a 11\nmodule" ++ (9 ∷ []) ++ (9 ∷ []) ++ bytes "\\#" ++ (13 ∷ []) ++ bytes "\nconnect{-1 -1 {} } {  {2048' 2048' }" ++ (9 ∷ []) ++ bytes "[ 2:0] }\n  # note " ++ (0 ∷ []) ++ (13 ∷ []) ++ bytes "end\n\n", bytes "10 29\n") ∷
@@ -725,7 +751,7 @@ cases =
     (bytes "module \\" ++ (198 ∷ []) ++ (174 ∷ []) ++ (226 ∷ []) ++ (177 ∷ []) ++ bytes "\nend\n", bytes "module \\" ++ (198 ∷ []) ++ (174 ∷ []) ++ (226 ∷ []) ++ (177 ∷ []) ++ bytes "\nend\n") ∷
     (bytes "autoidx 1654855952\nmodule \\" ++ (143 ∷ []) ++ bytes "o" ++ (170 ∷ []) ++ bytes "\nend\n", bytes "autoidx 1654855952\nmodule \\" ++ (143 ∷ []) ++ bytes "o" ++ (170 ∷ []) ++ bytes "\nend\n") ∷
     (bytes "module \\m\nattribute\n{ 1783062885" ++ (9 ∷ []) ++ bytes "\\a -1121301528 attribute\n  # note " ++ (0 ∷ []) ++ (13 ∷ []) ++ bytes "$y0 }autoidx \" 0{..t\" [ \nwire \\b\n  \\a switch  \\38d" ++ (13 ∷ []) ++ bytes "\n  cell\n  # note " ++ (0 ∷ []) ++ (13 ∷ []) ++ bytes "negedge\nmodule" ++ (9 ∷ []) ++ bytes "\\a real {module\n  # note " ++ (0 ∷ []) ++ (13 ∷ []), bytes "5 10\n") ∷
-    (bytes "module \\5y6" ++ (13 ∷ []) ++ bytes "\nwire " ++ (9 ∷ []) ++ bytes "wid|h 2 \\$\n\nswitch \\a #." ++ (13 ∷ []) ++ bytes "\nend\n\nend" ++ (13 ∷ []) ++ bytes "\n", bytes "4 13\n") ∷
+    (bytes "module \\5y6" ++ (13 ∷ []) ++ bytes "\nwire " ++ (9 ∷ []) ++ bytes "wid|h 2 \\$\n\nswitch \\a #." ++ (13 ∷ []) ++ bytes "\nend\n\nend" ++ (13 ∷ []) ++ bytes "\n", bytes "4 19\n") ∷
     (bytes "\ncell $7 $$\nparameter signed \\1 5'xxx10\nend\nmodule $\"\nwire offset 0 ${\nend\nautoidx 24", bytes "5 1\n") ∷
     (bytes "module $B\nattribute \\hdlname 7'0z01x1-\nwire width 3 signed upto $b3\nwire width 2048 $3\nwire offset 1 offset 1 $b3\nend\n", bytes "7 87\n") ∷
     (bytes "module $aBX\nwire \\" ++ (207 ∷ []) ++ bytes "y\n;\nend\n", bytes "4 21\n") ∷
@@ -736,11 +762,11 @@ cases =
     (bytes "autoidx 1488912862" ++ (13 ∷ []) ++ bytes "\nmodule" ++ (9 ∷ []) ++ bytes "\\dZB\nwire" ++ (9 ∷ []) ++ bytes "inout" ++ (9 ∷ []) ++ bytes "14 width  7" ++ (9 ∷ []) ++ bytes " offset 2147483641 \\C3A\nend \n\nmodule" ++ (9 ∷ []) ++ bytes "\\$ \nend\n", bytes "autoidx 1488912862\nmodule \\dZB\n  wire width 7 offset 2147483641 inout 14 \\C3A\nend\nmodule \\$\nend\n") ∷
     (bytes "module \\5Y\nconnect 4 032'0-xx110z11zm0xx\nconnect 5'-xz-- 127083225 [ 20 : 16 ]\nwire \\7\nattribute \\hdlname -2147483648\nwire input 3 \\55\nend\n", bytes "module \\5Y\n  wire \\7\n  attribute \\hdlname -2147483648\n  wire input 3 \\55\n  connect 32'00000000000000000000000000000100 32'000000000000000000-xx110z11zm0xx\n  connect 5'-xz-- 5'10011\nend\n") ∷
     (bytes "attribute" ++ (9 ∷ []) ++ bytes "\\q \"J" ++ (178 ∷ []) ++ bytes "\"\n  # note " ++ (0 ∷ []) ++ (13 ∷ []) ++ bytes "attribute $xZz \"}\"\nmodule \\gxx" ++ (13 ∷ []) ++ bytes " wire  \\C\n  # note " ++ (0 ∷ []) ++ (13 ∷ []) ++ bytes "cell " ++ (9 ∷ []) ++ (9 ∷ []) ++ bytes "\\sub \\8gz" ++ (9 ∷ []) ++ bytes " \nconnect \\A 1'0\nconnect  \\A {" ++ (9 ∷ []) ++ bytes "\\missing [ 0]}#" ++ (13 ∷ []) ++ bytes "end\n\nend " ++ (9 ∷ []) ++ bytes "\n  # note " ++ (0 ∷ []) ++ (13 ∷ []), bytes "8 115\n") ∷
-    (bytes "module" ++ (9 ∷ []) ++ bytes "\\a\n  # note " ++ (0 ∷ []) ++ (13 ∷ []) ++ bytes "wire upto" ++ (9 ∷ []) ++ bytes "output 3   signed $y57\n" ++ (9 ∷ []) ++ bytes " attribute \\hdlname  1'0\n\nattribute \\7" ++ (9 ∷ []) ++ bytes "\"u#z=" ++ (192 ∷ []) ++ bytes "\nwire" ++ (9 ∷ []) ++ bytes "offset -2" ++ (9 ∷ []) ++ (9 ∷ []) ++ bytes "inout" ++ (9 ∷ []) ++ bytes " " ++ (9 ∷ []) ++ bytes "14" ++ (9 ∷ []) ++ bytes "upto" ++ (9 ∷ []) ++ bytes "width" ++ (9 ∷ []) ++ bytes "4" ++ (9 ∷ []) ++ bytes "$b " ++ (9 ∷ []) ++ bytes "\n  # note " ++ (0 ∷ []) ++ (13 ∷ []) ++ bytes "wire" ++ (9 ∷ []) ++ bytes "signed" ++ (9 ∷ []) ++ bytes " " ++ (9 ∷ []) ++ bytes "off$et" ++ (9 ∷ []) ++ bytes "2147483647 \\" ++ (144 ∷ []) ++ bytes "u@4" ++ (13 ∷ []) ++ bytes "\nparameter \\p \"\\000\"\nend\n", bytes "4 81\n") ∷
+    (bytes "module" ++ (9 ∷ []) ++ bytes "\\a\n  # note " ++ (0 ∷ []) ++ (13 ∷ []) ++ bytes "wire upto" ++ (9 ∷ []) ++ bytes "output 3   signed $y57\n" ++ (9 ∷ []) ++ bytes " attribute \\hdlname  1'0\n\nattribute \\7" ++ (9 ∷ []) ++ bytes "\"u#z=" ++ (192 ∷ []) ++ bytes "\nwire" ++ (9 ∷ []) ++ bytes "offset -2" ++ (9 ∷ []) ++ (9 ∷ []) ++ bytes "inout" ++ (9 ∷ []) ++ bytes " " ++ (9 ∷ []) ++ bytes "14" ++ (9 ∷ []) ++ bytes "upto" ++ (9 ∷ []) ++ bytes "width" ++ (9 ∷ []) ++ bytes "4" ++ (9 ∷ []) ++ bytes "$b " ++ (9 ∷ []) ++ bytes "\n  # note " ++ (0 ∷ []) ++ (13 ∷ []) ++ bytes "wire" ++ (9 ∷ []) ++ bytes "signed" ++ (9 ∷ []) ++ bytes " " ++ (9 ∷ []) ++ bytes "off$et" ++ (9 ∷ []) ++ bytes "2147483647 \\" ++ (144 ∷ []) ++ bytes "u@4" ++ (13 ∷ []) ++ bytes "\nparameter \\p \"\\000\"\nend\n", bytes "4 94\n") ∷
     (bytes "module \\" ++ (197 ∷ []) ++ (181 ∷ []) ++ (194 ∷ []) ++ bytes "\n\nend" ++ (13 ∷ []) ++ bytes "module $7x" ++ (13 ∷ []) ++ bytes "\nenxd \n", bytes "4 29\n") ∷
-    (bytes "module $3b\nwire" ++ (9 ∷ []) ++ bytes "width " ++ (164 ∷ []) ++ (9 ∷ []) ++ bytes "\\3{b  \n  # note " ++ (0 ∷ []) ++ (13 ∷ []) ++ bytes "end#" ++ (244 ∷ []) ++ (183 ∷ []) ++ bytes "AA" ++ (227 ∷ []) ++ (193 ∷ []) ++ bytes "z\n  # last " ++ (0 ∷ []), bytes "4 11\n") ∷
-    (bytes "attribute \\" ++ (187 ∷ []) ++ bytes "S" ++ (181 ∷ []) ++ (175 ∷ []) ++ bytes " -1916415394\nmodule $2g\ncell \\95C $ee1\nconnect \\\\D { }\nend\nend\nattribute \\hdlname \"-" ++ (250 ∷ []) ++ bytes "w" ++ (134 ∷ []) ++ (137 ∷ []) ++ (8 ∷ []) ++ bytes "\"\nmodule \\2\nparameter $9C1\ncell $x $g7\nconnect \\Xe 0'\nend\ncell $8z $zC\nparameter \\3Cb \\\" nn:a\"\nparameter signed \\" ++ (221 ∷ []) ++ (163 ∷ []) ++ bytes "6 4\nconnect \\29A 2' [ 1 : 1 ]\nconnect \\68 07'zzzx-10\nend\nend\n", bytes "4 175\n") ∷
-    (bytes "\"xmz'}}n$$n'\"" ++ (9 ∷ []) ++ (9 ∷ []) ++ bytes "\\[$me0zexa'x}0:eee" ++ (9 ∷ []) ++ bytes "}z']z", bytes "4 0\n") ∷
+    (bytes "module $3b\nwire" ++ (9 ∷ []) ++ bytes "width " ++ (164 ∷ []) ++ (9 ∷ []) ++ bytes "\\3{b  \n  # note " ++ (0 ∷ []) ++ (13 ∷ []) ++ bytes "end#" ++ (244 ∷ []) ++ (183 ∷ []) ++ bytes "AA" ++ (227 ∷ []) ++ (193 ∷ []) ++ bytes "z\n  # last " ++ (0 ∷ []), bytes "4 22\n") ∷
+    (bytes "attribute \\" ++ (187 ∷ []) ++ bytes "S" ++ (181 ∷ []) ++ (175 ∷ []) ++ bytes " -1916415394\nmodule $2g\ncell \\95C $ee1\nconnect \\\\D { }\nend\nend\nattribute \\hdlname \"-" ++ (250 ∷ []) ++ bytes "w" ++ (134 ∷ []) ++ (137 ∷ []) ++ (8 ∷ []) ++ bytes "\"\nmodule \\2\nparameter $9C1\ncell $x $g7\nconnect \\Xe 0'\nend\ncell $8z $zC\nparameter \\3Cb \\\" nn:a\"\nparameter signed \\" ++ (221 ∷ []) ++ (163 ∷ []) ++ bytes "6 4\nconnect \\29A 2' [ 1 : 1 ]\nconnect \\68 07'zzzx-10\nend\nend\n", bytes "4 193\n") ∷
+    (bytes "\"xmz'}}n$$n'\"" ++ (9 ∷ []) ++ (9 ∷ []) ++ bytes "\\[$me0zexa'x}0:eee" ++ (9 ∷ []) ++ bytes "}z']z", bytes "4 35\n") ∷
     (bytes "module \\M\nconnect 1'm\ncell { 'zm11-1 0'", bytes "5 10\n") ∷
     (bytes "ttribute" ++ (9 ∷ []) ++ bytes "\\" ++ (219 ∷ []) ++ (191 ∷ []) ++ bytes " 31\nmodule \\$\n  # note " ++ (0 ∷ []) ++ bytes "`" ++ (13 ∷ []) ++ bytes "ene#" ++ (133 ∷ []) ++ (29 ∷ []) ++ bytes "}\n", bytes "4 0\n") ∷
     (bytes "autoidx 24\nmodule \\a\nparameter $Aa 06'z\nconnect 7'0 { { { { { 2' 0' } 0' } 007 [ 7 : 7 ] } 0' } { 1 [ 15 : 13 ] 1' } }\nend\n", bytes "autoidx 24\nmodule \\a\n  parameter $Aa 6'zzzzzz\n  connect 7'0000000 7'xx0000x\nend\n") ∷
@@ -757,7 +783,7 @@ cases =
     (bytes "module \\2B\nattribute   \\" ++ (206 ∷ []) ++ bytes "," ++ (135 ∷ []) ++ bytes "i" ++ (9 ∷ []) ++ bytes "\"\"\n  # note " ++ (0 ∷ []) ++ (13 ∷ []) ++ bytes "wire output 3" ++ (9 ∷ []) ++ bytes "upto width  0   \\. #" ++ (164 ∷ []) ++ (255 ∷ []) ++ (190 ∷ []) ++ bytes "\n  # note " ++ (0 ∷ []) ++ (13 ∷ []) ++ bytes "end\n  # note " ++ (0 ∷ []) ++ (13 ∷ []) ++ bytes "attribute \\x   1\n  # note " ++ (0 ∷ []) ++ (13 ∷ []), bytes "5 135\n") ∷
     (bytes "module \\m\n\\X2c \"" ++ (195 ∷ []) ++ bytes "\\G9\" end\n  # note " ++ (0 ∷ []) ++ (13 ∷ []) ++ bytes "[\\a [ $A8  " ++ (9 ∷ []) ++ bytes "input " ++ (9 ∷ []) ++ bytes "\n\n]   $Z \\b " ++ (13 ∷ []) ++ bytes "module memory edge {attribute\n", bytes "5 10\n") ∷
     (bytes "module" ++ (9 ∷ []) ++ bytes "$" ++ (184 ∷ []) ++ (13 ∷ []) ++ bytes "  wire output 9 offset -1 \\1" ++ (13 ∷ []) ++ bytes "\nattribute" ++ (9 ∷ []) ++ (9 ∷ []) ++ bytes "\\\" 05'1m1mx\nwire input 13 width 0 \\X5\nparameter \\q 0'0" ++ (13 ∷ []) ++ bytes "\nend#" ++ (196 ∷ []) ++ (199 ∷ []) ++ (230 ∷ []) ++ (129 ∷ []) ++ bytes "\n", bytes "7 89\n") ∷
-    (bytes "{" ++ (239 ∷ []) ++ (24 ∷ []) ++ (211 ∷ []) ++ bytes "w" ++ (21 ∷ []) ++ (188 ∷ []) ++ (11 ∷ []) ++ (164 ∷ []) ++ bytes "i" ++ (4 ∷ []) ++ (206 ∷ []) ++ bytes "^D", bytes "4 0\n") ∷
+    (bytes "{" ++ (239 ∷ []) ++ (24 ∷ []) ++ (211 ∷ []) ++ bytes "w" ++ (21 ∷ []) ++ (188 ∷ []) ++ (11 ∷ []) ++ (164 ∷ []) ++ bytes "i" ++ (4 ∷ []) ++ (206 ∷ []) ++ bytes "^D", bytes "4 1\n") ∷
     (bytes "module" ++ (9 ∷ []) ++ bytes "\\X6  \nparameter \\.4\n  # note " ++ (0 ∷ []) ++ (13 ∷ []) ++ bytes "attribute \\hdlname -217752004#" ++ (128 ∷ []) ++ (165 ∷ []) ++ bytes "0" ++ (3 ∷ []) ++ bytes "\ncell" ++ (9 ∷ []) ++ bytes "\\sub \\.3\n  connect \\xA 8'x1-mz0-0#" ++ (13 ∷ []) ++ bytes "parameter signed \\" ++ (195 ∷ []) ++ (169 ∷ []) ++ bytes "  0\nconnect \\&( 3'-z-\nconnect \\\"" ++ (9 ∷ []) ++ bytes "{6'   }" ++ (13 ∷ []) ++ bytes "\n" ++ (9 ∷ []) ++ bytes " end\nend\n\n", bytes "module \\X6\n  parameter \\.4\n  attribute \\hdlname -217752004\n  cell \\sub \\.3\n    parameter signed \\" ++ (195 ∷ []) ++ (169 ∷ []) ++ bytes " 0\n    connect \\xA 8'x1-mz0-0\n    connect \\&( 3'-z-\n    connect \\\" 6'xxxxxx\n  end\nend\n") ∷
     (bytes "module \\" ++ (176 ∷ []) ++ (226 ∷ []) ++ (240 ∷ []) ++ (235 ∷ []) ++ bytes "\nwire width 7 \\804\nattribute \\X9 8'1\nattribute \\Y 1342870902\nwire \\e\nwire width 0 inout 21 $b4\ncell $8 \\5\nconnect \\A 1'0\nconnect \\B { 2'000 2049' } [ 0 ]\nend\nend\n", bytes "7 133\n") ∷
     (bytes "attribute $Y 6'\nmodule \\45\nwire input 8 \\g\nattribute \\x 1\nwire \\Y\nwire input 7 input 7 \\1\nmemory size -1 \\g\nend\n", bytes "7 66\n") ∷
@@ -775,7 +801,7 @@ cases =
     (bytes "autoidx 29\nmodule \\yb\nattribute $a[3] -2147483648\nwire \\y\nconnect { { 2'zx 0'", bytes "5 58\n") ∷
     (bytes "init" ++ (9 ∷ []) ++ bytes "signed#" ++ (223 ∷ []) ++ bytes "\n\\m ]\\A \\b\n", bytes "5 0\n") ∷
     (bytes "attribute inout  \"0\"" ++ (9 ∷ []) ++ bytes "attribute" ++ (9 ∷ []) ++ (9 ∷ []) ++ bytes "end" ++ (13 ∷ []) ++ bytes " " ++ (9 ∷ []) ++ bytes "{ 1'0\n\\" ++ (195 ∷ []) ++ (169 ∷ []) ++ bytes " \\b [\\a  wire" ++ (13 ∷ []) ++ bytes " " ++ (9 ∷ []) ++ bytes "\\m autoidx#>" ++ (253 ∷ []) ++ (148 ∷ []) ++ bytes "\n\n", bytes "5 0\n") ∷
-    (bytes "attribute" ++ (9 ∷ []) ++ bytes "$95B" ++ (9 ∷ []) ++ bytes "\\\" tb\\\\\\\"t\"#" ++ (160 ∷ []) ++ bytes "W" ++ (243 ∷ []) ++ bytes "\nmodule ", bytes "4 0\n") ∷
+    (bytes "attribute" ++ (9 ∷ []) ++ bytes "$95B" ++ (9 ∷ []) ++ bytes "\\\" tb\\\\\\\"t\"#" ++ (160 ∷ []) ++ bytes "W" ++ (243 ∷ []) ++ bytes "\nmodule ", bytes "4 18\n") ∷
     []
 
 pub agree : map (λ (c : Case). program (c .0)) cases ≡ map (λ (c : Case). c .1) cases

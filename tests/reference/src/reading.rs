@@ -7,7 +7,7 @@ use crate::shapes::shape;
 use crate::sizes;
 use crate::statements::Statement;
 use crate::surroundings::Surroundings;
-use crate::tokens::tokens;
+use crate::tokens::{tokens, Token};
 
 #[derive(Debug, Clone, Copy, PartialEq, Eq)]
 pub struct Refusal {
@@ -42,11 +42,7 @@ pub fn read_any_length(file: &[u8]) -> Result<Netlist, Refusal> {
     let mut surroundings = Surroundings::default();
     let mut statements = Vec::new();
     for line in lines(file) {
-        let statement = read_line(line, &mut surroundings).map_err(|number| Refusal {
-            number,
-            place: line.place,
-        })?;
-        statements.push(statement);
+        statements.push(read_line(line, &mut surroundings)?);
     }
     if !surroundings.may_end() {
         return Err(Refusal {
@@ -57,13 +53,28 @@ pub fn read_any_length(file: &[u8]) -> Result<Netlist, Refusal> {
     Ok(Netlist { statements })
 }
 
-/// The line's statement, taken into the surroundings, or the line's number.
-fn read_line(line: Line, surroundings: &mut Surroundings) -> Result<Statement, u32> {
-    let tokens = tokens(line.bytes).ok_or(4u32)?;
-    if !line.ended {
+/// The line's statement, taken into the surroundings. Its leftmost bad token is the place of 4; all other refusals are at the line.
+fn read_line(line: Line, surroundings: &mut Surroundings) -> Result<Statement, Refusal> {
+    let tokens = tokens(line.bytes).map_err(|bad| Refusal {
+        number: 4,
+        place: line.place + bad,
+    })?;
+    read_tokens(&tokens, line.ended, surroundings).map_err(|number| Refusal {
+        number,
+        place: line.place,
+    })
+}
+
+/// The statement of a line's tokens, taken into the surroundings, or the line's number.
+fn read_tokens(
+    tokens: &[Token],
+    ended: bool,
+    surroundings: &mut Surroundings,
+) -> Result<Statement, u32> {
+    if !ended {
         return Err(5);
     }
-    let shape = shape(&tokens, surroundings.position()).ok_or(5u32)?;
+    let shape = shape(tokens, surroundings.position()).ok_or(5u32)?;
     let (statement, counts) = judge(&shape, surroundings)?;
     surroundings.counts = surroundings.counts.plus(counts);
     surroundings.take(&statement);

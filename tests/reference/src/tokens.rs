@@ -57,8 +57,8 @@ pub enum Token {
     Mark(u8),
 }
 
-/// The tokens of a line, none if one of them is bad.
-pub fn tokens(line: &[u8]) -> Option<Vec<Token>> {
+/// The tokens of a line; or where in it its leftmost bad token starts.
+pub fn tokens(line: &[u8]) -> Result<Vec<Token>, usize> {
     let mut tokens = Vec::new();
     let mut rest = line;
     while let Some(&byte) = rest.first() {
@@ -69,11 +69,11 @@ pub fn tokens(line: &[u8]) -> Option<Vec<Token>> {
             rest = &rest[1..];
             continue;
         }
-        let (token, length) = token(byte, rest)?;
+        let (token, length) = token(byte, rest).ok_or(line.len() - rest.len())?;
         tokens.push(token);
         rest = &rest[length..];
     }
-    Some(tokens)
+    Ok(tokens)
 }
 
 /// The token that starts `rest`, whose first byte is `byte`, and its length.

@@ -50,9 +50,29 @@ fn check_refusal(file: &[u8], refusal: Refusal) {
     }
     if place < file.len() && number != 2 {
         assert!(!matches!(file[place], b' ' | b'\t' | 10 | 13));
+        let end = file[..place]
+            .iter()
+            .rposition(|&byte| matches!(byte, 10 | 13));
+        let line = end.map_or(0, |end| end + 1);
         // The lines before are not refused: cut there, only the end can be.
-        let cut = read(&file[..place]);
-        assert!(cut.is_ok() || cut == Err(Refusal { number: 5, place }));
+        let cut = read(&file[..line]);
+        assert!(
+            cut.is_ok()
+                || cut
+                    == Err(Refusal {
+                        number: 5,
+                        place: line
+                    })
+        );
+        if number == 4 {
+            // Nothing before the bad token is bad.
+            let cut = read(&file[..place]);
+            assert!(!matches!(cut, Err(Refusal { number: 4, .. })));
+        } else {
+            assert!(file[line..place]
+                .iter()
+                .all(|byte| matches!(byte, b' ' | b'\t')));
+        }
     }
 }
 

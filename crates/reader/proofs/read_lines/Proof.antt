@@ -57,14 +57,11 @@ returns c = (c .before .before .before .before .loop .inv .0, c .before .before 
 take-line-requires : tie.Need-take-line-requires Inv-loop μ-loop
 take-line-requires c κs = ((reached-fits (c .before .before .before .before .before .before .before .before .before .before .before .before .before .loop .inv .0 .reached) _ (c .before .before .before .before .before .before .before .before .before .before .before .before .before .loop .inv .0 .is), omega (arith, c .before .before .before .before .before .before .before .before .before .if2 .left)), (record { past = c .before .before .before .before .before .before .before .before .before .before .before .before .before .loop .inv .0 .reached .past; done = c .before .before .before .before .before .before .before .before .before .before .before .before .before .loop .inv .0 .reached .done }, c .before .before .before .before .before .before .before .before .before .before .before .before .before .loop .inv .1))
 
-enum-known-step : tie.Need-enum-known-step Inv-loop μ-loop
-enum-known-step c = c .match .keys1
+enum-known-p : tie.Need-enum-known-p Inv-loop μ-loop
+enum-known-p c = c .match .keys1
 
-enum-told : tie.Need-enum-told Inv-loop μ-loop
-enum-told c = c .match .keys2
-
-refusal-requires : tie.Need-refusal-requires Inv-loop μ-loop
-refusal-requires c κs = (let h = reached-fits (c .before .before .before .before .before .before .before .before .before .before .before .before .before .before .before .before .before .before .before .before .before .before .before .before .before .before .before .before .before .before .before .before .before .before .loop .inv .0 .reached) _ (c .before .before .before .before .before .before .before .before .before .before .before .before .before .before .before .before .before .before .before .before .before .before .before .before .before .before .before .before .before .before .before .before .before .before .loop .inv .0 .is) in (h .high, h .file, h .low))
+enum-known-number : tie.Need-enum-known-number Inv-loop μ-loop
+enum-known-number c = c .match .keys2
 
 same-length-10 : tie.Need-same-length-10 Inv-loop μ-loop
 same-length-10 c = c .before .before .before .before .before .before .before .before .before .before .before .before .before .before .before .before .before .before .before .before .before .take-line .kept .1 .1 .1 .1 .0 ∙ c .before .before .before .before .before .before .before .before .before .before .before .before .before .before .before .before .before .before .before .before .before .before .before .before .before .before .before .before .before .before .before .before .before .before .before .loop .inv .4
@@ -94,7 +91,7 @@ same-length-18 : tie.Need-same-length-18 Inv-loop μ-loop
 same-length-18 c = c .before .before .before .before .before .before .before .before .before .before .before .before .before .before .before .before .before .before .before .before .before .take-line .kept .1 .1 .1 .1 .1 .1 .1 .1 .1 .1 .1 .1 .0 ∙ c .before .before .before .before .before .before .before .before .before .before .before .before .before .before .before .before .before .before .before .before .before .before .before .before .before .before .before .before .before .before .before .before .before .before .before .loop .inv .1 .chain-long ∙ sym (c .before .before .before .before .before .before .before .before .before .before .before .before .before .before .before .before .before .before .before .before .before .before .before .before .before .before .before .before .before .before .before .before .before .before .before .loop .inv .3)
 
 returns-2 : tie.Need-returns-2 Inv-loop μ-loop
-returns-2 c = landed-stop (c .before .before .before .before .before .before .before .before .before .before .before .before .before .before .before .before .before .before .before .before .before .before .before .before .before .before .before .before .before .before .before .before .before .before .before .loop .inv .0 .reached) _ (c .before .before .before .before .before .before .before .before .before .before .before .before .before .before .before .before .before .before .before .before .before .before .before .before .before .before .before .before .before .before .before .before .before .before .before .loop .inv .0 .is) _ _ (c .before .before .before .before .before .before .before .before .before .before .before .before .before .before .before .before .before .before .before .before .before .take-line .ensures .0) _ _ (c .before .enum-told .given .1) (c .refusal .ensures)
+returns-2 c = landed-stop (c .before .before .before .before .before .before .before .before .before .before .before .before .before .before .before .before .before .before .before .before .before .before .before .before .before .before .before .before .before .before .before .before .before .before .before .loop .inv .0 .reached) _ (c .before .before .before .before .before .before .before .before .before .before .before .before .before .before .before .before .before .before .before .before .before .before .before .before .before .before .before .before .before .before .before .before .before .before .before .loop .inv .0 .is) _ _ (c .before .before .before .before .before .before .before .before .before .before .before .before .before .before .before .before .before .before .before .before .before .take-line .ensures .0) _ _ (c .before .number .given .1)
 
 line-at-requires : tie.Need-line-at-requires Inv-loop μ-loop
 line-at-requires c κs = tt
@@ -104,8 +101,8 @@ loop-less c = less (c .before .before .before .before .before .before .before .b
 
 loop-again : tie.Need-loop-again Inv-loop μ-loop
 loop-again c =
-    let x = next-indexed (c .before .before .step .given .1) (c .before .before .before .before .before .before .before .before .before .before .before .before .before .before .before .before .before .before .before .before .before .before .take-line .ensures .1) in (
-      before _ _ (reached-more (c .before .before .before .before .before .before .before .before .before .before .before .before .before .before .before .before .before .before .before .before .before .before .before .before .before .before .before .before .before .before .before .before .before .before .before .before .loop .inv .0 .reached) _ (c .before .before .before .before .before .before .before .before .before .before .before .before .before .before .before .before .before .before .before .before .before .before .before .before .before .before .before .before .before .before .before .before .before .before .before .before .loop .inv .0 .is) _ _ (c .before .before .before .before .before .before .before .before .before .before .before .before .before .before .before .before .before .before .before .before .before .before .take-line .ensures .0) _ _ _ (c .before .before .step .given .1) (c .before .before .before .before .before .before .before .before .before .before .before .before .before .before .before .before .before .before .before .before .before .before .take-line .kept .1 .1 .1 .1 .1 .0)) (c .line-at .ensures),
+    let x = next-indexed (c .before .before .p .given .1) (c .before .before .before .before .before .before .before .before .before .before .before .before .before .before .before .before .before .before .before .before .before .before .take-line .ensures .1) in (
+      before _ _ (reached-more (c .before .before .before .before .before .before .before .before .before .before .before .before .before .before .before .before .before .before .before .before .before .before .before .before .before .before .before .before .before .before .before .before .before .before .before .before .loop .inv .0 .reached) _ (c .before .before .before .before .before .before .before .before .before .before .before .before .before .before .before .before .before .before .before .before .before .before .before .before .before .before .before .before .before .before .before .before .before .before .before .before .loop .inv .0 .is) _ _ (c .before .before .before .before .before .before .before .before .before .before .before .before .before .before .before .before .before .before .before .before .before .before .take-line .ensures .0) _ _ _ (c .before .before .p .given .1) (c .before .before .before .before .before .before .before .before .before .before .before .before .before .before .before .before .before .before .before .before .before .before .take-line .kept .1 .1 .1 .1 .1 .0)) (c .line-at .ensures),
       x,
       c .before .before .before .before .before .before .before .before .before .before .before .before .before .before .before .before .before .before .before .before .before .before .before .before .before .before .before .before .before .before .before .before .before .before .before .before .loop .inv .2,
       c .before .before .before .before .before .before .before .before .before .before .before .before .before .before .before .before .before .before .before .before .before .before .before .before .before .before .before .before .before .before .before .before .before .before .before .before .loop .inv .3,
@@ -164,9 +161,11 @@ read-lines-spec =
     same-length-9
     returns
     take-line-requires
-    enum-known-step
-    enum-told
-    refusal-requires
+    enum-known-p
+    line-at-requires
+    loop-less
+    loop-again
+    enum-known-number
     same-length-10
     same-length-11
     same-length-12
@@ -177,9 +176,6 @@ read-lines-spec =
     same-length-17
     same-length-18
     returns-2
-    line-at-requires
-    loop-less
-    loop-again
     finish-requires
     same-length-19
     same-length-20
