@@ -1,4 +1,4 @@
--- A slice of a signal by the bounds of two words, of which one from 2 ^ 31 on is negative.
+-- A slice of a part of a signal by the bounds of two words, of which one from 2 ^ 31 on is negative; a part moved down.
 -- Assumes nothing.
 use mathlib.Core.Path.{_≡_, refl, sym, ap, ap₂, _∙_}
 use mathlib.Core.Bool.{true, false, and-false}
@@ -12,20 +12,20 @@ use lib.ListN.{length, take, drop}
 use lib.Seq.{slice, length-slice}
 use borrow.Author.Tests.{lt-ltb, le-ltb, le-leb, lt-leb}
 use Rattle.rules.specs.Bytes.{all}
-use Rattle.rules.specs.Statements.{Sig}
+use Rattle.rules.specs.Statements.{Sig, Signal}
 use Rattle.rules.specs.Signals.{Wires, width, bits, inside, lower, span, declaredWire, goodSlice, parts}
 use Rattle.rules.specs.Numbers.{int32, goodNumbers}
 use Rattle.numbers.specs.Signed.{signedOf}
 use Rattle.numbers.specs.SignedLaws.{by-half, signed-int32}
 use Rattle.lists.specs.Tests.{by-test}
 use Rattle.lists.specs.Parts.{slice-within}
+use Rattle.slices.specs.Slices.{taking, slice-slice}
 use Rattle.tables.specs.Store.{store, store-slice}
 use Rattle.signals.specs.Faults.{faults, fault, merge, tooWide}
-use Rattle.signals.specs.Held.{codes, Held, Kept, CutIs}
-use Rattle.signals.specs.declared.Bits.{Bits}
+use Rattle.signals.specs.Held.{PartOf, Inside, CutIs, MovedIs}
+use Rattle.signals.specs.declared.Part.{Part}
 use Rattle.signals.proofs.FaultLaws.{merge-zero, late-merge, too-wide-late, wide-zero, faults-front, own-slice, own-width}
-use Rattle.signals.proofs.Codes.{length-codes, codes-part}
-use Rattle.signals.proofs.HeldLaws.{sized, held-not, kept-same, kept-store}
+use Rattle.signals.proofs.HeldLaws.{parted, part-not, kept-same, kept-store}
 
 -- ---- bounds
 
@@ -59,9 +59,14 @@ module _ (w high low : ℕ) (h : high < 2147483648) (l : low ≤ high) where
   unfolding span
   span-is = rw (high-is w high low h, low-is)
 
+-- a part that breaks rule k stays where it was
+pub stays : (p : Part) (k n : ℕ) → 0 < k → n ≡ merge k (p .bits .fault) → Inside p (parted (p .bits .width) n (p .low))
+stays p k n h q =
+    record { within = omega arith; none = λ g. absurd (let w : k ≡ 0 = merge-zero k (p .bits .fault) (sym q ∙ g) .0 in omega arith) }
+
 -- ---- the slice
 
-module _ (ws : Wires) (s : Sig) (z : Option ℤ) (b : Bits) (high low o : ℕ) (out : List ℕ) (el : lower (signedOf high) z ≡ signedOf low) (ez : all int32 (Option·toList z) ≡ true) (H : Held ws s o out b) where
+module _ (ws : Wires) (whole s : Sig) (z : Option ℤ) (p : Part) (high low : ℕ) (el : lower (signedOf high) z ≡ signedOf low) (ez : all int32 (Option·toList z) ≡ true) (H : PartOf ws whole s p) where
   abbrev cutting : Sig
   cutting = Sig.slice s (signedOf high) z
 
@@ -87,95 +92,103 @@ module _ (ws : Wires) (s : Sig) (z : Option ℤ) (b : Bits) (high low o : ℕ) (
       (λ e. let q : own ≡ tooWide (width ws cutting) = own-width ws cutting good there e in λ h. let k : 10 ≤ tooWide (width ws cutting) = too-wide-late (width ws cutting) (omega arith) in omega arith)
       (λ e h. let q : own ≡ 10 = own-slice ws cutting good there e in omega arith)
 
-  front-fault : fault ws cutting ≡ merge own (b .fault)
+  front-fault : fault ws cutting ≡ merge own (p .bits .fault)
   unfolding fault parts
   front-fault = faults-front ws cutting (parts s) ∙ ap (merge own) (H .refused)
 
-  pub outside-fault : inside (b .width) (signedOf high) (signedOf low) ≡ false → fault ws cutting ≡ merge 10 (b .fault)
+  pub outside-fault : inside (p .bits .width) (signedOf high) (signedOf low) ≡ false → fault ws cutting ≡ merge 10 (p .bits .fault)
   outside-fault e =
       front-fault
-      ∙ late-merge own 10 (b .fault) own-late (λ h. omega arith)
+      ∙ late-merge own 10 (p .bits .fault) own-late (λ h. omega arith)
       (λ m. own-slice ws cutting good there (slice-is ∙ ap (λ (w : ℕ). inside w (signedOf high) (signedOf low)) (H .wide m) ∙ e))
 
-  pub inside-fault : inside (b .width) (signedOf high) (signedOf low) ≡ true → fault ws cutting ≡ merge (tooWide (width ws cutting)) (b .fault)
+  pub inside-fault : inside (p .bits .width) (signedOf high) (signedOf low) ≡ true → fault ws cutting ≡ merge (tooWide (width ws cutting)) (p .bits .fault)
   inside-fault e =
       front-fault
-      ∙ late-merge own (tooWide (width ws cutting)) (b .fault) own-late (too-wide-late (width ws cutting))
+      ∙ late-merge own (tooWide (width ws cutting)) (p .bits .fault) own-late (too-wide-late (width ws cutting))
       (λ m. own-width ws cutting good there (slice-is ∙ ap (λ (w : ℕ). inside w (signedOf high) (signedOf low)) (H .wide m) ∙ e))
 
   pub cutting-width : width ws cutting ≡ span (signedOf high) (signedOf low)
   unfolding width
   cutting-width = ap (span (signedOf high)) el
 
-  pub cutting-bits : bits ws cutting ≡ take (span (signedOf high) (signedOf low)) (drop (natAbs (signedOf low)) (bits ws s))
-  unfolding bits
-  cutting-bits = ap (λ (y : ℤ). take (span (signedOf high) y) (drop (natAbs y) (bits ws s))) el
+  pub outside-part : (n : ℕ) → n ≡ merge 10 (p .bits .fault) → inside (p .bits .width) (signedOf high) (signedOf low) ≡ false → PartOf ws whole cutting (parted (p .bits .width) n (p .low))
+  outside-part n q e =
+      part-not ws whole cutting (p .bits .width) (p .low) 10 (p .bits .fault) n (omega arith) (omega arith) q (outside-fault e)
 
-  pub outside-held : (n : ℕ) → n ≡ merge 10 (b .fault) → inside (b .width) (signedOf high) (signedOf low) ≡ false → Held ws cutting o out (sized (b .width) n)
-  outside-held n q e =
-      held-not ws cutting o out (b .width) 10 (b .fault) n (omega arith) (omega arith) q (outside-fault e)
-
-  module _ (n x : ℕ) (out′ : List ℕ) (en : n ≡ merge (tooWide (high + 1 - low)) (b .fault)) (ex : x ≡ b .width - 1 - high) (h : high < 2147483648) (k : high < b .width) (l : low ≤ high) (room : o + 2048 ≤ length out) (moved : n ≡ 0 → out′ ≡ store out o (slice (o + x) (o + x + (high + 1 - low)) out)) where
+  module _ (h : high < 2147483648) (k : high < p .bits .width) (l : low ≤ high) where
     wide-is : width ws cutting ≡ high + 1 - low
-    wide-is = cutting-width ∙ span-is (b .width) high low h l
+    wide-is = cutting-width ∙ span-is (p .bits .width) high low h l
 
-    cut-codes : b .fault ≡ 0 → slice (o + x) (o + x + (high + 1 - low)) out ≡ codes (bits ws cutting)
-    cut-codes e =
-        let r : b .width ≤ 2048 = H .small e in
-        let c : slice o (o + b .width) out ≡ codes (bits ws s) = H .coded e in
-        let n : length (bits ws s) ≡ b .width = sym (length-codes (bits ws s)) ∙ ap length (sym c) ∙ length-slice o (o + b .width) out (omega arith) ∙ omega arith in
-        let y : x ≡ length (bits ws s) - (low + (high + 1 - low)) = omega arith in
-        slice-within out o (b .width) x (high + 1 - low) (omega arith)
-        ∙ ap (λ (y : List ℕ). take (high + 1 - low) (drop x y)) c
-        ∙ ap (λ (y : ℕ). take (high + 1 - low) (drop y (codes (bits ws s)))) y
-        ∙ codes-part (bits ws s) low (high + 1 - low) (omega arith)
-        ∙ ap codes (sym (cutting-bits ∙ ap₂ (λ (a c : ℕ). take a (drop c (bits ws s))) (span-is (b .width) high low h l) (ap natAbs (low-is (b .width) high low h l))))
+    cutting-taking : bits ws cutting ≡ bits ws (taking s high low)
+    unfolding bits lower
+    cutting-taking =
+        ap (λ (y : ℤ). take (span (signedOf high) y) (drop (natAbs y) (bits ws s))) el
+        ∙ ap₂ (λ (x y : ℤ). take (span x y) (drop (natAbs y) (bits ws s))) (high-is (p .bits .width) high low h) (low-is (p .bits .width) high low h l)
 
-    zero : n ≡ 0 → (high + 1 - low ≤ 2048) × (b .fault ≡ 0)
-    zero = wide-zero (high + 1 - low) (b .fault) n en
+    -- the part is one slice of the whole, and a slice of that slice is one as well
+    part-taking : p .bits .fault ≡ 0 → bits ws s ≡ bits ws (taking whole (p .low + p .bits .width - 1) (p .low))
+    unfolding bits span lower
+    part-taking e =
+        H .taken e
+        ∙ ap (λ (n : ℕ). take n (drop (p .low) (bits ws whole))) (let q : p .bits .width ≡ p .low + p .bits .width - 1 + 1 - p .low = omega arith in q)
 
-    cut-moved : n ≡ 0 → slice o (o + (high + 1 - low)) out′ ≡ codes (bits ws cutting)
-    cut-moved e =
-        let r : b .width ≤ 2048 = H .small (zero e .1) in
-        let vs : List ℕ = slice (o + x) (o + x + (high + 1 - low)) out in
-        let lv : length vs ≡ high + 1 - low = length-slice (o + x) (o + x + (high + 1 - low)) out (omega arith) ∙ omega arith in
-        let fits : o + length vs ≤ length out = omega arith in
-        ap (λ (k : ℕ). slice o (o + k) out′) (sym lv) ∙ ap (slice o (o + length vs)) (moved e) ∙ store-slice out o vs fits ∙ cut-codes (zero e .1)
+    cutting-taken : p .bits .fault ≡ 0 → bits ws cutting ≡ take (high + 1 - low) (drop (p .low + low) (bits ws whole))
+    unfolding bits span lower
+    cutting-taken e =
+        cutting-taking
+        ∙ ap (λ (y : Signal). take (high + 1 - low) (drop low y)) (part-taking e)
+        ∙ slice-slice ws whole (p .low + p .bits .width - 1) (p .low) high low l (omega arith)
+        ∙ ap (λ (n : ℕ). take n (drop (p .low + low) (bits ws whole))) (let q : p .low + high + 1 - (p .low + low) ≡ high + 1 - low = omega arith in q)
 
-    pub inside-held : Held ws cutting o out′ (sized (high + 1 - low) n)
-    inside-held =
+    pub inside-part : (n : ℕ) → n ≡ merge (tooWide (high + 1 - low)) (p .bits .fault) → PartOf ws whole cutting (parted (high + 1 - low) n (p .low + low))
+    inside-part n en =
         record {
-          refused = inside-fault (inside-so (b .width) high low h l k) ∙ ap (λ (w : ℕ). merge (tooWide w) (b .fault)) wide-is ∙ sym en;
+          refused = inside-fault (inside-so (p .bits .width) high low h l k) ∙ ap (λ (w : ℕ). merge (tooWide w) (p .bits .fault)) wide-is ∙ sym en;
           wide = λ e. wide-is;
-          small = λ e. zero e .0;
-          coded = cut-moved;
+          taken = λ e. cutting-taken (wide-zero (high + 1 - low) (p .bits .fault) n en e .1);
         }
 
 -- ---- what `cut` promises
 
-module _ (b : Bits) (high low o : ℕ) (out : List ℕ) where
-  pub cut-outside : (n : ℕ) → n ≡ merge 10 (b .fault) → inside (b .width) (signedOf high) (signedOf low) ≡ false → CutIs b high low o out out (sized (b .width) n)
-  cut-outside n q e =
+module _ (p : Part) (high low n : ℕ) where
+  pub cut-outside : n ≡ merge 10 (p .bits .fault) → inside (p .bits .width) (signedOf high) (signedOf low) ≡ false → CutIs p high low (parted (p .bits .width) n (p .low))
+  cut-outside q e =
       record {
-        held = λ ws s z el ez H. outside-held ws s z b high low o out el ez H n q e;
-        kept = kept-same o out;
-        few = omega arith;
-        small = λ g. absurd (let w : 10 ≡ 0 = merge-zero 10 (b .fault) (sym q ∙ g) .0 in omega arith);
+        part = λ ws whole s z el ez H. outside-part ws whole s z p high low el ez H n q e;
+        inside = stays p 10 n (omega arith) q;
       }
 
-  module _ (n x : ℕ) (out′ : List ℕ) (en : n ≡ merge (tooWide (high + 1 - low)) (b .fault)) (ex : x ≡ b .width - 1 - high) (h : high < 2147483648) (k : high < b .width) (l : low ≤ high) (room : o + 2048 ≤ length out) where
-    cut-so : (n ≡ 0 → out′ ≡ store out o (slice (o + x) (o + x + (high + 1 - low)) out)) → Kept o out out′ → CutIs b high low o out out′ (sized (high + 1 - low) n)
-    cut-so moved kept =
+  pub cut-inside : n ≡ merge (tooWide (high + 1 - low)) (p .bits .fault) → high < 2147483648 → high < p .bits .width → low ≤ high → CutIs p high low (parted (high + 1 - low) n (p .low + low))
+  cut-inside en h k l =
+      record {
+        part = λ ws whole s z el ez H. inside-part ws whole s z p high low el ez H h k l n en;
+        inside = record { within = omega arith; none = λ e. wide-zero (high + 1 - low) (p .bits .fault) n en e .1 };
+      }
+
+-- ---- what `move_part` promises
+
+module _ (o w : ℕ) (p : Part) (out : List ℕ) where
+  pub moved-not : (p .bits .fault ≡ 0 → ⊥) → MovedIs o w p out out
+  moved-not z = record { kept = kept-same o out; moved = λ e. absurd (z e) }
+
+  module _ (x : ℕ) (ex : x ≡ w - (p .low + p .bits .width)) (l : p .low + p .bits .width ≤ w) where
+    part-words : slice (o + x) (o + x + p .bits .width) out ≡ take (p .bits .width) (drop (w - (p .low + p .bits .width)) (slice o (o + w) out))
+    part-words = slice-within out o w x (p .bits .width) (omega arith) ∙ ap (λ (k : ℕ). take (p .bits .width) (drop k (slice o (o + w) out))) ex
+
+    pub moved-still : x ≡ 0 → MovedIs o w p out out
+    moved-still z =
         record {
-          held = λ ws s z el ez H. inside-held ws s z b high low o out el ez H n x out′ en ex h k l room moved;
-          kept = kept;
-          few = omega arith;
-          small = λ e. wide-zero (high + 1 - low) (b .fault) n en e .0;
+          kept = kept-same o out;
+          moved = λ e. ap (λ (k : ℕ). slice k (k + p .bits .width) out) (let q : o ≡ o + x = omega arith in q) ∙ part-words;
         }
 
-    pub cut-inside : b .width ≤ 2048 → out′ ≡ store out o (slice (o + x) (o + x + (high + 1 - low)) out) → CutIs b high low o out out′ (sized (high + 1 - low) n)
-    cut-inside r moved =
-        cut-so (λ e. moved) (kept-store o out out′ _ moved (omega (arith, length-slice (o + x) (o + x + (high + 1 - low)) out (omega arith))))
-
-    pub cut-still : (n ≡ 0 → ⊥) → out′ ≡ out → CutIs b high low o out out′ (sized (high + 1 - low) n)
-    cut-still z e = cut-so (λ g. absurd (z g)) (record { long = ap length e; below = ap (take o) e })
+    pub moved-down : (out′ : List ℕ) → o + w ≤ length out → out′ ≡ store out o (slice (o + x) (o + x + p .bits .width) out) → MovedIs o w p out out′
+    moved-down out′ room q =
+        let vs : List ℕ = slice (o + x) (o + x + p .bits .width) out in
+        let lv : length vs ≡ p .bits .width = length-slice (o + x) (o + x + p .bits .width) out (omega arith) ∙ omega arith in
+        let fits : o + length vs ≤ length out = omega arith in
+        record {
+          kept = kept-store o out out′ vs q fits;
+          moved = λ e. ap (λ (k : ℕ). slice o (o + k) out′) (sym lv) ∙ ap (slice o (o + length vs)) q ∙ store-slice out o vs fits ∙ part-words;
+        }

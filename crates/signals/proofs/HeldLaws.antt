@@ -24,8 +24,9 @@ use Rattle.wires.specs.declared.Found.{Found}
 use Rattle.literals.specs.Codes as literal
 use Rattle.literals.proofs.CodeLaws.{codes-long}
 use Rattle.signals.specs.Faults.{fault, merge, tooWide, mild}
-use Rattle.signals.specs.Held.{codes, Held, Kept, Put}
+use Rattle.signals.specs.Held.{codes, Held, Kept, Put, PartOf}
 use Rattle.signals.specs.declared.Bits.{Bits}
+use Rattle.signals.specs.declared.Part.{Part}
 use Rattle.signals.proofs.FaultLaws.{merge-none, mild-not, mild-none, mild-merge, own-number, own-wire, own-width}
 use Rattle.signals.proofs.Codes.{length-wire-codes}
 
@@ -40,11 +41,23 @@ kept-store o out out′ vs e room =
 abbrev pub sized : ℕ → ℕ → Bits
 sized w n = record { width = w; fault = n }
 
+-- a part of such bits, from a bit on
+abbrev pub parted : ℕ → ℕ → ℕ → Part
+parted w n l = record { bits = sized w n; low = l }
+
+-- a rule k other than that of the width is broken
+not-mild-so : (k f n : ℕ) → 0 < k → k ≤ 10 → n ≡ merge k f → mild n ≡ false
+not-mild-so k f n h l q = ap mild q ∙ mild-merge k f ∙ rw (mild-not k h l)
+
+pub part-not : (ws : Wires) (whole s : Sig) (w low k f n : ℕ) → 0 < k → k ≤ 10 → n ≡ merge k f → fault ws s ≡ merge k f → PartOf ws whole s (parted w n low)
+part-not ws whole s w low k f n h l q e =
+    let m : mild n ≡ false = not-mild-so k f n h l q in
+    record { refused = e ∙ sym q; wide = λ t. never (mild n) t m; taken = λ t. never (mild n) (mild-none n t) m }
+
 module _ (ws : Wires) (s : Sig) (o : ℕ) (out : List ℕ) (w : ℕ) where
-  -- a rule k other than that of the width is broken
   pub held-not : (k f n : ℕ) → 0 < k → k ≤ 10 → n ≡ merge k f → fault ws s ≡ merge k f → Held ws s o out (sized w n)
   held-not k f n h l q e =
-      let m : mild n ≡ false = ap mild q ∙ mild-merge k f ∙ rw (mild-not k h l) in
+      let m : mild n ≡ false = not-mild-so k f n h l q in
       record {
         refused = e ∙ sym q;
         wide = λ t. never (mild n) t m;

@@ -7,7 +7,7 @@ use mathlib.Core.Bool.{Bool, false, not}
 use lib.ListN.{length}
 use lib.IntN.{ℤ}
 use lib.Dec.{eqb}
-use Rattle.rules.specs.Limits.{longestFile, mostWidth, tokensLength}
+use Rattle.rules.specs.Limits.{longestFile, tokensLength}
 use Rattle.rules.specs.Tokens as rules
 use Rattle.rules.specs.Shapes.{Parse, closedBy, of₁, of₂, int, low, bounds, sliced, sigs, repeat, isMark, atom, members, signal}
 use Rattle.rules.specs.Statements.{Sig, bundle}
@@ -18,8 +18,9 @@ use Rattle.tokens.specs.declared.Slot.the-variants as slot
 use Rattle.tokens.specs.declared.Token.{Token}
 use Rattle.tokens.specs.declared.Token.the-variants.{Name, Word, Constant as Constantly, Mark, End}
 use Rattle.literals.specs.Codes.{Whole}
-use Rattle.signals.specs.Held.{Held, Kept}
+use Rattle.signals.specs.Held.{Held, Kept, PartOf, Inside}
 use Rattle.signals.specs.declared.Bits.{Bits}
+use Rattle.signals.specs.declared.Part.{Part}
 use Rattle.signals.specs.declared.Answer.{Answer}
 use Rattle.signals.specs.declared.Answer.the-variants as answer
 use Rattle.signals.specs.declared.Bounds.{Bounds}
@@ -59,12 +60,10 @@ slicedOn s k bs ts = of₁ (sliced s) (repeat (isMark "[") bounds k bs) ts
 unfoldable pub membersOn : Parse Sig → ℕ → List Sig → List rules.Token → Option (Sig × List rules.Token)
 membersOn p k ss ts = closedBy "}" (of₁ (λ as′. bundle (sigs as′)) (repeat (λ x. not (isMark "}" x)) p k ss)) ts
 
--- a signal of these bits, whatever it is, sliced by these bounds
-pub record SliceIs (b : Bits) (h : ℤ) (z : Option ℤ) (o : ℕ) (out out′ : List ℕ) (r : Bits) : Type 0 where
-  pub held : (ws : Wires) (s : Sig) → Held ws s o out b → Held ws (Sig.slice s h z) o out′ r
-  pub kept : Kept o out out′
-  pub few : r .width ≤ b .width
-  pub small : r .fault ≡ 0 → r .width ≤ mostWidth
+-- a part of a signal, whatever it is, sliced by these bounds
+pub record SliceIs (p : Part) (h : ℤ) (z : Option ℤ) (r : Part) : Type 0 where
+  pub part : (ws : Wires) (whole s : Sig) → PartOf ws whole s p → PartOf ws whole (Sig.slice s h z) r
+  pub inside : Inside p r
 
 -- a parse that was read up to row n, and what is promised of its signal
 pub record Gives (f t : List ℕ) (ws : Wires) (parse : Option (Sig × List rules.Token)) (n o : ℕ) (out : List ℕ) (b : Bits) : Type 0 where

@@ -1,5 +1,5 @@
 // Signals: the signal reader and the bundle reader call each other, the unread part of the line and the depth falling. Bits are put
-// into a scratch table from the top, the members of a bundle as they come; a slice moves its part down to where its operand began.
+// into a scratch table from the top, the members of a bundle as they come; the part that slices leave is moved down to where the signal began.
 use literal_rules::Number;
 use name_search::indexed_wire;
 use netlist::results::BAD_NUMBER;
@@ -26,7 +26,7 @@ ghost use Rattle.literals.specs.Codes.{Whole};
 ghost use Rattle.wires.specs.Rows.{wiresFrom};
 ghost use Rattle.name_index.specs.Index.{WiresIndexed};
 ghost use Rattle.signals.specs.Faults.{merge, tooWide};
-ghost use Rattle.signals.specs.Held.{codes, Put, PutAny, CutIs};
+ghost use Rattle.signals.specs.Held.{codes, Put, PutAny, InWord, CutIs, MovedIs};
 ghost use Rattle.signals.specs.Reads.{markAt, slotIn, BoundsIs, SliceIs, SlicesIs, AtomIs, SignalIs, BundleIs, Readable};
 
 // The most bits of a part of a signal.
@@ -56,6 +56,12 @@ pub struct ModuleWires {
 pub struct Bits {
     pub width: usize,
     pub fault: u32,
+}
+
+// A slice of slices of a signal: its bits, and the bit of the signal that is its lowest.
+struct Part {
+    bits: Bits,
+    low: usize,
 }
 
 // A signal with the row behind it.
@@ -195,41 +201,38 @@ fn bounds_at(tokens: &[u32], i: usize) -> Bounds
     }
 }
 
-// The signal of these bits, whose bounds keep the number rules, sliced: a bound from 2 ^ 31 on is negative.
-fn cut(bits: Bits, high: u32, low: u32, scratch: &mut [u32], o: usize) -> Bits
-    requires { ⌜ (o + mostWidth ≤ length (now scratch)) × (bits .fault ≡ 0 → bits .width ≤ mostWidth) ⌝ }
-    ensures { λ r. ⌜ CutIs bits high low o (now (scratch .entry)) (now (scratch .exit)) r ⌝ }
+// A slice of this part by bounds that keep the number rules: a bound from 2 ^ 31 on is negative.
+fn cut(part: Part, high: u32, low: u32) -> Part
+    requires { ⌜ InWord part ⌝ }
+    ensures { λ r. ⌜ CutIs part high low r ⌝ }
 {
-    let width = bits.width;
-    let fault = bits.fault;
+    let width = part.bits.width;
+    let fault = part.bits.fault;
     let h = high as usize;
     let l = low as usize;
-    if FIRST_NEGATIVE <= h {
-        return Bits {
+    let outside = Part {
+        bits: Bits {
             width,
             fault: merge(BAD_WIDTH, fault),
-        };
+        },
+        low: part.low,
+    };
+    if FIRST_NEGATIVE <= h {
+        return outside;
     }
     if width <= h {
-        return Bits {
-            width,
-            fault: merge(BAD_WIDTH, fault),
-        };
+        return outside;
     }
     if h < l {
-        return Bits {
-            width,
-            fault: merge(BAD_WIDTH, fault),
-        };
+        return outside;
     }
     let count = h + 1 - l;
-    let together = merge(too_wide(count), fault);
-    if together == 0 {
-        move_down(scratch, o + (width - 1 - h), count, o);
-    }
-    Bits {
-        width: count,
-        fault: together,
+    Part {
+        bits: Bits {
+            width: count,
+            fault: merge(too_wide(count), fault),
+        },
+        low: part.low + l,
     }
 }
 
@@ -295,49 +298,68 @@ fn atom(
     }
 }
 
-// One slice of a signal, by its bounds in the file.
-fn slice(f: &[u8], bits: Bits, high: Integer, low: Slot, scratch: &mut [u32], o: usize) -> Bits
-    requires { ⌜ (o + mostWidth ≤ length (now scratch)) × (bits .fault ≡ 0 → bits .width ≤ mostWidth) ⌝ }
-    ensures { λ r. ⌜ SliceIs bits (integerIn (now (f .entry)) high) (slotIn (now (f .entry)) low) o (now (scratch .entry)) (now (scratch .exit)) r ⌝ }
+// One slice of a part, by its bounds in the file.
+fn slice(f: &[u8], part: Part, high: Integer, low: Slot) -> Part
+    requires { ⌜ InWord part ⌝ }
+    ensures { λ r. ⌜ SliceIs part (integerIn (now (f .entry)) high) (slotIn (now (f .entry)) low) r ⌝ }
 {
-    let width = bits.width;
-    let fault = bits.fault;
+    let broken = Part {
+        bits: Bits {
+            width: part.bits.width,
+            fault: merge(BAD_NUMBER, part.bits.fault),
+        },
+        low: part.low,
+    };
     let Number::Fits(h) = literal_rules::integer_of(f, high) else {
-        return Bits {
-            width,
-            fault: merge(BAD_NUMBER, fault),
-        };
+        return broken;
     };
     match low {
-        Slot::Absent => cut(bits, h, h, scratch, o),
+        Slot::Absent => cut(part, h, h),
         Slot::Given(z) => {
             let Number::Fits(l) = literal_rules::integer_of(f, z) else {
-                return Bits {
-                    width,
-                    fault: merge(BAD_NUMBER, fault),
-                };
+                return broken;
             };
-            cut(bits, h, l, scratch, o)
+            cut(part, h, l)
         }
     }
 }
 
-// Slices may follow any signal, also a slice.
+// The bits of a part of a signal of this width, which stands from o on, are moved down to o, if they don't stand there.
+fn move_part(scratch: &mut [u32], o: usize, width: usize, part: Part)
+    requires { ⌜ (part .low + part .bits .width ≤ width) × (part .bits .fault ≡ 0 → o + width ≤ length (now scratch)) ⌝ }
+    ensures { λ _. ⌜ MovedIs o width part (now (scratch .entry)) (now (scratch .exit)) ⌝ }
+{
+    if part.bits.fault != 0 {
+        return;
+    }
+    let above = width - (part.low + part.bits.width);
+    if above != 0 {
+        move_down(scratch, o + above, part.bits.width, o);
+    }
+}
+
+// Slices may follow any signal, also a slice. Each is judged by what it slices; their low bounds add up, and the bits are moved once.
 fn slices(f: &[u8], tokens: &[u32], i: usize, bits: Bits, scratch: &mut [u32], o: usize) -> Answer
     requires { ⌜ (length (now tokens) ≤ tokensLength) × (i ≤ length (now tokens) / 4) ⌝ }
     requires { ⌜ (o + mostWidth ≤ length (now scratch)) × (bits .fault ≡ 0 → bits .width ≤ mostWidth) ⌝ }
     ensures { λ r. ⌜ SlicesIs (now (f .entry)) (now (tokens .entry)) i o (now (scratch .entry)) bits (now (scratch .exit)) r ⌝ }
 {
+    let width = bits.width;
     let mut at = i;
-    let mut b = bits;
+    let mut part = Part { bits, low: 0 };
     while is_mark(tokens, at, SLICE_OPENS) {
         let Bounds::Read { high, low, next } = bounds_at(tokens, at + 1) else {
             return Answer::NoShape;
         };
-        b = slice(f, b, high, low, scratch, o);
+        part = slice(f, part, high, low);
         at = next;
     }
-    Answer::Read { next: at, bits: b }
+    move_part(scratch, o, width, part);
+    let left = part.bits;
+    Answer::Read {
+        next: at,
+        bits: left,
+    }
 }
 
 // A signal whose bundles are at most depth deep, from row i on; its bits go to the scratch table from o on.

@@ -10,13 +10,14 @@ use lib.ListN.{length}
 use borrow.Author.Tests.{le-leb}
 use Rattle.rules.specs.Bytes.{all, within}
 use Rattle.rules.specs.Tokens.{Digit, Literal, value, integer, string}
-use Rattle.rules.specs.Statements.{Sig, constant, wire, slice, bundle, Opt, Direction}
+use Rattle.rules.specs.Statements.{Sig, Opt, Direction}
 use Rattle.rules.specs.Numbers.{inRange, goodLiteral, goodNumbers, numberOr, ports, portOf, wireOf, memoryOf, goodOptions, goodWire, goodMemory}
-use Rattle.rules.specs.Signals.{Wires, kept, valueBits, literalBits, literalWidth, width, bits, goodSlice, parts, partsOf}
+use Rattle.rules.specs.Signals.{Wires, kept, valueBits, literalBits, literalWidth, width, bits, goodSlice, parts}
 use Rattle.rules.specs.Judgement.{portNumbers, equalWidths}
 use Rattle.lists.specs.Tests.{and-true-left}
 use Rattle.lists.specs.Bytes.{within-high}
 use Rattle.lists.specs.Elements.{all-map, all-both, all-left, all-right, all-cons, all-first, each-test}
+use Rattle.slices.specs.Slices.{part-self}
 use Rattle.context.specs.Offsets.{good-offset, memory-offset}
 use Rattle.literal_rules.proofs.ReadLaws.{literal-long}
 use Rattle.admitted.specs.Admitted.{fineConstant, ownWire, fineMemory, fineSignal, sameLength}
@@ -73,14 +74,6 @@ memory-fine os e =
     (memory-offset os e)
 
 -- ---- signals
-
--- a signal is a part of itself
-part-self : (f : Sig → Bool) (s : Sig) → all f (parts s) ≡ true → f s ≡ true
-unfolding parts
-part-self f (constant c) h = all-first f (constant c) [] h
-part-self f (wire n) h = all-first f (wire n) [] h
-part-self f (slice s x l) h = all-first f (slice s x l) (parts s) h
-part-self f (bundle ss) h = all-first f (bundle ss) (partsOf ss) h
 
 module _ (ws : Wires) where
   unfoldable pub narrow : Sig → Bool

@@ -1,11 +1,12 @@
--- The bits of a signal: each stands inside a declared wire, and they are as many as its width says.
+-- The bits of a signal: each stands inside a declared wire, and they are as many as its width says; so a slice inside one member of a
+-- bundle is a slice of that member (request 12).
 -- Assumes nothing.
 use Prim.Native.Nat.{ℕ, zero, suc, _+_, _≤_}
 use native.Mathlib.Omega.{arith}
-use mathlib.Core.Path.{_≡_, refl, ap₂, _∙_}
+use mathlib.Core.Path.{_≡_, refl, sym, ap, ap₂, _∙_}
 use mathlib.Core.List.{[], _∷_, map, reverse, reverseAux}
 use mathlib.Core.Option.{Option, none, some, Option·elim}
-use mathlib.Core.Bool.{true, false≢true}
+use mathlib.Core.Bool.{Bool, true, false≢true}
 use lib.Dec.{leb, ltb}
 use lib.IntN.{ℤ, pos, negsuc, natAbs}
 use lib.ListN.{length, getElem?, length-append, length-map}
@@ -15,6 +16,8 @@ use Rattle.rules.specs.Tokens.{Name, Literal}
 use Rattle.rules.specs.Statements.{Sig, Sigs, constant, wire, slice, bundle, nothing, _below_, digit, bit, Wire}
 use Rattle.rules.specs.Numbers.{goodNumbers}
 use Rattle.rules.specs.Signals.{Wires, find, literalBits, wireBits, inside, lower, span, width, widths, bits, bitsOf, goodSlice, parts, partsOf}
+use Rattle.slices.specs.Slices.{taking, slice-inside}
+use Rattle.slices.specs.Bundles.{joined, parts-joined, slice-member, member-inside}
 use Rattle.lists.specs.Parts.{length-part}
 use Rattle.lists.specs.Tests.{by-cond, and-true-left, and-true-right}
 use Rattle.literal_rules.proofs.ReadLaws.{literal-long}
@@ -111,3 +114,31 @@ module _ (ws : Wires) where
         length-append (bits ws s) (bitsOf ws ss)
         ∙ ap₂ _+_ (bits-long s (all-left goodNumbers (parts s) (partsOf ss) n) (all-left (goodSlice ws) (parts s) (partsOf ss) g))
         (bits-of-long ss (all-right goodNumbers (parts s) (partsOf ss) n) (all-right (goodSlice ws) (parts s) (partsOf ss) g))
+
+  -- ---- a slice inside one member of a bundle, moved by the widths below it
+
+  module _ (ss us : Sigs) (m : Sig) (k j : ℕ) where
+    abbrev bundled : Sig
+    bundled = bundle (joined ss (m below us))
+
+    -- the members below, and the member
+    below-all : (f : Sig → Bool) → all f (parts bundled) ≡ true → all f (partsOf ss) ≡ true
+    unfolding parts
+    below-all f h = all-left f (partsOf ss) (partsOf (m below us)) (sym (ap (all f) (parts-joined ss (m below us))) ∙ all-later f bundled (partsOf (joined ss (m below us))) h)
+
+    member-all : (f : Sig → Bool) → all f (parts bundled) ≡ true → all f (parts m) ≡ true
+    unfolding parts
+    member-all f h =
+        all-left f (parts m) (partsOf us)
+        (all-right f (partsOf ss) (partsOf (m below us)) (sym (ap (all f) (parts-joined ss (m below us))) ∙ all-later f bundled (partsOf (joined ss (m below us))) h))
+
+    pub member-sliced :
+        all goodNumbers (parts bundled) ≡ true → all (goodSlice ws) (parts bundled) ≡ true → goodSlice ws (taking m k j) ≡ true →
+        (goodSlice ws (taking bundled (widths ws ss + k) (widths ws ss + j)) ≡ true)
+        × (bits ws (taking bundled (widths ws ss + k) (widths ws ss + j)) ≡ bits ws (taking m k j))
+    member-sliced n g e =
+        let i = slice-inside ws m k j e in
+        let w = bits-long m (member-all goodNumbers n) (member-all (goodSlice ws) g) in (
+          member-inside ws ss us m (widths ws ss) k j refl e,
+          slice-member ws ss us m (widths ws ss) k j (bits-of-long ss (below-all goodNumbers n) (below-all (goodSlice ws) g)) (i .0) (omega (arith, i .1, w)),
+        )

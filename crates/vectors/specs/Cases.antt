@@ -505,9 +505,9 @@ cases =
     (bytes "attribute \\f2Z -1759674197\nattribute $1 1\nmodule \\e" ++ (204 ∷ []) ++ (129 ∷ []) ++ bytes "\nconnect { 0' { 2'z0 05'01z01 } } 7'1-z-z00\nconnect 33 { 20'1101z00m0z--00-0zz-z { 7'0 { { 3'xz 1'x } { 1' 0' } } } }\nend\n", bytes "attribute \\f2Z -1759674197\nattribute $1 1\nmodule \\e" ++ (204 ∷ []) ++ (129 ∷ []) ++ bytes "\n  connect 7'z001z01 7'1-z-z00\n  connect 32'00000000000000000000000000100001 32'1101z00m0z--00-0zz-z0000000xxzxx\nend\n") ∷
     (bytes "module \\m\n \"\"\n  # note " ++ (0 ∷ []) ++ (13 ∷ []), bytes "5 11\n") ∷
     (bytes "  module \\g6" ++ (13 ∷ []) ++ bytes "wire offset -2147483648   inout 16" ++ (9 ∷ []) ++ bytes "width 2  " ++ (9 ∷ []) ++ bytes "\\3.\n\nconnect{ \\3. }" ++ (9 ∷ []) ++ bytes "[0" ++ (9 ∷ []) ++ bytes "] {" ++ (9 ∷ []) ++ bytes "\\3. } [0" ++ (9 ∷ []) ++ bytes "]#L>-)" ++ (168 ∷ []) ++ (219 ∷ []) ++ (13 ∷ []) ++ bytes "\nend" ++ (13 ∷ []) ++ bytes "\n", bytes "module \\g6\n  wire width 2 offset -2147483648 inout 16 \\3.\n  connect \\3. [0] \\3. [0]\nend\n") ∷
-    (bytes "attribute \\hdlname 01'z\nmodule \\Y\nconnect -685053137 [ 29 : 3 ] { \"7 \\143\" [ 23 : 21 ] \"\\142\\40c\" }\nend\n", bytes "attribute \\hdlname 1'z\nmodule \\Y\n  connect 27'010111001010101110101100101 27'001011000100010000001100011\nend\n") ∷
+    (bytes "attribute \\hdlname 01'z\nmodule \\Y\nconnect { 5'xzxm1 1337 [ 31 : 12 ] } { \"7 \\143\" [ 23 : 8 ] 9'zxm111m }\nend\n", bytes "attribute \\hdlname 1'z\nmodule \\Y\n  connect 25'xzxm100000000000000000000 25'0011011100100000zzzxm111m\nend\n") ∷
     (bytes "autoidx 25\nmodule \\140\nattribute \\hdlname \".{\\bc n\"\nwire offset -2147483648 \\Ye\nconnect \\Ye 1'-\nend\nmodule \\{\nwire inout 3 $e" ++ (204 ∷ []) ++ (129 ∷ []) ++ bytes "\ncell \\8 $6\nconnect \\Z 686293817\nconnect $}+}" ++ (213 ∷ []) ++ bytes " $e" ++ (204 ∷ []) ++ (129 ∷ []) ++ bytes "\nend\nend\n", bytes "autoidx 25\nmodule \\140\n  attribute \\hdlname \".{bc n\"\n  wire offset -2147483648 \\Ye\n  connect \\Ye 1'-\nend\nmodule \\{\n  wire inout 3 $e" ++ (204 ∷ []) ++ (129 ∷ []) ++ bytes "\n  cell \\8 $6\n    connect \\Z 32'00101000111010000000001100111001\n    connect $}+}" ++ (213 ∷ []) ++ bytes " $e" ++ (204 ∷ []) ++ (129 ∷ []) ++ bytes "\n  end\nend\n") ∷
-    (bytes "module $.B\nmemory \\4\nwire width 1 \\3\nmemory width 3 \\1\nconnect \\3 \\3\ncell \\e" ++ (204 ∷ []) ++ (129 ∷ []) ++ bytes " \\7_Y\nparameter signed \\655 39\nconnect $$ { { -286138257 [ 21 ] \\3 } \\3 }\nconnect \\X \\3\nend\nend\n", bytes "module $.B\n  wire \\3\n  memory \\4\n  memory width 3 \\1\n  cell \\e" ++ (204 ∷ []) ++ (129 ∷ []) ++ bytes " \\7_Y\n    parameter signed \\655 39\n    connect $$ { 1'1 \\3 \\3 }\n    connect \\X \\3\n  end\n  connect \\3 \\3\nend\n") ∷
+    (bytes "module $.B\nmemory \\4\nwire width 1 \\3\nmemory width 3 \\1\nconnect \\3 \\3\ncell \\e" ++ (204 ∷ []) ++ (129 ∷ []) ++ bytes " \\7_Y\nparameter signed \\655 39\nconnect $$ { { -286138257 [ 31 : 31 ] \"  {\" [ 21 : 19 ] } 227187117 [ 22 : 22 ] } [ 3 : 2 ]\nparameter $b 1'0\nend\nend\n", bytes "module $.B\n  wire \\3\n  memory \\4\n  memory width 3 \\1\n  cell \\e" ++ (204 ∷ []) ++ (129 ∷ []) ++ bytes " \\7_Y\n    parameter signed \\655 39\n    parameter $b 1'0\n    connect $$ 2'10\n  end\n  connect \\3 \\3\nend\n") ∷
     (bytes "  autoidx -817714284" ++ (13 ∷ []) ++ bytes "attribute \\$ \"\"#" ++ (191 ∷ []) ++ (181 ∷ []) ++ (160 ∷ []) ++ (196 ∷ []) ++ bytes "q" ++ (6 ∷ []) ++ (182 ∷ []) ++ bytes "\nattribute $" ++ (1 ∷ []) ++ bytes "za9" ++ (9 ∷ []) ++ bytes "73532899\n  autoidx -817714284" ++ (13 ∷ []) ++ bytes "attribute \\$ \"\"#" ++ (191 ∷ []) ++ (181 ∷ []) ++ (160 ∷ []) ++ (196 ∷ []) ++ bytes "q" ++ (6 ∷ []) ++ (182 ∷ []) ++ bytes "\n  # note " ++ (0 ∷ []) ++ (13 ∷ []) ++ bytes "attribute" ++ (9 ∷ []) ++ bytes "\\x50 38" ++ (13 ∷ []) ++ bytes "\nmodule \\XBB" ++ (13 ∷ []) ++ bytes "end\n", bytes "4 55\n") ∷
     (bytes "autoidx 25\nmodule $\\" ++ (13 ∷ []) ++ bytes "\nattribute   \\hdlname 0\nwire offset 0" ++ (9 ∷ []) ++ bytes "inout" ++ (9 ∷ []) ++ bytes "11 upto $67x  \n  # note " ++ (0 ∷ []) ++ (13 ∷ []) ++ bytes "end" ++ (13 ∷ []) ++ bytes " module" ++ (9 ∷ []) ++ bytes "$X\n\nwire signed" ++ (9 ∷ []) ++ bytes "offset  -2147483648 \\c_0 #g" ++ (1 ∷ []) ++ (24 ∷ []) ++ (144 ∷ []) ++ (22 ∷ []) ++ (250 ∷ []) ++ (211 ∷ []) ++ (13 ∷ []) ++ bytes " end\n", bytes "autoidx 25\nmodule $\\\n  attribute \\hdlname 0\n  wire upto inout 11 $67x\nend\nmodule $X\n  wire offset -2147483648 signed \\c_0\nend\n") ∷
     (bytes "module $B #U" ++ (232 ∷ []) ++ (3 ∷ []) ++ (228 ∷ []) ++ bytes "C\n[ # note " ++ (0 ∷ []) ++ (13 ∷ []) ++ bytes "cell " ++ (9 ∷ []) ++ bytes "\\t" ++ (9 ∷ []) ++ bytes "  $z.a\nend#H" ++ (185 ∷ []) ++ bytes "~b" ++ (17 ∷ []) ++ bytes "\n  wire \\x\nend\n  # note " ++ (0 ∷ []) ++ (13 ∷ []), bytes "5 17\n") ∷
@@ -515,21 +515,21 @@ cases =
     (bytes "\\018\nattribute \\018\nattribute \\}" ++ (206 ∷ []) ++ (165 ∷ []) ++ bytes "1" ++ (9 ∷ []) ++ bytes "8'1x10zzz-\nwire   offset 2147", bytes "5 0\n") ∷
     (bytes "module $209\nwire signed \\b\nmemory size 16 width 8 $B6\nend\nmodule \\[0:0]\nattribute \\hdlname 2147483647\ncell $adff $Xf\nend\nend\n", bytes "module $209\n  wire signed \\b\n  memory width 8 size 16 $B6\nend\nmodule \\[0:0]\n  attribute \\hdlname 2147483647\n  cell $adff $Xf\n  end\nend\n") ∷
     (bytes " " ++ (9 ∷ []) ++ bytes "module \\BY\nattribute   \\c \"" ++ (148 ∷ []) ++ (164 ∷ []) ++ bytes "\"  \n attribute" ++ (9 ∷ []) ++ bytes "\\hdlname" ++ (9 ∷ []) ++ bytes "\"" ++ (194 ∷ []) ++ bytes "i" ++ (210 ∷ []) ++ bytes "\"\n  # note " ++ (0 ∷ []) ++ (13 ∷ []) ++ bytes "wire \\e3" ++ (9 ∷ []) ++ bytes "\nconnect {4'01xz{  " ++ (9 ∷ []) ++ bytes "2048'  2048' } [2  : 0 ]\\e3 } { \\e3 1'0}\n\nend\n", bytes "10 82\n") ∷
-    (bytes " module  $3X" ++ (13 ∷ []) ++ bytes "connect 1'z 1'0[" ++ (9 ∷ []) ++ bytes "0]\nmemory size 2147483647  " ++ (9 ∷ []) ++ bytes "\\" ++ (234 ∷ []) ++ bytes "  \nmemory " ++ (9 ∷ []) ++ bytes "offset -2022687031  size 2147483647" ++ (9 ∷ []) ++ bytes "$e\nend " ++ (13 ∷ []), bytes "module $3X\n  memory size 2147483647 \\" ++ (234 ∷ []) ++ bytes "\n  memory size 2147483647 offset -2022687031 $e\n  connect 1'z 1'0\nend\n") ∷
+    (bytes " module  $3X" ++ (13 ∷ []) ++ bytes "connect 1' 1'0[0" ++ (9 ∷ []) ++ bytes "]\nmemory offset -661842033  " ++ (9 ∷ []) ++ bytes "\\" ++ (206 ∷ []) ++ (234 ∷ []) ++ bytes "  \n  end\n", bytes "module $3X\n  memory offset -661842033 \\" ++ (206 ∷ []) ++ (234 ∷ []) ++ bytes "\n  connect 1'x 1'0\nend\n") ∷
     (bytes "  attribu\"te" ++ (9 ∷ []) ++ bytes "$gYb 131755023" ++ (13 ∷ []) ++ bytes "\nmodule $c #\"" ++ (223 ∷ []) ++ (217 ∷ []) ++ (191 ∷ []) ++ bytes "\"J" ++ (13 ∷ []) ++ bytes "e9d  ", bytes "4 2\n") ∷
     (bytes "module output 3 width 5 $G%" ++ (175 ∷ []) ++ bytes "$\nmemory offset -1117491727 size 2147\\483647 \\0_B\nwire inp0 width 4 offset -2147483648 \\]\nend\n", bytes "5 0\n") ∷
     (bytes "module " ++ (9 ∷ []) ++ (9 ∷ []) ++ bytes "\\" ++ (174 ∷ []) ++ (176 ∷ []) ++ bytes "r" ++ (164 ∷ []) ++ (13 ∷ []) ++ bytes " attribute " ++ (9 ∷ []) ++ bytes "\\Cb9" ++ (9 ∷ []) ++ bytes "  \":}{#b\"\n  # note " ++ (0 ∷ []) ++ (13 ∷ []) ++ bytes "wire inout 11 signed" ++ (9 ∷ []) ++ bytes "  $cY\nend\n  # note " ++ (0 ∷ []) ++ (13 ∷ []) ++ bytes "attribute \\0 3'1-1\nmodule \\c\n\n " ++ (9 ∷ []) ++ bytes "end\n", bytes "module \\" ++ (174 ∷ []) ++ (176 ∷ []) ++ bytes "r" ++ (164 ∷ []) ++ bytes "\n  attribute \\Cb9 \":}{#b\"\n  wire inout 11 signed $cY\nend\nattribute \\0 3'1-1\nmodule \\c\nend\n") ∷
     (bytes "module \\Cc1\ncell \\sub $Zy9\nparameter real \\985 \"}a\\04\\  \"\nparameter re" ++ (217 ∷ []) ++ bytes "l $6g 0'\nconn'ct $\" 00'\nparameter \\z 007\nend\ne,nd\n", bytes "4 68\n") ∷
     (bytes "attribute \\hdlname  " ++ (9 ∷ []) ++ bytes "6'00x11m\n  # note " ++ (0 ∷ []) ++ (13 ∷ []) ++ bytes "module \\# #l" ++ (154 ∷ []) ++ bytes "\n\nwire" ++ (9 ∷ []) ++ bytes "width" ++ (9 ∷ []) ++ bytes "5" ++ (9 ∷ []) ++ bytes "\\" ++ (128 ∷ []) ++ bytes " \n  # note " ++ (0 ∷ []) ++ (13 ∷ []) ++ bytes "wire width 9 offset 0 \\Q" ++ (192 ∷ []) ++ bytes "`" ++ (128 ∷ []) ++ bytes "\nend\n\nattribute \\y 1" ++ (13 ∷ []) ++ bytes "autoidx  " ++ (9 ∷ []) ++ bytes "3#" ++ (22 ∷ []) ++ (234 ∷ []) ++ bytes ")" ++ (13 ∷ []) ++ bytes "module" ++ (9 ∷ []) ++ bytes "\\after\n  # note " ++ (0 ∷ []) ++ (13 ∷ []) ++ bytes "end\n", bytes "5 132\n") ∷
     (bytes "attribute \\hdlname \"ccn.n:\"\nmodule \\z0.\nattribute \\z 8'1\nwire width 1 $2c\nwire $d8\nattribute $" ++ (170 ∷ []) ++ bytes " \"\"\nwire width 4 output 17 $y6\nwire width 1 width 1 \\22\nattribute \\x 1\nwire width -1 \\x\nmemory size -1 \\end\nend\n", bytes "7 126\n") ∷
-    (bytes "module \\8b" ++ (13 ∷ []) ++ bytes "\n " ++ (9 ∷ []) ++ bytes "wire width" ++ (9 ∷ []) ++ bytes "5 signed $g6" ++ (13 ∷ []) ++ (9 ∷ []) ++ bytes "connect 7 [ 22:" ++ (9 ∷ []) ++ bytes "20  ]3" ++ (9 ∷ []) ++ bytes "[ 29 :  18 ] [" ++ (9 ∷ []) ++ bytes "7" ++ (9 ∷ []) ++ bytes ":" ++ (9 ∷ []) ++ bytes " 5" ++ (9 ∷ []) ++ bytes "]\n\nend\n  # note " ++ (0 ∷ []) ++ (13 ∷ []), bytes "module \\8b\n  wire width 5 signed $g6\n  connect 3'000 3'000\nend\n") ∷
+    (bytes "module \\8b" ++ (13 ∷ []) ++ bytes "\n " ++ (9 ∷ []) ++ bytes "wire width" ++ (9 ∷ []) ++ bytes "5 signed $g6" ++ (13 ∷ []) ++ bytes " connect 7'm1xzmm- 38[" ++ (9 ∷ []) ++ bytes "29  :23" ++ (9 ∷ []) ++ bytes "]\n\nend \n\nmodule \\" ++ (189 ∷ []) ++ bytes " #" ++ (155 ∷ []) ++ (17 ∷ []) ++ (160 ∷ []) ++ bytes "vO" ++ (190 ∷ []) ++ bytes "S\nend\n", bytes "module \\8b\n  wire width 5 signed $g6\n  connect 7'm1xzmm- 7'0000000\nend\nmodule \\" ++ (189 ∷ []) ++ bytes "\nend\n") ∷
     (bytes " \\2C.  \\y0 \\Z.  #" ++ (131 ∷ []) ++ (13 ∷ []) ++ bytes "\n\\m" ++ (13 ∷ []) ++ bytes "\n  ,attribute" ++ (9 ∷ []) ++ bytes "[\n1440126500 process  \\b 1337 $9z2 \n", bytes "5 1\n") ∷
     (bytes "module $ebe\nwire inout 4 upto width 1 $BA5\nwire width 6 output 6 \\B\nwire width 5 $$\ncell \\sub \\8._\nconnect \\A 1'0\nconnect \\B { 4'01xz 2147483648 $BA5 }\nend\nend\n", bytes "7 114\n") ∷
     (bytes "module \\m\n[} \\YfA\n,high  \\155   \\b  } \n\\m\n\nmodule  memory{ memory\n  # note " ++ (0 ∷ []) ++ (13 ∷ []) ++ bytes " " ++ (9 ∷ []) ++ bytes "{ memory:  \\a #" ++ (191 ∷ []) ++ (184 ∷ []) ++ bytes ",Z)\n\\b  6'x1011 8'x--xmz0\n\n", bytes "5 10\n") ∷
     (bytes "module \\" ++ (147 ∷ []) ++ bytes "\nwire width 0 ino{t 23 \\[0:0]", bytes "4 23\n") ∷
     (bytes "module $z92\nattribute \\hdlname -2147483648\nwire input 9 signed \\x.1\nend\nmodule \\g81\ncell \\sub \\8B5\nparameter real \\Z 8'1zm1mmxz\nconnect \\48 32\nparameter signed \\{ \"1c\"\nend\nend\nmodule $x\nend\n", bytes "module $z92\n  attribute \\hdlname -2147483648\n  wire input 9 signed \\x.1\nend\nmodule \\g81\n  cell \\sub \\8B5\n    parameter real \\Z 8'1zm1mmxz\n    parameter signed \\{ \"1c\"\n    connect \\48 32'00000000000000000000000000100000\n  end\nend\nmodule $x\nend\n") ∷
     (bytes "module  \\2 \ncell \\<j" ++ (233 ∷ []) ++ bytes " \\0 #" ++ (147 ∷ []) ++ (196 ∷ []) ++ (187 ∷ []) ++ bytes "4T" ++ (216 ∷ []) ++ bytes "\nconnect \\A 1'0\n " ++ (9 ∷ []) ++ bytes "connect \\B { {  }  }#" ++ (27 ∷ []) ++ bytes "1s" ++ (13 ∷ []) ++ bytes "end\nend\n  # note " ++ (0 ∷ []) ++ (13 ∷ []), bytes "module \\2\n  cell \\<j" ++ (233 ∷ []) ++ bytes " \\0\n    connect \\A 1'0\n    connect \\B { }\n  end\nend\n") ∷
-    (bytes "module" ++ (9 ∷ []) ++ bytes "\\A\ncell" ++ (9 ∷ []) ++ bytes "\\9C4" ++ (9 ∷ []) ++ bytes " " ++ (9 ∷ []) ++ bytes "\\1yg\n\nparameter signed \\\" \" a {\\175 \"" ++ (13 ∷ []) ++ bytes "\n\nend \n  # note " ++ (0 ∷ []) ++ (13 ∷ []) ++ bytes " end\n", bytes "module \\A\n  cell \\9C4 \\1yg\n    parameter signed \\\" \" a {} \"\n  end\nend\n") ∷
+    ([], []) ∷
     (bytes "module $1\nparameter \\p 0'\nparameter $p \"\"\nend\n", bytes "module $1\n  parameter \\p 0'\n  parameter $p \"\"\nend\n") ∷
     (bytes "module \\ea\nwire width 3 input 3 \\8f7\nwire width 5 signed \\xX6\nwire input 7 output 8 \\8f7\nattribute \\x 1\nmemory width 2048 offset 2147483647 $C\nend\n", bytes "7 62\n") ∷
     (bytes "module   \\{\n  # note " ++ (0 ∷ []) ++ (13 ∷ []) ++ bytes " wire width 99999999999999999999" ++ (9 ∷ []) ++ bytes "\\aZz" ++ (9 ∷ []) ++ (9 ∷ []) ++ bytes "\nend\n\n", bytes "7 24\n") ∷
@@ -538,22 +538,22 @@ cases =
     ((249 ∷ []) ++ bytes "X" ++ (151 ∷ []) ++ bytes "u" ++ (196 ∷ []) ++ bytes "x" ++ (184 ∷ []) ++ bytes "<" ++ (189 ∷ []) ++ (207 ∷ []) ++ (253 ∷ []) ++ bytes "M'F" ++ (223 ∷ []) ++ (181 ∷ []) ++ bytes "%M>N" ++ (147 ∷ []) ++ (5 ∷ []) ++ (185 ∷ []) ++ bytes "JF" ++ (252 ∷ []) ++ bytes "B" ++ (209 ∷ []) ++ (213 ∷ []) ++ (129 ∷ []) ++ (252 ∷ []) ++ (246 ∷ []) ++ bytes "J" ++ (215 ∷ []) ++ (14 ∷ []) ++ bytes "\"" ++ (8 ∷ []) ++ bytes "H|J" ++ (189 ∷ []) ++ bytes "f" ++ (186 ∷ []) ++ (30 ∷ []) ++ (28 ∷ []) ++ (237 ∷ []) ++ (204 ∷ []) ++ (210 ∷ []) ++ bytes "g" ++ (184 ∷ []) ++ (174 ∷ []) ++ bytes "C" ++ (151 ∷ []), bytes "4 0\n") ∷
     ([], []) ∷
     (bytes "autoidx 35\nmodule $6\nwire offset 2147483640 widt] 8 input 7 \\2_y\nconnect { \\2_y $6\nwire \\2_y 22 } 48'0m0--1z1zz11-1mmxxx-1m-z1m0m\nend\n", bytes "4 44\n") ∷
-    (bytes "module" ++ (9 ∷ []) ++ bytes "\\ZY\nwire width \\ax\ncell \\ ye" ++ (9 ∷ []) ++ bytes "$Z\nconneCt \\A" ++ (9 ∷ []) ++ bytes "1'0\n   note " ++ (0 ∷ []) ++ (13 ∷ []) ++ bytes "connect" ++ (9 ∷ []) ++ bytes "\\B" ++ (9 ∷ []) ++ bytes "{" ++ (9 ∷ []) ++ bytes "\\ax \\ax   2147483648 } [ 0" ++ (9 ∷ []) ++ bytes "]" ++ (13 ∷ []) ++ bytes "\n  end\n  # note " ++ (0 ∷ []) ++ (13 ∷ []) ++ bytes "  end" ++ (13 ∷ []) ++ bytes "\n", bytes "5 11\n") ∷
-    (bytes "module" ++ (9 ∷ []) ++ (9 ∷ []) ++ bytes "\\49" ++ (13 ∷ []) ++ bytes "\nwire signed inout 3" ++ (9 ∷ []) ++ bytes "upto width 3" ++ (9 ∷ []) ++ bytes "\\Y_" ++ (13 ∷ []) ++ bytes "\nconnect" ++ (9 ∷ []) ++ bytes "{  {  0'" ++ (9 ∷ []) ++ bytes "20 [16 :16" ++ (9 ∷ []) ++ bytes "]}  {} }\\Y_ [0:0 ][0 : 0]\n\nwire  offset 0 width 8 \\H" ++ (138 ∷ []) ++ bytes "\nend" ++ (13 ∷ []) ++ bytes "module \\Y\nwire \\end " ++ (13 ∷ []) ++ bytes "\nattribute" ++ (9 ∷ []) ++ bytes "\\afz 1509838484" ++ (13 ∷ []) ++ bytes "\ncell  \\a \\53\n  # note " ++ (0 ∷ []) ++ (13 ∷ []) ++ bytes "parameter signed \\" ++ (237 ∷ []) ++ bytes "= 1023106163\nend\nend  \n  # note " ++ (0 ∷ []) ++ (13 ∷ []), bytes "module \\49\n  wire width 3 upto inout 3 signed \\Y_\n  wire width 8 \\H" ++ (138 ∷ []) ++ bytes "\n  connect 1'0 \\Y_ [0]\nend\nmodule \\Y\n  wire \\end\n  attribute \\afz 1509838484\n  cell \\a \\53\n    parameter signed \\" ++ (237 ∷ []) ++ bytes "= 1023106163\n  end\nend\n") ∷
+    (bytes "module" ++ (9 ∷ []) ++ bytes "\\ZY\nwire width 4" ++ (9 ∷ []) ++ bytes "offset" ++ (9 ∷ []) ++ bytes "2147483644 \\ax\ncell $adff" ++ (9 ∷ []) ++ bytes "$Za\n  :# note " ++ (0 ∷ []) ++ (13 ∷ []) ++ bytes "connect  \\A 1'0\n  # note " ++ (0 ∷ []) ++ (13 ∷ []) ++ bytes "connect   zB  {\\ax" ++ (9 ∷ []) ++ bytes "\\ax \\ax" ++ (9 ∷ []) ++ bytes "[" ++ (9 ∷ []) ++ bytes "3 : 1  ][1 : 1 ][0" ++ (9 ∷ []) ++ bytes "  :0] " ++ (9 ∷ []) ++ bytes "[ 0 : 0" ++ (9 ∷ []) ++ bytes "] [0:" ++ (9 ∷ []) ++ bytes "0] [1:0 ]}" ++ (13 ∷ []) ++ bytes "end" ++ (13 ∷ []) ++ bytes "\nend " ++ (13 ∷ []) ++ bytes "\n", bytes "5 63\n") ∷
+    (bytes "module" ++ (9 ∷ []) ++ (9 ∷ []) ++ bytes "\\49" ++ (13 ∷ []) ++ bytes "\nwire signed inout 3" ++ (9 ∷ []) ++ bytes "upto width 3" ++ (9 ∷ []) ++ bytes "\\Y_" ++ (13 ∷ []) ++ bytes "\nconnect \\Y_" ++ (9 ∷ []) ++ bytes "[  1  :1 ]\\Y_   [" ++ (9 ∷ []) ++ bytes "2:  1] [0" ++ (9 ∷ []) ++ bytes ":0][0:0 ] [0 :" ++ (9 ∷ []) ++ bytes "0 " ++ (9 ∷ []) ++ bytes "] [0 : 0 ][ 0:0" ++ (9 ∷ []) ++ bytes "] [0" ++ (9 ∷ []) ++ bytes ":" ++ (9 ∷ []) ++ bytes "0] " ++ (13 ∷ []) ++ bytes "end\nmodule" ++ (9 ∷ []) ++ bytes "$ge\nwire offset" ++ (9 ∷ []) ++ bytes "  -2147483648 \\x \nwire" ++ (9 ∷ []) ++ bytes "input 12  width" ++ (9 ∷ []) ++ bytes "  0 \\Xf\nend" ++ (9 ∷ []) ++ bytes " \n", bytes "module \\49\n  wire width 3 upto inout 3 signed \\Y_\n  connect \\Y_ [1] \\Y_ [1]\nend\nmodule $ge\n  wire offset -2147483648 \\x\n  wire width 0 input 12 \\Xf\nend\n") ∷
     (bytes "module \\zCX\nwire width 4 \\$\nparameter \\p --1\nend\n", bytes "4 41\n") ∷
-    (bytes "module" ++ (9 ∷ []) ++ bytes "$8z" ++ (9 ∷ []) ++ bytes "\nconnect 9'mx-1 -2135532783[" ++ (9 ∷ []) ++ bytes "31:23 ]\n\nwire width 4 $z\nend" ++ (13 ∷ []) ++ bytes "module" ++ (9 ∷ []) ++ bytes "$0" ++ (152 ∷ []) ++ (13 ∷ []) ++ bytes "connect  2'm 1[" ++ (9 ∷ []) ++ bytes "18: 17" ++ (9 ∷ []) ++ bytes "  ]\nend\n", bytes "module $8z\n  wire width 4 $z\n  connect 9'mmmmmmx-1 9'100000001\nend\nmodule $0" ++ (152 ∷ []) ++ bytes "\n  connect 2'mm 2'00\nend\n") ∷
+    (bytes "module" ++ (9 ∷ []) ++ bytes "$8z" ++ (9 ∷ []) ++ bytes "\nconnect  -2135532783 [27" ++ (9 ∷ []) ++ bytes ": 14 ]" ++ (9 ∷ []) ++ bytes "[7:4]-1874765111[ 3 : 0]\nend\n  # note " ++ (0 ∷ []) ++ (13 ∷ []) ++ bytes "module \\Bd\nattribute \\hdlname" ++ (9 ∷ []) ++ bytes "\"\\076\"\n  # note " ++ (0 ∷ []) ++ (13 ∷ []) ++ bytes "attribute $_Y  \"\\ bc\\056\"\n  # note " ++ (0 ∷ []) ++ (13 ∷ []) ++ bytes "wire inout 18" ++ (9 ∷ []) ++ bytes "\\2A  " ++ (13 ∷ []) ++ bytes "  end \n", bytes "module $8z\n  connect 4'1101 4'1001\nend\nmodule \\Bd\n  attribute \\hdlname \">\"\n  attribute $_Y \" bc.\"\n  wire inout 18 \\2A\nend\n") ∷
     (bytes "module \\648\nattribute" ++ (9 ∷ []) ++ bytes "\\B.  \"t\\134.{\"" ++ (13 ∷ []) ++ bytes " wire" ++ (9 ∷ []) ++ bytes " signed width 5  $a" ++ (13 ∷ []) ++ bytes "wire width " ++ (9 ∷ []) ++ bytes "5 offset 2147483643" ++ (9 ∷ []) ++ bytes "\\6\n\nwire input  7 input 7 $a\nwire width -1 \\_\nwire input " ++ (9 ∷ []) ++ bytes " 7 output 8 $a" ++ (13 ∷ []) ++ bytes "end\n", bytes "7 99\n") ∷
     (bytes "module $#\nparameter \\Yd \"n\"\nconnect \"\" { }\ncell \\B \\6y\nend\nattribute \\hdlname 6'mx01xx\nattribute \\" ++ (217 ∷ []) ++ bytes " 9'-0xz1xzzm\ncell \\X7g \\%&" ++ (244 ∷ []) ++ bytes "c\nend\nend\n", bytes "module $#\n  parameter \\Yd \"n\"\n  cell \\B \\6y\n  end\n  attribute \\hdlname 6'mx01xx\n  attribute \\" ++ (217 ∷ []) ++ bytes " 9'-0xz1xzzm\n  cell \\X7g \\%&" ++ (244 ∷ []) ++ bytes "c\n  end\n  connect { } { }\nend\n") ∷
     (bytes "module \\4X\nwire signed" ++ (9 ∷ []) ++ bytes "offset 2147483647  \\" ++ (230 ∷ []) ++ (136 ∷ []) ++ (9 ∷ []) ++ bytes "#" ++ (215 ∷ []) ++ bytes "n\nwire output" ++ (9 ∷ []) ++ bytes "13 width 5 $A6\n  # note " ++ (0 ∷ []) ++ (13 ∷ []) ++ bytes "wire $ \\a\nend " ++ (9 ∷ []) ++ (13 ∷ []) ++ bytes "\n", bytes "4 93\n") ∷
     (bytes "module $A\nattribute \\hdlname \"\\143n\"\nattribute \\B3 -1\ncell \\cf3 \\4c\nconnect \\Z { 9' 4'x-1x }\nconnect \\fBg 5'1m-z\nconnect \\4 { }\nconnect \\ZAZ 1'\nend\nend\n", bytes "module $A\n  attribute \\hdlname \"cn\"\n  attribute \\B3 -1\n  cell \\cf3 \\4c\n    connect \\Z 13'xxxxxxxxxx-1x\n    connect \\fBg 5'01m-z\n    connect \\4 { }\n    connect \\ZAZ 1'x\n  end\nend\n") ∷
     (bytes "module \\g3\nmemory width 2048 offset 2147483647 $dB8\nwire offset -2147483649 \\_Z\nwire input 1024 $a\nend\n", bytes "7 52\n") ∷
-    (bytes "module \\y2b\nattribute \\hdlname 4'101x\nwire signed \\2B\nwire signed \\egf\nattribute $C3 1337\nwire offset -2147483648 width 7 \\b43\nconnect { \\egf 2049' } { \\egf 2049' }\nend\n", bytes "7 127\n") ∷
+    (bytes "module \\y2b\nattribute \\hdlname 4'101x\nwire signed \\2B\nwire signed \\egf\nattribute $C3 1337\nwire offset -2147483648 width 7 \\b43\nconnect { -1 } { \\egf \\2B [ 0 : 0 ] [ 0 : 0 ] [ 0 : 0 ] [ 0 : 0 ] [ 1 : 0 ] }\nend\n", bytes "10 127\n") ∷
     (bytes "module \\U\nwire \\Zd\nparameter \\1'0 \"\\173c#\"\nwire \\f6\nconnect \\Zd \\Zd\nparameter \\1\nconnect { \\Zd [ 0 : 0 ] 0' } \\f6\nend\nmodule $A8Y\ncell \\ba \\40\nparameter \\g " ++ (143 ∷ []) ++ bytes "1476802159\nend\nend\n", bytes "4 156\n") ∷
     (bytes "attribute \\hdlname -2147483648 \n  # note " ++ (0 ∷ []) ++ (13 ∷ []) ++ bytes "module \\e" ++ (204 ∷ []) ++ (129 ∷ []) ++ bytes "\nprocess" ++ (9 ∷ []) ++ bytes "\\786\nend \nend" ++ (13 ∷ []), bytes "6 55\n") ∷
-    (bytes "module \\764  \n" ++ (9 ∷ []) ++ bytes "wire" ++ (9 ∷ []) ++ bytes "signed width" ++ (9 ∷ []) ++ bytes "2 output 19 \\6zb  " ++ (13 ∷ []) ++ bytes "\nwire  inout 24 offset 0" ++ (9 ∷ []) ++ bytes "$" ++ (167 ∷ []) ++ (168 ∷ []) ++ (175 ∷ []) ++ bytes "\n\nconnect{1'0[1]\\6zb  {2048'   2048'" ++ (9 ∷ []) ++ bytes "}[4095:4095] [" ++ (9 ∷ []) ++ bytes "0] } { \\missing [ 0" ++ (9 ∷ []) ++ bytes "] { 2048'" ++ (9 ∷ []) ++ bytes "2048'} [4095:4095] [0 ]" ++ (9 ∷ []) ++ bytes "}\nend  \n  # note " ++ (0 ∷ []) ++ (13 ∷ []), bytes "8 83\n") ∷
+    (bytes "module \\764  \n" ++ (9 ∷ []) ++ bytes "wire" ++ (9 ∷ []) ++ bytes "signed width" ++ (9 ∷ []) ++ bytes "2 output 19 \\6zb  " ++ (13 ∷ []) ++ bytes "\nwire  inout 24 offset 0" ++ (9 ∷ []) ++ bytes "$" ++ (167 ∷ []) ++ (168 ∷ []) ++ (175 ∷ []) ++ bytes "\n\nconnect{\\6zb" ++ (9 ∷ []) ++ bytes "[0 : 0  ]" ++ (9 ∷ []) ++ bytes "[0:0][ 0" ++ (9 ∷ []) ++ bytes ":0 ] \"A\" \\6zb } {" ++ (9 ∷ []) ++ bytes "\\missing  [0 ] {2048' 2048'}[ 4095: 4095" ++ (9 ∷ []) ++ bytes "][0 ]}\n\n  end" ++ (9 ∷ []) ++ (13 ∷ []) ++ bytes "\n", bytes "8 83\n") ∷
     (bytes "attribute \\hdlname 1'-\nmodule \\g\nattribute \\hdlname 0'\nwire width 0 inout 6 \\a[3]\nwire signed width 6 input 8 $" ++ (201 ∷ []) ++ (155 ∷ []) ++ bytes "\nwire width 9 inout 10 signed \\CBg\ncell $adff $c\n", bytes "5 162\n") ∷
     (bytes "module \\7a\nwire width 5 signed input 5 \\f2Z\nattribute \\X 3'zxz\nattribute \\B -1011182349\nwire upto offset 2147483647 \\395\nmemory width 0 \\395\nend\n", bytes "7 121\n") ∷
-    (bytes "module $25\nconnect { { } { 0' { 01'm { 1' 0' } } } } { 2' [ 1 ] 1'x }\nend\n", bytes "module $25\n  connect 2'mx 2'xx\nend\n") ∷
+    (bytes "module $25\nconnect 01'z { 2' [ 1 : 1 ] { } }\nend\n", bytes "module $25\n  connect 1'z 1'x\nend\n") ∷
     (bytes "attribute $bb \"#\\40\"" ++ (13 ∷ []) ++ bytes "module  \\# #\nwire width 6 \\" ++ (198 ∷ []) ++ bytes "\\" ++ (165 ∷ []) ++ bytes "\nattribute $42Z   626084633\nwire signed \\B\n\nattribute" ++ (9 ∷ []) ++ bytes " \\3''V 4'm-m0 #" ++ (253 ∷ []) ++ bytes "/\\" ++ (5 ∷ []) ++ (13 ∷ []) ++ bytes "cell $mux" ++ (9 ∷ []) ++ bytes "\\969 \n  # note " ++ (0 ∷ []) ++ (13 ∷ []), bytes "5 152\n") ∷
     (bytes "autoidx 33\nmodule $c8z " ++ (9 ∷ []) ++ bytes "\n\nmemory size" ++ (9 ∷ []) ++ bytes "1 \\\\\nattribute \\hdlname" ++ (9 ∷ []) ++ (9 ∷ []) ++ bytes " \"{\\\\\"\nwire width 8 signed " ++ (9 ∷ []) ++ bytes " \\1z\nend\n", bytes "autoidx 33\nmodule $c8z\n  attribute \\hdlname \"{\\\\\"\n  wire width 8 signed \\1z\n  memory size 1 \\\\\nend\n") ∷
     (bytes "attribute \\e3X 32\nmodule $f\nattribute \\xB \"\\b\\\"#7n\"\nattribute \\5YA -1832630311\nwire inout 7 offset 2147483647 $#\nattribute \\czX 35\nwire output 23 \\T\nconnect { \\T } { { 2048' 2048' } [ 4096 ] { } \\T [ 1 ] }\nend\n", bytes "10 149\n") ∷
@@ -562,7 +562,7 @@ cases =
     (bytes "module \\Bg\nmemory offset 161243" ++ (13 ∷ []) ++ bytes "6289 width" ++ (9 ∷ []) ++ bytes "3 \\c2g\nend\nmodule \\Bg\nte " ++ (0 ∷ []) ++ (13 ∷ []) ++ bytes "\n  # no\nte " ++ (0 ∷ []) ++ (13 ∷ []), bytes "5 11\n") ∷
     (bytes "autoidx   -2089321570\n  # note " ++ (0 ∷ []) ++ (13 ∷ []) ++ bytes "module" ++ (9 ∷ []) ++ bytes "$A_" ++ (13 ∷ []) ++ bytes "\n wire width  0 upto \\4c #/" ++ (144 ∷ []) ++ (3 ∷ []) ++ (240 ∷ []) ++ bytes "\nconnect" ++ (9 ∷ []) ++ bytes "0' \\c\nwire offset   -2147483648 width 5 inout 4 $YB#z\nend\n", bytes "8 75\n") ∷
     (bytes "module \\e\nattribute $[0:0] \"\"\nwire width 5 $b2\nend\nattribute \\y 1\nmodule \\a \\b\n", bytes "5 66\n") ∷
-    (bytes "end\n  # note " ++ (0 ∷ []) ++ (13 ∷ []) ++ bytes "connect $Cfd 'xx" ++ (9 ∷ []) ++ bytes " [ 1: 1]\n module $d #Q" ++ (139 ∷ []) ++ (13 ∷ []) ++ bytes "connect" ++ (9 ∷ []) ++ bytes "1'- {00'" ++ (9 ∷ []) ++ bytes "1'm [ 0]", bytes "5 0\n") ∷
+    (bytes " module $d #Q" ++ (139 ∷ []) ++ (13 ∷ []) ++ bytes "connect{00M 1'm [ 0  ]}[ 0 :  0][" ++ (9 ∷ []) ++ bytes " 0:0]1'-\n" ++ (172 ∷ []) ++ bytes " # note " ++ (0 ∷ []) ++ (13 ∷ []) ++ bytes "end\n  # n" ++ (148 ∷ []) ++ bytes "te " ++ (0 ∷ []) ++ (13 ∷ []), bytes "4 23\n") ∷
     (bytes "attribute $f 7'0\nmodule $zy\nattribute \\hdlname \"0\"\nwire width 1 output 10 \\e\nwire upto $Z\nend\nattribute \\x 1\n", bytes "5 109\n") ∷
     (bytes "autoidx -2147483648\nattribute \\hdlname  \"\\072{b\\40\"\nattribute" ++ (9 ∷ []) ++ bytes "$_z6 15\n  module \\dx\nend" ++ (13 ∷ []) ++ bytes "attribute \\hdlname" ++ (9 ∷ []) ++ bytes "-1871786435" ++ (13 ∷ []) ++ bytes "module" ++ (9 ∷ []) ++ bytes " $9Xc\nend\n", bytes "autoidx -2147483648\nattribute \\hdlname \":{b \"\nattribute $_z6 15\nmodule \\dx\nend\nattribute \\hdlname -1871786435\nmodule $9Xc\nend\n") ∷
     (bytes "inout 9'm--1x-m1-{\n\\b\n\\m ] parameter\ninout \\7" ++ (9 ∷ []) ++ bytes "\\a" ++ (13 ∷ []) ++ bytes "[\n", bytes "5 0\n") ∷
@@ -572,20 +572,20 @@ cases =
     (bytes "autoidx 10\nmodule \\5d\nend\n", bytes "autoidx 10\nmodule \\5d\nend\n") ∷
     (bytes "moduAe moduAe \\1z\n", bytes "4 0\n") ∷
     (bytes "module $\"\nend\nattribute \\y 1\nparcm", bytes "4 29\n") ∷
-    (bytes "attribute \\hdlname 27\nodule \\2C\ncell" ++ (0 ∷ []) ++ bytes "$ \\y\nconnect \\f7_ 6' [ 0 0 0 ]\nconnect $zx_ 0'\nconnect \\W 18 [ 28 ] [ 0 : : ]\nconnect \\cc 1'-\nend\nend\n", bytes "4 22\n") ∷
+    (bytes "attribute \\hdlname 27\n\\2C\ncell $} \\y\nconnect \\f7_ 6' [ 5 : 0 ]\nconnect $zx_ 0'\nconnect \\W 18 [ 31 : 0 ] [ 31 : 1 ] [ 29 : 1 ] [ 28 : 1 ] [ 27 : 0 ] [ 27 : 0 ] [ 26 : 0 ] [ 26 : 0 ]\nconnect \\A { 5'0 [ 3 ] }\nend\nend\n", bytes "5 22\n") ∷
     (bytes "mm[\\n\\\\,nxx]#$]\n:\" ,\n" ++ (13 ∷ []) ++ bytes ":" ++ (9 ∷ []) ++ bytes "${}[-\"a\"n}m\"\\\\\\m},{\na0#{" ++ (13 ∷ []), bytes "4 0\n") ∷
     (bytes "module \\4" ++ (13 ∷ []) ++ bytes "\nwire width 4" ++ (9 ∷ []) ++ bytes "upto \\b23" ++ (13 ∷ []) ++ (9 ∷ []) ++ bytes "wire width 7" ++ (9 ∷ []) ++ bytes "\\79 #\ncell \\15Z" ++ (9 ∷ []) ++ bytes "\\ac\nparameter \\q 1'01\n  # note " ++ (0 ∷ []) ++ (13 ∷ []) ++ bytes " parameter signed \\q  " ++ (9 ∷ []) ++ bytes "2147483648\nend#" ++ (201 ∷ []) ++ bytes "\nend\n", bytes "7 68\n") ∷
-    ((9 ∷ []) ++ bytes " module" ++ (9 ∷ []) ++ bytes "$cx0" ++ (13 ∷ []) ++ bytes "\n" ++ (9 ∷ []) ++ bytes "connect 1337 2052307044\nwire" ++ (9 ∷ []) ++ bytes "signed" ++ (9 ∷ []) ++ bytes "inout 22 width" ++ (9 ∷ []) ++ bytes "1 \\Y\nconnect \\Y" ++ (9 ∷ []) ++ bytes "[" ++ (9 ∷ []) ++ bytes "0]1'z\nconnect" ++ (9 ∷ []) ++ bytes "-2147483648 [28 " ++ (9 ∷ []) ++ bytes ":20] 9'-m010z-zm  \n end" ++ (13 ∷ []) ++ bytes "module" ++ (9 ∷ []) ++ bytes " \\Yb\n\n end#" ++ (133 ∷ []) ++ (148 ∷ []) ++ bytes "0" ++ (148 ∷ []) ++ (155 ∷ []) ++ bytes "\n\n", bytes "module $cx0\n  wire inout 22 signed \\Y\n  connect 32'00000000000000000000010100111001 32'01111010010100111011100001100100\n  connect \\Y 1'z\n  connect 9'000000000 9'-m010z-zm\nend\nmodule \\Yb\nend\n") ∷
-    (bytes "module  $6\n\ncell" ++ (9 ∷ []) ++ bytes "\\sub $92C" ++ (9 ∷ []) ++ bytes "\nconnect \\AY { 2' 6'xzz-zz} [6" ++ (9 ∷ []) ++ (9 ∷ []) ++ (9 ∷ []) ++ bytes ":  4] " ++ (13 ∷ []) ++ bytes "\nconnect" ++ (9 ∷ []) ++ bytes "\\Ae" ++ (9 ∷ []) ++ bytes "5'm\n  # note " ++ (0 ∷ []) ++ (13 ∷ []) ++ bytes "connect \\ef1" ++ (9 ∷ []) ++ bytes "-2147483648\nend\nend" ++ (9 ∷ []) ++ bytes " \n\n", bytes "module $6\n  cell \\sub $92C\n    connect \\AY 3'xxz\n    connect \\Ae 5'mmmmm\n    connect \\ef1 32'10000000000000000000000000000000\n  end\nend\n") ∷
+    ((9 ∷ []) ++ bytes " module" ++ (9 ∷ []) ++ bytes "$cx0" ++ (13 ∷ []) ++ bytes "\n" ++ (9 ∷ []) ++ bytes "connect 1337 2052307044\nwire" ++ (9 ∷ []) ++ bytes "signed" ++ (9 ∷ []) ++ bytes "inout 22 width" ++ (9 ∷ []) ++ bytes "1 \\Y\nconnect \\Y" ++ (9 ∷ []) ++ bytes "[" ++ (9 ∷ []) ++ bytes "0:0]" ++ (9 ∷ []) ++ bytes "\\Y  " ++ (9 ∷ []) ++ bytes "[ 0 :  0  ]" ++ (13 ∷ []) ++ bytes "\n  wire upto output 32" ++ (9 ∷ []) ++ bytes "\\AC" ++ (13 ∷ []) ++ bytes "\nend\n attribute " ++ (9 ∷ []) ++ bytes "\\13" ++ (9 ∷ []) ++ bytes "08'  \nmodule $9\nend \n", bytes "module $cx0\n  wire inout 22 signed \\Y\n  wire upto output 32 \\AC\n  connect 32'00000000000000000000010100111001 32'01111010010100111011100001100100\n  connect \\Y \\Y\nend\nattribute \\13 8'xxxxxxxx\nmodule $9\nend\n") ∷
+    (bytes "module  $6\n\ncell" ++ (9 ∷ []) ++ bytes "\\sub $92C" ++ (9 ∷ []) ++ bytes "\n" ++ (9 ∷ []) ++ (9 ∷ []) ++ bytes "connect \\AY  " ++ (9 ∷ []) ++ bytes "{ 2' 6'xzz-zz}[6" ++ (9 ∷ []) ++ bytes ": 1 ][" ++ (9 ∷ []) ++ bytes "5" ++ (9 ∷ []) ++ bytes ":0 ][5:0][5:" ++ (9 ∷ []) ++ bytes " 0][ 5 :0 ][ 5:0][ 5 : 0 ] [  " ++ (9 ∷ []) ++ bytes "4: 1]\nparameter signed \\g4" ++ (9 ∷ []) ++ bytes "5'\n\nconnect" ++ (9 ∷ []) ++ bytes "\\zbb \"b\\" ++ (190 ∷ []) ++ bytes "\"\nend\n  # note " ++ (0 ∷ []) ++ (13 ∷ []) ++ bytes "end\n", bytes "module $6\n  cell \\sub $92C\n    parameter signed \\g4 5'xxxxx\n    connect \\AY 4'xzz-\n    connect \\zbb 16'0110001010111110\n  end\nend\n") ∷
     (bytes "module $|s2\nwire inout 17 $y\nwire upto width 2 \\#\nattribute \\x 1\nwire input 7 output 8 \\#\nend\n", bytes "7 65\n") ∷
     (bytes "  autoidx" ++ (9 ∷ []) ++ bytes "-694455522\nmodule \\f05\nmemory size 2147483647" ++ (9 ∷ []) ++ bytes "width  1 \\%x" ++ (13 ∷ []) ++ bytes "\nend\n", bytes "autoidx -694455522\nmodule \\f05\n  memory size 2147483647 \\%x\nend\n") ∷
     (bytes "module $1b\n  # note " ++ (0 ∷ []) ++ (13 ∷ []) ++ bytes "end\n", bytes "module $1b\nend\n") ∷
-    (bytes "autoidx 1024117125\nmodule \\aB\nwire width 6 $393\nconnect 6'x $393\ncell $# \\bad\nconnect $9c 7'1zmz- [ 3 : 0 ]\nend\nparameter \\ZZ. \"7t#.0.\"\ncell \\bA \\d9_\nend\nend\nmodule \\A\nend\n", bytes "autoidx 1024117125\nmodule \\aB\n  parameter \\ZZ. \"7t#.0.\"\n  wire width 6 $393\n  cell $# \\bad\n    connect $9c 4'zmz-\n  end\n  cell \\bA \\d9_\n  end\n  connect 6'xxxxxx $393\nend\nmodule \\A\nend\n") ∷
-    (bytes "module \\X\nconnect { 4'zmx0 { 1' 00' } } 5'1\nend\nmodule $y\nattribute \\A56 9'm-1xz0m-z\nattribute \\a \"a:\\\"\"\ncell \\1'0 \\a\nparameter signed \\3 1337\nconnect $Bd. 0'\nconnect $8e 4'm0- [ 1 : 1 ]\nend\nend\n", bytes "module \\X\n  connect 5'zmx0x 5'00001\nend\nmodule $y\n  attribute \\A56 9'm-1xz0m-z\n  attribute \\a \"a:\\\"\"\n  cell \\1'0 \\a\n    parameter signed \\3 1337\n    connect $Bd. { }\n    connect $8e 1'0\n  end\nend\n") ∷
+    (bytes "autoidx 1024117125\nmodule \\aB\nwire width 6 $393\nconnect 6'x $393\ncell $# \\bad\nconnect $9c 7'1zmz- [ 6 : 0 ] [ 6 : 1 ] [ 4 : 1 ] [ 2 : 1 ] [ 1 : 0 ]\nend\nend\nattribute $6. \"ta}\"\nattribute \\hdlname \"71a\"\nmodule $.Ae\nend\n", bytes "autoidx 1024117125\nmodule \\aB\n  wire width 6 $393\n  cell $# \\bad\n    connect $9c 2'1z\n  end\n  connect 6'xxxxxx $393\nend\nattribute $6. \"ta}\"\nattribute \\hdlname \"71a\"\nmodule $.Ae\nend\n") ∷
+    (bytes "module \\X\nconnect { 4'zmx0 { 1' 00' } } 5'1\nend\nmodule $y\nattribute \\A56 9'm-1xz0m-z\nattribute \\a \"a:\\\"\"\ncell \\1'0 \\a\nparameter signed \\3 1337\nconnect $Bd. 0'\nconnect $8e 4'm0- [ 3 ]\nend\nend\n", bytes "module \\X\n  connect 5'zmx0x 5'00001\nend\nmodule $y\n  attribute \\A56 9'm-1xz0m-z\n  attribute \\a \"a:\\\"\"\n  cell \\1'0 \\a\n    parameter signed \\3 1337\n    connect $Bd. { }\n    connect $8e 1'm\n  end\nend\n") ∷
     (bytes "  modula $7 #\n  # note " ++ (0 ∷ []) ++ (13 ∷ []) ++ bytes "wire \\ya" ++ (13 ∷ []) ++ bytes "wire" ++ (9 ∷ []) ++ bytes "offset 2147483647 " ++ (9 ∷ []) ++ bytes "\\6fz\ncell" ++ (9 ∷ []) ++ bytes "$mux \\2c0" ++ (13 ∷ []) ++ bytes "\nconnect \\A 1'0 " ++ (13 ∷ []) ++ (9 ∷ []) ++ bytes "connect   \\B {" ++ (9 ∷ []) ++ bytes "\\ya, \"A\"}\nnd\nend\n", bytes "4 2\n") ∷
     ([], []) ∷
     (bytes "attribute" ++ (9 ∷ []) ++ bytes "\\v" ++ (255 ∷ []) ++ bytes " \"0t777\"\n  # note " ++ (0 ∷ []) ++ (13 ∷ []) ++ (9 ∷ []) ++ bytes "module" ++ (9 ∷ []) ++ bytes "$f9\nattribute \\C \"\" \nwire" ++ (9 ∷ []) ++ bytes "inout 21 signed width" ++ (9 ∷ []) ++ bytes "  1 $0Y." ++ (13 ∷ []) ++ bytes "wire width" ++ (9 ∷ []) ++ (9 ∷ []) ++ bytes "8 $." ++ (13 ∷ []) ++ bytes "\nconnect  {" ++ (9 ∷ []) ++ bytes "-1   $0Y." ++ (9 ∷ []) ++ bytes "}{ $0Y." ++ (9 ∷ []) ++ bytes "} [ " ++ (9 ∷ []) ++ bytes " 0 ]\nend\n  # note " ++ (0 ∷ []) ++ (13 ∷ []), bytes "10 116\n") ∷
-    (bytes "autoidx $x \\4\ncelnect \\" ++ (156 ∷ []) ++ (137 ∷ []) ++ bytes " { 1' [ 0 : 0 ] [ 0 " ++ (225 ∷ []) ++ bytes " 0 ] 37 4'z }\nconnect -2010988984\nmodule 1'x\nend\nend\nmodule \\4_\nwire offset -2147483648 \\0\nconnect { 1431406006 [ 28 : 26 ] \\0 1[ 0 ] } [ 2 : 2 ] { 0' \\0 }\nend\n", bytes "5 0\n") ∷
+    (bytes "autoidx -2010988984\nmodule \\4\ncell $adff \\#\nconnect \\" ++ (156 ∷ []) ++ (137 ∷ []) ++ bytes " { 1' [ 0 :" ++ (1 ∷ []) ++ bytes "0 ] [ 0 ] : 0 ] [ 0 : 0 ] [ 0,: 0 ] [ 0 : 0 ] [ 0 : 0 ] [ 0 : 0 ] [ 0 : 0 ] [ 0 : 0 ] 2'mx " ++ (13 ∷ []) ++ bytes "'- }\nconnect $Aez { 7' }\nend\nend\n", bytes "4 66\n") ∷
     (bytes " module $57X\nconnect 7' 7'm0xx1m\n  # not# " ++ (0 ∷ []) ++ (13 ∷ []) ++ bytes "end\n", bytes "module $57X\n  connect 7'xxxxxxx 7'mm0xx1m\nend\n") ∷
     (bytes "autoidx -1653041318\nmodule \\\"\nconnect { { 1'x 2'-1 } { 6' 23'0-0-m1x0-z1111x00zz0z-x } } -2147483648\nend\n", bytes "autoidx -1653041318\nmodule \\\"\n  connect 32'x-1xxxxxx0-0-m1x0-z1111x00zz0z-x 32'10000000000000000000000000000000\nend\n") ∷
     (bytes "module \\y\nend\nparameter \\p 1\n", bytes "5 14\n") ∷
@@ -593,16 +593,16 @@ cases =
     (bytes "module" ++ (9 ∷ []) ++ (9 ∷ []) ++ bytes "\\gZ2" ++ (13 ∷ []) ++ bytes "wire output 9 \\#\nwire  signed \\$\nwire input 15" ++ (9 ∷ []) ++ bytes "offset   -2147483648" ++ (9 ∷ []) ++ bytes "width" ++ (9 ∷ []) ++ bytes "1" ++ (9 ∷ []) ++ bytes "upto" ++ (9 ∷ []) ++ bytes "$7c" ++ (13 ∷ []) ++ bytes "\nattribute \\hdlname 6'0-xzmx\ncell \\sub \\a[3]\n  # note " ++ (0 ∷ []) ++ (13 ∷ []) ++ bytes "connect \\A" ++ (9 ∷ []) ++ bytes "1'0\nconnect  \\A  {   \"A\" " ++ (9 ∷ []) ++ (9 ∷ []) ++ bytes "{ } }\n end #\nend\n", bytes "9 169\n") ∷
     (bytes "module" ++ (9 ∷ []) ++ bytes "\\[0:0] " ++ (13 ∷ []) ++ bytes "\nwire" ++ (9 ∷ []) ++ bytes "offset" ++ (9 ∷ []) ++ bytes "0  upto width 1 \\1'0\nwire \\x.0\nwire width 4" ++ (9 ∷ []) ++ bytes "offset" ++ (9 ∷ []) ++ bytes "  $2_ -1 \nend\nmodule $" ++ (250 ∷ []) ++ bytes " \n\nend\n", bytes "5 59\n") ∷
     (bytes "module  $y52" ++ (13 ∷ []) ++ bytes "\nwire" ++ (9 ∷ []) ++ (9 ∷ []) ++ bytes " i" ++ (148 ∷ []) ++ bytes "out 1023 $CZZ #" ++ (177 ∷ []) ++ (164 ∷ []) ++ bytes "]" ++ (127 ∷ []) ++ bytes "r" ++ (13 ∷ []) ++ bytes "\nend" ++ (13 ∷ []), bytes "4 21\n") ∷
-    (bytes "module \\a\nwire \\7e2\nwire input 14 \\" ++ (127 ∷ []) ++ (221 ∷ []) ++ bytes "\nwire width 1 \\_2\ncell \\sub \\5ab\nconnect \\A 1'0\nconnect \\B { \\missing [ 0 ] 4'01xz 1'0 } 1'2\nend\nend\n", bytes "4 126\n") ∷
+    (bytes "module \\a\nwire \\7e2\nwire input 14 \\" ++ (127 ∷ []) ++ (221 ∷ []) ++ bytes "\nwire width 1 \\_2\ncell $adff \\gf\nconnect \\A 1'0\nconnect \\A { -1 [ 31 : 1 ] [ 29 : 1 ] [ 28 : 0 ] [ 27 : 1 ] [ 25 : 0 ] [ 25 : 1 ] [ 23 : 1 ] [ 21 : 0 ] [ 22 : 0 ] \\" ++ (127 ∷ []) ++ (221 ∷ []) ++ bytes " 1'0 }\nend\nend\n", bytes "9 85\n") ∷
     (bytes "module \\_c\nattribute $46 1'-\nwire width 4 signed $1Z\nwire width 9 \\adc\nwire \\5\nattribute \\x 1\nprocess \\5\nend\nend\n", bytes "6 94\n") ∷
     (bytes "module" ++ (9 ∷ []) ++ bytes "\\C5 " ++ (9 ∷ []) ++ bytes "\ncell $C3A" ++ (9 ∷ []) ++ bytes "  \\eZ7\nconnect" ++ (9 ∷ []) ++ bytes "$.X \".\\\\\"" ++ (9 ∷ []) ++ bytes " \nconnect $V" ++ (9 ∷ []) ++ (9 ∷ []) ++ bytes " 6'm0m-z1\n  # note " ++ (0 ∷ []) ++ (13 ∷ []) ++ bytes "end" ++ (9 ∷ []) ++ (13 ∷ []) ++ bytes " wire output 7" ++ (9 ∷ []) ++ bytes "\\xAy\nwire  offset 1   width 2" ++ (9 ∷ []) ++ bytes "\\5B" ++ (13 ∷ []) ++ bytes "\nattribute \\hdlname 26" ++ (13 ∷ []) ++ bytes "\nattribute $C 4'0\nwire upto" ++ (9 ∷ []) ++ bytes "$ayd\nend" ++ (13 ∷ []) ++ bytes "\n", bytes "module \\C5\n  wire output 7 \\xAy\n  wire width 2 offset 1 \\5B\n  attribute \\hdlname 26\n  attribute $C 4'0000\n  wire upto $ayd\n  cell $C3A \\eZ7\n    connect $.X 16'0010111001011100\n    connect $V 6'm0m-z1\n  end\nend\n") ∷
-    (bytes "module" ++ (9 ∷ []) ++ bytes "$$\nconnect" ++ (9 ∷ []) ++ bytes "8'-1-z11-0 [ 4 ][0 " ++ (9 ∷ []) ++ bytes "][ 0 " ++ (9 ∷ []) ++ bytes ":" ++ (9 ∷ []) ++ bytes "0 " ++ (9 ∷ []) ++ bytes "] [ 0] [  0:0]1'm  \nconnect 32'x01z1x10z-xz-z-x---xx-zmmm-xxm-1 23#\n" ++ (9 ∷ []) ++ bytes "end\nmodule \\M" ++ (215 ∷ []) ++ (158 ∷ []) ++ bytes " #" ++ (13 ∷ []) ++ bytes "\nwire input" ++ (9 ∷ []) ++ bytes "15 signed $X6b\nattribute \\[0:0] 2\n  # note " ++ (0 ∷ []) ++ (13 ∷ []) ++ bytes "wire width " ++ (9 ∷ []) ++ bytes " 1 \\d6_\n  # note " ++ (0 ∷ []) ++ (13 ∷ []) ++ bytes "end\n", bytes "module $$\n  connect 1'z 1'm\n  connect 32'x01z1x10z-xz-z-x---xx-zmmm-xxm-1 32'00000000000000000000000000010111\nend\nmodule \\M" ++ (215 ∷ []) ++ (158 ∷ []) ++ bytes "\n  wire input 15 signed $X6b\n  attribute \\[0:0] 2\n  wire \\d6_\nend\n") ∷
+    (bytes "module" ++ (9 ∷ []) ++ bytes "$$\nconnect  8'-1-z11-0[ 7:0 " ++ (9 ∷ []) ++ bytes "][ 6 " ++ (9 ∷ []) ++ bytes ":" ++ (9 ∷ []) ++ bytes "0 " ++ (9 ∷ []) ++ bytes "] [ 6: 0  ][5:1   ] [3  :1][1:0 ]  [ 0 " ++ (9 ∷ []) ++ bytes ":0] { -0001" ++ (9 ∷ []) ++ bytes "[ 16: " ++ (9 ∷ []) ++ bytes "16 ] 0'" ++ (9 ∷ []) ++ bytes "  }" ++ (13 ∷ []) ++ bytes "\nend" ++ (13 ∷ []) ++ bytes "attribute \\AdY \"{\"\nmodule" ++ (9 ∷ []) ++ bytes "$2\nconnect" ++ (9 ∷ []) ++ bytes "{ {{" ++ (9 ∷ []) ++ bytes "1'[0 ]1'-  9'mx-x0zxz0 } [ 10: 8][ 2 :0][ 2 : 1 ] [" ++ (9 ∷ []) ++ bytes "0 :" ++ (9 ∷ []) ++ bytes "0] [0 :0 ] [0" ++ (9 ∷ []) ++ bytes ":0" ++ (9 ∷ []) ++ bytes "  ]6'z0-zz-} [5:1][3 :  1]" ++ (9 ∷ []) ++ bytes "[2  : 1 ][" ++ (9 ∷ []) ++ bytes "1:0 ] }2'0m " ++ (13 ∷ []) ++ bytes "\n end\n", bytes "module $$\n  connect 1'1 1'1\nend\nattribute \\AdY \"{\"\nmodule $2\n  connect 2'0- 2'0m\nend\n") ∷
     (bytes "module" ++ (9 ∷ []) ++ bytes "\\</E`\n  # note " ++ (0 ∷ []) ++ (13 ∷ []) ++ bytes "wire width  " ++ (9 ∷ []) ++ bytes "6 offset 0" ++ (9 ∷ []) ++ (9 ∷ []) ++ bytes "\\b7\nend\n  # note " ++ (0 ∷ []) ++ (13 ∷ []), bytes "module \\</E`\n  wire width 6 \\b7\nend\n") ∷
     (bytes "autoidx -1\nmodule \\" ++ (247 ∷ []) ++ (213 ∷ []) ++ (225 ∷ []) ++ bytes "\nattribute $[0:0] 1'z\ncell $adff \\1.\nparameter real \\3 -0\nend\nend\n", bytes "autoidx -1\nmodule \\" ++ (247 ∷ []) ++ (213 ∷ []) ++ (225 ∷ []) ++ bytes "\n  attribute $[0:0] 1'z\n  cell $adff \\1.\n    parameter real \\3 0\n  end\nend\n") ∷
     (bytes "autoidx 569754796\n " ++ (9 ∷ []) ++ bytes "module " ++ (9 ∷ []) ++ (9 ∷ []) ++ bytes "\\4ea \nend\n\n", bytes "autoidx 569754796\nmodule \\4ea\nend\n") ∷
     (bytes "attribute $yy 1'-\nmodule $C0f\nwire signed \\" ++ (164 ∷ []) ++ bytes "\nwire offset 2 width 9 \\efV\nprocess \\efV\nend\n", bytes "6 72\n") ∷
     (bytes "module $4dY\nparameter \\A6 \":}\\}\"\nend\n", bytes "module $4dY\n  parameter \\A6 \":}}\"\nend\n") ∷
-    (bytes "module \\X\ncell $<U \\a90\nconnect \\y \"\"\nconnect \\30 4'x1m1 [ 3 : 1 ]\nconnect \\*" ++ (131 ∷ []) ++ (249 ∷ []) ++ bytes "b { }\nparameter $. \"\"\nend\nend\n", bytes "module \\X\n  cell $<U \\a90\n    parameter $. \"\"\n    connect \\y { }\n    connect \\30 3'x1m\n    connect \\*" ++ (131 ∷ []) ++ (249 ∷ []) ++ bytes "b { }\n  end\nend\n") ∷
+    (bytes "module \\X\ncell $<U \\a90\nconnect \\y \"\"\nconnect \\30 4'x1m1 [ 2 ]\nconnect $z3x 1'z [ 0 ]\nconnect \\8dC 0'\nend\nend\n", bytes "module \\X\n  cell $<U \\a90\n    connect \\y { }\n    connect \\30 1'1\n    connect $z3x 1'z\n    connect \\8dC { }\n  end\nend\n") ∷
     (bytes "attribute \\z\"0" ++ (253 ∷ []) ++ bytes " 1'z" ++ (13 ∷ []) ++ bytes "module \\3\n\n wire width" ++ (9 ∷ []) ++ bytes "-1  \\e\nwire offset -2147483649 $" ++ (201 ∷ []) ++ (136 ∷ []) ++ bytes "5" ++ (13 ∷ []) ++ bytes "\nmemory size -1 \\1'0" ++ (9 ∷ []) ++ (9 ∷ []) ++ bytes "\nend" ++ (9 ∷ []) ++ (13 ∷ []) ++ bytes "\n", bytes "7 32\n") ∷
     (bytes "autoidx -1844772159\nmodule \\4\nwire offset 7 upto signed width 9 \\c4\nwire $1fg\nend\nmodule $4\nwire offset -1 \\" ++ (186 ∷ []) ++ (153 ∷ []) ++ bytes "\nattribute \\ax4 3\ncell $mux \\ag\nconnect \\78g \\" ++ (186 ∷ []) ++ (153 ∷ []) ++ bytes "\nend\nend\n", bytes "autoidx -1844772159\nmodule \\4\n  wire width 9 offset 7 upto signed \\c4\n  wire $1fg\nend\nmodule $4\n  wire offset -1 \\" ++ (186 ∷ []) ++ (153 ∷ []) ++ bytes "\n  attribute \\ax4 3\n  cell $mux \\ag\n    connect \\78g \\" ++ (186 ∷ []) ++ (153 ∷ []) ++ bytes "\n  end\nend\n") ∷
     (bytes "module \\m\ninit" ++ (9 ∷ []) ++ bytes "\\.f  0',\\a\n\nend \" \" module" ++ (13 ∷ []) ++ bytes "  wire 1'1 5'm\n8'01m1mzz- 6'" ++ (9 ∷ []) ++ bytes "} posedge \\b \n\n", bytes "5 10\n") ∷
@@ -612,18 +612,18 @@ cases =
     (bytes "module" ++ (9 ∷ []) ++ (9 ∷ []) ++ bytes " \\$\n wire input" ++ (9 ∷ []) ++ bytes "17 offset 2147483647 \\9_a" ++ (13 ∷ []) ++ bytes "\nwire \\5_y  " ++ (13 ∷ []) ++ bytes "\nattribute  " ++ (9 ∷ []) ++ bytes "\\x 1\nwire width   0" ++ (9 ∷ []) ++ bytes "offset" ++ (9 ∷ []) ++ bytes "2147483647  " ++ (9 ∷ []) ++ bytes "$YBa #_a" ++ (224 ∷ []) ++ bytes "N\nend#" ++ (250 ∷ []) ++ bytes "Q~" ++ (8 ∷ []) ++ (13 ∷ []) ++ bytes "\n", bytes "module \\$\n  wire offset 2147483647 input 17 \\9_a\n  wire \\5_y\n  attribute \\x 1\n  wire width 0 offset 2147483647 $YBa\nend\n") ∷
     (bytes "module $X7A\nwire $2zd\ncell \\a[3] \\L3\nconnect \\A 1'0\nconnect \\A { $2zd -1 $2zd }\nend\nend\n", bytes "9 52\n") ∷
     (bytes "module \\" ++ (195 ∷ []) ++ (169 ∷ []) ++ bytes "\nattribute \\7Xe \"\"\ncell \\A $xcd\n", bytes "5 42\n") ∷
-    (bytes "monule $f.\n" ++ (170 ∷ []) ++ bytes "onnect 1'z { 5'x00-m [ 3 ] }\nend\nmodule $ca\nend\n", bytes "4 0\n") ∷
+    (bytes "5'xa00-m $f.\nconnect 1'1 { module [ 3 ] }\nend\nmodule \\zaCb\nend\n", bytes "4 0\n") ∷
     (bytes "module $." ++ (13 ∷ []) ++ bytes "wire $A\nend\n\nattribute \\y 1" ++ (13 ∷ []) ++ bytes "end" ++ (13 ∷ []) ++ bytes "module \\after\n  end\n\n", bytes "5 38\n") ∷
     (bytes "module \\e7.\nwire $1ze\nwire signed input 3 width 3 \\Y\ncell \\sub \\7\nconnect [ 1 ] \\a\nend\nend\n", bytes "5 66\n") ∷
     (bytes "attribute \\hdlname -446024748\n  # note " ++ (0 ∷ []) ++ (13 ∷ []) ++ bytes "module $X1\n" ++ (9 ∷ []) ++ bytes "cell \\sub  \\b\n", bytes "5 67\n") ∷
     (bytes "attribute $#" ++ (9 ∷ []) ++ bytes "1'\n\nmodule \\d\nattribute \\hdlname" ++ (9 ∷ []) ++ bytes "4'1m-\nattribute \\62 1'z\nwire upto \\1d\n wire \\2cc  \n\n wire" ++ (9 ∷ []) ++ bytes "offset 1 \\b #" ++ (166 ∷ []) ++ (198 ∷ []) ++ (2 ∷ []) ++ (190 ∷ []) ++ (204 ∷ []) ++ (13 ∷ []) ++ bytes "connect{{}}[" ++ (9 ∷ []) ++ bytes "0 ]{\\1d" ++ (9 ∷ []) ++ bytes "[0" ++ (9 ∷ []) ++ bytes "]} " ++ (13 ∷ []) ++ bytes "end\n\n", bytes "10 123\n") ∷
-    (bytes "module \\F}\ncell \\sub \\}\nconnect \\9Z7 8'x-0-xm1- [ 7 : 7 ]\nend\ncell $adff \\7\nconnect $_ 8'z--xx1-m [ 7 : 7 ]\nend\nwire width 8 \\C9\nend\n", bytes "module \\F}\n  wire width 8 \\C9\n  cell \\sub \\}\n    connect \\9Z7 1'x\n  end\n  cell $adff \\7\n    connect $_ 1'z\n  end\nend\n") ∷
+    (bytes "module \\F}\ncell \\sub \\}\nconnect \\9Z7 8'x-0-xm1- [ 1 : 1 ]\nend\nwire signed \\" ++ (152 ∷ []) ++ (238 ∷ []) ++ bytes "+" ++ (249 ∷ []) ++ bytes "\nmemory \\Za\nparameter $fdZ \"\"\nconnect \\" ++ (152 ∷ []) ++ (238 ∷ []) ++ bytes "+" ++ (249 ∷ []) ++ bytes " \\" ++ (152 ∷ []) ++ (238 ∷ []) ++ bytes "+" ++ (249 ∷ []) ++ bytes "\nend\n", bytes "module \\F}\n  parameter $fdZ \"\"\n  wire signed \\" ++ (152 ∷ []) ++ (238 ∷ []) ++ bytes "+" ++ (249 ∷ []) ++ bytes "\n  memory \\Za\n  cell \\sub \\}\n    connect \\9Z7 1'1\n  end\n  connect \\" ++ (152 ∷ []) ++ (238 ∷ []) ++ bytes "+" ++ (249 ∷ []) ++ bytes " \\" ++ (152 ∷ []) ++ (238 ∷ []) ++ bytes "+" ++ (249 ∷ []) ++ bytes "\nend\n") ∷
     (bytes "attribute  \\a 1'x" ++ (26 ∷ []) ++ bytes "module $4xf" ++ (13 ∷ []) ++ bytes "cell $mux   \\Xz \n\nconnect \\A 4'-0-0#9*" ++ (242 ∷ []) ++ (174 ∷ []) ++ (253 ∷ []) ++ bytes "z" ++ (153 ∷ []) ++ (13 ∷ []) ++ bytes "connect $13" ++ (9 ∷ []) ++ bytes "0'\n end" ++ (13 ∷ []) ++ bytes "connect" ++ (9 ∷ []) ++ bytes "1337" ++ (9 ∷ []) ++ (9 ∷ []) ++ bytes "[18 : 14]" ++ (9 ∷ []) ++ bytes "05'-z-00\n\nconnect" ++ (9 ∷ []) ++ bytes " " ++ (9 ∷ []) ++ bytes "0' \"\"\n  # note " ++ (0 ∷ []) ++ (13 ∷ []) ++ bytes "  end" ++ (13 ∷ []), bytes "4 14\n") ∷
     (bytes "moduLe", bytes "4 0\n") ∷
     (bytes "autoidx ", bytes "5 0\n") ∷
     (bytes "attribute \\hdlname -2147483648\nmodule $aZ\nend\nmodule $g\nconnect 0' \"\"\ncell \\g5g $e" ++ (204 ∷ []) ++ (129 ∷ []) ++ bytes "\nparameter \\_5 1280864953\nparameter signed \\eY 2'z\nconnect $" ++ (230 ∷ []) ++ bytes "o -2147483648\nconnect $0 -592275898\nend\nend\n", bytes "attribute \\hdlname -2147483648\nmodule $aZ\nend\nmodule $g\n  cell \\g5g $e" ++ (204 ∷ []) ++ (129 ∷ []) ++ bytes "\n    parameter \\_5 1280864953\n    parameter signed \\eY 2'zz\n    connect $" ++ (230 ∷ []) ++ bytes "o 32'10000000000000000000000000000000\n    connect $0 32'11011100101100101001011001000110\n  end\n  connect { } { }\nend\n") ∷
     (bytes "module" ++ (9 ∷ []) ++ bytes "\\4bx\n\n" ++ (9 ∷ []) ++ bytes " wire  " ++ (9 ∷ []) ++ bytes "width" ++ (9 ∷ []) ++ bytes " " ++ (9 ∷ []) ++ bytes "4 input 6 \\}" ++ (13 ∷ []) ++ bytes "wire width 1 \\A9_\n\nconnect" ++ (9 ∷ []) ++ bytes "{4'01xz } {4'01xz } #" ++ (13 ∷ []) ++ bytes "\nend\n", bytes "module \\4bx\n  wire width 4 input 6 \\}\n  wire \\A9_\n  connect 4'01xz 4'01xz\nend\n") ∷
-    (bytes "module \\B" ++ (230 ∷ []) ++ bytes "\nattribute \\# 25\n\ncell \\sub   \\26Y\nend\nattribute \\hdlname \"\\040\"\n\nattribute \\x 1676387996\nwire $2z\ncell   $adff $x" ++ (13 ∷ []) ++ bytes "\nconnect \\Cc -1544638376[ 26" ++ (9 ∷ []) ++ bytes ": 20 ]\n\nconnect $e9y $2z\n\nend\nend\n", bytes "module \\B" ++ (230 ∷ []) ++ bytes "\n  attribute \\hdlname \" \"\n  attribute \\x 1676387996\n  wire $2z\n  attribute \\# 25\n  cell \\sub \\26Y\n  end\n  cell $adff $x\n    connect \\Cc 7'0111110\n    connect $e9y $2z\n  end\nend\n") ∷
+    (bytes "module \\B" ++ (230 ∷ []) ++ bytes "\nattribute \\# 25\n\ncell \\sub   \\26Y\nend\nattribute \\hdlname \"\\040\"\n\nattribute \\x 1676387996\nwire $2z\ncell   $adff $x" ++ (13 ∷ []) ++ bytes "\nconnect" ++ (9 ∷ []) ++ bytes "  \\Cc -1544638376" ++ (9 ∷ []) ++ bytes " [31: 0]" ++ (9 ∷ []) ++ bytes "[ 31:0]" ++ (9 ∷ []) ++ bytes " [ " ++ (9 ∷ []) ++ bytes "30 : 0" ++ (9 ∷ []) ++ bytes "] [" ++ (9 ∷ []) ++ bytes "29  :0] [29:1 ]" ++ (9 ∷ []) ++ bytes "[28  :  0][ 27 " ++ (9 ∷ []) ++ (9 ∷ []) ++ bytes ":0 ]" ++ (9 ∷ []) ++ bytes "[27 : 1 ]" ++ (9 ∷ []) ++ bytes "[" ++ (9 ∷ []) ++ bytes "5 : 2 ]" ++ (13 ∷ []) ++ bytes "connect \\5b" ++ (9 ∷ []) ++ bytes "\"}c\"" ++ (13 ∷ []) ++ bytes "end\nend\n  # note " ++ (0 ∷ []) ++ (13 ∷ []), bytes "module \\B" ++ (230 ∷ []) ++ bytes "\n  attribute \\hdlname \" \"\n  attribute \\x 1676387996\n  wire $2z\n  attribute \\# 25\n  cell \\sub \\26Y\n  end\n  cell $adff $x\n    connect \\Cc 4'0101\n    connect \\5b 16'0111110101100011\n  end\nend\n") ∷
     (bytes "module $a\n\nwire width 6" ++ (9 ∷ []) ++ bytes "$d" ++ (13 ∷ []) ++ bytes "\nattribute \\x 1\nprocess $X8\n" ++ (9 ∷ []) ++ bytes "end\nend\n  # note " ++ (0 ∷ []) ++ (13 ∷ []), bytes "6 43\n") ∷
     (bytes "module \\e" ++ (204 ∷ []) ++ (129 ∷ []) ++ bytes " #\n  # note " ++ (0 ∷ []) ++ (13 ∷ []) ++ bytes "wire" ++ (9 ∷ []) ++ bytes "width " ++ (9 ∷ []) ++ bytes " 5 signed offset " ++ (9 ∷ []) ++ bytes "0 $a8\nwire   signed" ++ (9 ∷ []) ++ bytes "\\" ++ (188 ∷ []) ++ bytes ",\nattribute \\hdlname -1\n wire width " ++ (9 ∷ []) ++ bytes "1 \\A1\n " ++ (9 ∷ []) ++ bytes "cell $adff $6\nconnect \\a [1'0]\\a \nend  \nend\n  # note " ++ (0 ∷ []) ++ (13 ∷ []), bytes "5 136\n") ∷
     (bytes "attribute $A8 4'x1\nmodule \\g\nprocess \\.\nend\nend\n", bytes "6 29\n") ∷
@@ -631,7 +631,7 @@ cases =
     (bytes "module $6_7\nattribute \\hdlname \".7#\\134\\\"1\"\nattribute $" ++ (182 ∷ []) ++ bytes " 9'0zzx-m0z0\nattribute \\8x5 3'mz1\nwire \\+" ++ (131 ∷ []) ++ bytes "\nend\nattribute \\y 1\nconnect { } { }\nmodule \\after\nend\n", bytes "5 118\n") ∷
     (bytes "module \\3\nmemory wizdth 2048 offset 2147483647 \\", bytes "4 17\n") ∷
     (bytes "\n" ++ (165 ∷ []) ++ bytes "c" ++ (168 ∷ []) ++ bytes "^f" ++ (157 ∷ []) ++ (9 ∷ []) ++ (150 ∷ []) ++ bytes "p" ++ (5 ∷ []) ++ (253 ∷ []) ++ bytes "2" ++ (9 ∷ []) ++ (12 ∷ []) ++ (151 ∷ []) ++ (184 ∷ []) ++ bytes "j%" ++ (246 ∷ []) ++ bytes "?" ++ (246 ∷ []) ++ (140 ∷ []) ++ bytes "$" ++ (6 ∷ []) ++ (224 ∷ []) ++ bytes "W" ++ (184 ∷ []) ++ (136 ∷ []) ++ (227 ∷ []) ++ bytes "Z" ++ (192 ∷ []) ++ (179 ∷ []) ++ bytes "H'" ++ (143 ∷ []) ++ bytes ",t" ++ (141 ∷ []) ++ (239 ∷ []) ++ bytes "?Tp" ++ (249 ∷ []) ++ (205 ∷ []) ++ (225 ∷ []) ++ bytes "lu" ++ (181 ∷ []) ++ bytes "/" ++ (252 ∷ []) ++ bytes "~n" ++ (164 ∷ []) ++ bytes "il" ++ (22 ∷ []) ++ bytes "G^" ++ (202 ∷ []) ++ (4 ∷ []) ++ bytes "S" ++ (14 ∷ []) ++ (30 ∷ []) ++ bytes "-" ++ (137 ∷ []) ++ bytes "l" ++ (218 ∷ []) ++ bytes "c" ++ (217 ∷ []) ++ (24 ∷ []) ++ (193 ∷ []) ++ bytes "k" ++ (213 ∷ []) ++ bytes "4i" ++ (15 ∷ []) ++ (7 ∷ []) ++ (157 ∷ []) ++ bytes "n" ++ (185 ∷ []) ++ (166 ∷ []) ++ bytes "U" ++ (230 ∷ []) ++ (17 ∷ []) ++ (173 ∷ []) ++ (168 ∷ []) ++ (168 ∷ []) ++ (197 ∷ []) ++ (196 ∷ []) ++ (209 ∷ []) ++ bytes "$'" ++ (170 ∷ []) ++ (211 ∷ []) ++ (185 ∷ []) ++ (195 ∷ []) ++ (219 ∷ []) ++ bytes "?" ++ (131 ∷ []) ++ bytes "g" ++ (170 ∷ []) ++ bytes "H" ++ (163 ∷ []) ++ bytes ")" ++ (8 ∷ []) ++ (238 ∷ []) ++ bytes "ehc" ++ (158 ∷ []) ++ bytes "`i" ++ (146 ∷ []) ++ (158 ∷ []) ++ (239 ∷ []) ++ (223 ∷ []) ++ bytes "2" ++ (253 ∷ []) ++ (0 ∷ []) ++ (193 ∷ []) ++ bytes "Y" ++ (188 ∷ []) ++ (138 ∷ []) ++ (189 ∷ []) ++ (228 ∷ []) ++ (136 ∷ []) ++ (175 ∷ []) ++ bytes "v" ++ (25 ∷ []) ++ bytes "2a", bytes "4 1\n") ∷
-    (bytes "autoidx" ++ (9 ∷ []) ++ bytes "-0001\nmodule \\58c\nattribute \\hdlname  -1172993001\n " ++ (9 ∷ []) ++ bytes "wire input" ++ (9 ∷ []) ++ bytes "15 \\}" ++ (13 ∷ []) ++ bytes "parameter \\y9" ++ (9 ∷ []) ++ bytes " 2'x\n\n" ++ (9 ∷ []) ++ bytes "connect  \"1\" [   7:  3 ][4" ++ (9 ∷ []) ++ bytes ": 1" ++ (9 ∷ []) ++ bytes "][2" ++ (9 ∷ []) ++ bytes ":2" ++ (9 ∷ []) ++ bytes " ]{ 0'" ++ (9 ∷ []) ++ bytes "22  " ++ (9 ∷ []) ++ bytes "[ 1" ++ (9 ∷ []) ++ bytes ": 1 ]" ++ (9 ∷ []) ++ bytes "} #" ++ (153 ∷ []) ++ bytes "\nend #" ++ (251 ∷ []) ++ (212 ∷ []) ++ bytes "u" ++ (143 ∷ []) ++ (250 ∷ []) ++ (13 ∷ []) ++ bytes "\n", bytes "autoidx -1\nmodule \\58c\n  parameter \\y9 2'xx\n  attribute \\hdlname -1172993001\n  wire input 15 \\}\n  connect 1'0 1'1\nend\n") ∷
+    (bytes "autoidx" ++ (9 ∷ []) ++ bytes "-0001\nmodule \\58c\nattribute \\hdlname  -1172993001\n " ++ (9 ∷ []) ++ bytes "wire input" ++ (9 ∷ []) ++ bytes "15 \\}" ++ (13 ∷ []) ++ bytes "parameter \\y9" ++ (9 ∷ []) ++ bytes " 2'x\n\n" ++ (9 ∷ []) ++ bytes "connect  \"1\" [   1:  0 ][1" ++ (9 ∷ []) ++ bytes "] {" ++ (9 ∷ []) ++ bytes "0' 22[" ++ (9 ∷ []) ++ bytes "1:" ++ (9 ∷ []) ++ bytes " 1] }\n  end\n", bytes "autoidx -1\nmodule \\58c\n  parameter \\y9 2'xx\n  attribute \\hdlname -1172993001\n  wire input 15 \\}\n  connect 1'0 1'1\nend\n") ∷
     (bytes "module \\x2\nwire width 5 \\Cxz\nwire $GW\nwire inout 1023 \\Cxz\nend\n", bytes "9 38\n") ∷
     (bytes "attribute" ++ (9 ∷ []) ++ bytes "\\x39 6'z\n  # note " ++ (0 ∷ []) ++ (13 ∷ []) ++ bytes "attribute \\hdlname  \"{\"\"\nmodule" ++ (9 ∷ []) ++ bytes "\\51_\nend" ++ (13 ∷ []), bytes "4 50\n") ∷
     (bytes "module \\c3\n  # note " ++ (0 ∷ []) ++ (13 ∷ []) ++ bytes "parameter $bX 6'0z-xxx#" ++ (12 ∷ []) ++ (156 ∷ []) ++ bytes "G" ++ (250 ∷ []) ++ (176 ∷ []) ++ (165 ∷ []) ++ (127 ∷ []) ++ bytes "\n\nattribute \\hdlname" ++ (9 ∷ []) ++ bytes "\"0.\"\n attribute  \\84_" ++ (9 ∷ []) ++ bytes "-0001\ncell" ++ (9 ∷ []) ++ bytes "$adff $#\n  end" ++ (13 ∷ []) ++ bytes "end#:g`" ++ (228 ∷ []) ++ (160 ∷ []) ++ (137 ∷ []) ++ (225 ∷ []) ++ bytes "\n", bytes "module \\c3\n  parameter $bX 6'0z-xxx\n  attribute \\hdlname \"0.\"\n  attribute \\84_ -1\n  cell $adff $#\n  end\nend\n") ∷
@@ -643,7 +643,7 @@ cases =
     (bytes "module \\m\n-2147483648 offset" ++ (9 ∷ []) ++ bytes "edge" ++ (13 ∷ []) ++ bytes "\n  \\gc" ++ (9 ∷ []) ++ bytes "module" ++ (9 ∷ []) ++ bytes "output   1'-" ++ (9 ∷ []) ++ bytes "} " ++ (13 ∷ []) ++ bytes "4' connect" ++ (13 ∷ []) ++ bytes "\n", bytes "5 10\n") ∷
     (bytes "module $c55\n " ++ (9 ∷ []) ++ bytes "cell \\yfX $26\n  # note " ++ (0 ∷ []) ++ (13 ∷ []) ++ bytes "  connect \\A   1'0\n connect   \\A {  -1{ 2048'" ++ (9 ∷ []) ++ bytes " 1'} -1}#" ++ (28 ∷ []) ++ bytes "_" ++ (168 ∷ []) ++ (136 ∷ []) ++ (211 ∷ []) ++ bytes "P" ++ (28 ∷ []) ++ bytes "\n  end\nend \n  # note " ++ (0 ∷ []) ++ (13 ∷ []), bytes "9 59\n") ∷
     (bytes " \\b" ++ (9 ∷ []) ++ bytes "switch\n  # note " ++ (0 ∷ []) ++ (13 ∷ []), bytes "5 1\n") ∷
-    (bytes "attribute \n\\\" 5'--\nmodule \\1'90\nwire width 0 $" ++ (228 ∷ []) ++ (127 ∷ []) ++ bytes "\nconnect 7'--x-0z-" ++ (188 ∷ []) ++ bytes "[ 6 : 3 ] 4'm-z-\nend\n", bytes "5 0\n") ∷
+    (bytes "attribute \\\" 5'--\nmodule \\1'0\nwire width 0 $" ++ (228 ∷ []) ++ (127 ∷ []) ++ bytes "\nconnect 7'--x-0z- 6 : 6 ] { { } { { 00' 1'- } 0' } }\nend\nmodule \\2x_\nwire:width 9 signed $b0d\nend\n", bytes "5 47\n") ∷
     (bytes " " ++ (9 ∷ []) ++ bytes "module \\z " ++ (13 ∷ []) ++ bytes "\nend\n  # note " ++ (0 ∷ []) ++ (13 ∷ []), bytes "module \\z\nend\n") ∷
     (bytes "module $c1\nend\n", bytes "module $c1\nend\n") ∷
     (bytes "module   \\zY7\nconnect" ++ (9 ∷ []) ++ bytes "{\\missing }" ++ (9 ∷ []) ++ (9 ∷ []) ++ (9 ∷ []) ++ bytes "[ 0] { -1 }" ++ (13 ∷ []) ++ bytes "end\n", bytes "8 14\n") ∷
@@ -652,24 +652,24 @@ cases =
     (bytes "attribute \\f \"n\\\\{\"\nmodule $91f\nwire width 6 offset 6 \\c\nend\nmodule $5Ya\nconnect 7'x-xx11m 7'zxxm110\nwire width 6 $xY\nwire signed \\bX\nconnect { } 0'\nend\n", bytes "attribute \\f \"n\\\\{\"\nmodule $91f\n  wire width 6 offset 6 \\c\nend\nmodule $5Ya\n  wire width 6 $xY\n  wire signed \\bX\n  connect 7'x-xx11m 7'zxxm110\n  connect { } { }\nend\n") ∷
     (bytes " module" ++ (9 ∷ []) ++ bytes "\\4B\n  # note " ++ (0 ∷ []) ++ (13 ∷ []) ++ bytes "wire width 7 \\2#" ++ (172 ∷ []) ++ bytes "\n\nwire width 1 sign", bytes "4 55\n") ∷
     (bytes "autoidx 1731764574\nmodule \\A8\nwire width 1 output 6 offset 2147483647 \\Yfx\nparameter \\" ++ (195 ∷ []) ++ (169 ∷ []) ++ bytes "\nattribute \\hdlname \" c\\\"##\"\nwire width 7 signed offset -1 \\42\nend\nmodule $ezb\nwire \\\\\nwire width 9 input 5 \\6\nend\n", bytes "autoidx 1731764574\nmodule \\A8\n  parameter \\" ++ (195 ∷ []) ++ (169 ∷ []) ++ bytes "\n  wire offset 2147483647 output 6 \\Yfx\n  attribute \\hdlname \" c\\\"##\"\n  wire width 7 offset -1 signed \\42\nend\nmodule $ezb\n  wire \\\\\n  wire width 9 input 5 \\6\nend\n") ∷
-    (bytes "module \\\\\n  # note " ++ (0 ∷ []) ++ (13 ∷ []) ++ bytes "wire width " ++ (9 ∷ []) ++ bytes " 8" ++ (9 ∷ []) ++ bytes "input" ++ (9 ∷ []) ++ bytes "15 offset 0 \\69g\n  # note " ++ (0 ∷ []) ++ (13 ∷ []) ++ bytes " connect" ++ (9 ∷ []) ++ bytes "\\69g 1[ 20 : " ++ (9 ∷ []) ++ bytes "13" ++ (217 ∷ []) ++ bytes "]" ++ (13 ∷ []) ++ bytes "\ncell " ++ (9 ∷ []) ++ bytes "\\f \\Z\nconnect \\0gy {\\69g  [ 2:0 ]00' \\69g [ 7 :7] }[2" ++ (9 ∷ []) ++ bytes ": 1 ]#" ++ (170 ∷ []) ++ bytes "\n  # note " ++ (0 ∷ []) ++ (13 ∷ []) ++ bytes "connect \\Q" ++ (9 ∷ []) ++ bytes "{" ++ (9 ∷ []) ++ bytes "\\69g 2'zz[0 : 0 ][ 0] [0" ++ (9 ∷ []) ++ bytes "]\\69g }\n\nend" ++ (13 ∷ []) ++ bytes "\nend\n", bytes "4 93\n") ∷
+    (bytes "module \\\\\n  # note " ++ (0 ∷ []) ++ (13 ∷ []) ++ bytes "wire widt\"h   8" ++ (9 ∷ []) ++ bytes "input" ++ (9 ∷ []) ++ bytes "15 offset 0 \\69g\n  # note " ++ (0 ∷ []) ++ (13 ∷ []) ++ bytes " connect" ++ (9 ∷ []) ++ bytes "\\69g 1[ 20 : " ++ (9 ∷ []) ++ bytes "13" ++ (9 ∷ []) ++ bytes "]f \\Z\nconnect \\0gy {\\69g" ++ (9 ∷ []) ++ bytes "[ 6:1" ++ (9 ∷ []) ++ bytes "] [ 4: 0] [ 4" ++ (9 ∷ []) ++ bytes ":0][ 3 :1  ]" ++ (9 ∷ []) ++ bytes "1337" ++ (9 ∷ []) ++ bytes "[" ++ (9 ∷ []) ++ bytes "27:22] {a3'100 [" ++ (255 ∷ []) ++ bytes "1 :0 ][" ++ (9 ∷ []) ++ bytes "0: 0" ++ (9 ∷ []) ++ bytes "][ 0 ] }}" ++ (13 ∷ []) ++ bytes "connect $" ++ (167 ∷ []) ++ (173 ∷ []) ++ bytes ":" ++ (9 ∷ []) ++ bytes "  3'110 [" ++ (9 ∷ []) ++ bytes " 2" ++ (9 ∷ []) ++ bytes ": 2  " ++ (9 ∷ []) ++ bytes "][0]" ++ (13 ∷ []) ++ bytes "\nend\nend" ++ (13 ∷ []), bytes "4 26\n") ∷
     (bytes "module $b  \nattribute \\hdlname \"\\)" ++ (140 ∷ []) ++ bytes "\\341" ++ (4 ∷ []) ++ bytes "\"\nwire" ++ (9 ∷ []) ++ bytes "$ba\n\nwire" ++ (9 ∷ []) ++ bytes "output 6 upto width 6   \\" ++ (211 ∷ []) ++ bytes "?X" ++ (169 ∷ []) ++ bytes "\ncell \\sub " ++ (9 ∷ []) ++ bytes " \\fC0\n connect \\A 1'0 \n\nconnect \\A {  \"A\" }\nend#rh" ++ (143 ∷ []) ++ bytes "?\nend\n", bytes "9 122\n") ∷
     (bytes "module $2" ++ (9 ∷ []) ++ bytes " \n  # note " ++ (0 ∷ []) ++ (13 ∷ []) ++ bytes "wire  output 17 \\1\nwire " ++ (9 ∷ []) ++ bytes "$8d\nattribute" ++ (9 ∷ []) ++ bytes "\\X" ++ (9 ∷ []) ++ bytes "\"#} }a\\\\\"\n  # note " ++ (0 ∷ []) ++ (13 ∷ []) ++ bytes "cell \\4Ba $" ++ (178 ∷ []) ++ bytes " \nparameter \\p 0'\nend" ++ (13 ∷ []) ++ bytes "end" ++ (13 ∷ []), bytes "module $2\n  wire output 17 \\1\n  wire $8d\n  attribute \\X \"#} }a\\\\\"\n  cell \\4Ba $" ++ (178 ∷ []) ++ bytes "\n    parameter \\p 0'\n  end\nend\n") ∷
     (bytes "module \\Yg\nend\n", bytes "module \\Yg\nend\n") ∷
     (bytes "module \\5YZ\n  # note " ++ (0 ∷ []) ++ (13 ∷ []) ++ bytes "cell \\f" ++ (9 ∷ []) ++ bytes "  \\3\n\nparameter real $8_ 1  \nconnect \\f 4'zx0z\n\nparameter  \\x" ++ (9 ∷ []) ++ bytes "0'" ++ (13 ∷ []) ++ bytes "\nparameter signed  " ++ (9 ∷ []) ++ bytes "$\" 31" ++ (13 ∷ []) ++ bytes "end \n\\ ", bytes "4 127\n") ∷
-    (bytes "module " ++ (9 ∷ []) ++ bytes "\\2Ac\nparameter \\5x 3'\n\nmemory" ++ (9 ∷ []) ++ bytes "width 1 \\{\nconnect  1337[ 31" ++ (9 ∷ []) ++ bytes ":  31 ]{ 0' 01'm" ++ (9 ∷ []) ++ bytes "}\n  # note " ++ (0 ∷ []) ++ (13 ∷ []) ++ (9 ∷ []) ++ (9 ∷ []) ++ bytes "end\nmodule $d\nparameter" ++ (9 ∷ []) ++ bytes "\\b_g   \":b c\"\n  # note " ++ (0 ∷ []) ++ (13 ∷ []) ++ bytes " parameter \\a \"\\{\"#" ++ (171 ∷ []) ++ (233 ∷ []) ++ bytes "\nend  " ++ (13 ∷ []), bytes "module \\2Ac\n  parameter \\5x 3'xxx\n  memory \\{\n  connect 1'0 1'm\nend\nmodule $d\n  parameter \\b_g \":b c\"\n  parameter \\a \"{\"\nend\n") ∷
-    (bytes "module \\[0:0]\ncell \\c3y \\Z9Z\nend\nconnect { 2'0 { 0' 6' } } 8'\nwire inout 2 \\d\nwire signed inout 10 $y\nwire inout 14 $X\nattribute \\01 \"\\\".a\"\nattribute \\hdlname \"\\ cb\"\nattribute $3:" ++ (254 ∷ []) ++ (250 ∷ []) ++ bytes " 7\ncell \\sub \\_5\nconnect \\" ++ (152 ∷ []) ++ bytes " 1'z [ 0 : 0 ]\nend\nend\n", bytes "module \\[0:0]\n  wire inout 2 \\d\n  wire inout 10 signed $y\n  wire inout 14 $X\n  cell \\c3y \\Z9Z\n  end\n  attribute \\01 \"\\\".a\"\n  attribute \\hdlname \" cb\"\n  attribute $3:" ++ (254 ∷ []) ++ (250 ∷ []) ++ bytes " 7\n  cell \\sub \\_5\n    connect \\" ++ (152 ∷ []) ++ bytes " 1'z\n  end\n  connect 8'00xxxxxx 8'xxxxxxxx\nend\n") ∷
-    (bytes "module \\Bg  " ++ (13 ∷ []) ++ bytes "cell \\" ++ (195 ∷ []) ++ (169 ∷ []) ++ bytes " $C\n  # note " ++ (0 ∷ []) ++ (13 ∷ []) ++ bytes "end#\ncell   \\2z" ++ (9 ∷ []) ++ bytes "\\\\" ++ (13 ∷ []) ++ bytes "\nparameter" ++ (9 ∷ []) ++ bytes "signed" ++ (9 ∷ []) ++ bytes "  $a7 \"" ++ (158 ∷ []) ++ (6 ∷ []) ++ bytes "r\" " ++ (9 ∷ []) ++ (13 ∷ []) ++ bytes "connect \\Y6d" ++ (9 ∷ []) ++ bytes "15\n  # note " ++ (0 ∷ []) ++ (13 ∷ []) ++ bytes "connect \\:" ++ (143 ∷ []) ++ (9 ∷ []) ++ bytes "8'x1-11z-m\n connect  \\dc4 4'011x[ 3" ++ (9 ∷ []) ++ bytes ": 2 " ++ (9 ∷ []) ++ bytes " ][  1 :1] " ++ (9 ∷ []) ++ bytes "\n  # note " ++ (0 ∷ []) ++ (13 ∷ []) ++ bytes " " ++ (255 ∷ []) ++ (9 ∷ []) ++ bytes "end\n" ++ (9 ∷ []) ++ bytes "end " ++ (13 ∷ []) ++ bytes "\n", bytes "4 192\n") ∷
+    (bytes "module " ++ (9 ∷ []) ++ bytes "\\2Ac\nparameter \\5x 3'\n\nmemory" ++ (9 ∷ []) ++ bytes "width 1 \\{\nconnect {" ++ (9 ∷ []) ++ bytes "2' 014'mm1x10x1xxzmmx } " ++ (9 ∷ []) ++ bytes "1337 " ++ (9 ∷ []) ++ (9 ∷ []) ++ bytes "[23 :8" ++ (9 ∷ []) ++ bytes "]#" ++ (204 ∷ []) ++ (205 ∷ []) ++ (169 ∷ []) ++ bytes ",XW~\n  # note " ++ (0 ∷ []) ++ (13 ∷ []) ++ bytes "end#S" ++ (207 ∷ []) ++ (253 ∷ []) ++ bytes "." ++ (136 ∷ []) ++ (139 ∷ []) ++ bytes "\nmodule" ++ (9 ∷ []) ++ bytes "\\4c  \n  # note " ++ (0 ∷ []) ++ (13 ∷ []) ++ bytes "end\n\n", bytes "module \\2Ac\n  parameter \\5x 3'xxx\n  memory \\{\n  connect 16'xxmm1x10x1xxzmmx 16'0000000000000101\nend\nmodule \\4c\nend\n") ∷
+    (bytes "module \\[0:0]\ncell \\c3y \\Z9Z\nend\nconnect { 2'0x { \\hdlname 0' 6' } } 8'\nwire inout 2 \\d\nwire signed inout 10 $y\nwire inout 14 $X\nattribute \\01 \"\\\".a\"\nattribute \"\\ cb\"\nattribute $3:" ++ (254 ∷ []) ++ (250 ∷ []) ++ bytes " 7\ncell \\xsub \\_5\nconnect \\" ++ (152 ∷ []) ++ bytes " 1'z [ 0 ] [ 0 : 0 ] [ 0 : 0 ] [ 0 : 0 ] [ 0 : 0 ] [ 0 : 0 ] [ 0 : 0 ]\nend\nend\n", bytes "8 33\n") ∷
+    (bytes "module \\Bg  " ++ (13 ∷ []) ++ bytes "cell \\" ++ (195 ∷ []) ++ (169 ∷ []) ++ bytes " $C\n  # note " ++ (0 ∷ []) ++ (13 ∷ []) ++ bytes "end#\ncell   " ++ (128 ∷ []) ++ bytes "\\2z" ++ (9 ∷ []) ++ bytes "\\\\" ++ (13 ∷ []) ++ bytes "\nparamet9r" ++ (9 ∷ []) ++ bytes "signed" ++ (9 ∷ []) ++ bytes "  $a7 \"" ++ (158 ∷ []) ++ (6 ∷ []) ++ bytes "r\" " ++ (9 ∷ []) ++ (13 ∷ []) ++ bytes "connect \\Y6d" ++ (9 ∷ []) ++ bytes "15\n  # note " ++ (0 ∷ []) ++ (13 ∷ []) ++ bytes "connect \\:" ++ (143 ∷ []) ++ (9 ∷ []) ++ bytes "8'x1-11z-m\nconnect \\dc4 4'011x  [3 :" ++ (9 ∷ []) ++ bytes "3 ]" ++ (13 ∷ []) ++ bytes "\nend\n\nend#" ++ (133 ∷ []) ++ (165 ∷ []) ++ (154 ∷ []) ++ (217 ∷ []) ++ (161 ∷ []) ++ (195 ∷ []) ++ bytes "\n", bytes "4 48\n") ∷
     (bytes "module \\X\nattribute \\x 8'x-1x0\nwire upto offset -2147483648 width 9 \\3" ++ (156 ∷ []) ++ bytes "o\nwire offset 0 upto \\.1\ncell $adff $Z\nconnect \\A 1'0\nconnect \\B { -1 } [ 0 ]\nend\nend\n", bytes "module \\X\n  attribute \\x 8'xxxx-1x0\n  wire width 9 offset -2147483648 upto \\3" ++ (156 ∷ []) ++ bytes "o\n  wire upto \\.1\n  cell $adff $Z\n    connect \\A 1'0\n    connect \\B 1'1\n  end\nend\n") ∷
-    (bytes "autoidx 21\nmodule \\794\nconnect 3' [ 2 : 1 ] 2'\nend\n", bytes "autoidx 21\nmodule \\794\n  connect 2'xx 2'xx\nend\n") ∷
+    (bytes "autoidx 21\nmodule \\794\nconnect 3' [ 2 : 0 ] { 2'1x 1'm }\nend\n", bytes "autoidx 21\nmodule \\794\n  connect 3'xxx 3'1xm\nend\n") ∷
     (bytes "autoidx 34\nattribute" ++ (9 ∷ []) ++ bytes "\\hdlname" ++ (9 ∷ []) ++ bytes "3'-m-\n module \\1\nwire $5B\n\nend" ++ (13 ∷ []) ++ bytes "\nautoidx 34\n", bytes "5 62\n") ∷
     (bytes "module $y\nwire" ++ (9 ∷ []) ++ bytes "\\81\n  # note " ++ (0 ∷ []) ++ (13 ∷ []) ++ (9 ∷ []) ++ bytes "wire" ++ (9 ∷ []) ++ bytes "offset  " ++ (9 ∷ []) ++ bytes "0 $g6 #>" ++ (128 ∷ []) ++ (183 ∷ []) ++ (161 ∷ []) ++ bytes "p" ++ (145 ∷ []) ++ (205 ∷ []) ++ bytes "\n\nparameter \\p 0'\n\nparameter \\q 1'01" ++ (13 ∷ []) ++ bytes "attribute $p 2147483648" ++ (9 ∷ []) ++ bytes " \n  # note " ++ (0 ∷ []) ++ (13 ∷ []) ++ bytes "end\n\n", bytes "7 78\n") ∷
     (bytes "  module " ++ (9 ∷ []) ++ bytes " $yCx" ++ (13 ∷ []) ++ bytes "\n " ++ (9 ∷ []) ++ bytes "wire" ++ (9 ∷ []) ++ bytes "offset 1 \\1x #" ++ (22 ∷ []) ++ (222 ∷ []) ++ (156 ∷ []) ++ bytes "\nend\n  # note " ++ (0 ∷ []) ++ (13 ∷ []) ++ bytes "module \\d" ++ (13 ∷ []) ++ bytes "\nend\n", bytes "module $yCx\n  wire offset 1 \\1x\nend\nmodule \\d\nend\n") ∷
-    (bytes "module \\_\ncell \\sub $e\nparameter signed $5Z \"\\141\"\nconnect \\gf3 1'm [ 0 ] [ 0 ] [ 0 ]\nparameter real \\_B \"7}77n\\c\"\nend\nend\n", bytes "module \\_\n  cell \\sub $e\n    parameter signed $5Z \"a\"\n    parameter real \\_B \"7}77nc\"\n    connect \\gf3 1'm\n  end\nend\n") ∷
-    (bytes "autoidx" ++ (9 ∷ []) ++ bytes "0" ++ (13 ∷ []) ++ bytes "bmodule  " ++ (9 ∷ []) ++ bytes "\\a2\ncell \\f.C \\e7x  \nparameter" ++ (9 ∷ []) ++ bytes "signed \\f3" ++ (9 ∷ []) ++ bytes "7'z" ++ (13 ∷ []) ++ bytes "\n" ++ (9 ∷ []) ++ bytes "connect" ++ (9 ∷ []) ++ bytes "\\yf 1'1" ++ (13 ∷ []) ++ bytes "connect $31" ++ (9 ∷ []) ++ bytes "{ {1'0 7'm1z11z-   [ 6   :5 ]" ++ (9 ∷ []) ++ bytes "[" ++ (9 ∷ []) ++ bytes "1: 0" ++ (9 ∷ []) ++ bytes "]9'1010m-10z" ++ (9 ∷ []) ++ bytes "}7'z-zz-z0 \"\" }\nend" ++ (13 ∷ []) ++ bytes "\nend  \n", bytes "4 10\n") ∷
+    (bytes "module \\_\ncell \\sub $e\nparameter signed $5Z \"\\141\"\nconnect \\gf3 1'm [ 0 : 0 ] [ 0 : 0 ] [ 0 : 0 ] [ 0 ]\nconnect \\7_ 4'x0m1\nend\nend\n", bytes "module \\_\n  cell \\sub $e\n    parameter signed $5Z \"a\"\n    connect \\gf3 1'm\n    connect \\7_ 4'x0m1\n  end\nend\n") ∷
+    (bytes "autoidx" ++ (9 ∷ []) ++ bytes "0" ++ (13 ∷ []) ++ bytes "\nmodule  " ++ (9 ∷ []) ++ bytes "\\a2\ncell \\f.C \\e7x  \nparameter" ++ (9 ∷ []) ++ bytes "signed \\f3" ++ (9 ∷ []) ++ bytes "7'z" ++ (13 ∷ []) ++ bytes "\n" ++ (9 ∷ []) ++ bytes "connect" ++ (9 ∷ []) ++ bytes "\\yf 1'1" ++ (13 ∷ []) ++ bytes "connect $31" ++ (9 ∷ []) ++ bytes "{{" ++ (9 ∷ []) ++ bytes "1'0 7'm1z11z-[ 4 :3] [0" ++ (9 ∷ []) ++ bytes ":0 ] " ++ (9 ∷ []) ++ bytes " 1'1[" ++ (9 ∷ []) ++ bytes "  0 ][ 0: 0]  [0:" ++ (9 ∷ []) ++ bytes "  0 ][ 0" ++ (9 ∷ []) ++ bytes "]} 2'0x[" ++ (9 ∷ []) ++ bytes " 0:0 \\ 6'xxx0mz [" ++ (9 ∷ []) ++ bytes "4 : 1 ][  3 : 0 ]" ++ (9 ∷ []) ++ bytes "[ 3:" ++ (9 ∷ []) ++ bytes "1][1 :0 ] [ 1" ++ (9 ∷ []) ++ bytes ": 0 ]" ++ (9 ∷ []) ++ (9 ∷ []) ++ bytes "[ 1: 1]  [0:" ++ (9 ∷ []) ++ bytes "0" ++ (9 ∷ []) ++ bytes "?" ++ (9 ∷ []) ++ bytes "[0  " ++ (9 ∷ []) ++ bytes ":0]" ++ (9 ∷ []) ++ bytes "}\n\nend\nend " ++ (13 ∷ []) ++ bytes "\n", bytes "4 176\n") ∷
     (bytes "autoix", bytes "4 0\n") ∷
     (bytes "autoidx 28832560\nmo", bytes "4 17\n") ∷
-    (bytes "module" ++ (9 ∷ []) ++ bytes "$Y\n\nwire width 1" ++ (9 ∷ []) ++ bytes "\\5z" ++ (9 ∷ []) ++ bytes " \n  # note " ++ (0 ∷ []) ++ (13 ∷ []) ++ bytes "wire signed offset" ++ (9 ∷ []) ++ bytes " -10" ++ (9 ∷ []) ++ bytes "\\0\n  # note " ++ (0 ∷ []) ++ (13 ∷ []) ++ bytes "cell $adff \\gA1\n" ++ (9 ∷ []) ++ (9 ∷ []) ++ bytes "connect" ++ (9 ∷ []) ++ bytes "\\A" ++ (9 ∷ []) ++ bytes "1'0  \n  # note " ++ (0 ∷ []) ++ (13 ∷ []) ++ bytes "connect" ++ (9 ∷ []) ++ bytes "\\B {\\0" ++ (9 ∷ []) ++ bytes "{ 2048' 1' }}\nend\n\n " ++ (9 ∷ []) ++ bytes "end " ++ (13 ∷ []), bytes "11 125\n") ∷
+    (bytes "module" ++ (9 ∷ []) ++ bytes "$Y\n\nwire width 1" ++ (9 ∷ []) ++ bytes "\\5z" ++ (9 ∷ []) ++ bytes " \n  # note " ++ (0 ∷ []) ++ (13 ∷ []) ++ bytes "wire signed offset" ++ (9 ∷ []) ++ bytes " -10" ++ (9 ∷ []) ++ bytes "\\0\n  # note " ++ (0 ∷ []) ++ (13 ∷ []) ++ bytes "  cell" ++ (9 ∷ []) ++ bytes "\\sub $7X3" ++ (13 ∷ []) ++ bytes "connect \\A 1'0" ++ (9 ∷ []) ++ (13 ∷ []) ++ bytes "\nconnect" ++ (9 ∷ []) ++ bytes " \\B {\\0" ++ (9 ∷ []) ++ bytes "-1[ " ++ (9 ∷ []) ++ bytes "31   :0 ] [ 30" ++ (9 ∷ []) ++ bytes ":0 ] [30" ++ (9 ∷ []) ++ bytes ":  1" ++ (9 ∷ []) ++ bytes " ] [" ++ (9 ∷ []) ++ bytes "  29 :1 ][ 27 :0 ] [ 26" ++ (9 ∷ []) ++ bytes ":0 ][25 :   0]" ++ (9 ∷ []) ++ bytes "[26: 0 ]}" ++ (13 ∷ []) ++ bytes "\nend\nend " ++ (9 ∷ []) ++ bytes "\n\n", bytes "10 113\n") ∷
     (bytes "module \\5B0\nwire width 7 \\c_9\nattribute \\hdlname \".11\\}\\\\#\"\nwire upto \\\\\nend\nattribute \\x 1\n", bytes "5 92\n") ∷
     (bytes "module $1'0\n\nwire" ++ (9 ∷ []) ++ (9 ∷ []) ++ bytes "\\9" ++ (13 ∷ []) ++ bytes "attribute" ++ (9 ∷ []) ++ bytes "\\x 1\ncell \\t \\9\n  # note " ++ (0 ∷ []) ++ (13 ∷ []) ++ bytes "end \nattribute \\x 1 \nwire offset" ++ (9 ∷ []) ++ bytes "1" ++ (9 ∷ []) ++ bytes "offset 1" ++ (9 ∷ []) ++ bytes "\\9" ++ (13 ∷ []) ++ bytes "\nend\n", bytes "9 37\n") ∷
     (bytes "module \\C\n  # note " ++ (0 ∷ []) ++ (13 ∷ []) ++ bytes "attribute \\hdlname  \"1\"\nwire input 12 width 4  \\b" ++ (13 ∷ []) ++ bytes " wire inout 17" ++ (9 ∷ []) ++ bytes "offset -2147483648 \\y\n\nconnect {\\b" ++ (9 ∷ []) ++ bytes "}" ++ (9 ∷ []) ++ bytes "{ 1'0" ++ (9 ∷ []) ++ bytes "\\b" ++ (9 ∷ []) ++ bytes " " ++ (9 ∷ []) ++ bytes "}" ++ (9 ∷ []) ++ bytes " \n" ++ (9 ∷ []) ++ bytes "end\n", bytes "10 109\n") ∷
@@ -684,9 +684,9 @@ cases =
     (bytes "module $c\nwire offset -5 output 3 $gy\nwire width 8 upto \\C77\nconnect 0' { }\nwire $\\\nattribute $a \"n \\\\}\\72\"\nwire width 4 \\Y66\ncell $ZCg \\" ++ (158 ∷ []) ++ (205 ∷ []) ++ (229 ∷ []) ++ (156 ∷ []) ++ bytes "\nconnect $_y \\Y66\nend\nend\n", bytes "module $c\n  wire offset -5 output 3 $gy\n  wire width 8 upto \\C77\n  wire $\\\n  attribute $a \"n \\\\}:\"\n  wire width 4 \\Y66\n  cell $ZCg \\" ++ (158 ∷ []) ++ (205 ∷ []) ++ (229 ∷ []) ++ (156 ∷ []) ++ bytes "\n    connect $_y \\Y66\n  end\n  connect { } { }\nend\n") ∷
     (bytes "autoidx -1949255543\nmodule \\B32\nconnect 0' { }\nend\n", bytes "autoidx -1949255543\nmodule \\B32\n  connect { } { }\nend\n") ∷
     (bytes "module $0B\nwire signed width 2 $76\nwire offset -2147483648 width 5 signed $bg\nend\nmodule \\zz\nmemory offset 596153827 \\6\nend\n", bytes "module $0B\n  wire width 2 signed $76\n  wire width 5 offset -2147483648 signed $bg\nend\nmodule \\zz\n  memory offset 596153827 \\6\nend\n") ∷
-    (bytes "autoidx 16\nmodule \\5A9\nconnect 007 32'zx-x10z0xz10xmz" ++ (255 ∷ []) ++ bytes "mm0\nconnect { 5'zz011 0' } 8'zxx00z1m [ 6 : 2 ]\nend\n", bytes "4 35\n") ∷
+    (bytes "autoidx 16\nmodule \\5A9\nconnect 007 32'zx-x10z0xz10xmzmm0\nmodule \\5A9\nconnect 8'zxx00z1m [ 7 " ++ (255 ∷ []) ++ bytes "; 2 ] 6'1zz011\nend\n", bytes "5 57\n") ∷
     (bytes "module \\A5\nwire input 5 width 6 $49f\nwire input 22 width 1 \\9ZC\nwire width 1 \\" ++ (253 ∷ []) ++ bytes "l" ++ (198 ∷ []) ++ bytes "`\n=\nend\n", bytes "4 83\n") ∷
-    (bytes "autoidx  8\n  # note " ++ (0 ∷ []) ++ (13 ∷ []) ++ bytes "module \\" ++ (157 ∷ []) ++ (253 ∷ []) ++ (9 ∷ []) ++ bytes "\nwire" ++ (9 ∷ []) ++ bytes "signed " ++ (9 ∷ []) ++ bytes " \\z.\n\nwire" ++ (9 ∷ []) ++ bytes "\\6\nconnect 1'0 \\z. [ 0" ++ (9 ∷ []) ++ bytes ":   0 ][0:" ++ (9 ∷ []) ++ bytes " 0" ++ (9 ∷ []) ++ bytes "  ]\nend\n\nmodule \\y  \nconnect { { 1'0" ++ (9 ∷ []) ++ bytes "272044655   [4: 0 ] }" ++ (9 ∷ []) ++ bytes "{{ { 1'1  " ++ (9 ∷ []) ++ bytes "0'}0' }" ++ (9 ∷ []) ++ bytes " 1'} }\"b\"" ++ (13 ∷ []) ++ bytes "\nend\n", bytes "autoidx 8\nmodule \\" ++ (157 ∷ []) ++ (253 ∷ []) ++ bytes "\n  wire signed \\z.\n  wire \\6\n  connect 1'0 \\z.\nend\nmodule \\y\n  connect 8'0011111x 8'01100010\nend\n") ∷
+    (bytes "autoidx  8\n  # note " ++ (0 ∷ []) ++ (13 ∷ []) ++ bytes "module \\" ++ (157 ∷ []) ++ (253 ∷ []) ++ (9 ∷ []) ++ bytes "\nwire" ++ (9 ∷ []) ++ bytes "signed " ++ (9 ∷ []) ++ bytes " \\z.\n\nwire" ++ (9 ∷ []) ++ bytes "\\6\nconnect" ++ (9 ∷ []) ++ bytes "{   { \\6 [0:" ++ (9 ∷ []) ++ bytes " 0" ++ (9 ∷ []) ++ bytes "  ]0' }" ++ (9 ∷ []) ++ bytes "00' }\\z." ++ (9 ∷ []) ++ bytes "[ 0   :0 ]" ++ (9 ∷ []) ++ bytes "[0:0" ++ (9 ∷ []) ++ bytes "] " ++ (13 ∷ []) ++ bytes "end" ++ (13 ∷ []) ++ bytes "attribute $C99 -0" ++ (13 ∷ []) ++ bytes "module \\3" ++ (13 ∷ []) ++ bytes "end\n  # note " ++ (0 ∷ []) ++ (13 ∷ []), bytes "autoidx 8\nmodule \\" ++ (157 ∷ []) ++ (253 ∷ []) ++ bytes "\n  wire signed \\z.\n  wire \\6\n  connect \\6 \\z.\nend\nattribute $C99 0\nmodule \\3\nend\n") ∷
     (bytes "module \\" ++ (245 ∷ []) ++ bytes "b" ++ (244 ∷ []) ++ (154 ∷ []) ++ bytes "\nwire inout 8 width 8 upto offset -1 signed \\{\nconnect \\{ \\{ [ 7 : 0 ]\nend\n", bytes "module \\" ++ (245 ∷ []) ++ bytes "b" ++ (244 ∷ []) ++ (154 ∷ []) ++ bytes "\n  wire width 8 offset -1 upto inout 8 signed \\{\n  connect \\{ \\{\nend\n") ∷
     (bytes "module \\$\nattribute \\hdlname \" nt\"\nwire width 3 output 1 $Xgz\ncell $adff \\bA\nconnect \\A 1'0\nconnect \\B { 4'01xz 4'0 [ 0 : 1 ] { } }\nend\nend\n", bytes "10 92\n") ∷
     (bytes "module \\{ \nconnect" ++ (9 ∷ []) ++ bytes "{" ++ (9 ∷ []) ++ bytes "1'0 { }}" ++ (9 ∷ []) ++ bytes "{" ++ (9 ∷ []) ++ bytes "1'0 {" ++ (9 ∷ []) ++ bytes "}}#" ++ (244 ∷ []) ++ (26 ∷ []) ++ (13 ∷ []) ++ bytes " end" ++ (9 ∷ []) ++ (13 ∷ []) ++ bytes "\n", bytes "module \\{\n  connect 1'0 1'0\nend\n") ∷
@@ -704,24 +704,24 @@ cases =
     (bytes "autoidx 33\nmodule $" ++ (195 ∷ []) ++ (169 ∷ []) ++ bytes "=connect 0` 0'\nend\n", bytes "4 30\n") ∷
     ((9 ∷ []) ++ bytes "attribute " ++ (9 ∷ []) ++ bytes "\\hdlname 38" ++ (9 ∷ []) ++ (13 ∷ []) ++ bytes "module" ++ (9 ∷ []) ++ bytes "\\61" ++ (13 ∷ []) ++ bytes " cell $adff $Y1\n\nparameter" ++ (9 ∷ []) ++ bytes "signed \\_" ++ (9 ∷ []) ++ bytes "  5'mx0\n\nparameter signed \\y3 5'1mmz0" ++ (13 ∷ []) ++ bytes "\nend" ++ (13 ∷ []) ++ bytes "\nend\n\n", bytes "attribute \\hdlname 38\nmodule \\61\n  cell $adff $Y1\n    parameter signed \\_ 5'mmmx0\n    parameter signed \\y3 5'1mmz0\n  end\nend\n") ∷
     (bytes "module" ++ (9 ∷ []) ++ bytes "\\" ++ (147 ∷ []) ++ bytes "X #c" ++ (238 ∷ []) ++ (192 ∷ []) ++ bytes "\nwire width 2" ++ (9 ∷ []) ++ bytes "signed" ++ (9 ∷ []) ++ bytes "\\[0:0]\nconnect { 8'z0-0{ \\[0:0]" ++ (9 ∷ []) ++ bytes "[" ++ (9 ∷ []) ++ bytes "0  : 0] 23'1m1xmmm1-z00-10-z-zzmm-} } -532498962" ++ (9 ∷ []) ++ bytes "#H" ++ (136 ∷ []) ++ (254 ∷ []) ++ bytes "8" ++ (212 ∷ []) ++ bytes "\n  # note " ++ (0 ∷ []) ++ (13 ∷ []) ++ bytes "end" ++ (9 ∷ []) ++ bytes "\n\n", bytes "module \\" ++ (147 ∷ []) ++ bytes "X\n  wire width 2 signed \\[0:0]\n  connect { 8'zzzzz0-0 \\[0:0] [0] 23'1m1xmmm1-z00-10-z-zzmm- } 32'11100000010000101011010111101110\nend\n") ∷
-    (bytes " au", bytes "4 1\n") ∷
-    (bytes "module \\22.\nwire offset -2147483648" ++ (9 ∷ []) ++ bytes "width" ++ (9 ∷ []) ++ bytes "0 input 2" ++ (9 ∷ []) ++ bytes "  $e9d" ++ (13 ∷ []) ++ bytes "\ncell " ++ (9 ∷ []) ++ bytes "$mux $_ " ++ (9 ∷ []) ++ bytes "\n  connect" ++ (9 ∷ []) ++ bytes "\\A " ++ (9 ∷ []) ++ bytes "1'0\n\nconnect \\A   { $e9d [0] 1'1 [99999999999]  }\nend\nend\n  # note " ++ (0 ∷ []) ++ (13 ∷ []), bytes "7 95\n") ∷
+    (bytes " autoidx -0001\n\nmodule \\A00" ++ (13 ∷ []) ++ bytes "\nattribute" ++ (9 ∷ []) ++ bytes "\\hdlname 9" ++ (13 ∷ []) ++ bytes "attribute \\E" ++ (9 ∷ []) ++ bytes "  \"" ++ (188 ∷ []) ++ bytes "\\1201\\0073\\167\"\n\ncell" ++ (9 ∷ []) ++ bytes "\\X" ++ (9 ∷ []) ++ bytes "\\z3e\n\nconnect" ++ (9 ∷ []) ++ bytes "$a '#" ++ (190 ∷ []) ++ bytes "q" ++ (172 ∷ []) ++ bytes "A" ++ (233 ∷ []) ++ bytes "\"" ++ (13 ∷ []) ++ bytes "\nconnect \\dA { {" ++ (9 ∷ []) ++ bytes "5'-mmz1 -1747377417" ++ (9 ∷ []) ++ bytes " }09'-x11z[" ++ (9 ∷ []) ++ bytes "7 : 1 ]   9'mxz0mm1m-}\nend\nend#W" ++ (224 ∷ []) ++ (157 ∷ []) ++ bytes "|I" ++ (156 ∷ []) ++ bytes "\n", bytes "4 109\n") ∷
+    (bytes "module \\22.\nwire offset -2147483648" ++ (9 ∷ []) ++ bytes "width" ++ (9 ∷ []) ++ bytes "0 input 2" ++ (9 ∷ []) ++ bytes "  $e9d" ++ (13 ∷ []) ++ bytes "\n cell \\cC \\" ++ (149 ∷ []) ++ (147 ∷ []) ++ (9 ∷ []) ++ bytes " \nconnect \\A 1'0\n  # note " ++ (0 ∷ []) ++ (13 ∷ []) ++ bytes "connect \\A  { $e9d [0  ] -1[ " ++ (9 ∷ []) ++ bytes " 30 :1] [29" ++ (9 ∷ []) ++ bytes ":" ++ (9 ∷ []) ++ bytes "1][ 27 :0][27  :0] [ 27: 0]  [27:0] " ++ (9 ∷ []) ++ bytes "[ 26:1 ]" ++ (9 ∷ []) ++ bytes "[26  : 0" ++ (9 ∷ []) ++ bytes "] }" ++ (13 ∷ []) ++ bytes "end\n" ++ (9 ∷ []) ++ bytes "end\n", bytes "9 102\n") ∷
     (bytes "module \\2." ++ (13 ∷ []) ++ bytes "wire" ++ (9 ∷ []) ++ bytes "offset 0" ++ (9 ∷ []) ++ bytes "width " ++ (9 ∷ []) ++ bytes "9 signed \\# " ++ (9 ∷ []) ++ bytes "\nattribute \\a" ++ (9 ∷ []) ++ bytes "1'm\nwire signed upto" ++ (9 ∷ []) ++ (9 ∷ []) ++ bytes "\\2g  #\nwire  width" ++ (9 ∷ []) ++ bytes "1 \\$ #" ++ (186 ∷ []) ++ (173 ∷ []) ++ (221 ∷ []) ++ (13 ∷ []) ++ bytes "\nend" ++ (13 ∷ []) ++ bytes "\nattribute " ++ (9 ∷ []) ++ (9 ∷ []) ++ bytes "\\x" ++ (9 ∷ []) ++ bytes " 1" ++ (13 ∷ []), bytes "5 134\n") ∷
     (bytes "[$\\[" ++ (9 ∷ []) ++ bytes "ax#\n#e0n}" ++ (13 ∷ []) ++ bytes "d\n$'[a" ++ (13 ∷ []) ++ bytes "'#m'az[101'$a'$\"}$a]\na][" ++ (13 ∷ []) ++ bytes "}$}\"{\"" ++ (9 ∷ []) ++ bytes "\"]ddd\"" ++ (9 ∷ []) ++ bytes "ddn#1e#e1n${\n" ++ (13 ∷ []) ++ bytes "{\"}}d 0-dm\\d" ++ (13 ∷ []) ++ bytes ":xz}{a:\\{m$z\\e'" ++ (13 ∷ []) ++ bytes "\"m\\##\\n'::,nz-$\\a" ++ (13 ∷ []) ++ bytes "xn$,e#]-[ }'$'1{m{e\"1 :z-e-", bytes "4 5\n") ∷
     (bytes "module $b0\nwire" ++ (9 ∷ []) ++ bytes "input 1024 \\Y7 " ++ (9 ∷ []) ++ bytes "\n  # note " ++ (0 ∷ []) ++ (13 ∷ []) ++ bytes "attribute \\x " ++ (9 ∷ []) ++ bytes "1\nmemory  " ++ (9 ∷ []) ++ bytes "width 2048 offset" ++ (9 ∷ []) ++ bytes "  2147483647 \\a[3]" ++ (9 ∷ []) ++ bytes " \nwire width 99999999999999999999" ++ (9 ∷ []) ++ bytes "\\9c " ++ (9 ∷ []) ++ bytes "\n\nend" ++ (13 ∷ []) ++ bytes "\n", bytes "7 11\n") ∷
-    (bytes "attribute \\\\ 1'1\nmodule \\Y\nwire width 4 upto signed \\f0\ncell \\C7 \\B\nconnect \\A 1'0\nconnect \\B { { \\missing } [ 0 ] 1'0 }\nend\nend\n", bytes "8 83\n") ∷
-    (bytes "module \\81\nwire signed inout 6 \\z4\nwire offset -2147483648 width 1 $1_X\nconnect { \\missing } { \\missing }\nend\n", bytes "8 72\n") ∷
-    ((9 ∷ []) ++ bytes " modul $.ef\n" ++ (9 ∷ []) ++ (9 ∷ []) ++ bytes "memory \\8.\n  # note " ++ (0 ∷ []) ++ (13 ∷ []) ++ bytes "cell \\sub \\gX\n\n connect  \\36 03'xm0[ " ++ (9 ∷ []) ++ bytes "2 : 2] [ [ 0:0 " ++ (9 ∷ []) ++ bytes "]\n connect $eX0 6'mm-1zz\"4" ++ (9 ∷ []) ++ bytes "  :" ++ (9 ∷ []) ++ bytes "3 ] [0: 0 ][   0][0: 0" ++ (9 ∷ []) ++ bytes " ] [0 ]\nend#" ++ (13 ∷ []) ++ bytes "end" ++ (13 ∷ []), bytes "4 2\n") ∷
+    (bytes "attribute \\\\ 1'1\nmodule \\Y\nwire width 4 upto signed \\f0\ncell $a[3] \\ed2\nconnect \\A 1'0\nconnect \\B { -1 [ 31 : 0 ] [ 31 : 0 ] [ 30 : 0 ] [ 29 : 1 ] [ 28 : 1 ] [ 26 : 1 ] [ 25 : 1 ] [ 24 : 1 ] \\f0 } 1'2\nend\nend\n", bytes "4 197\n") ∷
+    (bytes "module \\81\nwire signed inout 6 \\z4\nwire offset -2147483648 width 1 $1_X\nconnect { \\z4 [ 0 : 0 ] [ 0 : 0 ] [ 0 : 0 ] [ 0 : 0 ] [ 0 : 0 ] [ 0 : 0 ] [ 0 : 0 ] [ 0 : 0 ] [ 0 : 0 ] 4294967297'1 \\z4 } [ 0 ] { -1 [ 31 : 1 ] [ 30 : 0 ] [ 29 : 0 ] [ 28 : 0 ] [ 27 : 0 ] [ 26 : 1 ] [ 25 : 1 ] }\nend\n", bytes "7 72\n") ∷
+    ((9 ∷ []) ++ bytes " module $.ef\n" ++ (9 ∷ []) ++ (9 ∷ []) ++ (0 ∷ []) ++ (13 ∷ []) ++ bytes "cell \\sub \\gX\n\n " ++ (9 ∷ []) ++ bytes "connect" ++ (9 ∷ []) ++ bytes "\\36" ++ (9 ∷ []) ++ bytes " 03'xm0 [ 2]\n  # note " ++ (0 ∷ []) ++ (13 ∷ []) ++ bytes "parameter signed \\bc \"" ++ (197 ∷ []) ++ bytes "4\\+v\"\n  # ~ote " ++ (0 ∷ []) ++ (13 ∷ []) ++ bytes " end\nend\n", bytes "4 16\n") ∷
     (bytes "attribute \\" ++ (183 ∷ []) ++ bytes "w3 0'\nmodule \\zax\nconnect 2'- { { { { { { { { { { { { { { { { 2'- } } } } } } } } } } } } } } } }\nwire width 3 \\Y4\ncell \\yz $g\nconnect \\" ++ (207 ∷ []) ++ bytes "_" ++ (185 ∷ []) ++ bytes " 12\nend\nend\nmodule \\" ++ (208 ∷ []) ++ bytes "\nend\n", bytes "attribute \\" ++ (183 ∷ []) ++ bytes "w3 0'\nmodule \\zax\n  wire width 3 \\Y4\n  cell \\yz $g\n    connect \\" ++ (207 ∷ []) ++ bytes "_" ++ (185 ∷ []) ++ bytes " 32'00000000000000000000000000001100\n  end\n  connect 2'-- 2'--\nend\nmodule \\" ++ (208 ∷ []) ++ bytes "\nend\n") ∷
-    (bytes "autoidx 1335852304\nmodule \\23x\nconnect 7'0zmmx0x [ 6 : 1 ] { 0' { 3'0m { 1' 2'-x } } }\ncell $mux \\#\nconnect \\a[3] 06'0--z-m\nparameter real $xAy 04'zxm-\nend\nwire width 1 offset 0 \\4A\nend\n", bytes "autoidx 1335852304\nmodule \\23x\n  wire \\4A\n  cell $mux \\#\n    parameter real $xAy 4'zxm-\n    connect \\a[3] 6'0--z-m\n  end\n  connect 6'0zmmx0 6'00mx-x\nend\n") ∷
+    (bytes "autoidx 1335852304\nmodule \\23x\nconnect 7'0zmmx0x [ 5 : 3 ] { 02'1 1' }\nwire offset 2147483647 \\_76\nparameter \\# \"0\\143t\"\nwire $dxA\nwire output 8 signed upto \\\"\nend\n", bytes "autoidx 1335852304\nmodule \\23x\n  parameter \\# \"0ct\"\n  wire offset 2147483647 \\_76\n  wire $dxA\n  wire upto output 8 signed \\\"\n  connect 3'zmm 3'01x\nend\n") ∷
     (bytes "module $" ++ (255 ∷ []) ++ (249 ∷ []) ++ bytes "\ncell \\{ $bc\nend\nwire width 8 offset 0 \\ea5\nattribute \\hdlname 745943289\nwire width 1 inout 2 \\e\nend\nmodule $9dC\nconnect 9'-z0zm }{ { 3'zx0 0' } { 3'mx1 3'0-m } }\ncell \\dcZ \\c\nconnect" ++ (128 ∷ []) ++ bytes " $aA { 3' 2'x1 }\nparameter re!l \\2c 1'z\nend\nnd\n", bytes "5 123\n") ∷
     (bytes "module \\" ++ (233 ∷ []) ++ (183 ∷ []) ++ bytes "\nmemory width 8 $" ++ (221 ∷ []) ++ (140 ∷ []) ++ bytes "=" ++ (144 ∷ []) ++ (13 ∷ []) ++ bytes "\nmemory width 8 $zZ\n wire" ++ (9 ∷ []) ++ (9 ∷ []) ++ bytes " signed upto" ++ (9 ∷ []) ++ bytes "\\94 #" ++ (139 ∷ []) ++ (128 ∷ []) ++ (138 ∷ []) ++ (191 ∷ []) ++ (188 ∷ []) ++ bytes "\n  # note " ++ (0 ∷ []) ++ (13 ∷ []) ++ bytes "end " ++ (13 ∷ []) ++ bytes "\nmodule \\_z9" ++ (9 ∷ []) ++ bytes "\n\nparameter \\5  -992489741" ++ (13 ∷ []) ++ bytes "wire upto \\1\nwire signed width 0" ++ (9 ∷ []) ++ bytes "offset 2147483647   \\0zB\nend" ++ (13 ∷ []) ++ bytes "\n", bytes "module \\" ++ (233 ∷ []) ++ (183 ∷ []) ++ bytes "\n  wire upto signed \\94\n  memory width 8 $" ++ (221 ∷ []) ++ (140 ∷ []) ++ bytes "=" ++ (144 ∷ []) ++ bytes "\n  memory width 8 $zZ\nend\nmodule \\_z9\n  parameter \\5 -992489741\n  wire upto \\1\n  wire width 0 offset 2147483647 signed \\0zB\nend\n") ∷
     (bytes "autoidx 1183648109\nmodule $" ++ (215 ∷ []) ++ (199 ∷ []) ++ bytes "Jk\nparameter $yA 05'm0--\nconnect { } 00'\nwire \\9\nwire offset 0 \\b\nend\n", bytes "autoidx 1183648109\nmodule $" ++ (215 ∷ []) ++ (199 ∷ []) ++ bytes "Jk\n  parameter $yA 5'mm0--\n  wire \\9\n  wire \\b\n  connect { } { }\nend\n") ∷
     (bytes "module \\cB4\n\nattribute \\hdlname" ++ (9 ∷ []) ++ bytes "30 \nwire offset" ++ (9 ∷ []) ++ bytes "2147483647 \\8B\n\nwire" ++ (9 ∷ []) ++ (9 ∷ []) ++ bytes "width 1 \\.." ++ (13 ∷ []) ++ bytes "  attribute \\26" ++ (9 ∷ []) ++ bytes "0\nwire" ++ (9 ∷ []) ++ bytes "width 6" ++ (9 ∷ []) ++ (9 ∷ []) ++ bytes "input" ++ (9 ∷ []) ++ bytes "21   \\36X\ncell \\+= \\g #`b" ++ (136 ∷ []) ++ (131 ∷ []) ++ (145 ∷ []) ++ bytes ")\n  connect \\A" ++ (9 ∷ []) ++ bytes "1'0\n\n " ++ (9 ∷ []) ++ bytes "connect \\A {" ++ (9 ∷ []) ++ bytes "  \\.. }\n  # note " ++ (0 ∷ []) ++ (13 ∷ []) ++ bytes "end#" ++ (251 ∷ []) ++ bytes "R\n  # note " ++ (0 ∷ []) ++ (13 ∷ []) ++ bytes "end" ++ (13 ∷ []) ++ bytes "\n", bytes "9 170\n") ∷
-    (bytes "autoidx -0001\nmodule \\L1" ++ (201 ∷ []) ++ bytes "\ncell $e \\a\nconnect $4cZ 01'\nconnect $Y2 8'\nconnect $" ++ (254 ∷ []) ++ (156 ∷ []) ++ (195 ∷ []) ++ bytes " \"\"\nconnect \\C { 6'm { 9'010m [ 1 : 0 ] 18 } [ 20 : 15 ] 5'zx-1m }\nend\nend\n", bytes "autoidx -1\nmodule \\L1" ++ (201 ∷ []) ++ bytes "\n  cell $e \\a\n    connect $4cZ 1'x\n    connect $Y2 8'xxxxxxxx\n    connect $" ++ (254 ∷ []) ++ (156 ∷ []) ++ (195 ∷ []) ++ bytes " { }\n    connect \\C 17'mmmmmm000000zx-1m\n  end\nend\n") ∷
+    (bytes "autoidx -0001\nmodule \\L1" ++ (201 ∷ []) ++ bytes "\ncell $e \\a\nconnect $4cZ 01'\nconnect $Y2 8'\nconnect $" ++ (254 ∷ []) ++ (156 ∷ []) ++ (195 ∷ []) ++ bytes " \"\"\nconnect \\C { 6'm { 9'010m [ 6 : 1 ] [ 4 : 2 ] [ 2 : 2 ] { 1150002863 2'- [ 0 ] } [ 11 : 1 ] } { 1'x } } [ 17 : 3 ]\nend\nend\n", bytes "autoidx -1\nmodule \\L1" ++ (201 ∷ []) ++ bytes "\n  cell $e \\a\n    connect $4cZ 1'x\n    connect $Y2 8'xxxxxxxx\n    connect $" ++ (254 ∷ []) ++ (156 ∷ []) ++ (195 ∷ []) ++ bytes " { }\n    connect \\C 15'mmmmm0110101011\n  end\nend\n") ∷
     (bytes " z00}m0,# {\"{01\nx[x$[\n[z" ++ (9 ∷ []) ++ bytes "\\" ++ (9 ∷ []) ++ bytes "xd{}znd:]\\" ++ (13 ∷ []) ++ (9 ∷ []) ++ bytes "{[n,\"}" ++ (13 ∷ []) ++ bytes "$\" }x0", bytes "4 1\n") ∷
     (bytes "mod", bytes "4 0\n") ∷
-    (bytes "module \\zX\ncell \\" ++ (238 ∷ []) ++ bytes " \\\\\nparameter signed $D6 7'\nconnect \\3XB 7'z [ 6 ]\nend\nconnect 2'm \"" ++ (179 ∷ []) ++ bytes "\" [ 7 : 6 ]\nend\n", bytes "module \\zX\n  cell \\" ++ (238 ∷ []) ++ bytes " \\\\\n    parameter signed $D6 7'xxxxxxx\n    connect \\3XB 1'z\n  end\n  connect 2'mm 2'10\nend\n") ∷
+    (bytes "module \\zX\ncell \\" ++ (238 ∷ []) ++ bytes " \\\\\nparameter signed $D6 7'\nconnect \\3XB 7'z [ 1 ]\nend\nparameter \\56 5'1\nend\n", bytes "module \\zX\n  parameter \\56 5'00001\n  cell \\" ++ (238 ∷ []) ++ bytes " \\\\\n    parameter signed $D6 7'xxxxxxx\n    connect \\3XB 1'z\n  end\nend\n") ∷
     (bytes "module \\X3_\nwire upto width 3 output 13 \\BC\nwire $dZa\nwire offset 2147483639 width 9 input 14 \\ZX\nconnect\nend\nend\n", bytes "5 98\n") ∷
     (bytes "module" ++ (9 ∷ []) ++ bytes "  \\$ " ++ (13 ∷ []) ++ bytes "attribute \\703 1337 \n  wire \\5\nparameter \\q 99999999999'1" ++ (13 ∷ []) ++ bytes "attribute \\p" ++ (9 ∷ []) ++ bytes "0'0\nend\n\n", bytes "7 44\n") ∷
     (bytes "autoidx 11\nmodule $5\ncell $mux $d.\nconnect $f \"\"\nconnect \\13 5'x0z-1\nend\nparameter \\A5 7'm\nconnect 0' 0'\nconnect 8' 08'1xx-0--1\nend\nmodule \\9\nmemory width 1 size 0 $.7\nwire width 9 \\dC1\nattribute $Xe2 1'-\nwire width 4 $_Cc\nend\n", bytes "autoidx 11\nmodule $5\n  parameter \\A5 7'mmmmmmm\n  cell $mux $d.\n    connect $f { }\n    connect \\13 5'x0z-1\n  end\n  connect { } { }\n  connect 8'xxxxxxxx 8'1xx-0--1\nend\nmodule \\9\n  wire width 9 \\dC1\n  attribute $Xe2 1'-\n  wire width 4 $_Cc\n  memory $.7\nend\n") ∷
@@ -732,14 +732,14 @@ cases =
     (bytes "attribute \\hdlname 467475600\nmodule $1\nwire width 3 \\a5\nwire signed width 7 $z2\nwire input 3 \\" ++ (235 ∷ []) ++ bytes "!\nattribute \\x 1\nmemory width 2048 offset 2147483647 $z2\nwire input 0 \\" ++ (235 ∷ []) ++ bytes "!\nend\n", bytes "9 112\n") ∷
     (bytes "module \\1'0\nparameter $" ++ (191 ∷ []) ++ bytes "\nwire width 9 \\8\nattribute \\hdlname 284058026\nmemory $dC_\nparameter \\B 24\nconnect { \\8 [ 4 : 2 ] \\8 [ 5 : 0 ] } \\8\nend\nmodule \\" ++ (179 ∷ []) ++ bytes "x" ++ (138 ∷ []) ++ (184 ∷ []) ++ bytes "\nwire signed input 5 $\\\nend\n", bytes "module \\1'0\n  parameter $" ++ (191 ∷ []) ++ bytes "\n  parameter \\B 24\n  wire width 9 \\8\n  attribute \\hdlname 284058026\n  memory $dC_\n  connect { \\8 [4:2] \\8 [5:0] } \\8\nend\nmodule \\" ++ (179 ∷ []) ++ bytes "x" ++ (138 ∷ []) ++ (184 ∷ []) ++ bytes "\n  wire input 5 signed $\\\nend\n") ∷
     (bytes "module" ++ (9 ∷ []) ++ bytes " \\2e9\n wire signed \\_Z_\n\nwire $e  \n\nwire upto width 1 inout 4 \\# \n\nparameter \\p \"a\"1", bytes "4 87\n") ∷
-    (bytes "autoidx -1770145506\nattribute \\" ++ (138 ∷ []) ++ bytes " -18892763" ++ (0 ∷ []) ++ bytes "0\nmodule \\" ++ (138 ∷ []) ++ bytes " \\aX5\nconnect 4'1xxm \\" ++ (138 ∷ []) ++ bytes " 6'xz0z-m [ 3 : 0 ]\nend\n", bytes "4 33\n") ∷
+    (bytes "autoidx -1770145506\nattribute \\" ++ (138 ∷ []) ++ bytes " -1889276350\nmodule \\" ++ (138 ∷ []) ++ bytes " \\aX5\nconnect 6'xz0z-m [ 4 : 0 ] [ 3 :[0 ] [ 2 : 0 ] 27 [ 15 : 13 ]\nend\n", bytes "5 45\n") ∷
     (bytes "autoidx 445284512\nmodule \\.\nmemory \\X6a\nparameter $C5\nend\nmodule $A1_\nend\n", bytes "autoidx 445284512\nmodule \\.\n  parameter $C5\n  memory \\X6a\nend\nmodule $A1_\nend\n") ∷
     (bytes "module" ++ (9 ∷ []) ++ bytes "\\bg" ++ (9 ∷ []) ++ bytes " \n\nwire" ++ (9 ∷ []) ++ bytes "signed $z\n\nwire input" ++ (9 ∷ []) ++ bytes "23 signed \\8B" ++ (13 ∷ []) ++ bytes "\n wire   upto  width 6 \\\"\n  # note " ++ (0 ∷ []) ++ (13 ∷ []) ++ bytes "memory upto " ++ (9 ∷ []) ++ bytes " \\a\nend" ++ (13 ∷ []) ++ bytes "\nend\n  # note " ++ (0 ∷ []) ++ (13 ∷ []), bytes "5 92\n") ∷
     (bytes "module \\0\nwire offset 2147483640 width 8" ++ (9 ∷ []) ++ bytes "\\YZc #\nend" ++ (13 ∷ []), bytes "module \\0\n  wire width 8 offset 2147483640 \\YZc\nend\n") ∷
     (bytes "'", bytes "4 0\n") ∷
     (bytes "attribute \\f0x 1'x  #" ++ (248 ∷ []) ++ bytes "0r" ++ (199 ∷ []) ++ (190 ∷ []) ++ (195 ∷ []) ++ bytes "\n\nmodule $4" ++ (9 ∷ []) ++ bytes " " ++ (13 ∷ []) ++ bytes "\nwire output  14" ++ (9 ∷ []) ++ bytes " width 4 \\_aZ" ++ (13 ∷ []) ++ bytes "\nattribute   \\hdlname \"\"  " ++ (13 ∷ []) ++ bytes "\n attribute $xb 1'\nattribute \\x&" ++ (183 ∷ []) ++ bytes "\" \"n{\\134: \"" ++ (13 ∷ []) ++ bytes "\nwire" ++ (9 ∷ []) ++ bytes "width 1" ++ (9 ∷ []) ++ bytes "upto output" ++ (9 ∷ []) ++ bytes "25 signed \\}" ++ (190 ∷ []) ++ bytes " \n\nmemory width 2048 offset" ++ (9 ∷ []) ++ bytes "2147483647 \\1 " ++ (13 ∷ []) ++ bytes "end" ++ (9 ∷ []) ++ bytes "\n", bytes "attribute \\f0x 1'x\nmodule $4\n  wire width 4 output 14 \\_aZ\n  attribute \\hdlname \"\"\n  attribute $xb 1'x\n  attribute \\x&" ++ (183 ∷ []) ++ bytes "\" \"n{\\\\: \"\n  wire upto output 25 signed \\}" ++ (190 ∷ []) ++ bytes "\n  memory width 2048 offset 2147483647 \\1\nend\n") ∷
     ([], []) ∷
-    (bytes "module " ++ (9 ∷ []) ++ bytes "\\cBZ\n\nwire width 1   \\end\n\ncell $mux" ++ (9 ∷ []) ++ bytes "\\xg #" ++ (133 ∷ []) ++ bytes "Y" ++ (193 ∷ []) ++ (152 ∷ []) ++ bytes "\n" ++ (9 ∷ []) ++ bytes " connect \\41" ++ (9 ∷ []) ++ bytes "  4'" ++ (13 ∷ []) ++ bytes "connect " ++ (9 ∷ []) ++ bytes " \\{" ++ (173 ∷ []) ++ bytes " \"\" \nconnect \\g {\\end } [ 0: 0 ]  \nend#Kz" ++ (129 ∷ []) ++ bytes "(J" ++ (15 ∷ []) ++ bytes "D\nend\n", bytes "module \\cBZ\n  wire \\end\n  cell $mux \\xg\n    connect \\41 4'xxxx\n    connect \\{" ++ (173 ∷ []) ++ bytes " { }\n    connect \\g \\end\n  end\nend\n") ∷
+    (bytes "module " ++ (9 ∷ []) ++ bytes "\\cBZ\n\nwire width 1   \\end\n\ncell $mux" ++ (9 ∷ []) ++ bytes "\\xg #" ++ (133 ∷ []) ++ bytes "Y" ++ (193 ∷ []) ++ (152 ∷ []) ++ bytes "\n" ++ (9 ∷ []) ++ bytes " connect \\41" ++ (9 ∷ []) ++ bytes "  4'" ++ (13 ∷ []) ++ bytes "connect " ++ (9 ∷ []) ++ bytes " \\{" ++ (173 ∷ []) ++ bytes " \"\" \n  connect \\g {\\end }[ 0 ][0] [0 ]  [ 0:0 ]   [ 0 :0" ++ (9 ∷ []) ++ (9 ∷ []) ++ bytes " ][ 0: 0 ]\nend" ++ (13 ∷ []) ++ bytes "\n  end\n  # note " ++ (0 ∷ []) ++ (13 ∷ []), bytes "module \\cBZ\n  wire \\end\n  cell $mux \\xg\n    connect \\41 4'xxxx\n    connect \\{" ++ (173 ∷ []) ++ bytes " { }\n    connect \\g \\end\n  end\nend\n") ∷
     (bytes "autoidx" ++ (9 ∷ []) ++ (9 ∷ []) ++ bytes " 1337\n module \\xd4\n\nend\n\n", bytes "autoidx 1337\nmodule \\xd4\nend\n") ∷
     (bytes "module  \\27  #" ++ (26 ∷ []) ++ (24 ∷ []) ++ bytes "b" ++ (13 ∷ []) ++ bytes "\nend" ++ (13 ∷ []) ++ bytes "  # last " ++ (0 ∷ []), bytes "module \\27\nend\n") ∷
     (bytes "module $_\nwire input 0 \\OR\nmemory width 0 \\80a\nwire inout 1023 \\Z\nend\n", bytes "7 10\n") ∷
@@ -747,7 +747,7 @@ cases =
     (bytes "attribute $1z \"\\" ++ (7 ∷ []) ++ bytes "cN?\"\nmodule \\c\ncell $adff $6\n", bytes "5 46\n") ∷
     (bytes "\"1x\nx" ++ (13 ∷ []) ++ bytes "}:}e1-\n:\"" ++ (13 ∷ []) ++ bytes "z\\#" ++ (9 ∷ []) ++ bytes "\\-", bytes "4 0\n") ∷
     (bytes "attribute \\.a 11\nmodule" ++ (9 ∷ []) ++ (9 ∷ []) ++ bytes "\\#" ++ (13 ∷ []) ++ bytes "\nconnect{-1 -1 {} } {  {2048' 2048' }" ++ (9 ∷ []) ++ bytes "[ 2:0] }\n  # note " ++ (0 ∷ []) ++ (13 ∷ []) ++ bytes "end\n\n", bytes "10 29\n") ∷
-    (bytes "attribute" ++ (9 ∷ []) ++ bytes "\\hdlname \"#\\\"=}{\"" ++ (13 ∷ []) ++ bytes "\nmodule $" ++ (142 ∷ []) ++ (154 ∷ []) ++ bytes "\nwire" ++ (9 ∷ []) ++ (9 ∷ []) ++ bytes " width 4 inout 12 \\1Z\nconnect" ++ (9 ∷ []) ++ bytes "{ 20" ++ (9 ∷ []) ++ bytes " [2:" ++ (9 ∷ []) ++ bytes "1 ]\\1Z }" ++ (9 ∷ []) ++ bytes "{" ++ (9 ∷ []) ++ bytes "{ 1'- \\1Z" ++ (9 ∷ []) ++ bytes "[2:0" ++ (9 ∷ []) ++ bytes "]" ++ (9 ∷ []) ++ bytes "  }\\1Z" ++ (9 ∷ []) ++ bytes "[ 3:" ++ (9 ∷ []) ++ bytes "2]}\nconnect" ++ (9 ∷ []) ++ bytes "\\1Z \\1" ++ (219 ∷ []) ++ bytes "\nend\n  # noti " ++ (0 ∷ []) ++ (13 ∷ []), bytes "8 130\n") ∷
+    (bytes "attribute" ++ (9 ∷ []) ++ bytes "\\hdlname \"#\\\"}{\"" ++ (13 ∷ []) ++ bytes "\nmodule $" ++ (142 ∷ []) ++ (154 ∷ []) ++ bytes "\nwire" ++ (9 ∷ []) ++ (9 ∷ []) ++ bytes " width 4 inout 12 \\1Z\n" ++ (9 ∷ []) ++ bytes " connect" ++ (9 ∷ []) ++ bytes "2'0 {" ++ (9 ∷ []) ++ bytes " 20[24" ++ (9 ∷ []) ++ bytes ": 24] \\1Z" ++ (9 ∷ []) ++ bytes "[" ++ (9 ∷ []) ++ bytes "3 :" ++ (9 ∷ []) ++ (9 ∷ []) ++ bytes "3]}\n  # note " ++ (0 ∷ []) ++ (13 ∷ []) ++ bytes "attribute \\_ 17#" ++ (19 ∷ []) ++ bytes "u" ++ (17 ∷ []) ++ bytes "\n\nattrib" ++ (9 ∷ []) ++ bytes "ute" ++ (9 ∷ []) ++ bytes "\\C" ++ (195 ∷ []) ++ (9 ∷ []) ++ bytes "1'1\n wire output 28 signed width   1 \\" ++ (182 ∷ []) ++ (183 ∷ []) ++ (161 ∷ []) ++ (147 ∷ []) ++ (13 ∷ []) ++ bytes "\nend\n", bytes "4 143\n") ∷
     (bytes "module \\" ++ (198 ∷ []) ++ (174 ∷ []) ++ (226 ∷ []) ++ (177 ∷ []) ++ bytes "\nend\n", bytes "module \\" ++ (198 ∷ []) ++ (174 ∷ []) ++ (226 ∷ []) ++ (177 ∷ []) ++ bytes "\nend\n") ∷
     (bytes "autoidx 1654855952\nmodule \\" ++ (143 ∷ []) ++ bytes "o" ++ (170 ∷ []) ++ bytes "\nend\n", bytes "autoidx 1654855952\nmodule \\" ++ (143 ∷ []) ++ bytes "o" ++ (170 ∷ []) ++ bytes "\nend\n") ∷
     (bytes "module \\m\nattribute\n{ 1783062885" ++ (9 ∷ []) ++ bytes "\\a -1121301528 attribute\n  # note " ++ (0 ∷ []) ++ (13 ∷ []) ++ bytes "$y0 }autoidx \" 0{..t\" [ \nwire \\b\n  \\a switch  \\38d" ++ (13 ∷ []) ++ bytes "\n  cell\n  # note " ++ (0 ∷ []) ++ (13 ∷ []) ++ bytes "negedge\nmodule" ++ (9 ∷ []) ++ bytes "\\a real {module\n  # note " ++ (0 ∷ []) ++ (13 ∷ []), bytes "5 10\n") ∷
@@ -760,23 +760,23 @@ cases =
     (bytes "module $Bd\nwire width 0 \\y\nattribute \\f5 1'\nwire $c\nwire upto \\8YZ\nconnect { { \\missing } [ 0 ] } { \\8YZ 2'000 \\8YZ [ 0 ] }\nend\n", bytes "7 67\n") ∷
     (bytes "module \\1\nwire upto offset -9 $8\nend\nconnect { } { }\nmodule \\after\nend\n", bytes "5 37\n") ∷
     (bytes "autoidx 1488912862" ++ (13 ∷ []) ++ bytes "\nmodule" ++ (9 ∷ []) ++ bytes "\\dZB\nwire" ++ (9 ∷ []) ++ bytes "inout" ++ (9 ∷ []) ++ bytes "14 width  7" ++ (9 ∷ []) ++ bytes " offset 2147483641 \\C3A\nend \n\nmodule" ++ (9 ∷ []) ++ bytes "\\$ \nend\n", bytes "autoidx 1488912862\nmodule \\dZB\n  wire width 7 offset 2147483641 inout 14 \\C3A\nend\nmodule \\$\nend\n") ∷
-    (bytes "module \\5Y\nconnect 4 032'0-xx110z11zm0xx\nconnect 5'-xz-- 127083225 [ 20 : 16 ]\nwire \\7\nattribute \\hdlname -2147483648\nwire input 3 \\55\nend\n", bytes "module \\5Y\n  wire \\7\n  attribute \\hdlname -2147483648\n  wire input 3 \\55\n  connect 32'00000000000000000000000000000100 32'000000000000000000-xx110z11zm0xx\n  connect 5'-xz-- 5'10011\nend\n") ∷
-    (bytes "attribute" ++ (9 ∷ []) ++ bytes "\\q \"J" ++ (178 ∷ []) ++ bytes "\"\n  # note " ++ (0 ∷ []) ++ (13 ∷ []) ++ bytes "attribute $xZz \"}\"\nmodule \\gxx" ++ (13 ∷ []) ++ bytes " wire  \\C\n  # note " ++ (0 ∷ []) ++ (13 ∷ []) ++ bytes "cell " ++ (9 ∷ []) ++ (9 ∷ []) ++ bytes "\\sub \\8gz" ++ (9 ∷ []) ++ bytes " \nconnect \\A 1'0\nconnect  \\A {" ++ (9 ∷ []) ++ bytes "\\missing [ 0]}#" ++ (13 ∷ []) ++ bytes "end\n\nend " ++ (9 ∷ []) ++ bytes "\n  # note " ++ (0 ∷ []) ++ (13 ∷ []), bytes "8 115\n") ∷
+    (bytes "module \\5Y\nconnect 4 032'0-xx110z11zm0xx\nconnect 127083225 [ 30 : 1 ] [ 29 : 0 ] [ 29 : 1 ] [ 27 : 1 ] [ 25 : 1 ] [ 24 : 0 ] [ 24 : 1 ] 2147483647 [ 27 : 4 ]\nend\n", bytes "module \\5Y\n  connect 32'00000000000000000000000000000100 32'000000000000000000-xx110z11zm0xx\n  connect 24'001111001001100100010110 24'111111111111111111111111\nend\n") ∷
+    (bytes "attribute" ++ (9 ∷ []) ++ bytes "\\q \"J" ++ (178 ∷ []) ++ bytes "\"\n  # note " ++ (0 ∷ []) ++ (13 ∷ []) ++ bytes "attribute $xZz \"}\"\nmodule \\gxx" ++ (13 ∷ []) ++ bytes " wire  \\C\n  # note " ++ (0 ∷ []) ++ (13 ∷ []) ++ bytes "attribute \\hdlname 5'm" ++ (13 ∷ []) ++ bytes "cell $mux $a0Z\n\nconnect \\A  1'0" ++ (9 ∷ []) ++ bytes "\nconnect \\B" ++ (9 ∷ []) ++ bytes " {-1 [ 31" ++ (9 ∷ []) ++ bytes ":0][" ++ (9 ∷ []) ++ (9 ∷ []) ++ bytes "31  :0 ]" ++ (9 ∷ []) ++ bytes "[31  : 0 ][" ++ (9 ∷ []) ++ bytes "31" ++ (9 ∷ []) ++ bytes ":1 ]  [" ++ (9 ∷ []) ++ bytes "29:0" ++ (9 ∷ []) ++ bytes "][ 29 : 0][ 28 :0][ 27: 1 ]" ++ (9 ∷ []) ++ bytes " [26:0   ]}\n  # note " ++ (0 ∷ []) ++ (13 ∷ []) ++ bytes "end\nend \n", bytes "attribute \\q \"J" ++ (178 ∷ []) ++ bytes "\"\nattribute $xZz \"}\"\nmodule \\gxx\n  wire \\C\n  attribute \\hdlname 5'mmmmm\n  cell $mux $a0Z\n    connect \\A 1'0\n    connect \\B 27'111111111111111111111111111\n  end\nend\n") ∷
     (bytes "module" ++ (9 ∷ []) ++ bytes "\\a\n  # note " ++ (0 ∷ []) ++ (13 ∷ []) ++ bytes "wire upto" ++ (9 ∷ []) ++ bytes "output 3   signed $y57\n" ++ (9 ∷ []) ++ bytes " attribute \\hdlname  1'0\n\nattribute \\7" ++ (9 ∷ []) ++ bytes "\"u#z=" ++ (192 ∷ []) ++ bytes "\nwire" ++ (9 ∷ []) ++ bytes "offset -2" ++ (9 ∷ []) ++ (9 ∷ []) ++ bytes "inout" ++ (9 ∷ []) ++ bytes " " ++ (9 ∷ []) ++ bytes "14" ++ (9 ∷ []) ++ bytes "upto" ++ (9 ∷ []) ++ bytes "width" ++ (9 ∷ []) ++ bytes "4" ++ (9 ∷ []) ++ bytes "$b " ++ (9 ∷ []) ++ bytes "\n  # note " ++ (0 ∷ []) ++ (13 ∷ []) ++ bytes "wire" ++ (9 ∷ []) ++ bytes "signed" ++ (9 ∷ []) ++ bytes " " ++ (9 ∷ []) ++ bytes "off$et" ++ (9 ∷ []) ++ bytes "2147483647 \\" ++ (144 ∷ []) ++ bytes "u@4" ++ (13 ∷ []) ++ bytes "\nparameter \\p \"\\000\"\nend\n", bytes "4 94\n") ∷
     (bytes "module \\" ++ (197 ∷ []) ++ (181 ∷ []) ++ (194 ∷ []) ++ bytes "\n\nend" ++ (13 ∷ []) ++ bytes "module $7x" ++ (13 ∷ []) ++ bytes "\nenxd \n", bytes "4 29\n") ∷
     (bytes "module $3b\nwire" ++ (9 ∷ []) ++ bytes "width " ++ (164 ∷ []) ++ (9 ∷ []) ++ bytes "\\3{b  \n  # note " ++ (0 ∷ []) ++ (13 ∷ []) ++ bytes "end#" ++ (244 ∷ []) ++ (183 ∷ []) ++ bytes "AA" ++ (227 ∷ []) ++ (193 ∷ []) ++ bytes "z\n  # last " ++ (0 ∷ []), bytes "4 22\n") ∷
-    (bytes "attribute \\" ++ (187 ∷ []) ++ bytes "S" ++ (181 ∷ []) ++ (175 ∷ []) ++ bytes " -1916415394\nmodule $2g\ncell \\95C $ee1\nconnect \\\\D { }\nend\nend\nattribute \\hdlname \"-" ++ (250 ∷ []) ++ bytes "w" ++ (134 ∷ []) ++ (137 ∷ []) ++ (8 ∷ []) ++ bytes "\"\nmodule \\2\nparameter $9C1\ncell $x $g7\nconnect \\Xe 0'\nend\ncell $8z $zC\nparameter \\3Cb \\\" nn:a\"\nparameter signed \\" ++ (221 ∷ []) ++ (163 ∷ []) ++ bytes "6 4\nconnect \\29A 2' [ 1 : 1 ]\nconnect \\68 07'zzzx-10\nend\nend\n", bytes "4 193\n") ∷
+    (bytes "attribute \\" ++ (187 ∷ []) ++ bytes "S" ++ (181 ∷ []) ++ (175 ∷ []) ++ bytes " -1916415394\nmodule $2g\ncell \\95C $ee1\nconnect \\\\D { }\nend\nend\nattribute \\hdlname \"-" ++ (250 ∷ []) ++ bytes "w" ++ (134 ∷ []) ++ (137 ∷ []) ++ (8 ∷ []) ++ bytes "\"\nmodule \\2\nparameter $9C1\ncell $x $g7\nconnect \\Xe 0\\'\nend\ncell $8z $6zC\nparameter \\3Cb \" nn:a\"\nparametersigned \\" ++ (221 ∷ []) ++ (163 ∷ []) ++ bytes "6 4\nconnect \\29A 2' [ 1 : 1 ]\nconnect \\8 07'zzzx-10\nend\nend\n", bytes "4 155\n") ∷
     (bytes "\"xmz'}}n$$n'\"" ++ (9 ∷ []) ++ (9 ∷ []) ++ bytes "\\[$me0zexa'x}0:eee" ++ (9 ∷ []) ++ bytes "}z']z", bytes "4 35\n") ∷
     (bytes "module \\M\nconnect 1'm\ncell { 'zm11-1 0'", bytes "5 10\n") ∷
     (bytes "ttribute" ++ (9 ∷ []) ++ bytes "\\" ++ (219 ∷ []) ++ (191 ∷ []) ++ bytes " 31\nmodule \\$\n  # note " ++ (0 ∷ []) ++ bytes "`" ++ (13 ∷ []) ++ bytes "ene#" ++ (133 ∷ []) ++ (29 ∷ []) ++ bytes "}\n", bytes "4 0\n") ∷
     (bytes "autoidx 24\nmodule \\a\nparameter $Aa 06'z\nconnect 7'0 { { { { { 2' 0' } 0' } 007 [ 7 : 7 ] } 0' } { 1 [ 15 : 13 ] 1' } }\nend\n", bytes "autoidx 24\nmodule \\a\n  parameter $Aa 6'zzzzzz\n  connect 7'0000000 7'xx0000x\nend\n") ∷
     (bytes "module $ce\nend\n", bytes "module $ce\nend\n") ∷
     (bytes "module \\d7\nattribute \\hdlname \"3" ++ (255 ∷ []) ++ bytes "\\\"3" ++ (30 ∷ []) ++ bytes "\"\nwire width 1 \\.f3\ncell \\4x \\1Y\nconnect \\A 1'0\nconnect \\B { \\.f3 \\.f3 }\nend\nend\n", bytes "module \\d7\n  attribute \\hdlname \"3" ++ (255 ∷ []) ++ bytes "\\\"3\\036\"\n  wire \\.f3\n  cell \\4x \\1Y\n    connect \\A 1'0\n    connect \\B { \\.f3 \\.f3 }\n  end\nend\n") ∷
-    (bytes "module \\Y\ncell $mux $9d\nconnect \\yX -1 [ 20 : 19 ]\nend\nmemory size 2147483647 \\x\nend\nattribute $b \"\\040\"\nmodule $c9f\nwire output 15 offset -2147483648 \\\"\nend\n", bytes "module \\Y\n  memory size 2147483647 \\x\n  cell $mux $9d\n    connect \\yX 2'11\n  end\nend\nattribute $b \" \"\nmodule $c9f\n  wire offset -2147483648 output 15 \\\"\nend\n") ∷
+    (bytes "module \\Y\ncell $mux $9d\nconnect \\yX -1 [ 21 : 15 ]\nend\nmemory offset -376342653 width 6 size 2147483647 \\B\nend\nmodule \\8\nconnect 1' 1'z [ 0 : 0 ] [ 0 ]\nend\n", bytes "module \\Y\n  memory width 6 size 2147483647 offset -376342653 \\B\n  cell $mux $9d\n    connect \\yX 7'1111111\n  end\nend\nmodule \\8\n  connect 1'x 1'z\nend\n") ∷
     (bytes "module $xC\n\nwire   $b\n wire upto " ++ (9 ∷ []) ++ (9 ∷ []) ++ bytes "\\5f" ++ (127 ∷ []) ++ bytes "8" ++ (13 ∷ []) ++ bytes "\nwire width 3 inout 1" ++ (9 ∷ []) ++ bytes "signed" ++ (9 ∷ []) ++ bytes " $C5b #-" ++ (13 ∷ []) ++ bytes "cell" ++ (9 ∷ []) ++ bytes "\\} $A3c\n  # note " ++ (0 ∷ []) ++ (13 ∷ []) ++ bytes "wire width" ++ (9 ∷ []) ++ bytes "3" ++ (13 ∷ []) ++ bytes "end #" ++ (216 ∷ []) ++ (201 ∷ []) ++ (209 ∷ []) ++ bytes "\n  # note " ++ (0 ∷ []) ++ (13 ∷ []) ++ bytes "end\n", bytes "5 103\n") ∷
     (bytes "\"\\" ++ (164 ∷ []) ++ bytes "Y" ++ (243 ∷ []) ++ (26 ∷ []) ++ (178 ∷ []) ++ (31 ∷ []) ++ bytes "\"   :  , \\b\n\n " ++ (9 ∷ []) ++ bytes "1'\n\n2\n\\d3" ++ (13 ∷ []), bytes "5 0\n") ∷
     (bytes "module \\r\nattribute \\hdlname \"c\\40t\"\nwire width 9 offset 0 \\bc\nwire output 5 \\{\nwire width 7 \\" ++ (223 ∷ []) ++ (227 ∷ []) ++ (131 ∷ []) ++ bytes "\nmemory width 2049 \\" ++ (239 ∷ []) ++ bytes "a\nmemory offset -2147483649 \\1'0\nwire offset 2147483647 \\bc\nend\n", bytes "7 98\n") ∷
-    (bytes "module \\6\ncell \\z3 $5Z9\nparameter signed \\z74 803487887\nconnect $Xg 5'101x- [ 3 : 3 ] [ 0 : 0 ]\nconnect \\n 1'm [ 0 : 0 ] [ 0 : 0 ]\nend\nend\n", bytes "module \\6\n  cell \\z3 $5Z9\n    parameter signed \\z74 803487887\n    connect $Xg 1'0\n    connect \\n 1'm\n  end\nend\n") ∷
+    (bytes "module \\6\ncell \\z3 $5Z9\nparameter signed \\z74 803487887\nconnect $Xg 5'101x- [ 4 : 1 ] [ 3 : 1 ] [ 1 : 1 ] [ 0 : 0 ] [ 0 : 0 ]\nconnect $5 2'1 [ 1 : 1 ]\nend\nend\n", bytes "module \\6\n  cell \\z3 $5Z9\n    parameter signed \\z74 803487887\n    connect $Xg 1'0\n    connect $5 1'0\n  end\nend\n") ∷
     (bytes "module \\6" ++ (13 ∷ []) ++ bytes "\nwire signed signed   \\ga\n\nwire  widt" ++ (31 ∷ []) ++ bytes "h 2048 $\"!1\n wire width 0" ++ (9 ∷ []) ++ bytes "offset" ++ (9 ∷ []) ++ bytes "2147483647 \\4_" ++ (13 ∷ []) ++ bytes "end#]" ++ (25 ∷ []) ++ bytes "z" ++ (131 ∷ []) ++ (163 ∷ []) ++ (13 ∷ []) ++ bytes "\n", bytes "7 11\n") ∷
     (bytes "module" ++ (9 ∷ []) ++ bytes "\\f.z\n\n" ++ (9 ∷ []) ++ bytes "memory" ++ (9 ∷ []) ++ bytes " \nend " ++ (13 ∷ []) ++ bytes "end\n  # note " ++ (0 ∷ []) ++ (13 ∷ []), bytes "5 14\n") ∷
     ((155 ∷ []) ++ bytes "zyi" ++ (233 ∷ []) ++ bytes "?#$" ++ (140 ∷ []) ++ bytes "n" ++ (220 ∷ []) ++ bytes "v" ++ (255 ∷ []) ++ bytes "u" ++ (243 ∷ []) ++ (144 ∷ []) ++ bytes "X+" ++ (30 ∷ []), bytes "4 0\n") ∷
@@ -785,20 +785,20 @@ cases =
     (bytes "module" ++ (9 ∷ []) ++ bytes "$" ++ (184 ∷ []) ++ (13 ∷ []) ++ bytes "  wire output 9 offset -1 \\1" ++ (13 ∷ []) ++ bytes "\nattribute" ++ (9 ∷ []) ++ (9 ∷ []) ++ bytes "\\\" 05'1m1mx\nwire input 13 width 0 \\X5\nparameter \\q 0'0" ++ (13 ∷ []) ++ bytes "\nend#" ++ (196 ∷ []) ++ (199 ∷ []) ++ (230 ∷ []) ++ (129 ∷ []) ++ bytes "\n", bytes "7 89\n") ∷
     (bytes "{" ++ (239 ∷ []) ++ (24 ∷ []) ++ (211 ∷ []) ++ bytes "w" ++ (21 ∷ []) ++ (188 ∷ []) ++ (11 ∷ []) ++ (164 ∷ []) ++ bytes "i" ++ (4 ∷ []) ++ (206 ∷ []) ++ bytes "^D", bytes "4 1\n") ∷
     (bytes "module" ++ (9 ∷ []) ++ bytes "\\X6  \nparameter \\.4\n  # note " ++ (0 ∷ []) ++ (13 ∷ []) ++ bytes "attribute \\hdlname -217752004#" ++ (128 ∷ []) ++ (165 ∷ []) ++ bytes "0" ++ (3 ∷ []) ++ bytes "\ncell" ++ (9 ∷ []) ++ bytes "\\sub \\.3\n  connect \\xA 8'x1-mz0-0#" ++ (13 ∷ []) ++ bytes "parameter signed \\" ++ (195 ∷ []) ++ (169 ∷ []) ++ bytes "  0\nconnect \\&( 3'-z-\nconnect \\\"" ++ (9 ∷ []) ++ bytes "{6'   }" ++ (13 ∷ []) ++ bytes "\n" ++ (9 ∷ []) ++ bytes " end\nend\n\n", bytes "module \\X6\n  parameter \\.4\n  attribute \\hdlname -217752004\n  cell \\sub \\.3\n    parameter signed \\" ++ (195 ∷ []) ++ (169 ∷ []) ++ bytes " 0\n    connect \\xA 8'x1-mz0-0\n    connect \\&( 3'-z-\n    connect \\\" 6'xxxxxx\n  end\nend\n") ∷
-    (bytes "module \\" ++ (176 ∷ []) ++ (226 ∷ []) ++ (240 ∷ []) ++ (235 ∷ []) ++ bytes "\nwire width 7 \\804\nattribute \\X9 8'1\nattribute \\Y 1342870902\nwire \\e\nwire width 0 inout 21 $b4\ncell $8 \\5\nconnect \\A 1'0\nconnect \\B { 2'000 2049' } [ 0 ]\nend\nend\n", bytes "7 133\n") ∷
+    (bytes "module \\" ++ (176 ∷ []) ++ (226 ∷ []) ++ (240 ∷ []) ++ (235 ∷ []) ++ bytes "\nwire width 7 \\804\nattribute \\X9 8'1\nattribute \\Y 1342870902\nwire \\e\nwire width 0 inout 21 $b4\ncell \\sub \\540\nconnect \\A 1'0\nconnect \\B { 2'000 \\804 [ 5 : 0 ] [ 4 : 1 ] [ 3 : 0 ] [ 2 : 0 ] [ 2 : 0 ] [ 1 : 1 ] [ 0 : 0 ] }\nend\nend\n", bytes "7 137\n") ∷
     (bytes "attribute $Y 6'\nmodule \\45\nwire input 8 \\g\nattribute \\x 1\nwire \\Y\nwire input 7 input 7 \\1\nmemory size -1 \\g\nend\n", bytes "7 66\n") ∷
-    (bytes " autoidx" ++ (9 ∷ []) ++ bytes "27\nmodule \\_cY" ++ (13 ∷ []) ++ bytes "\nparameter \\5 \"}}:0\"\n\nattribute \\hdlname 8" ++ (13 ∷ []) ++ bytes "cell \\f" ++ (9 ∷ []) ++ bytes "\\a " ++ (13 ∷ []) ++ bytes "\nconnect  \\c0 29" ++ (13 ∷ []) ++ bytes " connect" ++ (9 ∷ []) ++ bytes "  $" ++ (195 ∷ []) ++ (169 ∷ []) ++ bytes " \"17\\\"\"[ 20: 1]\nend\n\nconnect{" ++ (9 ∷ []) ++ bytes "0' 1'0} 1'1" ++ (13 ∷ []) ++ bytes "end\n  # note " ++ (0 ∷ []) ++ (13 ∷ []), bytes "autoidx 27\nmodule \\_cY\n  parameter \\5 \"}}:0\"\n  attribute \\hdlname 8\n  cell \\f \\a\n    connect \\c0 32'00000000000000000000000000011101\n    connect $" ++ (195 ∷ []) ++ (169 ∷ []) ++ bytes " 20'10001001101110010001\n  end\n  connect 1'0 1'1\nend\n") ∷
+    (bytes " autoidx" ++ (9 ∷ []) ++ bytes "27\nmodule \\_cY" ++ (13 ∷ []) ++ bytes "\nparameter \\5 \"}}:0\"\n\nattribute \\hdlname 8" ++ (13 ∷ []) ++ bytes "cell \\f" ++ (9 ∷ []) ++ bytes "\\a " ++ (13 ∷ []) ++ bytes "\nconnect  \\c0 29" ++ (13 ∷ []) ++ bytes " connect" ++ (9 ∷ []) ++ bytes "$" ++ (195 ∷ []) ++ (169 ∷ []) ++ bytes " \"17\\\"\" [ 17 :0 " ++ (9 ∷ []) ++ bytes "]\nend\n\nconnect{" ++ (9 ∷ []) ++ bytes "0' 1'0} 1'1" ++ (13 ∷ []) ++ bytes "end\n  # note " ++ (0 ∷ []) ++ (13 ∷ []), bytes "autoidx 27\nmodule \\_cY\n  parameter \\5 \"}}:0\"\n  attribute \\hdlname 8\n  cell \\f \\a\n    connect \\c0 32'00000000000000000000000000011101\n    connect $" ++ (195 ∷ []) ++ (169 ∷ []) ++ bytes " 18'010011011100100010\n  end\n  connect 1'0 1'1\nend\n") ∷
     (bytes " " ++ (9 ∷ []) ++ bytes "attribute" ++ (9 ∷ []) ++ bytes "$} 2'1-\n\nmodule \\a[3]\n\n", bytes "5 35\n") ∷
     (bytes "autoidx -2147483648\nattribute $dXZ 08'1-x110--\nmodule \\Yy\nparameter \\6 1337\nwire upto \\5b7\nparameter \\a3 \"" ++ (197 ∷ []) ++ bytes "\\015\"\nconnect { \\5b7 \\5b7 -2147483648 } 34'1xzm-mx0xm---1x-mm01-x-mxx111-mxm1\nend\n", bytes "autoidx -2147483648\nattribute $dXZ 8'1-x110--\nmodule \\Yy\n  parameter \\6 1337\n  parameter \\a3 \"" ++ (197 ∷ []) ++ bytes "\\015\"\n  wire upto \\5b7\n  connect { \\5b7 \\5b7 32'10000000000000000000000000000000 } 34'1xzm-mx0xm---1x-mm01-x-mxx111-mxm1\nend\n") ∷
     (bytes "autoidx 2147483647 \nmodule" ++ (9 ∷ []) ++ bytes "\\end #!" ++ (237 ∷ []) ++ bytes "." ++ (246 ∷ []) ++ (27 ∷ []) ++ bytes "\n  # note " ++ (0 ∷ []) ++ (13 ∷ []) ++ bytes "attribute $5b6" ++ (9 ∷ []) ++ bytes " " ++ (9 ∷ []) ++ bytes "4'\nwire output" ++ (9 ∷ []) ++ (9 ∷ []) ++ bytes " 2 $X\n " ++ (9 ∷ []) ++ bytes "end\n  # note " ++ (0 ∷ []) ++ (13 ∷ []) ++ bytes "module" ++ (9 ∷ []) ++ bytes " \\z" ++ (13 ∷ []) ++ bytes "\nparameter" ++ (9 ∷ []) ++ bytes "\\n" ++ (190 ∷ []) ++ (251 ∷ []) ++ bytes "* 5'x-\n\nattribute \\" ++ (186 ∷ []) ++ bytes "q" ++ (228 ∷ []) ++ (182 ∷ []) ++ (9 ∷ []) ++ bytes "2" ++ (13 ∷ []) ++ bytes "\nattribute \\hdlname 6'xz1mmm\n  # note " ++ (0 ∷ []) ++ (13 ∷ []) ++ (9 ∷ []) ++ bytes "attribute \\end" ++ (9 ∷ []) ++ bytes "-1441194538#" ++ (16 ∷ []) ++ bytes "r" ++ (13 ∷ []) ++ bytes "memory $z5f\n  # note " ++ (0 ∷ []) ++ (13 ∷ []) ++ bytes "end\n", bytes "autoidx 2147483647\nmodule \\end\n  attribute $5b6 4'xxxx\n  wire output 2 $X\nend\nmodule \\z\n  parameter \\n" ++ (190 ∷ []) ++ (251 ∷ []) ++ bytes "* 5'xxxx-\n  attribute \\" ++ (186 ∷ []) ++ bytes "q" ++ (228 ∷ []) ++ (182 ∷ []) ++ bytes " 2\n  attribute \\hdlname 6'xz1mmm\n  attribute \\end -1441194538\n  memory $z5f\nend\n") ∷
-    (bytes "module $3" ++ (241 ∷ []) ++ bytes "\ncell \\7 $Ba\nconnect $5X3 { 0' 5'0z { 28 } [ 27 : 7 ] } [ 5 : 2 ]\nconnect \\a. 1'\nparameter signed $2 \".\"\nconnect $3 37\nend\nend\nmodule $a\nend\n", bytes "module $3" ++ (241 ∷ []) ++ bytes "\n  cell \\7 $Ba\n    parameter signed $2 \".\"\n    connect $5X3 4'0000\n    connect \\a. 1'x\n    connect $3 32'00000000000000000000000000100101\n  end\nend\nmodule $a\nend\n") ∷
+    (bytes "module $3" ++ (241 ∷ []) ++ bytes "\ncell \\7 $Ba\nconnect $5X3 { 0' 5'0z { 28 } [ 31 : 28 ] [ 2 : 1 ] [ 1 : 1 ] [ 0 : 0 ] [\" 0 : 0 ] } [ 5 : 4 ] [ 0 : 0 ] [ 0 : 0 ] [ 0 : 0 ] [ 0 : 0 ] [ 0 : 0 ]0 : 0 ] [ 0 : 0 ] [ 0 : 0 ]\nparameter real $" ++ (134 ∷ []) ++ bytes " 0\nconnet $2_4 00'\nend\nend\n", bytes "4 96\n") ∷
     (bytes "d\"za#'']]'$]xn$m]ede$a}\\nx" ++ (13 ∷ []) ++ bytes "]'e\\de1" ++ (9 ∷ []) ++ bytes "dd1x11[mz\\#[", bytes "4 0\n") ∷
-    (bytes "module \\A\nmemory width 1 offset -561302204 size 16 \\dg\nconnect 576896686 32'0\nmemory width 1 offset -561302204 size 16 \\dg\nmemory \\1\nconnect 5'mxm1x [ 1 : 0 ] { 1'0", bytes "9 78\n") ∷
+    (bytes "modulE \\A\nmemory ] 1 offset -561302204 size 16 \\dg\nconnect 576896686 32'0\nmemory \\1\nconnect { 1'x { } } 5'mxm1x [ 3 : 1 ] 2 width [ 0 : 0 ]\nend\n [", bytes "4 0\n") ∷
     (bytes " " ++ (9 ∷ []) ++ bytes "attribute" ++ (9 ∷ []) ++ bytes " $y1Y " ++ (9 ∷ []) ++ bytes "59755169\n\nattribute $$ \"1\"\nattribute" ++ (9 ∷ []) ++ bytes "$b" ++ (9 ∷ []) ++ bytes "7'0z--0m-  \n  # note " ++ (0 ∷ []) ++ (13 ∷ []) ++ bytes "module " ++ (9 ∷ []) ++ (9 ∷ []) ++ bytes "\\[0:0]\ncell \\" ++ (158 ∷ []) ++ (248 ∷ []) ++ (9 ∷ []) ++ (9 ∷ []) ++ bytes "$2Y\nconnect" ++ (9 ∷ []) ++ bytes "\\A 1'0\nconnect" ++ (9 ∷ []) ++ bytes "\\A {4'01xz 1'1 [  99999999999" ++ (9 ∷ []) ++ bytes "  ]\"A\"}\n  # note " ++ (0 ∷ []) ++ (13 ∷ []) ++ (9 ∷ []) ++ (9 ∷ []) ++ bytes "end\nend\n\n", bytes "7 127\n") ∷
     (bytes "module $Y\nwire output 6 width 4 upto \\2\nattribute \\hdlname \"" ++ (5 ∷ []) ++ bytes "\"\nwire inout 15 $$\ncell \\sub $" ++ (185 ∷ []) ++ bytes "\nconnect \\A 1'0\nconnect \\A { \"A\" }\nend\nend\n", bytes "9 108\n") ∷
     (bytes "module" ++ (9 ∷ []) ++ bytes "\\$ " ++ (13 ∷ []) ++ bytes "wire width" ++ (9 ∷ []) ++ bytes "1 offset -2147483648 \\d.6" ++ (13 ∷ []) ++ bytes "\nconnect{\\d.6 {2048' 1'}  } { \\d.6" ++ (9 ∷ []) ++ bytes "{ 2048' 1' } }\n" ++ (9 ∷ []) ++ bytes "end\n  # note " ++ (0 ∷ []) ++ (13 ∷ []), bytes "11 49\n") ∷
     (bytes "module $3\nwire output" ++ (9 ∷ []) ++ bytes "8 offset 2147483640   width 8 \\{" ++ (13 ∷ []) ++ bytes "\nattribute $f" ++ (9 ∷ []) ++ bytes "-1117643659" ++ (13 ∷ []) ++ bytes "\n attribute  \\hdlname 1337" ++ (13 ∷ []) ++ bytes "\nwire" ++ (9 ∷ []) ++ bytes "upto \\9X0\nattribute \\5_9 -0001\ncell $mux \\90\nparameter signed $p   1" ++ (9 ∷ []) ++ bytes "\n\nparameter" ++ (9 ∷ []) ++ bytes "signed \\q \"\"\n\nparameter real" ++ (9 ∷ []) ++ bytes "$p 99999999999'1" ++ (13 ∷ []) ++ (9 ∷ []) ++ (9 ∷ []) ++ bytes "end\n  # note " ++ (0 ∷ []) ++ (13 ∷ []) ++ bytes "end#" ++ (178 ∷ []) ++ (222 ∷ []) ++ (253 ∷ []) ++ (224 ∷ []) ++ bytes "\n  # note " ++ (0 ∷ []) ++ (13 ∷ []), bytes "7 209\n") ∷
-    (bytes "autoidx 29\nmodule \\yb\nattribute $a[3] -2147483648\nwire \\y\nconnect { { 2'zx 0'", bytes "5 58\n") ∷
+    (bytes "autoidx 29\nmodule \\yb\nattribute $a[3] -2147483648\nwire \\y\nconnect 03' { \\y \\y [ 0 : 0 ] [ 0 :", bytes "5 58\n") ∷
     (bytes "init" ++ (9 ∷ []) ++ bytes "signed#" ++ (223 ∷ []) ++ bytes "\n\\m ]\\A \\b\n", bytes "5 0\n") ∷
     (bytes "attribute inout  \"0\"" ++ (9 ∷ []) ++ bytes "attribute" ++ (9 ∷ []) ++ (9 ∷ []) ++ bytes "end" ++ (13 ∷ []) ++ bytes " " ++ (9 ∷ []) ++ bytes "{ 1'0\n\\" ++ (195 ∷ []) ++ (169 ∷ []) ++ bytes " \\b [\\a  wire" ++ (13 ∷ []) ++ bytes " " ++ (9 ∷ []) ++ bytes "\\m autoidx#>" ++ (253 ∷ []) ++ (148 ∷ []) ++ bytes "\n\n", bytes "5 0\n") ∷
     (bytes "attribute" ++ (9 ∷ []) ++ bytes "$95B" ++ (9 ∷ []) ++ bytes "\\\" tb\\\\\\\"t\"#" ++ (160 ∷ []) ++ bytes "W" ++ (243 ∷ []) ++ bytes "\nmodule ", bytes "4 18\n") ∷

@@ -6,6 +6,9 @@ use borrow.Author.Needs.{needs}
 use Rattle.signals.proofs.slice.Statement.{statement}
 use Rattle.signals.proofs.slice.Tie as tie
 
+merge-requires : tie.Need-merge-requires
+merge-requires c κs = tt
+
 integer-of-requires : tie.Need-integer-of-requires
 integer-of-requires c κs = tt
 
@@ -15,17 +18,14 @@ enum-known-h c = search needs
 enum-told : tie.Need-enum-told
 enum-told c = search needs
 
-merge-requires : tie.Need-merge-requires
-merge-requires c κs = tt
-
 returns : tie.Need-returns
-returns c = slice-high _ _ _ _ _ _ (c .merge .ensures) (rw (c .before .enum-told .given .1) at (c .before .before .before .integer-of .ensures))
+returns c = slice-high _ _ _ _ (c .before .before .before .merge .ensures) (rw (c .enum-told .given .1) at (c .before .before .integer-of .ensures))
 
 enum-told-2 : tie.Need-enum-told-2
 enum-told-2 c = search needs
 
 cut-requires : tie.Need-cut-requires
-cut-requires c κs = c .before .before .before .before .before .before .before .before .before .pre
+cut-requires c κs = (c .before .before .before .before .before .before .before .before .pre)
 
 enum-known-low : tie.Need-enum-known-low
 enum-known-low c = search needs
@@ -39,43 +39,34 @@ enum-known-l c = search needs
 enum-told-3 : tie.Need-enum-told-3
 enum-told-3 c = search needs
 
-merge-requires-2 : tie.Need-merge-requires-2
-merge-requires-2 c κs = tt
-
 returns-2 : tie.Need-returns-2
 unfolding slotIn
-returns-2 c = rw (c .before .before .before .before .before .low .given .1) (slice-low _ _ _ _ _ _ (c .merge2 .ensures) (rw (c .before .enum-told3 .given .1) at (c .before .before .before .integer-of2 .ensures)))
+returns-2 c = rw (c .before .before .before .before .low .given .1) (slice-low _ _ _ _ (c .before .before .before .before .before .before .before .before .before .before .merge .ensures) (rw (c .enum-told3 .given .1) at (c .before .before .integer-of2 .ensures)))
 
 cut-requires-2 : tie.Need-cut-requires-2
-cut-requires-2 c κs = c .before .before .before .before .before .before .before .before .before .before .before .before .before .before .pre
-
-same-length : tie.Need-same-length
-same-length c = c .before .before .cut .ensures .kept .long
+cut-requires-2 c κs = (c .before .before .before .before .before .before .before .before .before .before .before .before .before .pre)
 
 returns-3 : tie.Need-returns-3
 unfolding slotIn
 returns-3 c =
-    let H = rw (c .before .before .before .before .before .before .before .h .given .1) at (c .before .before .before .before .before .before .before .before .before .integer-of .ensures) in
-    rw (c .before .before .before .before .enum-told2 .given .1) (slice-one _ _ _ _ _ _ _ (H .0) (H .1) (c .before .before .cut .ensures))
-
-same-length-2 : tie.Need-same-length-2
-same-length-2 c = c .before .before .cut2 .ensures .kept .long
+    let H = rw (c .before .before .before .before .h .given .1) at (c .before .before .before .before .before .before .integer-of .ensures) in
+    rw (c .before .enum-told2 .given .1) (slice-one _ _ _ _ (H .0) (H .1) (c .cut .ensures))
 
 returns-4 : tie.Need-returns-4
 unfolding slotIn
 returns-4 c =
-    let H = rw (c .before .before .before .before .before .before .before .before .before .before .before .before .h .given .1) at (c .before .before .before .before .before .before .before .before .before .before .before .before .before .before .integer-of .ensures) in
-    let L = rw (c .before .before .before .before .before .l .given .1) at (c .before .before .before .before .before .before .before .integer-of2 .ensures) in
-    rw (c .before .before .before .before .before .before .before .before .before .low .given .1) (slice-two _ _ _ _ _ _ _ (H .0) (H .1) _ _ (L .0) (L .1) (c .before .before .cut2 .ensures))
+    let H = rw (c .before .before .before .before .before .before .before .before .before .h .given .1) at (c .before .before .before .before .before .before .before .before .before .before .before .integer-of .ensures) in
+    let L = rw (c .before .before .l .given .1) at (c .before .before .before .before .integer-of2 .ensures) in
+    rw (c .before .before .before .before .before .before .low .given .1) (slice-two _ _ _ _ (H .0) (H .1) _ _ (L .0) (L .1) (c .cut2 .ensures))
 
 pub slice-spec : {M : Type 1} → statement M
 slice-spec =
     tie.close
     (tie.spec
+    merge-requires
     integer-of-requires
     enum-known-h
     enum-told
-    merge-requires
     returns
     enum-told-2
     cut-requires
@@ -83,10 +74,7 @@ slice-spec =
     integer-of-requires-2
     enum-known-l
     enum-told-3
-    merge-requires-2
     returns-2
     cut-requires-2
-    same-length
     returns-3
-    same-length-2
     returns-4)

@@ -1,4 +1,5 @@
--- `slices` meets its contract. The invariant: the slices from row i on are those that were read and those from row `at` on.
+-- `slices` meets its contract. The invariant: the slices from row i on are those that were read and those from row `at` on, and the bits
+-- of those that were read are as many as the part's width, from the sum of their low bounds on. The table is written behind the last.
 -- Assumes nothing.
 use mathlib.Core.Path.{sym, _∙_}
 use Prim.Native.Nat.{_-_, _/_}
@@ -11,22 +12,22 @@ use Rattle.signals.proofs.slices.Statement.{statement}
 use Rattle.signals.proofs.slices.Tie as tie
 
 abbrev Inv-loop : tie.InvT-loop
-Inv-loop f tokens i scratch₀ o at₀ b₀ scratch at b = SlicesOn f tokens i o scratch₀ b₀ scratch at b
+Inv-loop f tokens i scratch o width at₀ part₀ at part = SlicesOn f tokens i o scratch (part₀ .bits) at part
 
 abbrev μ-loop : tie.MeasureT-loop
-μ-loop f tokens i scratch₀ o at₀ b₀ scratch at b = length tokens / 4 - at
+μ-loop f tokens i scratch o width at₀ part₀ at part = length tokens / 4 - at
 
 loop-holds : tie.Need-loop-holds Inv-loop μ-loop
-loop-holds c = slices-start _ _ _ _ _ _ (c .before .before .before .pre .0 .1) (c .before .before .before .pre .1 .1)
+loop-holds c = slices-start _ _ _ _ _ _ (c .before .before .before .pre .1 .0) (c .before .before .before .pre .0 .1)
 
 is-mark-requires : tie.Need-is-mark-requires Inv-loop μ-loop
 is-mark-requires c κs = tt
 
 add-bounds-at : tie.Need-add-bounds-at Inv-loop μ-loop
-add-bounds-at c = omega (arith, mark-below _ _ _ (sym (c .before .is-mark .ensures) ∙ c .if1 .taken))
+add-bounds-at c = omega (arith, mark-below _ _ _ (sym (c .before .is-mark .ensures) ∙ (c .if1 .taken)))
 
 bounds-at-requires : tie.Need-bounds-at-requires Inv-loop μ-loop
-bounds-at-requires c κs = (c .before .before .before .before .before .before .pre .0 .0, omega (arith, mark-below _ _ _ (sym (c .before .is-mark .ensures) ∙ c .if1 .taken)))
+bounds-at-requires c κs = (c .before .before .before .before .before .before .pre .0 .0, omega (arith, mark-below _ _ _ (sym (c .before .is-mark .ensures) ∙ (c .if1 .taken))))
 
 enum-known-high : tie.Need-enum-known-high Inv-loop μ-loop
 enum-known-high c = search needs
@@ -34,28 +35,28 @@ enum-known-high c = search needs
 enum-told : tie.Need-enum-told Inv-loop μ-loop
 enum-told c = search needs
 
-same-length : tie.Need-same-length Inv-loop μ-loop
-same-length c = c .before .before .before .before .before .loop .inv .kept .long
-
 returns : tie.Need-returns Inv-loop μ-loop
-returns c = slices-broken _ _ _ _ _ _ _ _ _ (c .before .before .before .before .before .loop .inv) (sym (c .before .before .before .before .is-mark .ensures) ∙ c .before .before .before .if1 .taken) (rw (c .enum-told .given .1) at (c .before .before .bounds-at .ensures))
+returns c = slices-broken _ _ _ _ _ _ (c .before .before .before .before .before .before .before .before .before .pre .1 .0) _ _ (c .before .before .before .before .before .loop .inv) (sym (c .before .before .before .before .is-mark .ensures) ∙ (c .before .before .before .if1 .taken)) (rw (c .enum-told .given .1) at (c .before .before .bounds-at .ensures))
 
 slice-requires : tie.Need-slice-requires Inv-loop μ-loop
-slice-requires c κs = (omega (arith, c .before .before .before .before .before .before .before .loop .inv .kept .long, c .before .before .before .before .before .before .before .before .before .before .before .pre .1), c .before .before .before .before .before .before .before .loop .inv .small)
+slice-requires c κs = omega (arith, (c .before .before .before .before .before .before .loop .inv .inside .within))
 
 loop-less : tie.Need-loop-less Inv-loop μ-loop
 loop-less c =
-    let B = rw (c .before .before .before .before .before .high .given .1) at (c .before .before .before .before .before .before .before .bounds-at .ensures) in
+    let B = rw (c .before .before .high .given .1) at (c .before .before .before .before .bounds-at .ensures) in
     omega (arith, B .0, B .1)
 
 loop-again : tie.Need-loop-again Inv-loop μ-loop
-loop-again c = slices-on _ _ _ _ _ _ _ _ _ (c .before .before .before .before .before .before .before .before .before .before .loop .inv) (sym (c .before .before .before .before .before .before .before .before .before .is-mark .ensures) ∙ c .before .before .before .before .before .before .before .before .if1 .taken) _ _ _ (rw (c .before .before .before .before .before .high .given .1) at (c .before .before .before .before .before .before .before .bounds-at .ensures)) _ _ (c .before .before .slice .ensures)
+loop-again c = slices-on _ _ _ _ _ _ (c .before .before .before .before .before .before .before .before .before .before .before .pre .1 .0) _ _ (c .before .before .before .before .before .before .before .loop .inv) (sym (c .before .before .before .before .before .before .is-mark .ensures) ∙ (c .before .before .before .before .before .if1 .taken)) _ _ _ (rw (c .before .before .high .given .1) at (c .before .before .before .before .bounds-at .ensures)) _ (c .slice .ensures)
 
-same-length-2 : tie.Need-same-length-2 Inv-loop μ-loop
-same-length-2 c = c .before .before .loop .inv .kept .long
+move-part-requires : tie.Need-move-part-requires Inv-loop μ-loop
+move-part-requires c κs = (omega (arith, (c .before .before .before .loop .inv .inside .within)), λ e. omega (arith, (c .before .before .before .before .before .before .before .pre .1 .0), (c .before .before .before .before .before .before .before .pre .1 .1) (c .before .before .before .loop .inv .inside .none e)))
+
+same-length : tie.Need-same-length Inv-loop μ-loop
+same-length c = (c .before .before .before .move-part .ensures .kept .long)
 
 returns-2 : tie.Need-returns-2 Inv-loop μ-loop
-returns-2 c = slices-read _ _ _ _ _ _ _ _ _ (c .before .before .loop .inv) (sym (c .before .is-mark .ensures) ∙ c .if1 .left)
+returns-2 c = slices-read _ _ _ _ _ _ (c .before .before .before .before .before .before .before .before .before .before .before .pre .1 .0) _ _ (c .before .before .before .before .before .before .before .loop .inv) _ (sym (c .before .before .before .before .before .before .is-mark .ensures) ∙ (c .before .before .before .before .before .if1 .left)) (c .before .before .before .move-part .ensures)
 
 pub slices-spec : {M : Type 1} → statement M
 slices-spec =
@@ -69,10 +70,10 @@ slices-spec =
     bounds-at-requires
     enum-known-high
     enum-told
-    same-length
     returns
     slice-requires
     loop-less
     loop-again
-    same-length-2
+    move-part-requires
+    same-length
     returns-2)

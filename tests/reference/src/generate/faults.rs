@@ -2,6 +2,7 @@
 
 use super::pieces::{self, split, token, Tokens};
 use super::random::Random;
+use super::signals;
 use super::well_formed::Builder;
 use super::SizeClass;
 
@@ -401,9 +402,22 @@ fn faulty_member(builder: &mut Builder) -> Tokens {
             let bit = width.saturating_sub(builder.random.below(2));
             [vec![name], split(format!("[ {bit} ]"))].concat()
         }
+        3 | 4 => past_slices(builder),
         _ => {
             let members = *builder.random.pick(&FAULTY_MEMBERS);
             split(builder.random.pick(members))
         }
     }
+}
+
+/// Slices of slices with a last one that ends at their highest bit or one past it: inside the signal, and mostly outside the slice.
+fn past_slices(builder: &mut Builder) -> Tokens {
+    let (base, width) = match builder.wires.iter().find(|wire| wire.1 > 0) {
+        Some((name, width)) if builder.random.one_in(2) => (vec![name.clone()], *width),
+        _ => (split("-1"), 32),
+    };
+    let (slices, left) = signals::nested_slices(builder.random, width);
+    let high = left - builder.random.below(2);
+    let low = builder.random.below(2).min(high);
+    [base, slices, split(format!("[ {high} : {low} ]"))].concat()
 }

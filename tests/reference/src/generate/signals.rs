@@ -31,7 +31,22 @@ pub fn signal(
         }
     };
     while width > 0 && random.one_in(3) {
-        let (slice, sliced) = slice(random, width);
+        let nested = random.one_in(4);
+        let (slices, sliced) = match nested {
+            true => nested_slices(random, width),
+            false => slice(random, width),
+        };
+        tokens.extend(slices);
+        width = sliced;
+    }
+    (tokens, width)
+}
+
+/// Several sound slices of a signal that is not empty, each of the one before it, and the width they leave.
+pub fn nested_slices(random: &mut Random, mut width: usize) -> (Tokens, usize) {
+    let mut tokens = Tokens::new();
+    for _ in 0..random.between(2, 8) {
+        let (slice, sliced) = edge_slice(random, width);
         tokens.extend(slice);
         width = sliced;
     }
@@ -74,6 +89,13 @@ fn slice(random: &mut Random, width: usize) -> (Tokens, usize) {
     if high == low && random.one_in(2) {
         return (bit_of(high), 1);
     }
+    (bits_of(high, low), high - low + 1)
+}
+
+/// One whose bounds are at the edges of the signal, or one bit inside.
+fn edge_slice(random: &mut Random, width: usize) -> (Tokens, usize) {
+    let low = random.below(2).min(width - 1);
+    let high = (width - 1 - random.below(2).min(width - 1)).max(low);
     (bits_of(high, low), high - low + 1)
 }
 
