@@ -86,7 +86,7 @@ module _ (ss : Past) (f s names ws rows : List ℕ) (o : Option Shape) (a : Stat
       unfolding behind widthFault
       fault-refused h =
           left
-          ∙ rw (taken-is, t, tells a .fault) (then-late _ _ _ _ (faultOf a) (J .fault (no-number a e)) (λ z. h (tells a .fault ∙ z)))
+          ∙ rw (taken-is, t, tells a .fault) (then-late _ _ _ _ (faultOf a) (J .widthFault (no-number a e)) (λ z. h (tells a .fault ∙ z)))
 
       module _ (z : partsOf a .fault ≡ 0) (d : Sizes) (room : 4096 ≤ length s) (sized : SizesAre f a d) where
         abbrev m : rules.Statement

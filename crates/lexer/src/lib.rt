@@ -28,7 +28,7 @@ ghost use lib.ListN.{length, drop};
 ghost use lib.Seq.{slice};
 ghost use Rattle.rules.specs.Limits.{longestFile};
 ghost use Rattle.rules.specs.Tokens.{parted, separate, decimal, valueStep};
-ghost use Rattle.scanner.specs.Class.{inClass, classTable};
+ghost use Rattle.scanner.specs.Class.{inClass, classTable, markByte, letter};
 ghost use Rattle.scanner.specs.Runs.{endOf};
 ghost use Rattle.tokens.specs.Rows.{tokenIn};
 ghost use Rattle.lexer.specs.Lexemes.{Held, Starts, Steps, StepIs};
@@ -76,7 +76,7 @@ fn separate(class: &[u8; 256], s: &[u8], p: usize, t: Token, e: usize) -> Lexeme
 
 // Where a name's bytes end, those above 32: a comparison costs less than the class.
 fn name_end(s: &[u8], p: usize) -> usize
-    ensures { λ r. ⌜ r ≡ endOf (inClass 4 14) (now (s .entry)) p ⌝ }
+    ensures { λ r. ⌜ r ≡ endOf (inClass markByte letter) (now (s .entry)) p ⌝ }
 {
     let mut i = p;
     while i < s.len() {

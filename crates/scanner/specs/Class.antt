@@ -5,32 +5,86 @@ use mathlib.Core.List.{List, [], _∷_}
 use lib.Dec.{eqb}
 use Rattle.rules.specs.Bytes.{byte, within, isLineEnd, isBlank, isNameStart, isLower, isDigit, isOctal, isValueDigit, isMark}
 
--- 9 digits 8 9, 10 digits 2 to 7, 11 digits 0 1
+-- ---- the classes by their numbers
+abbrev pub lineEndByte : ℕ
+lineEndByte = 0
+
+-- byte 0, and what is no byte
+abbrev pub noByte : ℕ
+noByte = 1
+
+abbrev pub controlByte : ℕ
+controlByte = 2
+
+abbrev pub blankByte : ℕ
+blankByte = 3
+
+abbrev pub markByte : ℕ
+markByte = 4
+
+-- `#`
+abbrev pub commentByte : ℕ
+commentByte = 5
+
+-- above 32 and of no other class
+abbrev pub otherByte : ℕ
+otherByte = 6
+
+abbrev pub nameStartByte : ℕ
+nameStartByte = 7
+
+-- `"`
+abbrev pub quoteByte : ℕ
+quoteByte = 8
+
+-- 8 and 9
+abbrev pub highDigit : ℕ
+highDigit = 9
+
+-- 2 to 7
+abbrev pub octalDigit : ℕ
+octalDigit = 10
+
+-- 0 and 1
+abbrev pub valueDigit : ℕ
+valueDigit = 11
+
+-- `-`
+abbrev pub minusByte : ℕ
+minusByte = 12
+
+-- x, z and m
+abbrev pub valueLetter : ℕ
+valueLetter = 13
+
+-- any other lowercase letter
+abbrev pub letter : ℕ
+letter = 14
+
+-- ---- the class of a byte
 unfoldable pub digitClass : ℕ → ℕ
-digitClass b = cond (isValueDigit b) 11 (cond (isOctal b) 10 9)
+digitClass b = cond (isValueDigit b) valueDigit (cond (isOctal b) octalDigit highDigit)
 
--- 13 x z m, 14 other lowercase letters
 unfoldable pub letterClass : ℕ → ℕ
-letterClass b = cond (isValueDigit b) 13 14
+letterClass b = cond (isValueDigit b) valueLetter letter
 
--- above 32: 4 mark, 5 `#`, 6 any other, 7 name start, 8 `"`, 12 `-`
+-- above 32
 unfoldable pub printClass : ℕ → ℕ
 printClass b =
-    cond (isMark b) 4
-    (cond (eqb b (byte "#")) 5
-    (cond (isNameStart b) 7
-    (cond (eqb b (byte "\"")) 8
+    cond (isMark b) markByte
+    (cond (eqb b (byte "#")) commentByte
+    (cond (isNameStart b) nameStartByte
+    (cond (eqb b (byte "\"")) quoteByte
     (cond (isDigit b) (digitClass b)
-    (cond (eqb b (byte "-")) 12
-    (cond (isLower b) (letterClass b) 6))))))
+    (cond (eqb b (byte "-")) minusByte
+    (cond (isLower b) (letterClass b) otherByte))))))
 
--- 0 line end, 1 byte 0 and what is no byte, 2 other control bytes, 3 blank
 unfoldable pub classOf : ℕ → ℕ
 classOf b =
-    cond (isLineEnd b) 0
-    (cond (isBlank b) 3
-    (cond (within 1 31 b) 2
-    (cond (within 33 255 b) (printClass b) 1)))
+    cond (isLineEnd b) lineEndByte
+    (cond (isBlank b) blankByte
+    (cond (within 1 31 b) controlByte
+    (cond (within 33 255 b) (printClass b) noByte)))
 
 -- the class of b is one of lo to hi
 unfoldable pub inClass : (lo hi : ℕ) → ℕ → Bool

@@ -1,7 +1,7 @@
 // The line that starts at a position.
 ghost use mathlib.Core.Path.{_≡_};
 ghost use Rattle.rules.specs.Bytes.{isLineEnd};
-ghost use Rattle.scanner.specs.Class.{inClass};
+ghost use Rattle.scanner.specs.Class.{inClass, noByte, letter};
 ghost use Rattle.scanner.specs.Lines.{lineFrom};
 ghost use Rattle.scanner.specs.Runs.{endOf};
 
@@ -28,7 +28,7 @@ fn ends_line(b: u8) -> bool
 
 // The first line end at or after `at`, or the end.
 fn line_end(s: &[u8], at: usize) -> usize
-    ensures { λ r. ⌜ r ≡ endOf (inClass 1 14) (now (s .entry)) at ⌝ }
+    ensures { λ r. ⌜ r ≡ endOf (inClass noByte letter) (now (s .entry)) at ⌝ }
 {
     let mut i = at;
     while i < s.len() {

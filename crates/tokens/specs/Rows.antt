@@ -45,14 +45,33 @@ Present (Constantly c) = Unit {0}
 Present (Mark b) = Unit {0}
 Present End = ⊥
 
+-- the kinds of rows
+abbrev pub nameRow : ℕ
+nameRow = 0
+
+abbrev pub wordRow : ℕ
+wordRow = 1
+
+abbrev pub integerRow : ℕ
+integerRow = 2
+
+abbrev pub valueRow : ℕ
+valueRow = 3
+
+abbrev pub textRow : ℕ
+textRow = 4
+
+abbrev pub markRow : ℕ
+markRow = 5
+
 -- a row of four words
 unfoldable pub tokenOf : (k a b c : ℕ) → Token
 tokenOf k a b c =
-    cond (eqb k 0) (Name a b)
-    (cond (eqb k 1) (Word a)
-    (cond (eqb k 2) (Constantly (constant.Integer (record { negative = eqb c 1; start = a; end = b })))
-    (cond (eqb k 3) (Constantly (constant.Value a b c))
-    (cond (eqb k 4) (Constantly (constant.Text a)) (Mark a)))))
+    cond (eqb k nameRow) (Name a b)
+    (cond (eqb k wordRow) (Word a)
+    (cond (eqb k integerRow) (Constantly (constant.Integer (record { negative = eqb c 1; start = a; end = b })))
+    (cond (eqb k valueRow) (Constantly (constant.Value a b c))
+    (cond (eqb k textRow) (Constantly (constant.Text a)) (Mark a)))))
 
 unfoldable pub rowOf : List ℕ → ℕ → Token
 rowOf t i = tokenOf (getD t (4 * i) 0) (getD t (4 * i + 1) 0) (getD t (4 * i + 2) 0) (getD t (4 * i + 3) 0)
@@ -66,16 +85,16 @@ signWord true = 1
 signWord false = 0
 
 unfoldable pub constantWords : ConstantSpan → List ℕ
-constantWords (constant.Integer z) = 2 ∷ z .start ∷ z .end ∷ signWord (z .negative) ∷ []
-constantWords (constant.Value a b c) = 3 ∷ a ∷ b ∷ c ∷ []
-constantWords (constant.Text a) = 4 ∷ a ∷ 0 ∷ 0 ∷ []
+constantWords (constant.Integer z) = integerRow ∷ z .start ∷ z .end ∷ signWord (z .negative) ∷ []
+constantWords (constant.Value a b c) = valueRow ∷ a ∷ b ∷ c ∷ []
+constantWords (constant.Text a) = textRow ∷ a ∷ 0 ∷ 0 ∷ []
 
 unfoldable pub rowWords : Token → List ℕ
-rowWords (Name a b) = 0 ∷ a ∷ b ∷ 0 ∷ []
-rowWords (Word c) = 1 ∷ c ∷ 0 ∷ 0 ∷ []
+rowWords (Name a b) = nameRow ∷ a ∷ b ∷ 0 ∷ []
+rowWords (Word c) = wordRow ∷ c ∷ 0 ∷ 0 ∷ []
 rowWords (Constantly c) = constantWords c
-rowWords (Mark b) = 5 ∷ b ∷ 0 ∷ 0 ∷ []
-rowWords End = 5 ∷ 0 ∷ 0 ∷ 0 ∷ []
+rowWords (Mark b) = markRow ∷ b ∷ 0 ∷ 0 ∷ []
+rowWords End = markRow ∷ 0 ∷ 0 ∷ 0 ∷ []
 
 -- each number fits a word
 abbrev pub SmallConstant : ConstantSpan → Type 0
