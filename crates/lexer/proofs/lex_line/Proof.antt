@@ -34,16 +34,43 @@ enum-known-token : tie.Need-enum-known-token Inv-loop μ-loop
 enum-known-token c = search needs
 
 put-token-requires : tie.Need-put-token-requires Inv-loop μ-loop
-put-token-requires c κs = fits (c .before .before .before .before .before .before .before .before .before .before .before .args .f .now) _ _ (c .before .before .before .before .before .before .before .before .before .before .before .args .start) (c .before .before .before .before .before .before .before .before .before .before .before .args .end) (c .before .before .before .before .before .before .before .loop .i) (c .before .before .before .before .before .before .before .loop .n) (c .before .before .before .before .before .before .before .before .before .before .before .pre .1) (c .before .before .before .before .before .before .before .loop .inv) _ _ (told (c .before .before .before .before .before .before .before .before .before .before .before .args .f .now) (c .before .before .before .before .before .before .before .before .before .before .before .args .end) (c .before .before .before .before .before .before .before .loop .i) _ _ (c .before .before .before .before .step .ensures) (c .before .before .token .given .1)) (c .before .before .before .before .before .before .before .before .before .before .before .pre .3) (c .before .before .before .before .before .before .before .before .before .before .before .pre .2)
+put-token-requires c κs =
+    let args = c .before .before .before .before .before .before .before .before .before .before .before .args in
+    let pre = c .before .before .before .before .before .before .before .before .before .before .before .pre in
+    let loop = c .before .before .before .before .before .before .before .loop in
+    let step = c .before .before .before .before .step in
+    let token = c .before .before .token in
+    fits (args .f .now) _ _ (args .start) (args .end) (loop .i) (loop .n) (pre .1) (loop .inv) _ _
+    (told (args .f .now) (args .end) (loop .i) _ _ (step .ensures) (token .given .1)) (pre .3) (pre .2)
 
 add-n : tie.Need-add-n Inv-loop μ-loop
-add-n c = omega (arith, c .before .before .before .before .before .before .before .before .before .before .loop .inv .from, c .before .before .before .before .before .before .before .before .before .before .loop .inv .to, c .before .before .before .before .before .before .before .before .before .before .before .before .before .before .pre .1, c .before .before .before .before .before .before .before .before .before .before .before .before .before .before .pre .2)
+add-n c =
+    let pre = c .before .before .before .before .before .before .before .before .before .before .before .before .before .before .pre in
+    let loop = c .before .before .before .before .before .before .before .before .before .before .loop in
+    omega (arith, loop .inv .from, loop .inv .to, pre .1, pre .2)
 
 loop-less : tie.Need-loop-less Inv-loop μ-loop
-loop-less c = let w = within (c .before .before .before .before .before .before .before .before .before .before .before .before .before .before .args .f .now) _ _ (c .before .before .before .before .before .before .before .before .before .before .before .before .before .before .args .start) (c .before .before .before .before .before .before .before .before .before .before .before .before .before .before .args .end) (c .before .before .before .before .before .before .before .before .before .before .loop .i) (c .before .before .before .before .before .before .before .before .before .before .loop .n) (c .before .before .before .before .before .before .before .before .before .before .before .before .before .before .pre .1) (c .before .before .before .before .before .before .before .before .before .before .loop .inv) _ _ (told (c .before .before .before .before .before .before .before .before .before .before .before .before .before .before .args .f .now) (c .before .before .before .before .before .before .before .before .before .before .before .before .before .before .args .end) (c .before .before .before .before .before .before .before .before .before .before .loop .i) _ _ (c .before .before .before .before .before .before .before .step .ensures) (c .before .before .before .before .before .token .given .1)) in omega (arith, w .0, w .1)
+loop-less c =
+    let args = c .before .before .before .before .before .before .before .before .before .before .before .before .before .before .args in
+    let pre = c .before .before .before .before .before .before .before .before .before .before .before .before .before .before .pre in
+    let loop = c .before .before .before .before .before .before .before .before .before .before .loop in
+    let step = c .before .before .before .before .before .before .before .step in
+    let token = c .before .before .before .before .before .token in
+    let w = within (args .f .now) _ _ (args .start) (args .end) (loop .i) (loop .n) (pre .1) (loop .inv) _ _
+    (told (args .f .now) (args .end) (loop .i) _ _ (step .ensures) (token .given .1)) in
+    omega (arith, w .0, w .1)
 
 loop-again : tie.Need-loop-again Inv-loop μ-loop
-loop-again c = step-on (c .before .before .before .before .before .before .before .before .before .before .before .before .before .before .args .f .now) _ _ (c .before .before .before .before .before .before .before .before .before .before .before .before .before .before .args .start) (c .before .before .before .before .before .before .before .before .before .before .before .before .before .before .args .end) (c .before .before .before .before .before .before .before .before .before .before .loop .i) (c .before .before .before .before .before .before .before .before .before .before .loop .n) (c .before .before .before .before .before .before .before .before .before .before .before .before .before .before .pre .1) (c .before .before .before .before .before .before .before .before .before .before .loop .inv) _ _ (told (c .before .before .before .before .before .before .before .before .before .before .before .before .before .before .args .f .now) (c .before .before .before .before .before .before .before .before .before .before .before .before .before .before .args .end) (c .before .before .before .before .before .before .before .before .before .before .loop .i) _ _ (c .before .before .before .before .before .before .before .step .ensures) (c .before .before .before .before .before .token .given .1)) (c .before .before .before .before .before .before .before .before .before .before .before .before .before .before .pre .3) _ (c .before .before .put-token .ensures)
+loop-again c =
+    let args = c .before .before .before .before .before .before .before .before .before .before .before .before .before .before .args in
+    let pre = c .before .before .before .before .before .before .before .before .before .before .before .before .before .before .pre in
+    let loop = c .before .before .before .before .before .before .before .before .before .before .loop in
+    let step = c .before .before .before .before .before .before .before .step in
+    let token = c .before .before .before .before .before .token in
+    let put-token = c .before .before .put-token in
+    step-on (args .f .now) _ _ (args .start) (args .end) (loop .i) (loop .n) (pre .1) (loop .inv) _ _
+    (told (args .f .now) (args .end) (loop .i) _ _ (step .ensures) (token .given .1)) (pre .3) _
+    (put-token .ensures)
 
 enum-told : tie.Need-enum-told Inv-loop μ-loop
 enum-told c = search needs
@@ -52,7 +79,13 @@ same-length : tie.Need-same-length Inv-loop μ-loop
 same-length c = search needs
 
 returns : tie.Need-returns Inv-loop μ-loop
-returns c = ended (c .before .before .before .before .before .before .before .before .before .args .f .now) _ _ (c .before .before .before .before .before .before .before .before .before .args .start) (c .before .before .before .before .before .before .before .before .before .args .end) (c .before .before .before .before .before .loop .i) (c .before .before .before .before .before .loop .n) (c .before .before .before .before .before .before .before .before .before .pre .1) (c .before .before .before .before .before .loop .inv) (told (c .before .before .before .before .before .before .before .before .before .args .f .now) (c .before .before .before .before .before .before .before .before .before .args .end) (c .before .before .before .before .before .loop .i) _ _ (c .before .before .step .ensures) (c .enum-told .given .1))
+returns c =
+    let args = c .before .before .before .before .before .before .before .before .before .args in
+    let pre = c .before .before .before .before .before .before .before .before .before .pre in
+    let loop = c .before .before .before .before .before .loop in
+    let step = c .before .before .step in
+    ended (args .f .now) _ _ (args .start) (args .end) (loop .i) (loop .n) (pre .1) (loop .inv)
+    (told (args .f .now) (args .end) (loop .i) _ _ (step .ensures) (c .enum-told .given .1))
 
 enum-known-p : tie.Need-enum-known-p Inv-loop μ-loop
 enum-known-p c = search needs
@@ -61,7 +94,13 @@ same-length-2 : tie.Need-same-length-2 Inv-loop μ-loop
 same-length-2 c = search needs
 
 returns-2 : tie.Need-returns-2 Inv-loop μ-loop
-returns-2 c = broke (c .before .before .before .before .before .before .before .before .before .before .args .f .now) _ _ (c .before .before .before .before .before .before .before .before .before .before .args .start) (c .before .before .before .before .before .before .before .before .before .before .args .end) (c .before .before .before .before .before .before .loop .i) (c .before .before .before .before .before .before .loop .n) (c .before .before .before .before .before .before .before .before .before .before .pre .1) (c .before .before .before .before .before .before .loop .inv) _ (told (c .before .before .before .before .before .before .before .before .before .before .args .f .now) (c .before .before .before .before .before .before .before .before .before .before .args .end) (c .before .before .before .before .before .before .loop .i) _ _ (c .before .before .before .step .ensures) (c .before .p .given .1))
+returns-2 c =
+    let args = c .before .before .before .before .before .before .before .before .before .before .args in
+    let pre = c .before .before .before .before .before .before .before .before .before .before .pre in
+    let loop = c .before .before .before .before .before .before .loop in
+    let step = c .before .before .before .step in
+    broke (args .f .now) _ _ (args .start) (args .end) (loop .i) (loop .n) (pre .1) (loop .inv) _
+    (told (args .f .now) (args .end) (loop .i) _ _ (step .ensures) (c .before .p .given .1))
 
 pub lex-line-spec : {M : Type 1} → statement M
 lex-line-spec =

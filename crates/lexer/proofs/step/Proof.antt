@@ -41,25 +41,48 @@ returns-5 : tie.Need-returns-5
 returns-5 c = blanks-then _ _ _ (c .before .before .before .before .before .before .before .before .run-end .ensures) _ (c .name-step .ensures)
 
 string-step-requires : tie.Need-string-step-requires
-string-step-requires c κs = (c .before .before .before .before .before .before .before .before .before .before .pre, starts _ _ _ (c .before .before .before .before .before .before .before .before .run-end .ensures) (c .before .before .before .before .before .before .before .if1 .left) _ (c .before .before .before .before .before .class-in .ensures) 8 8 (omega arith) (omega arith))
+string-step-requires c κs =
+    let pre = c .before .before .before .before .before .before .before .before .before .before .pre in
+    let run-end = c .before .before .before .before .before .before .before .before .run-end in
+    let if1 = c .before .before .before .before .before .before .before .if1 in
+    let class-in = c .before .before .before .before .before .class-in in
+    (pre, starts _ _ _ (run-end .ensures) (if1 .left) _ (class-in .ensures) 8 8 (omega arith) (omega arith))
 
 returns-6 : tie.Need-returns-6
 returns-6 c = blanks-then _ _ _ (c .before .before .before .before .before .before .before .before .before .run-end .ensures) _ (c .string-step .ensures)
 
 number-step-requires : tie.Need-number-step-requires
-number-step-requires c κs = (c .before .before .before .before .before .before .before .before .before .before .before .pre, starts _ _ _ (c .before .before .before .before .before .before .before .before .before .run-end .ensures) (c .before .before .before .before .before .before .before .before .if1 .left) _ (c .before .before .before .before .before .before .class-in .ensures) 9 11 (omega arith) (omega arith))
+number-step-requires c κs =
+    let pre = c .before .before .before .before .before .before .before .before .before .before .before .pre in
+    let run-end = c .before .before .before .before .before .before .before .before .before .run-end in
+    let if1 = c .before .before .before .before .before .before .before .before .if1 in
+    let class-in = c .before .before .before .before .before .before .class-in in
+    (pre, starts _ _ _ (run-end .ensures) (if1 .left) _ (class-in .ensures) 9 11 (omega arith) (omega arith))
 
 returns-7 : tie.Need-returns-7
 returns-7 c = blanks-then _ _ _ (c .before .before .before .before .before .before .before .before .before .before .run-end .ensures) _ (c .number-step .ensures)
 
 minus-step-requires : tie.Need-minus-step-requires
-minus-step-requires c κs = (c .before .before .before .before .before .before .before .before .before .before .before .before .pre, starts _ _ _ (c .before .before .before .before .before .before .before .before .before .before .run-end .ensures) (c .before .before .before .before .before .before .before .before .before .if1 .left) _ (c .before .before .before .before .before .before .before .class-in .ensures) 12 12 (omega arith) (omega arith))
+minus-step-requires c κs =
+    let pre = c .before .before .before .before .before .before .before .before .before .before .before .before .pre in
+    let run-end = c .before .before .before .before .before .before .before .before .before .before .run-end in
+    let if1 = c .before .before .before .before .before .before .before .before .before .if1 in
+    let class-in = c .before .before .before .before .before .before .before .class-in in
+    (pre, starts _ _ _ (run-end .ensures) (if1 .left) _ (class-in .ensures) 12 12 (omega arith) (omega arith))
 
 returns-8 : tie.Need-returns-8
 returns-8 c = blanks-then _ _ _ (c .before .before .before .before .before .before .before .before .before .before .before .run-end .ensures) _ (c .minus-step .ensures)
 
 word-step-requires : tie.Need-word-step-requires
-word-step-requires c κs = let l : c .before .before .before .before .before .before .before .class-in .result ≤ 14 = omega (arith, class-le _ (byte-small _ (c .before .before .before .before .before .before .before .before .before .before .before .shared-slice-known .given (c .before .before .before .before .before .before .before .before .before .before .run-end .result))), c .before .before .before .before .before .before .before .class-in .ensures) in (c .before .before .before .before .before .before .before .before .before .before .before .before .pre, starts _ _ _ (c .before .before .before .before .before .before .before .before .before .before .run-end .ensures) (c .before .before .before .before .before .before .before .before .before .if1 .left) _ (c .before .before .before .before .before .before .before .class-in .ensures) 13 14 (omega arith) l)
+word-step-requires c κs =
+    let pre = c .before .before .before .before .before .before .before .before .before .before .before .before .pre in
+    let shared-slice-known = c .before .before .before .before .before .before .before .before .before .before .before .shared-slice-known in
+    let run-end = c .before .before .before .before .before .before .before .before .before .before .run-end in
+    let if1 = c .before .before .before .before .before .before .before .before .before .if1 in
+    let class-in = c .before .before .before .before .before .before .before .class-in in
+    let l : class-in .result ≤ 14 = omega
+    (arith, class-le _ (byte-small _ (shared-slice-known .given (run-end .result))), class-in .ensures) in
+    (pre, starts _ _ _ (run-end .ensures) (if1 .left) _ (class-in .ensures) 13 14 (omega arith) l)
 
 returns-9 : tie.Need-returns-9
 returns-9 c = blanks-then _ _ _ (c .before .before .before .before .before .before .before .before .before .before .before .run-end .ensures) _ (c .word-step .ensures)
