@@ -25,7 +25,14 @@ put-constant-requires : tie.Need-put-constant-requires
 put-constant-requires c κs = (written-most (c .before .before .before .put-token .ensures), omega arith, omega arith, omega arith)
 
 returns : tie.Need-returns
-returns c = written-as (written-then (c .before .before .before .before .before .before .before .before .before .before .before .put-bytes .ensures) (written-then (c .before .before .before .before .before .before .put-token .ensures) (c .before .before .put-constant .ensures))) (line-attribute _ _ (span-name (now (c .before .before .before .before .before .before .before .before .before .before .before .before .before .before .before .before .before .before .before .args .names)) (now (c .before .before .before .before .before .before .before .before .before .before .before .before .before .before .before .before .before .before .before .args .rows)) _ (c .before .before .before .before .before .before .before .before .before .before .before .before .before .before .before .before .before .before .before .args .row) 1 (c .before .before .before .before .before .before .before .bytes-at .ensures)) _)
+returns c =
+    let args = c .before .before .before .before .before .before .before .before .before .before .before .before .before .before .before .before .before .before .before .args in
+    let put-bytes = c .before .before .before .before .before .before .before .before .before .before .before .put-bytes in
+    let bytes-at = c .before .before .before .before .before .before .before .bytes-at in
+    let put-token = c .before .before .before .before .before .before .put-token in
+    let put-constant = c .before .before .put-constant in
+    written-as (written-then (put-bytes .ensures) (written-then (put-token .ensures) (put-constant .ensures)))
+    (line-attribute _ _ (span-name (now (args .names)) (now (args .rows)) _ (args .row) 1 (bytes-at .ensures)) _)
 
 same-length : tie.Need-same-length
 same-length c = returns c .kept

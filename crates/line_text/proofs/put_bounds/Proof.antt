@@ -7,6 +7,10 @@ use borrow.Author.Needs.{needs}
 use Rattle.line_text.proofs.put_bounds.Statement.{statement}
 use Rattle.line_text.proofs.put_bounds.Tie as tie
 
+-- Places that lie far back.
+abbrev at-entry : tie.After-put-decimal2 → tie.Start
+at-entry c = c .before .before .before .before .before .before .before .before .before .before .before .before .before .before .before .before .before
+
 slice-aggregate-put-bytes : tie.Need-slice-aggregate-put-bytes
 slice-aggregate-put-bytes c = refl
 
@@ -26,7 +30,14 @@ put-byte-requires : tie.Need-put-byte-requires
 put-byte-requires c κs = written-most (c .before .before .before .before .put-decimal .ensures)
 
 returns : tie.Need-returns
-returns c = written-as (written-then (c .before .before .before .before .before .before .before .before .before .before .before .put-bytes .ensures) (written-then (c .before .before .before .before .before .before .before .put-decimal .ensures) (c .before .before .put-byte .ensures))) (bounds-one (c .before .before .before .before .before .before .before .before .before .before .before .before .before .before .before .args .low) (c .before .before .before .before .before .before .before .before .before .before .before .before .before .before .before .args .count) _ refl (c .before .before .before .before .if1 .taken))
+returns c =
+    let args = c .before .before .before .before .before .before .before .before .before .before .before .before .before .before .before .args in
+    let put-bytes = c .before .before .before .before .before .before .before .before .before .before .before .put-bytes in
+    let put-decimal = c .before .before .before .before .before .before .before .put-decimal in
+    let if1 = c .before .before .before .before .if1 in
+    let put-byte = c .before .before .put-byte in
+    written-as (written-then (put-bytes .ensures) (written-then (put-decimal .ensures) (put-byte .ensures)))
+    (bounds-one (args .low) (args .count) _ refl (if1 .taken))
 
 same-length : tie.Need-same-length
 same-length c = returns c .kept
@@ -41,7 +52,18 @@ put-byte-requires-3 : tie.Need-put-byte-requires-3
 put-byte-requires-3 c κs = written-most (c .before .before .before .put-decimal2 .ensures)
 
 returns-2 : tie.Need-returns-2
-returns-2 c = written-as (written-then (c .before .before .before .before .before .before .before .before .before .before .before .before .before .before .before .before .before .before .before .put-bytes .ensures) (written-then (c .before .before .before .before .before .before .before .before .before .before .before .before .before .before .before .put-decimal .ensures) (written-then (c .before .before .before .before .before .before .before .before .before .before .put-byte2 .ensures) (written-then (c .before .before .before .before .before .before .put-decimal2 .ensures) (c .before .before .put-byte3 .ensures))))) (bounds-two (c .before .before .before .before .before .before .before .before .before .before .before .before .before .before .before .before .before .before .before .before .before .before .before .args .low) (c .before .before .before .before .before .before .before .before .before .before .before .before .before .before .before .before .before .before .before .before .before .before .before .args .count) _ refl (c .before .before .before .before .before .before .before .before .before .before .before .before .if1 .left))
+returns-2 c =
+    let args = at-entry (c .before .before .before .before .before .before) .args in
+    let put-bytes = c .before .before .before .before .before .before .before .before .before .before .before .before .before .before .before .before .before .before .before .put-bytes in
+    let put-decimal = c .before .before .before .before .before .before .before .before .before .before .before .before .before .before .before .put-decimal in
+    let if1 = c .before .before .before .before .before .before .before .before .before .before .before .before .if1 in
+    let put-byte2 = c .before .before .before .before .before .before .before .before .before .before .put-byte2 in
+    let put-decimal2 = c .before .before .before .before .before .before .put-decimal2 in
+    let put-byte3 = c .before .before .put-byte3 in
+    written-as
+    (written-then (put-bytes .ensures)
+    (written-then (put-decimal .ensures) (written-then (put-byte2 .ensures) (written-then (put-decimal2 .ensures) (put-byte3 .ensures)))))
+    (bounds-two (args .low) (args .count) _ refl (if1 .left))
 
 same-length-2 : tie.Need-same-length-2
 same-length-2 c = returns-2 c .kept

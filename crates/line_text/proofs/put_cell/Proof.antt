@@ -27,7 +27,16 @@ put-token-requires-2 : tie.Need-put-token-requires-2
 put-token-requires-2 c κs = written-most (c .before .before .before .before .put-token .ensures)
 
 returns : tie.Need-returns
-returns c = written-as (written-then (c .before .before .before .before .before .before .before .before .before .before .before .before .put-bytes .ensures) (written-then (c .before .before .before .before .before .before .before .put-token .ensures) (c .before .before .put-token2 .ensures))) (line-cell _ _ (span-name (now (c .before .before .before .before .before .before .before .before .before .before .before .before .before .before .before .before .before .before .args .names)) (now (c .before .before .before .before .before .before .before .before .before .before .before .before .before .before .before .before .before .before .args .rows)) _ (c .before .before .before .before .before .before .before .before .before .before .before .before .before .before .before .before .before .before .args .row) 3 (c .before .before .before .bytes-at2 .ensures)) _ _ (span-name (now (c .before .before .before .before .before .before .before .before .before .before .before .before .before .before .before .before .before .before .args .names)) (now (c .before .before .before .before .before .before .before .before .before .before .before .before .before .before .before .before .before .before .args .rows)) _ (c .before .before .before .before .before .before .before .before .before .before .before .before .before .before .before .before .before .before .args .row) 1 (c .before .before .before .before .before .before .before .before .bytes-at .ensures)))
+returns c =
+    let args = c .before .before .before .before .before .before .before .before .before .before .before .before .before .before .before .before .before .before .args in
+    let put-bytes = c .before .before .before .before .before .before .before .before .before .before .before .before .put-bytes in
+    let bytes-at = c .before .before .before .before .before .before .before .before .bytes-at in
+    let put-token = c .before .before .before .before .before .before .before .put-token in
+    let bytes-at2 = c .before .before .before .bytes-at2 in
+    let put-token2 = c .before .before .put-token2 in
+    written-as (written-then (put-bytes .ensures) (written-then (put-token .ensures) (put-token2 .ensures)))
+    (line-cell _ _ (span-name (now (args .names)) (now (args .rows)) _ (args .row) 3 (bytes-at2 .ensures)) _ _
+    (span-name (now (args .names)) (now (args .rows)) _ (args .row) 1 (bytes-at .ensures)))
 
 same-length : tie.Need-same-length
 same-length c = returns c .kept

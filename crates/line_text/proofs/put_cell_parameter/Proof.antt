@@ -9,6 +9,10 @@ use denote.Ref.{now}
 use Rattle.line_text.proofs.put_cell_parameter.Statement.{statement}
 use Rattle.line_text.proofs.put_cell_parameter.Tie as tie
 
+-- Places that lie far back.
+abbrev at-entry : tie.After-put-token → tie.Start
+at-entry c = c .before .before .before .before .before .before .before .before .before .before .before .before .before .before .before .before .before
+
 slice-aggregate-put-bytes : tie.Need-slice-aggregate-put-bytes
 slice-aggregate-put-bytes c = refl
 
@@ -28,7 +32,16 @@ put-constant-requires : tie.Need-put-constant-requires
 put-constant-requires c κs = (written-most (c .before .before .before .put-token .ensures), omega arith, omega arith, omega arith)
 
 returns : tie.Need-returns
-returns c = written-as (written-then (c .before .before .before .before .before .before .before .before .before .before .before .before .before .before .before .put-bytes .ensures) (written-then (c .before .before .before .before .before .before .before .before .before .before .before .put-sort .ensures) (written-then (c .before .before .before .before .before .before .put-token .ensures) (c .before .before .put-constant .ensures)))) (line-cell-parameter _ _ (span-name (now (c .before .before .before .before .before .before .before .before .before .before .before .before .before .before .before .before .before .before .before .before .before .before .before .args .names)) (now (c .before .before .before .before .before .before .before .before .before .before .before .before .before .before .before .before .before .before .before .before .before .before .before .args .rows)) _ (c .before .before .before .before .before .before .before .before .before .before .before .before .before .before .before .before .before .before .before .before .before .before .before .args .row) 1 (c .before .before .before .before .before .before .before .bytes-at .ensures)) _ _)
+returns c =
+    let args = at-entry (c .before .before .before .before .before .before) .args in
+    let put-bytes = c .before .before .before .before .before .before .before .before .before .before .before .before .before .before .before .put-bytes in
+    let put-sort = c .before .before .before .before .before .before .before .before .before .before .before .put-sort in
+    let bytes-at = c .before .before .before .before .before .before .before .bytes-at in
+    let put-token = c .before .before .before .before .before .before .put-token in
+    let put-constant = c .before .before .put-constant in
+    written-as
+    (written-then (put-bytes .ensures) (written-then (put-sort .ensures) (written-then (put-token .ensures) (put-constant .ensures))))
+    (line-cell-parameter _ _ (span-name (now (args .names)) (now (args .rows)) _ (args .row) 1 (bytes-at .ensures)) _ _)
 
 same-length : tie.Need-same-length
 same-length c = returns c .kept

@@ -11,6 +11,10 @@ use denote.Ref.{now}
 use Rattle.line_text.proofs.put_connection.Statement.{statement}
 use Rattle.line_text.proofs.put_connection.Tie as tie
 
+-- Places that lie far back.
+abbrev at-entry : tie.After-put-signal2 → tie.Start
+at-entry c = c .before .before .before .before .before .before .before .before .before .before .before .before .before .before .before .before .before .before
+
 slice-aggregate-put-bytes : tie.Need-slice-aggregate-put-bytes
 slice-aggregate-put-bytes c = refl
 
@@ -30,7 +34,19 @@ put-signal-requires-2 : tie.Need-put-signal-requires-2
 put-signal-requires-2 c κs = (written-most (c .before .before .before .before .put-signal .ensures), omega (arith, span-le _ _ _ _ _ (c .before .words-at2 .ensures)))
 
 returns : tie.Need-returns
-returns c = written-as (written-then (c .before .before .before .before .before .before .before .before .before .before .before .before .put-bytes .ensures) (written-then (c .before .before .before .before .before .before .before .put-signal .ensures) (c .before .before .put-signal2 .ensures))) (line-connection _ _ _ _ (ap (sig (wiresIn (now (c .before .before .before .before .before .before .before .before .before .before .before .before .before .before .before .before .before .before .before .before .args .names)) (now (c .before .before .before .before .before .before .before .before .before .before .before .before .before .before .before .before .before .before .before .before .args .wires)) (now (c .before .before .before .before .before .before .before .before .before .before .before .before .before .before .before .before .before .before .before .before .args .rows)) (c .before .before .before .before .before .before .before .before .before .before .before .before .before .before .before .before .before .before .before .before .args .m))) (span-signal (now (c .before .before .before .before .before .before .before .before .before .before .before .before .before .before .before .before .before .before .before .before .args .bits)) (now (c .before .before .before .before .before .before .before .before .before .before .before .before .before .before .before .before .before .before .before .before .args .rows)) _ (c .before .before .before .before .before .before .before .before .before .before .before .before .before .before .before .before .before .before .before .before .args .row) 1 (c .before .before .before .before .before .before .before .before .before .words-at .ensures))) (ap (sig (wiresIn (now (c .before .before .before .before .before .before .before .before .before .before .before .before .before .before .before .before .before .before .before .before .args .names)) (now (c .before .before .before .before .before .before .before .before .before .before .before .before .before .before .before .before .before .before .before .before .args .wires)) (now (c .before .before .before .before .before .before .before .before .before .before .before .before .before .before .before .before .before .before .before .before .args .rows)) (c .before .before .before .before .before .before .before .before .before .before .before .before .before .before .before .before .before .before .before .before .args .m))) (span-signal (now (c .before .before .before .before .before .before .before .before .before .before .before .before .before .before .before .before .before .before .before .before .args .bits)) (now (c .before .before .before .before .before .before .before .before .before .before .before .before .before .before .before .before .before .before .before .before .args .rows)) _ (c .before .before .before .before .before .before .before .before .before .before .before .before .before .before .before .before .before .before .before .before .args .row) 3 (c .before .before .before .before .words-at2 .ensures))))
+returns c =
+    let args = at-entry (c .before .before) .args in
+    let put-bytes = c .before .before .before .before .before .before .before .before .before .before .before .before .put-bytes in
+    let words-at = c .before .before .before .before .before .before .before .before .before .words-at in
+    let put-signal = c .before .before .before .before .before .before .before .put-signal in
+    let words-at2 = c .before .before .before .before .words-at2 in
+    let put-signal2 = c .before .before .put-signal2 in
+    written-as (written-then (put-bytes .ensures) (written-then (put-signal .ensures) (put-signal2 .ensures)))
+    (line-connection _ _ _ _
+    (ap (sig (wiresIn (now (args .names)) (now (args .wires)) (now (args .rows)) (args .m)))
+    (span-signal (now (args .bits)) (now (args .rows)) _ (args .row) 1 (words-at .ensures)))
+    (ap (sig (wiresIn (now (args .names)) (now (args .wires)) (now (args .rows)) (args .m)))
+    (span-signal (now (args .bits)) (now (args .rows)) _ (args .row) 3 (words-at2 .ensures))))
 
 same-length : tie.Need-same-length
 same-length c = returns c .kept

@@ -24,7 +24,16 @@ put-value-requires : tie.Need-put-value-requires
 put-value-requires c κs = (written-most (c .before .before .before .before .before .before .put-byte .ensures), omega (arith, span-le _ _ _ _ _ (c .words-at .ensures)))
 
 returns : tie.Need-returns
-returns c = written-as (written-then (c .before .before .before .before .before .before .before .before .before .put-byte .ensures) (c .before .before .put-value .ensures)) (constant-value (now (c .before .before .before .before .before .before .before .before .before .before .before .before .before .before .before .args .strings)) (now (c .before .before .before .before .before .before .before .before .before .before .before .before .before .before .before .args .bits)) (now (c .before .before .before .before .before .before .before .before .before .before .before .before .before .before .before .args .rows)) (c .before .before .before .before .before .before .before .before .before .before .before .before .before .before .before .args .row) (c .before .before .before .before .before .before .before .before .before .before .before .before .before .before .before .args .c) (c .before .before .before .before .before .before .column .result) (c .before .before .before .before .before .before .column .ensures) _ (c .before .before .before .words-at .ensures) (c .before .before .before .before .before .if1 .taken))
+returns c =
+    let args = c .before .before .before .before .before .before .before .before .before .before .before .before .before .before .before .args in
+    let put-byte = c .before .before .before .before .before .before .before .before .before .put-byte in
+    let column = c .before .before .before .before .before .before .column in
+    let if1 = c .before .before .before .before .before .if1 in
+    let words-at = c .before .before .before .words-at in
+    let put-value = c .before .before .put-value in
+    written-as (written-then (put-byte .ensures) (put-value .ensures))
+    (constant-value (now (args .strings)) (now (args .bits)) (now (args .rows)) (args .row) (args .c)
+    (column .result) (column .ensures) _ (words-at .ensures) (if1 .taken))
 
 same-length : tie.Need-same-length
 same-length c = returns c .kept
@@ -39,7 +48,16 @@ put-integer-requires : tie.Need-put-integer-requires
 put-integer-requires c κs = written-most (c .before .before .before .before .before .before .before .put-byte .ensures)
 
 returns-2 : tie.Need-returns-2
-returns-2 c = written-as (written-then (c .before .before .before .before .before .before .before .before .before .before .put-byte .ensures) (c .before .before .put-integer .ensures)) (constant-integer (now (c .before .before .before .before .before .before .before .before .before .before .before .before .before .before .before .before .args .strings)) (now (c .before .before .before .before .before .before .before .before .before .before .before .before .before .before .before .before .args .bits)) (now (c .before .before .before .before .before .before .before .before .before .before .before .before .before .before .before .before .args .rows)) (c .before .before .before .before .before .before .before .before .before .before .before .before .before .before .before .before .args .row) (c .before .before .before .before .before .before .before .before .before .before .before .before .before .before .before .before .args .c) (c .before .before .before .before .before .before .before .column .result) (c .before .before .before .before .before .before .before .column .ensures) _ (c .before .before .before .column2 .ensures) (c .before .before .before .before .before .if2 .taken))
+returns-2 c =
+    let args = c .before .before .before .before .before .before .before .before .before .before .before .before .before .before .before .before .args in
+    let put-byte = c .before .before .before .before .before .before .before .before .before .before .put-byte in
+    let column = c .before .before .before .before .before .before .before .column in
+    let if2 = c .before .before .before .before .before .if2 in
+    let column2 = c .before .before .before .column2 in
+    let put-integer = c .before .before .put-integer in
+    written-as (written-then (put-byte .ensures) (put-integer .ensures))
+    (constant-integer (now (args .strings)) (now (args .bits)) (now (args .rows)) (args .row) (args .c)
+    (column .result) (column .ensures) _ (column2 .ensures) (if2 .taken))
 
 same-length-2 : tie.Need-same-length-2
 same-length-2 c = returns-2 c .kept
@@ -54,7 +72,17 @@ put-string-requires : tie.Need-put-string-requires
 put-string-requires c κs = written-most (c .before .before .before .before .before .before .before .put-byte .ensures)
 
 returns-3 : tie.Need-returns-3
-returns-3 c = written-as (written-then (c .before .before .before .before .before .before .before .before .before .before .put-byte .ensures) (c .before .before .put-string .ensures)) (constant-string (now (c .before .before .before .before .before .before .before .before .before .before .before .before .before .before .before .before .args .strings)) (now (c .before .before .before .before .before .before .before .before .before .before .before .before .before .before .before .before .args .bits)) (now (c .before .before .before .before .before .before .before .before .before .before .before .before .before .before .before .before .args .rows)) (c .before .before .before .before .before .before .before .before .before .before .before .before .before .before .before .before .args .row) (c .before .before .before .before .before .before .before .before .before .before .before .before .before .before .before .before .args .c) (c .before .before .before .before .before .before .before .column .result) (c .before .before .before .before .before .before .before .column .ensures) _ (c .before .before .before .bytes-at .ensures) (c .before .before .before .before .before .before .if1 .left) (c .before .before .before .before .before .if2 .left))
+returns-3 c =
+    let args = c .before .before .before .before .before .before .before .before .before .before .before .before .before .before .before .before .args in
+    let put-byte = c .before .before .before .before .before .before .before .before .before .before .put-byte in
+    let column = c .before .before .before .before .before .before .before .column in
+    let if1 = c .before .before .before .before .before .before .if1 in
+    let if2 = c .before .before .before .before .before .if2 in
+    let bytes-at = c .before .before .before .bytes-at in
+    let put-string = c .before .before .put-string in
+    written-as (written-then (put-byte .ensures) (put-string .ensures))
+    (constant-string (now (args .strings)) (now (args .bits)) (now (args .rows)) (args .row) (args .c)
+    (column .result) (column .ensures) _ (bytes-at .ensures) (if1 .left) (if2 .left))
 
 same-length-3 : tie.Need-same-length-3
 same-length-3 c = returns-3 c .kept

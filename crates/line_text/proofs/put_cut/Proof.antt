@@ -13,6 +13,10 @@ use denote.Ref.{now}
 use Rattle.line_text.proofs.put_cut.Statement.{statement}
 use Rattle.line_text.proofs.put_cut.Tie as tie
 
+-- Places that lie far back.
+abbrev at-entry : tie.After-put-bounds → tie.Start
+at-entry c = c .before .before .before .before .before .before .before .before .before .before .before .before .before .before .before .before .before .before
+
 slice-aggregate-put-bytes : tie.Need-slice-aggregate-put-bytes
 slice-aggregate-put-bytes c = refl
 
@@ -64,12 +68,20 @@ put-bounds-requires c κs = (written-most (c .before .before .before .before .be
 returns-3 : tie.Need-returns-3
 unfolding wireOf
 returns-3 c =
-    let a = c .before .before .before .before .before .before .before .before .before .before .before .before .before .before .before .before .before .before .before .before .args in
-    let n = c .before .before .before .before .before .before .before .before .before .before .before .before .before .if2 .n in
-    let e : a .m .wires ≡ (a .m .wires - (a .wire .0 + 1)) + suc n = ⊎-elim (λ w. omega arith) (λ w. omega arith) (c .before .before .before .before .before .before .before .before .before .before .before .before .before .if2 .came) in
-    let at-n = wire-now (now (a .names)) (now (a .wires)) (now (a .rows)) (a .m) (a .wire .0) n e in
-    written-as (written-then (c .before .before .before .before .before .before .before .before .put-token .ensures) (c .before .before .put-bounds .ensures))
-    (cut-part _ _ _ (c .before .before .before .before .before .before .before .before .before .name-now .ensures) _ _ (a .low) (a .count) at-n (λ q. c .before .before .before .before .if3 .left (q ∙ sym (c .before .before .before .before .before .column .ensures))))
+    let args = at-entry (c .before .before) .args in
+    let if1 = c .before .before .before .before .before .before .before .before .before .before .before .before .before .before .before .if1 in
+    let if2 = c .before .before .before .before .before .before .before .before .before .before .before .before .before .if2 in
+    let n = if2 .n in
+    let e : args .m .wires ≡ (args .m .wires - (args .wire .0 + 1)) + suc n =
+    ⊎-elim (λ w. omega (arith, if1 .left)) (λ w. omega (arith, if1 .left)) (if2 .came) in
+    let name-now = c .before .before .before .before .before .before .before .before .before .name-now in
+    let put-token = c .before .before .before .before .before .before .before .before .put-token in
+    let column = c .before .before .before .before .before .column in
+    let if3 = c .before .before .before .before .if3 in
+    let put-bounds = c .before .before .put-bounds in
+    let at-n = wire-now (now (args .names)) (now (args .wires)) (now (args .rows)) (args .m) (args .wire .0) n e in
+    written-as (written-then (put-token .ensures) (put-bounds .ensures))
+    (cut-part _ _ _ (name-now .ensures) _ _ (args .low) (args .count) at-n (λ q. if3 .left (q ∙ sym (column .ensures))))
 
 same-length-3 : tie.Need-same-length-3
 same-length-3 c = returns-3 c .kept

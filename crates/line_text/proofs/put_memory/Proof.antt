@@ -25,7 +25,14 @@ put-token-requires : tie.Need-put-token-requires
 put-token-requires c κs = written-most (c .before .before .before .before .put-memory-options .ensures)
 
 returns : tie.Need-returns
-returns c = written-as (written-then (c .before .before .before .before .before .before .before .before .before .before .before .put-bytes .ensures) (written-then (c .before .before .before .before .before .before .before .put-memory-options .ensures) (c .before .before .put-token .ensures))) (line-memory _ _ (span-name (now (c .before .before .before .before .before .before .before .before .before .before .before .before .before .before .before .before .before .args .names)) (now (c .before .before .before .before .before .before .before .before .before .before .before .before .before .before .before .before .before .args .rows)) _ (c .before .before .before .before .before .before .before .before .before .before .before .before .before .before .before .before .before .args .row) 1 (c .before .before .before .bytes-at .ensures)) _)
+returns c =
+    let args = c .before .before .before .before .before .before .before .before .before .before .before .before .before .before .before .before .before .args in
+    let put-bytes = c .before .before .before .before .before .before .before .before .before .before .before .put-bytes in
+    let put-memory-options = c .before .before .before .before .before .before .before .put-memory-options in
+    let bytes-at = c .before .before .before .bytes-at in
+    let put-token = c .before .before .put-token in
+    written-as (written-then (put-bytes .ensures) (written-then (put-memory-options .ensures) (put-token .ensures)))
+    (line-memory _ _ (span-name (now (args .names)) (now (args .rows)) _ (args .row) 1 (bytes-at .ensures)) _)
 
 same-length : tie.Need-same-length
 same-length c = returns c .kept

@@ -35,7 +35,16 @@ put-offset-requires c κs = written-most (c .before .before .before .before .put
 
 returns : tie.Need-returns
 unfolding setting
-returns c = written-as (written-then (c .before .before .before .before .before .before .before .before .before .before .before .before .before .put-setting .ensures) (written-then (c .before .before .before .before .before .before .before .put-setting2 .ensures) (c .before .before .put-offset .ensures))) (memory-options (now (c .before .before .before .before .before .before .before .before .before .before .before .before .before .before .before .before .before .before .before .args .rows)) (c .before .before .before .before .before .before .before .before .before .before .before .before .before .before .before .before .before .before .before .args .row) _ _ _ (c .before .before .before .before .before .before .before .before .before .before .before .before .before .before .column .ensures) (c .before .before .before .before .before .before .before .before .column2 .ensures) (c .before .before .before .column3 .ensures))
+returns c =
+    let args = c .before .before .before .before .before .before .before .before .before .before .before .before .before .before .before .before .before .before .before .args in
+    let column = c .before .before .before .before .before .before .before .before .before .before .before .before .before .before .column in
+    let put-setting = c .before .before .before .before .before .before .before .before .before .before .before .before .before .put-setting in
+    let column2 = c .before .before .before .before .before .before .before .before .column2 in
+    let put-setting2 = c .before .before .before .before .before .before .before .put-setting2 in
+    let column3 = c .before .before .before .column3 in
+    let put-offset = c .before .before .put-offset in
+    written-as (written-then (put-setting .ensures) (written-then (put-setting2 .ensures) (put-offset .ensures)))
+    (memory-options (now (args .rows)) (args .row) _ _ _ (column .ensures) (column2 .ensures) (column3 .ensures))
 
 same-length : tie.Need-same-length
 same-length c = returns c .kept

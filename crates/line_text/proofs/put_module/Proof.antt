@@ -21,7 +21,13 @@ put-token-requires : tie.Need-put-token-requires
 put-token-requires c κs = written-most (c .before .before .before .before .put-bytes .ensures)
 
 returns : tie.Need-returns
-returns c = written-as (written-then (c .before .before .before .before .before .before .before .put-bytes .ensures) (c .before .before .put-token .ensures)) (line-module _ _ (span-name (now (c .before .before .before .before .before .before .before .before .before .before .before .before .before .args .names)) (now (c .before .before .before .before .before .before .before .before .before .before .before .before .before .args .rows)) _ (c .before .before .before .before .before .before .before .before .before .before .before .before .before .args .row) 1 (c .before .before .before .bytes-at .ensures)))
+returns c =
+    let args = c .before .before .before .before .before .before .before .before .before .before .before .before .before .args in
+    let put-bytes = c .before .before .before .before .before .before .before .put-bytes in
+    let bytes-at = c .before .before .before .bytes-at in
+    let put-token = c .before .before .put-token in
+    written-as (written-then (put-bytes .ensures) (put-token .ensures))
+    (line-module _ _ (span-name (now (args .names)) (now (args .rows)) _ (args .row) 1 (bytes-at .ensures)))
 
 same-length : tie.Need-same-length
 same-length c = returns c .kept

@@ -29,7 +29,13 @@ put-signed-requires c κs = written-most (c .before .before .before .put-bytes .
 
 returns-2 : tie.Need-returns-2
 unfolding unless setting
-returns-2 c = rw (offset-there _ (c .before .before .before .before .before .before .before .before .before .if1 .left)) (written-as (written-then (c .before .before .before .before .before .before .put-bytes .ensures) (c .before .before .put-signed .ensures)) (option-number (bytes "offset") (signedOf (c .before .before .before .before .before .before .before .before .before .before .before .args .word))))
+returns-2 c =
+    let args = c .before .before .before .before .before .before .before .before .before .before .before .args in
+    let if1 = c .before .before .before .before .before .before .before .before .before .if1 in
+    let put-bytes = c .before .before .before .before .before .before .put-bytes in
+    let put-signed = c .before .before .put-signed in
+    rw (offset-there _ (if1 .left))
+    (written-as (written-then (put-bytes .ensures) (put-signed .ensures)) (option-number (bytes "offset") (signedOf (args .word))))
 
 same-length : tie.Need-same-length
 same-length c = returns-2 c .kept

@@ -9,6 +9,10 @@ use denote.Ref.{now}
 use Rattle.line_text.proofs.put_parameter.Statement.{statement}
 use Rattle.line_text.proofs.put_parameter.Tie as tie
 
+-- Places that lie far back.
+abbrev at-entry : tie.After-put-constant → tie.Start
+at-entry c = c .before .before .before .before .before .before .before .before .before .before .before .before .before .before .before .before .before .before .before
+
 slice-aggregate-put-bytes : tie.Need-slice-aggregate-put-bytes
 slice-aggregate-put-bytes c = refl
 
@@ -25,7 +29,15 @@ column-requires : tie.Need-column-requires
 column-requires c κs = search needs
 
 returns : tie.Need-returns
-returns c = written-as (written-then (c .before .before .before .before .before .before .before .before .before .put-bytes .ensures) (c .before .before .before .before .put-token .ensures)) (line-no-constant _ _ (span-name (now (c .before .before .before .before .before .before .before .before .before .before .before .before .before .before .before .before .before .args .names)) (now (c .before .before .before .before .before .before .before .before .before .before .before .before .before .before .before .before .before .args .rows)) _ (c .before .before .before .before .before .before .before .before .before .before .before .before .before .before .before .before .before .args .row) 1 (c .before .before .before .before .before .bytes-at .ensures)) (now (c .before .before .before .before .before .before .before .before .before .before .before .before .before .before .before .before .before .args .strings)) (now (c .before .before .before .before .before .before .before .before .before .before .before .before .before .before .before .before .before .args .bits)) (now (c .before .before .before .before .before .before .before .before .before .before .before .before .before .before .before .before .before .args .rows)) (c .before .before .before .before .before .before .before .before .before .before .before .before .before .before .before .before .before .args .row) 3 _ (c .before .column .ensures) (c .if1 .taken))
+returns c =
+    let args = c .before .before .before .before .before .before .before .before .before .before .before .before .before .before .before .before .before .args in
+    let put-bytes = c .before .before .before .before .before .before .before .before .before .put-bytes in
+    let bytes-at = c .before .before .before .before .before .bytes-at in
+    let put-token = c .before .before .before .before .put-token in
+    written-as (written-then (put-bytes .ensures) (put-token .ensures))
+    (line-no-constant _ _ (span-name (now (args .names)) (now (args .rows)) _ (args .row) 1 (bytes-at .ensures))
+    (now (args .strings)) (now (args .bits)) (now (args .rows)) (args .row) 3 _ (c .before .column .ensures)
+    (c .if1 .taken))
 
 same-length : tie.Need-same-length
 same-length c = returns c .kept
@@ -34,7 +46,17 @@ put-constant-requires : tie.Need-put-constant-requires
 put-constant-requires c κs = (written-most (c .before .before .before .before .before .put-token .ensures), omega arith, omega arith, omega arith)
 
 returns-2 : tie.Need-returns-2
-returns-2 c = written-as (written-then (c .before .before .before .before .before .before .before .before .before .before .before .before .before .put-bytes .ensures) (written-then (c .before .before .before .before .before .before .before .before .put-token .ensures) (c .before .before .put-constant .ensures))) (line-parameter _ _ (span-name (now (c .before .before .before .before .before .before .before .before .before .before .before .before .before .before .before .before .before .before .before .before .before .args .names)) (now (c .before .before .before .before .before .before .before .before .before .before .before .before .before .before .before .before .before .before .before .before .before .args .rows)) _ (c .before .before .before .before .before .before .before .before .before .before .before .before .before .before .before .before .before .before .before .before .before .args .row) 1 (c .before .before .before .before .before .before .before .before .before .bytes-at .ensures)) (now (c .before .before .before .before .before .before .before .before .before .before .before .before .before .before .before .before .before .before .before .before .before .args .strings)) (now (c .before .before .before .before .before .before .before .before .before .before .before .before .before .before .before .before .before .before .before .before .before .args .bits)) (now (c .before .before .before .before .before .before .before .before .before .before .before .before .before .before .before .before .before .before .before .before .before .args .rows)) (c .before .before .before .before .before .before .before .before .before .before .before .before .before .before .before .before .before .before .before .before .before .args .row) 3 _ (c .before .before .before .before .before .column .ensures) (c .before .before .before .before .if1 .left))
+returns-2 c =
+    let args = at-entry (c .before .before) .args in
+    let put-bytes = c .before .before .before .before .before .before .before .before .before .before .before .before .before .put-bytes in
+    let bytes-at = c .before .before .before .before .before .before .before .before .before .bytes-at in
+    let put-token = c .before .before .before .before .before .before .before .before .put-token in
+    let column = c .before .before .before .before .before .column in
+    let if1 = c .before .before .before .before .if1 in
+    let put-constant = c .before .before .put-constant in
+    written-as (written-then (put-bytes .ensures) (written-then (put-token .ensures) (put-constant .ensures)))
+    (line-parameter _ _ (span-name (now (args .names)) (now (args .rows)) _ (args .row) 1 (bytes-at .ensures))
+    (now (args .strings)) (now (args .bits)) (now (args .rows)) (args .row) 3 _ (column .ensures) (if1 .left))
 
 same-length-2 : tie.Need-same-length-2
 same-length-2 c = returns-2 c .kept

@@ -97,7 +97,28 @@ returns-8 c = λ wires ws h k l. rw (c .before .before .before .before .before .
 
 returns-9 : tie.Need-returns-9
 unfolding statementBy bodyText written translate
-returns-9 c = λ wires ws h k l. rw (ne-eqb _ _ (c .before .before .before .before .before .before .before .if1 .left), ne-eqb _ _ (c .before .before .before .before .before .before .if2 .left), ne-eqb _ _ (c .before .before .before .before .before .if3 .left), ne-eqb _ _ (c .before .before .before .before .if4 .left), ne-eqb _ _ (c .before .before .before .if5 .left), ne-eqb _ _ (c .before .before .if6 .left), ne-eqb _ _ (c .before .if7 .left), ne-eqb _ _ (c .if8 .left), h, k, l) (written-none (c .before .before .before .before .before .before .before .before .before .before .before .before .before .args .at) (now (c .before .before .before .before .before .before .before .before .before .before .before .before .before .args .out)) (c .before .before .before .before .before .before .before .before .before .before .before .before .before .pre .0))
+returns-9 c =
+    let args = c .before .before .before .before .before .before .before .before .before .before .before .before .before .args in
+    let pre = c .before .before .before .before .before .before .before .before .before .before .before .before .before .pre in
+    let if1 = c .before .before .before .before .before .before .before .if1 in
+    let if2 = c .before .before .before .before .before .before .if2 in
+    let if3 = c .before .before .before .before .before .if3 in
+    let if4 = c .before .before .before .before .if4 in
+    let if5 = c .before .before .before .if5 in
+    let if6 = c .before .before .if6 in
+    λ wires ws h k l. rw (
+      ne-eqb _ _ (if1 .left),
+      ne-eqb _ _ (if2 .left),
+      ne-eqb _ _ (if3 .left),
+      ne-eqb _ _ (if4 .left),
+      ne-eqb _ _ (if5 .left),
+      ne-eqb _ _ (if6 .left),
+      ne-eqb _ _ (c .before .if7 .left),
+      ne-eqb _ _ (c .if8 .left),
+      h,
+      k,
+      l,
+    ) (written-none (args .at) (now (args .out)) (pre .0))
 
 pub put-plain-spec : {M : Type 1} → statement M
 put-plain-spec =

@@ -26,7 +26,13 @@ put-number-requires c κs = written-most (c .before .before .before .put-bytes .
 
 returns : tie.Need-returns
 unfolding portOf Option·toList directionWord setting integerText
-returns c = rw (c .before .before .before .before .before .before .before .before .before .if1 .taken) (written-as (written-then (c .before .before .before .before .before .before .put-bytes .ensures) (c .before .before .put-number .ensures)) (option-number (bytes "input") (pos (c .before .before .before .before .before .before .before .before .before .before .before .args .n))))
+returns c =
+    let args = c .before .before .before .before .before .before .before .before .before .before .before .args in
+    let if1 = c .before .before .before .before .before .before .before .before .before .if1 in
+    let put-bytes = c .before .before .before .before .before .before .put-bytes in
+    let put-number = c .before .before .put-number in
+    rw (if1 .taken)
+    (written-as (written-then (put-bytes .ensures) (put-number .ensures)) (option-number (bytes "input") (pos (args .n))))
 
 same-length : tie.Need-same-length
 same-length c = returns c .kept
@@ -42,7 +48,13 @@ put-number-requires-2 c κs = written-most (c .before .before .before .put-bytes
 
 returns-2 : tie.Need-returns-2
 unfolding portOf Option·toList directionWord setting integerText
-returns-2 c = rw (c .before .before .before .before .before .before .before .before .before .if2 .taken) (written-as (written-then (c .before .before .before .before .before .before .put-bytes2 .ensures) (c .before .before .put-number2 .ensures)) (option-number (bytes "output") (pos (c .before .before .before .before .before .before .before .before .before .before .before .before .args .n))))
+returns-2 c =
+    let args = c .before .before .before .before .before .before .before .before .before .before .before .before .args in
+    let if2 = c .before .before .before .before .before .before .before .before .before .if2 in
+    let put-bytes2 = c .before .before .before .before .before .before .put-bytes2 in
+    let put-number2 = c .before .before .put-number2 in
+    rw (if2 .taken)
+    (written-as (written-then (put-bytes2 .ensures) (put-number2 .ensures)) (option-number (bytes "output") (pos (args .n))))
 
 same-length-2 : tie.Need-same-length-2
 same-length-2 c = returns-2 c .kept
@@ -58,7 +70,13 @@ put-number-requires-3 c κs = written-most (c .before .before .before .put-bytes
 
 returns-3 : tie.Need-returns-3
 unfolding portOf Option·toList directionWord setting integerText
-returns-3 c = rw (c .before .before .before .before .before .before .before .before .before .if3 .taken) (written-as (written-then (c .before .before .before .before .before .before .put-bytes3 .ensures) (c .before .before .put-number3 .ensures)) (option-number (bytes "inout") (pos (c .before .before .before .before .before .before .before .before .before .before .before .before .before .args .n))))
+returns-3 c =
+    let args = c .before .before .before .before .before .before .before .before .before .before .before .before .before .args in
+    let if3 = c .before .before .before .before .before .before .before .before .before .if3 in
+    let put-bytes3 = c .before .before .before .before .before .before .put-bytes3 in
+    let put-number3 = c .before .before .put-number3 in
+    rw (if3 .taken)
+    (written-as (written-then (put-bytes3 .ensures) (put-number3 .ensures)) (option-number (bytes "inout") (pos (args .n))))
 
 same-length-3 : tie.Need-same-length-3
 same-length-3 c = returns-3 c .kept

@@ -62,9 +62,14 @@ put-cut-requires c κs = (c .before .before .before .before .before .before .bef
 
 returns : tie.Need-returns
 returns c =
-    let a = c .before .before .before .before .before .before .before .before .before .before .before .before .before .before .before .before .before .before .args in
-    let ws = wiresIn (now (a .names)) (now (a .wires)) (now (a .rows)) (a .m) in
-    written-as (written-then (c .before .before .before .before .before .before .before .put-byte .ensures) (c .before .before .put-value .ensures)) (run-digits (now (a .s)) (a .i) (a .j) ws _ (c .before .before .before .before .before .before .before .before .before .before .before .decode .ensures) _ (c .before .before .before .before .before .before .before .before .before .enum-told .given .1))
+    let args = c .before .before .before .before .before .before .before .before .before .before .before .before .before .before .before .before .before .before .args in
+    let decode = c .before .before .before .before .before .before .before .before .before .before .before .decode in
+    let enum-told = c .before .before .before .before .before .before .before .before .before .enum-told in
+    let put-byte = c .before .before .before .before .before .before .before .put-byte in
+    let put-value = c .before .before .put-value in
+    let ws = wiresIn (now (args .names)) (now (args .wires)) (now (args .rows)) (args .m) in
+    written-as (written-then (put-byte .ensures) (put-value .ensures))
+    (run-digits (now (args .s)) (args .i) (args .j) ws _ (decode .ensures) _ (enum-told .given .1))
 
 same-length : tie.Need-same-length
 same-length c = returns c .kept

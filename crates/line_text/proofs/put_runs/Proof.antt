@@ -20,7 +20,14 @@ abbrev μ-loop : tie.MeasureT-loop
 μ-loop names wires rows m s out₀ at end₀ i₀ out end i = i
 
 loop-holds : tie.Need-loop-holds Inv-loop μ-loop
-loop-holds c = (omega arith, λ a b. absurd (omega arith), written-as (written-none (c .before .before .before .before .before .args .at) (now (c .before .before .before .before .before .args .out)) (c .before .before .before .before .before .pre .0)) (sym (runs-none (wiresIn (now (c .before .before .before .before .before .args .names)) (now (c .before .before .before .before .before .args .wires)) (now (c .before .before .before .before .before .args .rows)) (c .before .before .before .before .before .args .m)) (now (c .before .before .before .before .before .args .s)))))
+loop-holds c =
+    let args = c .before .before .before .before .before .args in
+    let pre = c .before .before .before .before .before .pre in (
+      omega arith,
+      λ a b. absurd (omega arith),
+      written-as (written-none (args .at) (now (args .out)) (pre .0))
+          (sym (runs-none (wiresIn (now (args .names)) (now (args .wires)) (now (args .rows)) (args .m)) (now (args .s)))),
+    )
 
 run-low-requires : tie.Need-run-low-requires Inv-loop μ-loop
 run-low-requires c κs = ((omega arith, c .before .loop .inv .0), c .before .loop .inv .1)
@@ -32,7 +39,16 @@ loop-less : tie.Need-loop-less Inv-loop μ-loop
 loop-less c = c .before .before .before .before .run-low .ensures .below
 
 loop-again : tie.Need-loop-again Inv-loop μ-loop
-loop-again c = (omega (arith, c .before .before .before .before .run-low .ensures .below, c .before .before .before .before .before .before .loop .inv .0), c .before .before .before .before .run-low .ensures .apart, written-as (written-then (c .before .before .before .before .before .before .loop .inv .2) (c .before .before .put-run .ensures)) (runs-below (wiresIn (now (c .before .before .before .before .before .before .before .before .before .before .before .before .args .names)) (now (c .before .before .before .before .before .before .before .before .before .before .before .before .args .wires)) (now (c .before .before .before .before .before .before .before .before .before .before .before .before .args .rows)) (c .before .before .before .before .before .before .before .before .before .before .before .before .args .m)) (now (c .before .before .before .before .before .before .before .before .before .before .before .before .args .s)) (c .before .before .before .before .before .before .loop .i) _ (c .before .before .before .before .run-low .ensures)))
+loop-again c =
+    let args = c .before .before .before .before .before .before .before .before .before .before .before .before .args in
+    let loop = c .before .before .before .before .before .before .loop in
+    let run-low = c .before .before .before .before .run-low in
+    let put-run = c .before .before .put-run in (
+      omega (arith, run-low .ensures .below, loop .inv .0),
+      run-low .ensures .apart,
+      written-as (written-then (loop .inv .2) (put-run .ensures))
+          (runs-below (wiresIn (now (args .names)) (now (args .wires)) (now (args .rows)) (args .m)) (now (args .s)) (loop .i) _ (run-low .ensures)),
+    )
 
 same-length : tie.Need-same-length Inv-loop μ-loop
 same-length c = c .before .loop .inv .2 .kept

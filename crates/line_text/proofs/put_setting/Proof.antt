@@ -23,7 +23,13 @@ put-number-requires c κs = written-most (c .before .before .before .put-token .
 
 returns-2 : tie.Need-returns-2
 unfolding unless integerText
-returns-2 c = rw (ne-eqb _ _ (c .before .before .before .before .before .before .before .before .if1 .left)) (written-as (written-then (c .before .before .before .before .before .before .put-token .ensures) (c .before .before .put-number .ensures)) (option-number (now (c .before .before .before .before .before .before .before .before .before .before .before .args .w)) (pos (c .before .before .before .before .before .before .before .before .before .before .before .args .n))))
+returns-2 c =
+    let args = c .before .before .before .before .before .before .before .before .before .before .before .args in
+    let if1 = c .before .before .before .before .before .before .before .before .if1 in
+    let put-token = c .before .before .before .before .before .before .put-token in
+    let put-number = c .before .before .put-number in
+    rw (ne-eqb _ _ (if1 .left))
+    (written-as (written-then (put-token .ensures) (put-number .ensures)) (option-number (now (args .w)) (pos (args .n))))
 
 same-length : tie.Need-same-length
 same-length c = returns-2 c .kept

@@ -11,6 +11,10 @@ use denote.Ref.{now}
 use Rattle.line_text.proofs.put_signal.Statement.{statement}
 use Rattle.line_text.proofs.put_signal.Tie as tie
 
+-- Places that lie far back.
+abbrev at-entry : tie.After-put-runs → tie.Start
+at-entry c = c .before .before .before .before .before .before .before .before .before .before .before .before .before .before .before
+
 slice-aggregate-put-bytes : tie.Need-slice-aggregate-put-bytes
 slice-aggregate-put-bytes c = refl
 
@@ -18,7 +22,12 @@ put-bytes-requires : tie.Need-put-bytes-requires
 put-bytes-requires c κs = search needs
 
 returns : tie.Need-returns
-returns c = written-as (c .before .before .put-bytes .ensures) (sym (signal-none (wiresIn (now (c .before .before .before .before .before .before .before .before .before .before .before .args .names)) (now (c .before .before .before .before .before .before .before .before .before .before .before .args .wires)) (now (c .before .before .before .before .before .before .before .before .before .before .before .args .rows)) (c .before .before .before .before .before .before .before .before .before .before .before .args .m)) (now (c .before .before .before .before .before .before .before .before .before .before .before .args .s)) (c .before .before .before .before .before .if1 .taken)))
+returns c =
+    let args = c .before .before .before .before .before .before .before .before .before .before .before .args in
+    let if1 = c .before .before .before .before .before .if1 in
+    let put-bytes = c .before .before .put-bytes in
+    written-as (put-bytes .ensures)
+    (sym (signal-none (wiresIn (now (args .names)) (now (args .wires)) (now (args .rows)) (args .m)) (now (args .s)) (if1 .taken)))
 
 same-length : tie.Need-same-length
 same-length c = returns c .kept
@@ -30,7 +39,15 @@ put-run-requires : tie.Need-put-run-requires
 put-run-requires c κs = search needs
 
 returns-2 : tie.Need-returns-2
-returns-2 c = written-as (c .before .before .put-run .ensures) (ap spread (signal-one (wiresIn (now (c .before .before .before .before .before .before .before .before .before .before .before .before .args .names)) (now (c .before .before .before .before .before .before .before .before .before .before .before .before .args .wires)) (now (c .before .before .before .before .before .before .before .before .before .before .before .before .args .rows)) (c .before .before .before .before .before .before .before .before .before .before .before .before .args .m)) (now (c .before .before .before .before .before .before .before .before .before .before .before .before .args .s)) (rw (c .before .before .before .before .if2 .taken) at (c .before .before .before .before .before .run-low .ensures))))
+returns-2 c =
+    let args = c .before .before .before .before .before .before .before .before .before .before .before .before .args in
+    let run-low = c .before .before .before .before .before .run-low in
+    let if2 = c .before .before .before .before .if2 in
+    let put-run = c .before .before .put-run in
+    written-as (put-run .ensures)
+    (ap spread
+    (signal-one (wiresIn (now (args .names)) (now (args .wires)) (now (args .rows)) (args .m)) (now (args .s))
+    (rw (if2 .taken) at (run-low .ensures))))
 
 same-length-2 : tie.Need-same-length-2
 same-length-2 c = returns-2 c .kept
@@ -51,7 +68,15 @@ put-bytes-requires-3 : tie.Need-put-bytes-requires-3
 put-bytes-requires-3 c κs = written-most (c .before .before .before .before .put-runs .ensures)
 
 returns-3 : tie.Need-returns-3
-returns-3 c = written-as (written-then (c .before .before .before .before .before .before .before .before .before .before .before .put-bytes2 .ensures) (written-then (c .before .before .before .before .before .before .before .put-runs .ensures) (c .before .before .put-bytes3 .ensures))) (signal-several (wiresIn (now (c .before .before .before .before .before .before .before .before .before .before .before .before .before .before .before .before .before .before .before .before .before .before .args .names)) (now (c .before .before .before .before .before .before .before .before .before .before .before .before .before .before .before .before .before .before .before .before .before .before .args .wires)) (now (c .before .before .before .before .before .before .before .before .before .before .before .before .before .before .before .before .before .before .before .before .before .before .args .rows)) (c .before .before .before .before .before .before .before .before .before .before .before .before .before .before .before .before .before .before .before .before .before .before .args .m)) (now (c .before .before .before .before .before .before .before .before .before .before .before .before .before .before .before .before .before .before .before .before .before .before .args .s)) _ (omega arith) (c .before .before .before .before .before .before .before .before .before .before .before .before .before .before .before .run-low .ensures))
+returns-3 c =
+    let args = at-entry (c .before .before .before .before .before .before .before) .args in
+    let run-low = c .before .before .before .before .before .before .before .before .before .before .before .before .before .before .before .run-low in
+    let put-bytes2 = c .before .before .before .before .before .before .before .before .before .before .before .put-bytes2 in
+    let put-runs = c .before .before .before .before .before .before .before .put-runs in
+    let put-bytes3 = c .before .before .put-bytes3 in
+    written-as (written-then (put-bytes2 .ensures) (written-then (put-runs .ensures) (put-bytes3 .ensures)))
+    (signal-several (wiresIn (now (args .names)) (now (args .wires)) (now (args .rows)) (args .m)) (now (args .s))
+    _ (omega arith) (run-low .ensures))
 
 same-length-3 : tie.Need-same-length-3
 same-length-3 c = returns-3 c .kept

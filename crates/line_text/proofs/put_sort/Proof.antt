@@ -40,7 +40,12 @@ put-bytes-requires-2 c κs = search needs
 
 returns-3 : tie.Need-returns-3
 unfolding sortAt sortOf sortTokens wordToken spread behind tight tokenText
-returns-3 c = rw (← c .before .before .before .before .before .before .before .column .ensures, ne-eqb _ _ (c .before .before .before .before .before .before .if1 .left), ne-eqb _ _ (c .before .before .before .before .before .if2 .left)) (c .before .before .put-bytes2 .ensures)
+returns-3 c =
+    let column = c .before .before .before .before .before .before .before .column in
+    let if1 = c .before .before .before .before .before .before .if1 in
+    let if2 = c .before .before .before .before .before .if2 in
+    let put-bytes2 = c .before .before .put-bytes2 in
+    rw (← column .ensures, ne-eqb _ _ (if1 .left), ne-eqb _ _ (if2 .left)) (put-bytes2 .ensures)
 
 same-length-2 : tie.Need-same-length-2
 same-length-2 c = returns-3 c .kept

@@ -16,7 +16,15 @@ put-wire-requires : tie.Need-put-wire-requires
 put-wire-requires c κs = search needs
 
 returns : tie.Need-returns
-returns c = written-as (c .before .before .put-wire .ensures) (statement-wire (now (c .before .before .before .before .before .before .before .before .before .before .before .before .args .names)) (now (c .before .before .before .before .before .before .before .before .before .before .before .before .args .strings)) (now (c .before .before .before .before .before .before .before .before .before .before .before .before .args .bits)) (now (c .before .before .before .before .before .before .before .before .before .before .before .before .args .wires)) (now (c .before .before .before .before .before .before .before .before .before .before .before .before .args .rows)) (c .before .before .before .before .before .before .before .before .before .before .before .before .args .m) (wiresIn (now (c .before .before .before .before .before .before .before .before .before .before .before .before .args .names)) (now (c .before .before .before .before .before .before .before .before .before .before .before .before .args .wires)) (now (c .before .before .before .before .before .before .before .before .before .before .before .before .args .rows)) (c .before .before .before .before .before .before .before .before .before .before .before .before .args .m)) (c .before .before .before .before .before .before .before .before .before .before .before .before .args .row) _ (c .before .before .before .before .before .column .ensures) (c .before .before .before .before .if1 .taken))
+returns c =
+    let args = c .before .before .before .before .before .before .before .before .before .before .before .before .args in
+    let column = c .before .before .before .before .before .column in
+    let if1 = c .before .before .before .before .if1 in
+    let put-wire = c .before .before .put-wire in
+    written-as (put-wire .ensures)
+    (statement-wire (now (args .names)) (now (args .strings)) (now (args .bits)) (now (args .wires))
+    (now (args .rows)) (args .m) (wiresIn (now (args .names)) (now (args .wires)) (now (args .rows)) (args .m))
+    (args .row) _ (column .ensures) (if1 .taken))
 
 same-length : tie.Need-same-length
 same-length c = returns c .kept
@@ -25,7 +33,15 @@ put-cell-connection-requires : tie.Need-put-cell-connection-requires
 put-cell-connection-requires c κs = search needs
 
 returns-2 : tie.Need-returns-2
-returns-2 c = written-as (c .before .before .put-cell-connection .ensures) (statement-cell-connection (now (c .before .before .before .before .before .before .before .before .before .before .before .before .before .args .names)) (now (c .before .before .before .before .before .before .before .before .before .before .before .before .before .args .strings)) (now (c .before .before .before .before .before .before .before .before .before .before .before .before .before .args .bits)) (now (c .before .before .before .before .before .before .before .before .before .before .before .before .before .args .wires)) (now (c .before .before .before .before .before .before .before .before .before .before .before .before .before .args .rows)) (c .before .before .before .before .before .before .before .before .before .before .before .before .before .args .m) (wiresIn (now (c .before .before .before .before .before .before .before .before .before .before .before .before .before .args .names)) (now (c .before .before .before .before .before .before .before .before .before .before .before .before .before .args .wires)) (now (c .before .before .before .before .before .before .before .before .before .before .before .before .before .args .rows)) (c .before .before .before .before .before .before .before .before .before .before .before .before .before .args .m)) (c .before .before .before .before .before .before .before .before .before .before .before .before .before .args .row) _ (c .before .before .before .before .before .before .column .ensures) (c .before .before .before .before .if2 .taken))
+returns-2 c =
+    let args = c .before .before .before .before .before .before .before .before .before .before .before .before .before .args in
+    let column = c .before .before .before .before .before .before .column in
+    let if2 = c .before .before .before .before .if2 in
+    let put-cell-connection = c .before .before .put-cell-connection in
+    written-as (put-cell-connection .ensures)
+    (statement-cell-connection (now (args .names)) (now (args .strings)) (now (args .bits)) (now (args .wires))
+    (now (args .rows)) (args .m) (wiresIn (now (args .names)) (now (args .wires)) (now (args .rows)) (args .m))
+    (args .row) _ (column .ensures) (if2 .taken))
 
 same-length-2 : tie.Need-same-length-2
 same-length-2 c = returns-2 c .kept
@@ -34,7 +50,15 @@ put-connection-requires : tie.Need-put-connection-requires
 put-connection-requires c κs = search needs
 
 returns-3 : tie.Need-returns-3
-returns-3 c = written-as (c .before .before .put-connection .ensures) (statement-connection (now (c .before .before .before .before .before .before .before .before .before .before .before .before .before .before .args .names)) (now (c .before .before .before .before .before .before .before .before .before .before .before .before .before .before .args .strings)) (now (c .before .before .before .before .before .before .before .before .before .before .before .before .before .before .args .bits)) (now (c .before .before .before .before .before .before .before .before .before .before .before .before .before .before .args .wires)) (now (c .before .before .before .before .before .before .before .before .before .before .before .before .before .before .args .rows)) (c .before .before .before .before .before .before .before .before .before .before .before .before .before .before .args .m) (wiresIn (now (c .before .before .before .before .before .before .before .before .before .before .before .before .before .before .args .names)) (now (c .before .before .before .before .before .before .before .before .before .before .before .before .before .before .args .wires)) (now (c .before .before .before .before .before .before .before .before .before .before .before .before .before .before .args .rows)) (c .before .before .before .before .before .before .before .before .before .before .before .before .before .before .args .m)) (c .before .before .before .before .before .before .before .before .before .before .before .before .before .before .args .row) _ (c .before .before .before .before .before .before .before .column .ensures) (c .before .before .before .before .if3 .taken))
+returns-3 c =
+    let args = c .before .before .before .before .before .before .before .before .before .before .before .before .before .before .args in
+    let column = c .before .before .before .before .before .before .before .column in
+    let if3 = c .before .before .before .before .if3 in
+    let put-connection = c .before .before .put-connection in
+    written-as (put-connection .ensures)
+    (statement-connection (now (args .names)) (now (args .strings)) (now (args .bits)) (now (args .wires))
+    (now (args .rows)) (args .m) (wiresIn (now (args .names)) (now (args .wires)) (now (args .rows)) (args .m))
+    (args .row) _ (column .ensures) (if3 .taken))
 
 same-length-3 : tie.Need-same-length-3
 same-length-3 c = returns-3 c .kept
@@ -43,7 +67,20 @@ put-plain-requires : tie.Need-put-plain-requires
 put-plain-requires c κs = search needs
 
 returns-4 : tie.Need-returns-4
-returns-4 c = written-as (c .before .before .put-plain .ensures (now (c .before .before .before .before .before .before .before .before .before .before .before .before .before .before .args .wires)) (wiresIn (now (c .before .before .before .before .before .before .before .before .before .before .before .before .before .before .args .names)) (now (c .before .before .before .before .before .before .before .before .before .before .before .before .before .before .args .wires)) (now (c .before .before .before .before .before .before .before .before .before .before .before .before .before .before .args .rows)) (c .before .before .before .before .before .before .before .before .before .before .before .before .before .before .args .m)) (ne-eqb _ _ (c .before .before .before .before .before .before .if1 .left)) (ne-eqb _ _ (c .before .before .before .before .before .if2 .left)) (ne-eqb _ _ (c .before .before .before .before .if3 .left))) (statement-plain (now (c .before .before .before .before .before .before .before .before .before .before .before .before .before .before .args .names)) (now (c .before .before .before .before .before .before .before .before .before .before .before .before .before .before .args .strings)) (now (c .before .before .before .before .before .before .before .before .before .before .before .before .before .before .args .bits)) (now (c .before .before .before .before .before .before .before .before .before .before .before .before .before .before .args .wires)) (now (c .before .before .before .before .before .before .before .before .before .before .before .before .before .before .args .rows)) (c .before .before .before .before .before .before .before .before .before .before .before .before .before .before .args .m) (wiresIn (now (c .before .before .before .before .before .before .before .before .before .before .before .before .before .before .args .names)) (now (c .before .before .before .before .before .before .before .before .before .before .before .before .before .before .args .wires)) (now (c .before .before .before .before .before .before .before .before .before .before .before .before .before .before .args .rows)) (c .before .before .before .before .before .before .before .before .before .before .before .before .before .before .args .m)) (c .before .before .before .before .before .before .before .before .before .before .before .before .before .before .args .row) _ (c .before .before .before .before .before .before .before .column .ensures) (ne-eqb _ _ (c .before .before .before .before .before .before .if1 .left)))
+returns-4 c =
+    let args = c .before .before .before .before .before .before .before .before .before .before .before .before .before .before .args in
+    let column = c .before .before .before .before .before .before .before .column in
+    let if1 = c .before .before .before .before .before .before .if1 in
+    let if2 = c .before .before .before .before .before .if2 in
+    let if3 = c .before .before .before .before .if3 in
+    let put-plain = c .before .before .put-plain in
+    written-as
+    (put-plain .ensures (now (args .wires))
+    (wiresIn (now (args .names)) (now (args .wires)) (now (args .rows)) (args .m)) (ne-eqb _ _ (if1 .left))
+    (ne-eqb _ _ (if2 .left)) (ne-eqb _ _ (if3 .left)))
+    (statement-plain (now (args .names)) (now (args .strings)) (now (args .bits)) (now (args .wires))
+    (now (args .rows)) (args .m) (wiresIn (now (args .names)) (now (args .wires)) (now (args .rows)) (args .m))
+    (args .row) _ (column .ensures) (ne-eqb _ _ (if1 .left)))
 
 same-length-4 : tie.Need-same-length-4
 same-length-4 c = returns-4 c .kept

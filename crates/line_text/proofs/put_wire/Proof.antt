@@ -11,6 +11,10 @@ use denote.Ref.{now}
 use Rattle.line_text.proofs.put_wire.Statement.{statement}
 use Rattle.line_text.proofs.put_wire.Tie as tie
 
+-- Places that lie far back.
+abbrev at-entry : tie.After-put-token → tie.Start
+at-entry c = c .before .before .before .before .before .before .before .before .before .before .before .before .before .before .before .before .before .before .before
+
 column-requires : tie.Need-column-requires
 column-requires c κs = search needs
 
@@ -40,8 +44,20 @@ put-token-requires c κs = written-most (c .before .before .before .before .put-
 
 returns : tie.Need-returns
 returns c =
-    let e : c .before .before .before .before .before .before .before .before .before .before .before .before .before .before .if1 .n ≡ c .before .before .before .before .before .before .before .before .before .before .before .before .before .before .before .before .column .result - c .before .before .before .before .before .before .before .before .before .before .before .before .before .before .before .before .before .before .before .before .before .args .m .first = ⊎-elim (λ w. omega arith) (λ w. omega arith) (c .before .before .before .before .before .before .before .before .before .before .before .before .before .before .if1 .came) in
-    rw (← c .before .before .before .before .before .before .before .before .before .before .before .before .before .before .before .before .column .ensures) (written-as (written-then (c .before .before .before .before .before .before .before .before .before .before .before .put-bytes .ensures) (written-then (c .before .before .before .before .before .before .before .put-wire-options .ensures) (c .before .before .put-token .ensures))) (line-wire _ _ (c .before .before .before .name-now .ensures ∙ own-now (now (c .before .before .before .before .before .before .before .before .before .before .before .before .before .before .before .before .before .before .before .before .before .args .names)) (now (c .before .before .before .before .before .before .before .before .before .before .before .before .before .before .before .before .before .before .before .before .before .args .wires)) (now (c .before .before .before .before .before .before .before .before .before .before .before .before .before .before .before .before .before .before .before .before .before .args .rows)) (c .before .before .before .before .before .before .before .before .before .before .before .before .before .before .before .before .before .before .before .before .before .args .m) (c .before .before .before .before .before .before .before .before .before .before .before .before .before .before .before .before .column .result) (c .before .before .before .before .before .before .before .before .before .before .before .before .before .before .if1 .n) e) _))
+    let args = at-entry (c .before .before) .args in
+    let column = c .before .before .before .before .before .before .before .before .before .before .before .before .before .before .before .before .column in
+    let if1 = c .before .before .before .before .before .before .before .before .before .before .before .before .before .before .if1 in
+    let put-bytes = c .before .before .before .before .before .before .before .before .before .before .before .put-bytes in
+    let put-wire-options = c .before .before .before .before .before .before .before .put-wire-options in
+    let name-now = c .before .before .before .name-now in
+    let put-token = c .before .before .put-token in
+    let e : if1 .n ≡ column .result - args .m .first = ⊎-elim (λ w. omega arith) (λ w. omega arith) (if1 .came) in
+    rw (← column .ensures)
+    (written-as
+    (written-then (put-bytes .ensures) (written-then (put-wire-options .ensures) (put-token .ensures)))
+    (line-wire _ _
+    (name-now .ensures ∙ own-now (now (args .names)) (now (args .wires)) (now (args .rows)) (args .m) (column .result) (if1 .n) e)
+    _))
 
 same-length : tie.Need-same-length
 same-length c = returns c .kept

@@ -9,6 +9,19 @@ use denote.Ref.{now}
 use Rattle.line_text.proofs.put_wire_options.Statement.{statement}
 use Rattle.line_text.proofs.put_wire_options.Tie as tie
 
+-- Places that lie far back.
+abbrev at-entry : tie.After-put-flag → tie.Start
+at-entry c = c .before .before .before .before .before .before .before .before .before .before .before .before .before .before .before .before .before
+
+abbrev at-column : tie.After-put-port → tie.After-column
+at-column c = c .before .before .before .before .before .before .before .before .before .before .before .before .before .before .before .before .before .before .before
+
+abbrev at-column2 : tie.After-put-port → tie.After-column2
+at-column2 c = c .before .before .before .before .before .before .before .before .before .before .before .before .before .before .before .before
+
+abbrev at-put-setting : tie.After-put-port → tie.After-put-setting
+at-put-setting c = c .before .before .before .before .before .before .before .before .before .before .before .before .before .before .before
+
 column-requires : tie.Need-column-requires
 column-requires c κs = search needs
 
@@ -47,7 +60,21 @@ put-flag-requires-2 c κs = written-most (c .before .before .before .before .put
 
 returns : tie.Need-returns
 unfolding setting
-returns c = written-as (written-then (c .before .before .before .before .before .before .before .before .before .before .before .before .before .before .before .before .before .before .before .before .before .before .put-setting .ensures) (written-then (c .before .before .before .before .before .before .before .before .before .before .before .before .before .before .before .before .before .put-offset .ensures) (written-then (c .before .before .before .before .before .before .before .before .before .before .before .before .put-flag .ensures) (written-then (c .before .before .before .before .before .before .before .put-port .ensures) (c .before .before .put-flag2 .ensures))))) (wire-options (now (c .before .before .before .before .before .before .before .before .before .before .before .before .before .before .before .before .before .before .before .before .before .before .before .before .before .before .before .before .before .args .wires)) (c .before .before .before .before .before .before .before .before .before .before .before .before .before .before .before .before .before .before .before .before .before .before .before .before .before .before .before .before .before .args .row) _ _ _ _ (c .before .before .before .before .before .before .before .before .before .before .before .before .before .before .before .before .before .before .before .before .before .before .before .column2 .ensures) (c .before .before .before .before .before .before .before .before .before .before .before .before .before .before .before .before .before .before .column3 .ensures) (c .before .before .before .before .before .before .before .before .before .before .before .before .before .before .before .before .before .before .before .before .before .before .before .before .before .before .column .ensures) (c .before .before .before .before .before .before .before .before .column4 .ensures))
+returns c =
+    let args = at-entry (c .before .before .before .before .before .before .before .before .before .before .before .before) .args in
+    let column = at-column (c .before .before .before .before .before .before .before) .column in
+    let column2 = at-column2 (c .before .before .before .before .before .before .before) .column2 in
+    let put-setting = at-put-setting (c .before .before .before .before .before .before .before) .put-setting in
+    let column3 = c .before .before .before .before .before .before .before .before .before .before .before .before .before .before .before .before .before .before .column3 in
+    let put-offset = c .before .before .before .before .before .before .before .before .before .before .before .before .before .before .before .before .before .put-offset in
+    let put-flag = c .before .before .before .before .before .before .before .before .before .before .before .before .put-flag in
+    let column4 = c .before .before .before .before .before .before .before .before .column4 in
+    let put-port = c .before .before .before .before .before .before .before .put-port in
+    let put-flag2 = c .before .before .put-flag2 in
+    written-as
+    (written-then (put-setting .ensures)
+    (written-then (put-offset .ensures) (written-then (put-flag .ensures) (written-then (put-port .ensures) (put-flag2 .ensures)))))
+    (wire-options (now (args .wires)) (args .row) _ _ _ _ (column2 .ensures) (column3 .ensures) (column .ensures) (column4 .ensures))
 
 same-length : tie.Need-same-length
 same-length c = returns c .kept
