@@ -61,6 +61,10 @@ abbrev bundle-μ-loop : bundle-lts.MeasureT-loop
 bundle-μ-loop f tokens i depth names wires scope scratch₀ o heads chain at₀ width₀ fault₀ scratch at width fault =
     length tokens / 4 - at
 
+-- Places that lie far back.
+abbrev at-entry : (t : ℕ) → bundle-lts.After-signal (bundle-calls t) (bundle-at t) bundle.Post bundle-Inv-loop bundle-μ-loop → bundle-lts.Start (bundle-calls t) (bundle-at t) bundle.Post bundle-Inv-loop bundle-μ-loop
+at-entry t c = c .before .before .before .before .before .before .before .before .before .before .before .before .before
+
 bundle-loop-holds : (t : ℕ) → bundle-lts.Need-loop-holds (bundle-calls t) (bundle-at t) bundle.Post bundle-Inv-loop bundle-μ-loop
 bundle-loop-holds t c = members-on-start _ _ _ _ _ _ _ (c .before .before .before .before .before .before .before .pre .1 .0 .here)
 
@@ -75,8 +79,18 @@ bundle-add-put-2 t c = omega (arith, c .before .before .before .before .before .
 
 bundle-signal-requires : (t : ℕ) → bundle-lts.Need-signal-requires (bundle-calls t) (bundle-at t) bundle.Post bundle-Inv-loop bundle-μ-loop
 bundle-signal-requires t c κs =
-    let P : Place (c .before .before .before .before .before .before .before .before .before .before .before .before .args .o) (c .before .before .before .before .loop .width) (c .before .if2 .put) = ⊎-elim (λ w. place-behind _ _ _ (w .0 .taken) (w .1)) (λ w. place-end _ _ _ (w .0 .left) (w .1)) (c .before .if2 .came) in
-    (omega (arith, c .before .before .before .before .before .before .before .before .before .before .before .before .pre .0), (readable-on _ _ _ _ (c .before .before .before .before .before .before .before .before .before .before .before .before .pre .1 .0) (c .before .before .before .before .loop .inv .within), (omega (arith, c .before .before .before .before .before .before .before .before .before .before .before .before .pre .1 .1 .0, c .before .before .before .before .loop .inv .kept .long, P .upto), c .before .before .before .before .before .before .before .before .before .before .before .before .pre .1 .1 .1, c .before .before .before .before .before .before .before .before .before .before .before .before .pre .1 .1 .2)))
+    let args = c .before .before .before .before .before .before .before .before .before .before .before .before .args in
+    let pre = c .before .before .before .before .before .before .before .before .before .before .before .before .pre in
+    let loop = c .before .before .before .before .loop in
+    let P : Place (args .o) (loop .width) (c .before .if2 .put) = ⊎-elim
+    (λ w. place-behind _ _ _ (w .0 .taken) (w .1)) (λ w. place-end _ _ _ (w .0 .left) (w .1))
+    (c .before .if2 .came) in (
+      omega (arith, pre .0),
+      (
+        readable-on _ _ _ _ (pre .1 .0) (loop .inv .within),
+        (omega (arith, pre .1 .1 .0, loop .inv .kept .long, P .upto), pre .1 .1 .1, pre .1 .1 .2),
+      ),
+    )
 
 bundle-enum-known-m : (t : ℕ) → bundle-lts.Need-enum-known-m (bundle-calls t) (bundle-at t) bundle.Post bundle-Inv-loop bundle-μ-loop
 bundle-enum-known-m t c = search needs
@@ -89,13 +103,25 @@ bundle-same-length t c = c .before .before .before .before .signal .ensures .kep
 
 bundle-returns : (t : ℕ) → bundle-lts.Need-returns (bundle-calls t) (bundle-at t) bundle.Post bundle-Inv-loop bundle-μ-loop
 bundle-returns t c =
-    let P : Place (c .before .before .before .before .before .before .before .before .before .before .before .before .before .before .before .before .before .args .o) (c .before .before .before .before .before .before .before .before .before .loop .width) (c .before .before .before .before .before .before .if2 .put) = ⊎-elim (λ w. place-behind _ _ _ (w .0 .taken) (w .1)) (λ w. place-end _ _ _ (w .0 .left) (w .1)) (c .before .before .before .before .before .before .if2 .came) in
-    bundle-broken _ _ _ _ _ _ _ _ _ _ _ (c .before .before .before .before .before .before .before .before .before .loop .inv) _ P _ (sym (c .before .before .before .before .before .before .before .before .is-mark .ensures) ∙ not-true _ (c .before .before .before .before .before .before .before .if1 .taken)) (rw (c .enum-told .given .1) at (c .before .before .before .before .signal .ensures))
+    let args = c .before .before .before .before .before .before .before .before .before .before .before .before .before .before .before .before .before .args in
+    let loop = c .before .before .before .before .before .before .before .before .before .loop in
+    let is-mark = c .before .before .before .before .before .before .before .before .is-mark in
+    let if1 = c .before .before .before .before .before .before .before .if1 in
+    let if2 = c .before .before .before .before .before .before .if2 in
+    let signal = c .before .before .before .before .signal in
+    let P : Place (args .o) (loop .width) (if2 .put) = ⊎-elim (λ w. place-behind _ _ _ (w .0 .taken) (w .1))
+    (λ w. place-end _ _ _ (w .0 .left) (w .1)) (if2 .came) in
+    bundle-broken _ _ _ _ _ _ _ _ _ _ _ (loop .inv) _ P _ (sym (is-mark .ensures) ∙ not-true _ (if1 .taken))
+    (rw (c .enum-told .given .1) at (signal .ensures))
 
 bundle-add-width : (t : ℕ) → bundle-lts.Need-add-width (bundle-calls t) (bundle-at t) bundle.Post bundle-Inv-loop bundle-μ-loop
 bundle-add-width t c =
-    let A = rw (c .before .before .m .given .1) at (c .before .before .before .before .before .before .signal .ensures) in
-    omega (arith, c .before .before .before .before .before .before .before .before .before .before .before .loop .inv .few, c .before .before .before .before .before .before .before .before .before .before .before .loop .inv .from, A .read .0, A .read .1, A .read .2, c .before .before .before .before .before .before .before .before .before .before .before .before .before .before .before .before .before .before .before .pre .1 .0 .rows)
+    let pre = c .before .before .before .before .before .before .before .before .before .before .before .before .before .before .before .before .before .before .before .pre in
+    let loop = c .before .before .before .before .before .before .before .before .before .before .before .loop in
+    let signal = c .before .before .before .before .before .before .signal in
+    let m = c .before .before .m in
+    let A = rw (m .given .1) at (signal .ensures) in
+    omega (arith, loop .inv .few, loop .inv .from, A .read .0, A .read .1, A .read .2, pre .1 .0 .rows)
 
 bundle-merge-requires : (t : ℕ) → bundle-lts.Need-merge-requires (bundle-calls t) (bundle-at t) bundle.Post bundle-Inv-loop bundle-μ-loop
 bundle-merge-requires t c κs = tt
@@ -107,9 +133,18 @@ bundle-loop-less t c =
 
 bundle-loop-again : (t : ℕ) → bundle-lts.Need-loop-again (bundle-calls t) (bundle-at t) bundle.Post bundle-Inv-loop bundle-μ-loop
 bundle-loop-again t c =
-    let P : Place (c .before .before .before .before .before .before .before .before .before .before .before .before .before .before .before .before .before .before .before .before .args .o) (c .before .before .before .before .before .before .before .before .before .before .before .before .loop .width) (c .before .before .before .before .before .before .before .before .before .if2 .put) = ⊎-elim (λ w. place-behind _ _ _ (w .0 .taken) (w .1)) (λ w. place-end _ _ _ (w .0 .left) (w .1)) (c .before .before .before .before .before .before .before .before .before .if2 .came) in
-    let A = rw (c .before .before .before .m .given .1) at (c .before .before .before .before .before .before .before .signal .ensures) in
-    bundle-on _ _ _ _ _ _ _ _ _ _ _ (c .before .before .before .before .before .before .before .before .before .before .before .before .loop .inv) _ P _ (sym (c .before .before .before .before .before .before .before .before .before .before .before .is-mark .ensures) ∙ not-true _ (c .before .before .before .before .before .before .before .before .before .before .if1 .taken)) _ _ _ (c .merge .ensures) A
+    let args = at-entry t (c .before .before .before .before .before .before .before) .args in
+    let loop = c .before .before .before .before .before .before .before .before .before .before .before .before .loop in
+    let is-mark = c .before .before .before .before .before .before .before .before .before .before .before .is-mark in
+    let if1 = c .before .before .before .before .before .before .before .before .before .before .if1 in
+    let if2 = c .before .before .before .before .before .before .before .before .before .if2 in
+    let signal = c .before .before .before .before .before .before .before .signal in
+    let m = c .before .before .before .m in
+    let P : Place (args .o) (loop .width) (if2 .put) = ⊎-elim (λ w. place-behind _ _ _ (w .0 .taken) (w .1))
+    (λ w. place-end _ _ _ (w .0 .left) (w .1)) (if2 .came) in
+    let A = rw (m .given .1) at (signal .ensures) in
+    bundle-on _ _ _ _ _ _ _ _ _ _ _ (loop .inv) _ P _ (sym (is-mark .ensures) ∙ not-true _ (if1 .taken)) _ _ _
+    (c .merge .ensures) A
 
 bundle-add-t24 : (t : ℕ) → bundle-lts.Need-add-t24 (bundle-calls t) (bundle-at t) bundle.Post bundle-Inv-loop bundle-μ-loop
 bundle-add-t24 t c = omega (arith, mark-below _ _ _ (sym (c .before .is-mark .ensures) ∙ not-false _ (c .if1 .left)))
@@ -139,7 +174,16 @@ signal-sub-bundle : (t : ℕ) → signal-lts.Need-sub-bundle (signal-calls t) (s
 signal-sub-bundle t c = omega (arith, c .if2 .left)
 
 signal-bundle-requires : (t : ℕ) → signal-lts.Need-bundle-requires (signal-calls t) (signal-at t) signal.Post
-signal-bundle-requires t c κs = (omega (arith, c .before .before .before .before .before .before .before .before .before .before .before .pre .0, c .before .if2 .left), (readable-on _ _ _ _ (c .before .before .before .before .before .before .before .before .before .before .before .pre .1 .0) (omega (arith, mark-below _ _ _ (sym (c .before .before .before .is-mark .ensures) ∙ c .before .before .if1 .taken))), (omega (arith, c .before .before .before .before .before .before .before .before .before .before .before .pre .1 .1 .0, c .before .if2 .left), c .before .before .before .before .before .before .before .before .before .before .before .pre .1 .1 .1, c .before .before .before .before .before .before .before .before .before .before .before .pre .1 .1 .2)))
+signal-bundle-requires t c κs =
+    let pre = c .before .before .before .before .before .before .before .before .before .before .before .pre in
+    let is-mark = c .before .before .before .is-mark in
+    let if1 = c .before .before .if1 in (
+      omega (arith, pre .0, c .before .if2 .left),
+      (
+        readable-on _ _ _ _ (pre .1 .0) (omega (arith, mark-below _ _ _ (sym (is-mark .ensures) ∙ if1 .taken))),
+        (omega (arith, pre .1 .1 .0, c .before .if2 .left), pre .1 .1 .1, pre .1 .1 .2),
+      ),
+    )
 
 signal-enum-known-b : (t : ℕ) → signal-lts.Need-enum-known-b (signal-calls t) (signal-at t) signal.Post
 signal-enum-known-b t c = search needs
@@ -151,21 +195,42 @@ signal-same-length : (t : ℕ) → signal-lts.Need-same-length (signal-calls t) 
 signal-same-length t c = c .before .before .before .before .bundle .ensures .kept .long
 
 signal-returns-2 : (t : ℕ) → signal-lts.Need-returns-2 (signal-calls t) (signal-at t) signal.Post
-signal-returns-2 t c = signal-no-head _ _ _ _ _ _ _ _ _ _ (head-bundle _ _ _ _ (c .before .before .before .before .before .before .if2 .left) (sym (c .before .before .before .before .before .before .before .before .is-mark .ensures) ∙ c .before .before .before .before .before .before .before .if1 .taken)) (rw (c .enum-told .given .1) at (c .before .before .before .before .bundle .ensures))
+signal-returns-2 t c =
+    let is-mark = c .before .before .before .before .before .before .before .before .is-mark in
+    let if1 = c .before .before .before .before .before .before .before .if1 in
+    let if2 = c .before .before .before .before .before .before .if2 in
+    let bundle = c .before .before .before .before .bundle in
+    signal-no-head _ _ _ _ _ _ _ _ _ _ (head-bundle _ _ _ _ (if2 .left) (sym (is-mark .ensures) ∙ if1 .taken))
+    (rw (c .enum-told .given .1) at (bundle .ensures))
 
 signal-slices-requires : (t : ℕ) → signal-lts.Need-slices-requires (signal-calls t) (signal-at t) signal.Post
 signal-slices-requires t c κs =
-    let A = rw (c .before .before .b .given .1) at (c .before .before .before .before .before .before .bundle .ensures) in
-    ((c .before .before .before .before .before .before .before .before .before .before .before .before .before .before .before .before .before .before .pre .1 .0 .rows, A .read .1), (omega (arith, c .before .before .before .before .before .before .before .before .before .before .before .before .before .before .before .before .before .before .pre .1 .1 .0, c .before .before .before .before .before .before .bundle .ensures .kept .long), A .read .3 .held .small))
+    let pre = c .before .before .before .before .before .before .before .before .before .before .before .before .before .before .before .before .before .before .pre in
+    let bundle = c .before .before .before .before .before .before .bundle in
+    let b = c .before .before .b in
+    let A = rw (b .given .1) at (bundle .ensures) in (
+      (pre .1 .0 .rows, A .read .1),
+      (omega (arith, pre .1 .1 .0, bundle .ensures .kept .long), A .read .3 .held .small),
+    )
 
 signal-same-length-2 : (t : ℕ) → signal-lts.Need-same-length-2 (signal-calls t) (signal-at t) signal.Post
 signal-same-length-2 t c = c .before .before .slices .ensures .kept .long ∙ c .before .before .before .before .before .before .before .before .before .bundle .ensures .kept .long
 
 signal-returns-3 : (t : ℕ) → signal-lts.Need-returns-3 (signal-calls t) (signal-at t) signal.Post
-signal-returns-3 t c = signal-with _ _ _ _ _ _ _ _ _ _ (head-bundle _ _ _ _ (c .before .before .before .before .before .before .before .before .before .before .before .if2 .left) (sym (c .before .before .before .before .before .before .before .before .before .before .before .before .before .is-mark .ensures) ∙ c .before .before .before .before .before .before .before .before .before .before .before .before .if1 .taken)) _ _ (rw (c .before .before .before .before .before .b .given .1) at (c .before .before .before .before .before .before .before .before .before .bundle .ensures)) _ _ (c .before .before .slices .ensures) (omega arith)
+signal-returns-3 t c =
+    let is-mark = c .before .before .before .before .before .before .before .before .before .before .before .before .before .is-mark in
+    let if1 = c .before .before .before .before .before .before .before .before .before .before .before .before .if1 in
+    let if2 = c .before .before .before .before .before .before .before .before .before .before .before .if2 in
+    let bundle = c .before .before .before .before .before .before .before .before .before .bundle in
+    let b = c .before .before .before .before .before .b in
+    let slices = c .before .before .slices in
+    signal-with _ _ _ _ _ _ _ _ _ _ (head-bundle _ _ _ _ (if2 .left) (sym (is-mark .ensures) ∙ if1 .taken)) _ _
+    (rw (b .given .1) at (bundle .ensures)) _ _ (slices .ensures) (omega arith)
 
 signal-atom-requires : (t : ℕ) → signal-lts.Need-atom-requires (signal-calls t) (signal-at t) signal.Post
-signal-atom-requires t c κs = (c .before .before .before .before .before .before .before .before .before .before .pre .1 .0, (omega (arith, c .before .before .before .before .before .before .before .before .before .before .pre .1 .1 .0), c .before .before .before .before .before .before .before .before .before .before .pre .1 .1 .1, c .before .before .before .before .before .before .before .before .before .before .pre .1 .1 .2))
+signal-atom-requires t c κs =
+    let pre = c .before .before .before .before .before .before .before .before .before .before .pre in
+    (pre .1 .0, (omega (arith, pre .1 .1 .0), pre .1 .1 .1, pre .1 .1 .2))
 
 signal-enum-known-a : (t : ℕ) → signal-lts.Need-enum-known-a (signal-calls t) (signal-at t) signal.Post
 signal-enum-known-a t c = search needs
@@ -181,14 +246,24 @@ signal-returns-4 t c = signal-no-head _ _ _ _ _ _ _ _ _ _ (head-atom _ _ _ _ (sy
 
 signal-slices-requires-2 : (t : ℕ) → signal-lts.Need-slices-requires-2 (signal-calls t) (signal-at t) signal.Post
 signal-slices-requires-2 t c κs =
-    let A = rw (c .before .before .a .given .1) at (c .before .before .before .before .before .before .atom .ensures) in
-    ((c .before .before .before .before .before .before .before .before .before .before .before .before .before .before .before .before .before .pre .1 .0 .rows, A .read .1), (omega (arith, c .before .before .before .before .before .before .before .before .before .before .before .before .before .before .before .before .before .pre .1 .1 .0, c .before .before .before .before .before .before .atom .ensures .kept .long), A .read .3 .held .small))
+    let pre = c .before .before .before .before .before .before .before .before .before .before .before .before .before .before .before .before .before .pre in
+    let atom = c .before .before .before .before .before .before .atom in
+    let a = c .before .before .a in
+    let A = rw (a .given .1) at (atom .ensures) in
+    ((pre .1 .0 .rows, A .read .1), (omega (arith, pre .1 .1 .0, atom .ensures .kept .long), A .read .3 .held .small))
 
 signal-same-length-4 : (t : ℕ) → signal-lts.Need-same-length-4 (signal-calls t) (signal-at t) signal.Post
 signal-same-length-4 t c = c .before .before .slices2 .ensures .kept .long ∙ c .before .before .before .before .before .before .before .before .before .atom .ensures .kept .long
 
 signal-returns-5 : (t : ℕ) → signal-lts.Need-returns-5 (signal-calls t) (signal-at t) signal.Post
-signal-returns-5 t c = signal-with _ _ _ _ _ _ _ _ _ _ (head-atom _ _ _ _ (sym (c .before .before .before .before .before .before .before .before .before .before .before .before .is-mark .ensures) ∙ c .before .before .before .before .before .before .before .before .before .before .before .if1 .left)) _ _ (rw (c .before .before .before .before .before .a .given .1) at (c .before .before .before .before .before .before .before .before .before .atom .ensures)) _ _ (c .before .before .slices2 .ensures) (omega arith)
+signal-returns-5 t c =
+    let is-mark = c .before .before .before .before .before .before .before .before .before .before .before .before .is-mark in
+    let if1 = c .before .before .before .before .before .before .before .before .before .before .before .if1 in
+    let atom = c .before .before .before .before .before .before .before .before .before .atom in
+    let a = c .before .before .before .before .before .a in
+    let slices2 = c .before .before .slices2 in
+    signal-with _ _ _ _ _ _ _ _ _ _ (head-atom _ _ _ _ (sym (is-mark .ensures) ∙ if1 .left)) _ _
+    (rw (a .given .1) at (atom .ensures)) _ _ (slices2 .ensures) (omega arith)
 
 pub +bundle+signal-spec : {M : Type 1} → statement M
 +bundle+signal-spec = close μ-bundle μ-signal (λ t. bundle-lts.spec (bundle-calls t)

@@ -30,7 +30,16 @@ enum-known-c : tie.Need-enum-known-c
 enum-known-c c = search needs
 
 literal-bits-requires : tie.Need-literal-bits-requires
-literal-bits-requires c κs = (c .before .before .before .before .before .before .before .before .before .before .before .before .pre .0 .file, c .before .before .before .before .before .before .before .before .before .before .before .before .pre .1 .0, subst (WholeToken (now (c .before .before .before .before .before .before .before .before .before .before .before .before .args .f))) (sym (c .before .before .before .before .token-at .ensures) ∙ c .before .before .c .given .1) (c .before .before .before .before .before .before .before .before .before .before .before .before .pre .0 .closed .whole (c .before .before .before .before .before .before .before .before .before .before .before .before .args .i)))
+literal-bits-requires c κs =
+    let pre = c .before .before .before .before .before .before .before .before .before .before .before .before .pre in
+    let args = c .before .before .before .before .before .before .before .before .before .before .before .before .args in
+    let token-at = c .before .before .before .before .token-at in
+    let c-known = c .before .before .c in (
+      pre .0 .file,
+      pre .1 .0,
+      subst (WholeToken (now (args .f))) (sym (token-at .ensures) ∙ c-known .given .1)
+          (pre .0 .closed .whole (args .i)),
+    )
 
 add-t24 : tie.Need-add-t24
 add-t24 c = search needs
@@ -48,7 +57,12 @@ same-length : tie.Need-same-length
 same-length c = c .before .before .wire-bits .ensures .kept .long
 
 returns : tie.Need-returns
-returns c = atom-name _ _ _ _ _ _ _ _ _ _ _ (sym (c .before .before .before .before .before .before .start .given .1) ∙ c .before .before .before .before .before .before .before .before .token-at .ensures) (c .before .before .before .before .part .ensures) (c .before .before .wire-bits .ensures)
+returns c =
+    let token-at = c .before .before .before .before .before .before .before .before .token-at in
+    let start = c .before .before .before .before .before .before .start in
+    let part = c .before .before .before .before .part in
+    let wire-bits = c .before .before .wire-bits in
+    atom-name _ _ _ _ _ _ _ _ _ _ _ (sym (start .given .1) ∙ token-at .ensures) (part .ensures) (wire-bits .ensures)
 
 same-length-2 : tie.Need-same-length-2
 same-length-2 c = c .before .before .literal-bits .ensures [] .kept .long

@@ -63,7 +63,14 @@ enum-told-2 c = search needs
 
 returns-4 : tie.Need-returns-4
 unfolding integerGives
-returns-4 c f = bounds-no-low f _ _ _ (rw (c .before .before .before .before .before .before .before .before .high .given .1) at (c .before .before .before .before .before .before .before .before .before .before .integer-at .ensures f)) (sym (c .before .before .before .before .is-mark2 .ensures) ∙ not-false _ (c .before .before .before .if2 .left)) (rw (c .enum-told2 .given .1) at (c .before .before .integer-at2 .ensures f))
+returns-4 c f =
+    let integer-at = c .before .before .before .before .before .before .before .before .before .before .integer-at in
+    let high = c .before .before .before .before .before .before .before .before .high in
+    let is-mark2 = c .before .before .before .before .is-mark2 in
+    let if2 = c .before .before .before .if2 in
+    let integer-at2 = c .before .before .integer-at2 in
+    bounds-no-low f _ _ _ (rw (high .given .1) at (integer-at .ensures f))
+    (sym (is-mark2 .ensures) ∙ not-false _ (if2 .left)) (rw (c .enum-told2 .given .1) at (integer-at2 .ensures f))
 
 add-is-mark-3 : tie.Need-add-is-mark-3
 add-is-mark-3 c = search needs
@@ -73,7 +80,16 @@ is-mark-requires-3 c κs = tt
 
 returns-5 : tie.Need-returns-5
 unfolding integerGives
-returns-5 c f = bounds-unclosed f _ _ _ (rw (c .before .before .before .before .before .before .before .before .before .before .before .high .given .1) at (c .before .before .before .before .before .before .before .before .before .before .before .before .before .integer-at .ensures f)) (sym (c .before .before .before .before .before .before .before .is-mark2 .ensures) ∙ not-false _ (c .before .before .before .before .before .before .if2 .left)) _ (rw (c .before .before .before .low .given .1) at (c .before .before .before .before .before .integer-at2 .ensures f)) (sym (c .before .is-mark3 .ensures) ∙ not-true _ (c .if3 .taken))
+returns-5 c f =
+    let integer-at = c .before .before .before .before .before .before .before .before .before .before .before .before .before .integer-at in
+    let high = c .before .before .before .before .before .before .before .before .before .before .before .high in
+    let is-mark2 = c .before .before .before .before .before .before .before .is-mark2 in
+    let if2 = c .before .before .before .before .before .before .if2 in
+    let integer-at2 = c .before .before .before .before .before .integer-at2 in
+    let low = c .before .before .before .low in
+    bounds-unclosed f _ _ _ (rw (high .given .1) at (integer-at .ensures f))
+    (sym (is-mark2 .ensures) ∙ not-false _ (if2 .left)) _ (rw (low .given .1) at (integer-at2 .ensures f))
+    (sym (c .before .is-mark3 .ensures) ∙ not-true _ (c .if3 .taken))
 
 add-t7 : tie.Need-add-t7
 add-t7 c = search needs
@@ -81,9 +97,19 @@ add-t7 c = search needs
 returns-6 : tie.Need-returns-6
 unfolding integerGives slotIn
 returns-6 c =
+    let integer-at = c .before .before .before .before .before .before .before .before .before .before .before .before .before .integer-at in
+    let high = c .before .before .before .before .before .before .before .before .before .before .before .high in
+    let is-mark2 = c .before .before .before .before .before .before .before .is-mark2 in
+    let if2 = c .before .before .before .before .before .before .if2 in
+    let integer-at2 = c .before .before .before .before .before .integer-at2 in
+    let low = c .before .before .before .low in
     let m = sym (c .before .is-mark3 .ensures) ∙ not-false _ (c .if3 .left) in
-    let b = mark-below _ _ _ m in
-    (omega arith, omega arith, λ f. bounds-two f _ _ _ (rw (c .before .before .before .before .before .before .before .before .before .before .before .high .given .1) at (c .before .before .before .before .before .before .before .before .before .before .before .before .before .integer-at .ensures f)) (sym (c .before .before .before .before .before .before .before .is-mark2 .ensures) ∙ not-false _ (c .before .before .before .before .before .before .if2 .left)) _ (rw (c .before .before .before .low .given .1) at (c .before .before .before .before .before .integer-at2 .ensures f)) m)
+    let b = mark-below _ _ _ m in (
+      omega arith,
+      omega arith,
+      λ f. bounds-two f _ _ _ (rw (high .given .1) at (integer-at .ensures f))
+          (sym (is-mark2 .ensures) ∙ not-false _ (if2 .left)) _ (rw (low .given .1) at (integer-at2 .ensures f)) m,
+    )
 
 pub bounds-at-spec : {M : Type 1} → statement M
 bounds-at-spec =

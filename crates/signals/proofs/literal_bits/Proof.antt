@@ -29,18 +29,30 @@ returns-2 c ws =
 
 put-literal-requires : tie.Need-put-literal-requires
 put-literal-requires c κs =
-    let e = sym (c .before .before .before .before .good-literal .ensures) ∙ not-false _ (c .before .before .before .if1 .left) in
-    let q = c .before .before .literal-width .ensures .0 ∙ width-small (now (c .before .before .before .before .before .before .before .args .f)) (c .before .before .before .before .before .before .before .args .c) (omega (arith, c .before .before .before .before .before .before .before .pre .0)) e in
-    (e, (omega (arith, c .before .if2 .left), (omega (arith, c .before .if2 .left, c .before .before .before .before .before .before .before .pre .1), c .before .before .before .before .before .before .before .pre .2)))
+    let args = c .before .before .before .before .before .before .before .args in
+    let pre = c .before .before .before .before .before .before .before .pre in
+    let good-literal = c .before .before .before .before .good-literal in
+    let if1 = c .before .before .before .if1 in
+    let literal-width = c .before .before .literal-width in
+    let e = sym (good-literal .ensures) ∙ not-false _ (if1 .left) in
+    let q = literal-width .ensures .0 ∙ width-small (now (args .f)) (args .c) (omega (arith, pre .0)) e in
+    (e, (omega (arith, c .before .if2 .left), (omega (arith, c .before .if2 .left, pre .1), pre .2)))
 
 same-length : tie.Need-same-length
 same-length c = search needs
 
 returns-3 : tie.Need-returns-3
 returns-3 c ws =
-    let e = sym (c .before .before .before .before .before .before .before .good-literal .ensures) ∙ not-false _ (c .before .before .before .before .before .before .if1 .left) in
-    let q = c .before .before .before .before .before .literal-width .ensures .0 ∙ width-small (now (c .before .before .before .before .before .before .before .before .before .before .args .f)) (c .before .before .before .before .before .before .before .before .before .before .args .c) (omega (arith, c .before .before .before .before .before .before .before .before .before .before .pre .0)) e in
-    constant-put ws _ _ e q _ _ _ (c .before .before .before .before .if2 .left) (c .before .before .before .before .before .before .before .before .before .before .pre .1) (c .before .before .put-literal .ensures)
+    let args = c .before .before .before .before .before .before .before .before .before .before .args in
+    let pre = c .before .before .before .before .before .before .before .before .before .before .pre in
+    let good-literal = c .before .before .before .before .before .before .before .good-literal in
+    let if1 = c .before .before .before .before .before .before .if1 in
+    let literal-width = c .before .before .before .before .before .literal-width in
+    let if2 = c .before .before .before .before .if2 in
+    let put-literal = c .before .before .put-literal in
+    let e = sym (good-literal .ensures) ∙ not-false _ (if1 .left) in
+    let q = literal-width .ensures .0 ∙ width-small (now (args .f)) (args .c) (omega (arith, pre .0)) e in
+    constant-put ws _ _ e q _ _ _ (if2 .left) (pre .1) (put-literal .ensures)
 
 pub literal-bits-spec : {M : Type 1} → statement M
 literal-bits-spec =

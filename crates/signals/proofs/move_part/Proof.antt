@@ -26,7 +26,11 @@ same-length : tie.Need-same-length
 same-length c = search needs
 
 returns-2 : tie.Need-returns-2
-returns-2 c = moved-down _ _ _ _ _ refl (c .before .before .before .before .before .before .before .before .before .pre .0) _ (c .before .before .before .before .before .before .before .before .before .pre .1 (c .before .before .before .before .before .before .if1 .left)) (c .before .before .move-down .ensures)
+returns-2 c =
+    let pre = c .before .before .before .before .before .before .before .before .before .pre in
+    let if1 = c .before .before .before .before .before .before .if1 in
+    let move-down = c .before .before .move-down in
+    moved-down _ _ _ _ _ refl (pre .0) _ (pre .1 (if1 .left)) (move-down .ensures)
 
 returns-3 : tie.Need-returns-3
 returns-3 c = moved-still _ _ _ _ _ refl (c .before .before .before .before .before .pre .0) (c .if2 .left)

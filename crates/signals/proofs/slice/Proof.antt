@@ -55,9 +55,14 @@ returns-3 c =
 returns-4 : tie.Need-returns-4
 unfolding slotIn
 returns-4 c =
-    let H = rw (c .before .before .before .before .before .before .before .before .before .h .given .1) at (c .before .before .before .before .before .before .before .before .before .before .before .integer-of .ensures) in
-    let L = rw (c .before .before .l .given .1) at (c .before .before .before .before .integer-of2 .ensures) in
-    rw (c .before .before .before .before .before .before .low .given .1) (slice-two _ _ _ _ (H .0) (H .1) _ _ (L .0) (L .1) (c .cut2 .ensures))
+    let integer-of = c .before .before .before .before .before .before .before .before .before .before .before .integer-of in
+    let h = c .before .before .before .before .before .before .before .before .before .h in
+    let low = c .before .before .before .before .before .before .low in
+    let integer-of2 = c .before .before .before .before .integer-of2 in
+    let l = c .before .before .l in
+    let H = rw (h .given .1) at (integer-of .ensures) in
+    let L = rw (l .given .1) at (integer-of2 .ensures) in
+    rw (low .given .1) (slice-two _ _ _ _ (H .0) (H .1) _ _ (L .0) (L .1) (c .cut2 .ensures))
 
 pub slice-spec : {M : Type 1} → statement M
 slice-spec =

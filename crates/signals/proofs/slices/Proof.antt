@@ -36,7 +36,14 @@ enum-told : tie.Need-enum-told Inv-loop μ-loop
 enum-told c = search needs
 
 returns : tie.Need-returns Inv-loop μ-loop
-returns c = slices-broken _ _ _ _ _ _ (c .before .before .before .before .before .before .before .before .before .pre .1 .0) _ _ (c .before .before .before .before .before .loop .inv) (sym (c .before .before .before .before .is-mark .ensures) ∙ (c .before .before .before .if1 .taken)) (rw (c .enum-told .given .1) at (c .before .before .bounds-at .ensures))
+returns c =
+    let pre = c .before .before .before .before .before .before .before .before .before .pre in
+    let loop = c .before .before .before .before .before .loop in
+    let is-mark = c .before .before .before .before .is-mark in
+    let if1 = c .before .before .before .if1 in
+    let bounds-at = c .before .before .bounds-at in
+    slices-broken _ _ _ _ _ _ (pre .1 .0) _ _ (loop .inv) (sym (is-mark .ensures) ∙ (if1 .taken))
+    (rw (c .enum-told .given .1) at (bounds-at .ensures))
 
 slice-requires : tie.Need-slice-requires Inv-loop μ-loop
 slice-requires c κs = omega (arith, (c .before .before .before .before .before .before .loop .inv .inside .within))
@@ -47,16 +54,35 @@ loop-less c =
     omega (arith, B .0, B .1)
 
 loop-again : tie.Need-loop-again Inv-loop μ-loop
-loop-again c = slices-on _ _ _ _ _ _ (c .before .before .before .before .before .before .before .before .before .before .before .pre .1 .0) _ _ (c .before .before .before .before .before .before .before .loop .inv) (sym (c .before .before .before .before .before .before .is-mark .ensures) ∙ (c .before .before .before .before .before .if1 .taken)) _ _ _ (rw (c .before .before .high .given .1) at (c .before .before .before .before .bounds-at .ensures)) _ (c .slice .ensures)
+loop-again c =
+    let pre = c .before .before .before .before .before .before .before .before .before .before .before .pre in
+    let loop = c .before .before .before .before .before .before .before .loop in
+    let is-mark = c .before .before .before .before .before .before .is-mark in
+    let if1 = c .before .before .before .before .before .if1 in
+    let bounds-at = c .before .before .before .before .bounds-at in
+    let high = c .before .before .high in
+    slices-on _ _ _ _ _ _ (pre .1 .0) _ _ (loop .inv) (sym (is-mark .ensures) ∙ (if1 .taken)) _ _ _
+    (rw (high .given .1) at (bounds-at .ensures)) _ (c .slice .ensures)
 
 move-part-requires : tie.Need-move-part-requires Inv-loop μ-loop
-move-part-requires c κs = (omega (arith, (c .before .before .before .loop .inv .inside .within)), λ e. omega (arith, (c .before .before .before .before .before .before .before .pre .1 .0), (c .before .before .before .before .before .before .before .pre .1 .1) (c .before .before .before .loop .inv .inside .none e)))
+move-part-requires c κs =
+    let pre = c .before .before .before .before .before .before .before .pre in
+    let loop = c .before .before .before .loop in (
+      omega (arith, (loop .inv .inside .within)),
+      λ e. omega (arith, (pre .1 .0), (pre .1 .1) (loop .inv .inside .none e)),
+    )
 
 same-length : tie.Need-same-length Inv-loop μ-loop
 same-length c = (c .before .before .before .move-part .ensures .kept .long)
 
 returns-2 : tie.Need-returns-2 Inv-loop μ-loop
-returns-2 c = slices-read _ _ _ _ _ _ (c .before .before .before .before .before .before .before .before .before .before .before .pre .1 .0) _ _ (c .before .before .before .before .before .before .before .loop .inv) _ (sym (c .before .before .before .before .before .before .is-mark .ensures) ∙ (c .before .before .before .before .before .if1 .left)) (c .before .before .before .move-part .ensures)
+returns-2 c =
+    let pre = c .before .before .before .before .before .before .before .before .before .before .before .pre in
+    let loop = c .before .before .before .before .before .before .before .loop in
+    let is-mark = c .before .before .before .before .before .before .is-mark in
+    let if1 = c .before .before .before .before .before .if1 in
+    let move-part = c .before .before .before .move-part in
+    slices-read _ _ _ _ _ _ (pre .1 .0) _ _ (loop .inv) _ (sym (is-mark .ensures) ∙ (if1 .left)) (move-part .ensures)
 
 pub slices-spec : {M : Type 1} → statement M
 slices-spec =

@@ -24,8 +24,16 @@ returns c = wire-over _ _ _ _ (c .before .before .before .before .indexed-wire .
 
 put-wire-requires : tie.Need-put-wire-requires
 put-wire-requires c κs =
-    let F = c .before .before .before .before .before .indexed-wire .ensures ∙ ap foundOf (c .before .before .before .number .given .1) in
-    (omega (arith, c .before .if1 .left), omega (arith, wire-number _ _ _ _ F, length-wires (now (c .before .before .before .before .before .before .before .before .before .before .before .before .args .names)) (now (c .before .before .before .before .before .before .before .before .before .before .before .before .args .wires)) (c .before .before .before .before .before .before .before .before .before .before .before .before .args .scope .first) (c .before .before .before .before .before .before .before .before .before .before .before .before .args .scope .count), c .before .before .before .before .before .before .before .before .before .before .before .before .pre .1), c .before .if1 .left)
+    let args = c .before .before .before .before .before .before .before .before .before .before .before .before .args in
+    let pre = c .before .before .before .before .before .before .before .before .before .before .before .before .pre in
+    let indexed-wire = c .before .before .before .before .before .indexed-wire in
+    let number = c .before .before .before .number in
+    let F = indexed-wire .ensures ∙ ap foundOf (number .given .1) in (
+      omega (arith, c .before .if1 .left),
+      omega
+          (arith, wire-number _ _ _ _ F, length-wires (now (args .names)) (now (args .wires)) (args .scope .first) (args .scope .count), pre .1),
+      c .before .if1 .left,
+    )
 
 enum-told : tie.Need-enum-told
 enum-told c = search needs
@@ -34,7 +42,14 @@ same-length : tie.Need-same-length
 same-length c = search needs
 
 returns-2 : tie.Need-returns-2
-returns-2 c = wire-put-fits _ _ _ _ (c .before .before .before .before .before .before .before .before .indexed-wire .ensures ∙ ap foundOf (c .before .before .before .before .before .before .number .given .1)) _ _ _ (c .before .before .before .before .if1 .left) (c .before .before .before .before .before .before .before .before .before .before .before .before .before .before .before .pre .0) (c .before .before .put-wire .ensures)
+returns-2 c =
+    let pre = c .before .before .before .before .before .before .before .before .before .before .before .before .before .before .before .pre in
+    let indexed-wire = c .before .before .before .before .before .before .before .before .indexed-wire in
+    let number = c .before .before .before .before .before .before .number in
+    let if1 = c .before .before .before .before .if1 in
+    let put-wire = c .before .before .put-wire in
+    wire-put-fits _ _ _ _ (indexed-wire .ensures ∙ ap foundOf (number .given .1)) _ _ _ (if1 .left) (pre .0)
+    (put-wire .ensures)
 
 returns-3 : tie.Need-returns-3
 returns-3 c = put-not _ _ _ _ _ (omega arith) 8 (wire-nothing _ _ (c .before .before .indexed-wire .ensures ∙ ap foundOf (c .enum-told .given .1))) (omega arith) (omega arith)
