@@ -1,5 +1,3 @@
 pub mod Forms
 pub mod Holds
 pub mod Lines
-pub mod Numbers
-pub mod Limits

@@ -1,6 +1,4 @@
-// The options of a `wire` line and of a `memory` line: what was written, what it means, and whether the number and option rules allow it.
-pub mod limits;
-
+// The options of a `wire` line and of a `memory` line, as they were written.
 use scanner::words::INOUT;
 use scanner::words::INPUT;
 use scanner::words::MEMORY;

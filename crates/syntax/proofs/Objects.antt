@@ -19,9 +19,9 @@ use Rattle.wires.specs.Rows.{column, wordAt}
 use Rattle.wires.specs.RowLaws.{row-wire, flags-few}
 use Rattle.line_forms.specs.Forms.{nameIn}
 use Rattle.line_forms.specs.declared.Span.{Span}
-use Rattle.options.specs.Limits.{portNumber, flagBits, WireGood, MemoryGood}
-use Rattle.options.proofs.Ports.{code-range}
-use Rattle.options.proofs.Meaning.{bits-most}
+use Rattle.option_rules.specs.Limits.{portNumber, flagBits, WireGood, MemoryGood}
+use Rattle.option_rules.proofs.Ports.{code-range}
+use Rattle.option_rules.proofs.Meaning.{bits-most}
 use Rattle.syntax.specs.Statements.{wireFrom, memoryFrom, Judged}
 use Rattle.syntax.specs.declared.Statement.the-variants as statement
 use Rattle.numbers.specs.SignedLaws.{number-back}

@@ -1,0 +1,24 @@
+-- By the two flags.
+-- Assumes nothing.
+use Rattle.option_rules.specs.Limits.{flagBits}
+use Rattle.option_rules.proofs.flag_bits.Statement.{statement}
+use Rattle.option_rules.proofs.flag_bits.Tie as tie
+
+returns : tie.Need-returns
+unfolding flagBits
+returns c = rw (c .before .if1 .taken, c .if2 .taken)
+
+returns-2 : tie.Need-returns-2
+unfolding flagBits
+returns-2 c = rw (c .before .if1 .taken, c .if2 .left)
+
+returns-3 : tie.Need-returns-3
+unfolding flagBits
+returns-3 c = rw (c .before .if1 .left, c .if3 .taken)
+
+returns-4 : tie.Need-returns-4
+unfolding flagBits
+returns-4 c = rw (c .before .if1 .left, c .if3 .left)
+
+pub flag-bits-spec : {M : Type 1} → statement M
+flag-bits-spec = tie.close (tie.spec returns returns-2 returns-3 returns-4)
