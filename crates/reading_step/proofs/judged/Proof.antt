@@ -27,7 +27,10 @@ blanks-end-requires : tie.Need-blanks-end-requires
 blanks-end-requires c κs = tt
 
 cast-t16 : tie.Need-cast-t16
-cast-t16 c = omega (arith, end-small (now (c .before .before .before .before .before .before .args .f)) (c .before .before .before .before .before .before .args .line) _ _ _ (c .blanks-end .ensures) (c .before .before .before .before .before .before .pre .0) (c .before .before .before .before .before .before .pre .1) (c .before .before .before .before .before .before .pre .2))
+cast-t16 c =
+    let args = c .before .before .before .before .before .before .args in
+    let pre = c .before .before .before .before .before .before .pre in
+    omega (arith, end-small (now (args .f)) (args .line) _ _ _ (c .blanks-end .ensures) (pre .0) (pre .1) (pre .2))
 
 returns : tie.Need-returns
 unfolding judgedAs
