@@ -59,13 +59,14 @@ kind-code-requires c κs = tt
 
 index-line-requires : tie.Need-index-line-requires
 index-line-requires c κs =
-    let entry = at-entry (at-line-answer (c .before .before .before .before .before .before .before .before .before .before .before .before .before .before .before .before .before .before)) in
+    let put = c .before .before .before .before .before .before .before .before .before .before .before .before .before .before .before .before .before .before in
+    let entry = at-entry (at-line-answer put) in
     let pre = entry .pre in
     let args = entry .args in
-    let line-answer = at-line-answer (c .before .before .before .before .before .before .before .before .before .before .before .before .before .before .before .before .before .before) .line-answer in
-    let outcome = at-outcome (c .before .before .before .before .before .before .before .before .before .before .before .before .before .before .before .before .before .before) .outcome in
-    let used-from = at-used-from (c .before .before .before .before .before .before .before .before .before .before .before .before .before .before .before .before .before .before) .used-from in
-    let put-statement = c .before .before .before .before .before .before .before .before .before .before .before .before .before .before .before .before .before .before .put-statement in (
+    let line-answer = at-line-answer put .line-answer in
+    let outcome = at-outcome put .outcome in
+    let used-from = at-used-from put .used-from in
+    let put-statement = put .put-statement in (
       step-indexed (pre .1 .0 .done) (lineOf (now (args .f)) (args .line)) _ _ _ _ _ (outcome .given .1) _ _
           (line-answer .ensures .1 _ (done-stands (pre .1 .0 .done))) (line-answer .ensures .0) _ _ (used-from .ensures)
           (put-statement .ensures) _ _ (pre .1 .1),
@@ -175,10 +176,11 @@ same-length-23 c = c .before .before .before .before .before .index-line .kept .
 returns-3 : tie.Need-returns-3
 unfolding placeAfter
 returns-3 c =
-    let line-answer = at-line-answer (at-put-statement (c .before .before .before .before .before)) .line-answer in
-    let outcome = at-outcome (at-put-statement (c .before .before .before .before .before)) .outcome in
-    let used-from = at-used-from (at-put-statement (c .before .before .before .before .before)) .used-from in
-    let put-statement = at-put-statement (c .before .before .before .before .before) .put-statement in
+    let put = at-put-statement (c .before .before .before .before .before) in
+    let line-answer = at-line-answer put .line-answer in
+    let outcome = at-outcome put .outcome in
+    let used-from = at-used-from put .used-from in
+    let put-statement = put .put-statement in
     let kind-code = c .before .before .before .before .before .before .before .before .before .before .before .kind-code in
     let index-line = c .before .before .before .before .before .index-line in (
       λ ss d. step-stated d _ _ _ _ _ _ (outcome .given .1) _ _ (line-answer .ensures .1 ss (done-stands d))
