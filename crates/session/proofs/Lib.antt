@@ -2,4 +2,3 @@ mod RenameLaws
 pub mod HoldLaws
 pub mod OpenLaws
 pub mod CallLaws
-pub mod AskLaws

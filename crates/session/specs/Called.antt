@@ -3,18 +3,14 @@ use Prim.Native.Nat.{ℕ}
 use mathlib.Core.Path.{_≡_}
 use mathlib.Core.List.{List}
 use mathlib.Core.Bool.{true, false}
-use lib.IntN.{pos}
-use Rattle.rules.specs.Tokens.{Name}
 use Rattle.rules.specs.Statements.{Statement}
 use Rattle.rules.specs.Judgement.{Verdict, accepted, refused}
 use Rattle.rules.specs.Design.{design}
-use Rattle.rules.specs.Session.{Rename, Call, call, now, lookUp, index}
+use Rattle.rules.specs.Session.{Rename, Call, call}
 use Rattle.rules.specs.Layout.{Memory, layout}
 use Rattle.admitted.specs.Holds.{Holds}
 use Rattle.netlist.specs.Results.{Result, result}
 use Rattle.netlist.specs.Lengths.{rightLengths}
-use Rattle.session.specs.declared.Found.{Found}
-use Rattle.session.specs.declared.Indexed.{Indexed}
 
 abbrev pub Damaged : Memory → Type 0
 Damaged m = (ss : List Statement) (rs : List Rename) → Holds m ss rs → ⊥
@@ -34,13 +30,7 @@ after m ss (refused n) = result n 0 m
 abbrev pub CalledAs : Memory → Call → Result → Type 0
 CalledAs m c r = Called m (λ n. result n 0 m) (λ ss rs. after m ss (call (design ss) rs c)) r
 
--- Look-up and index: a number, 0 if there is an answer, and the answer. A refused one answers 0
+-- A call that asks: a number, 0 if there is an answer, and the answer. A refused one answers z
 unfoldable pub answer : {A : Type 0} → A → Verdict A → ℕ × A
 answer z (accepted a) = (0, a)
 answer z (refused n) = (n, z)
-
-abbrev pub LookedUp : Memory → ℕ → Name → Found → Type 0
-LookedUp m k n r = Called m (λ e. (e, 0)) (λ ss rs. answer 0 (lookUp (now (design ss) rs) k n)) (r .number, r .wire .0)
-
-abbrev pub IndexGiven : Memory → (k w bit : ℕ) → Indexed → Type 0
-IndexGiven m k w b r = Called m (λ e. (e, pos 0)) (λ ss rs. answer (pos 0) (index (now (design ss) rs) k w b)) (r .number, r .index)

@@ -1,58 +1,37 @@
-// The calls on design memory: rename, undo, look-up and the index of a bit. They take the lent tables, and the counts of the session card by value, in any
+// Design memory opened, and the calls that change it: rename and undo. They take the lent tables, and the counts of the session card by value, in any
 // state.
 use context::kinds::RENAME_KIND;
 use context::place::Place;
 use memory_check::Held;
 use memory_check::judge_memory;
-use modules::module_wires;
 use netlist::lengths::right_lengths;
-use netlist::results::BAD_WIDTH;
 use netlist::results::CallResult;
 use netlist::results::DAMAGED;
-use netlist::results::NOT_THERE;
 use netlist::results::NOTHING_TO_UNDO;
 use netlist::results::WRONG_LENGTH;
 use numbers::kinds::ModuleNumber;
 use numbers::kinds::WireNumber;
-use rename_rules::Named;
-use rename_rules::find_named;
 use rename_rules::judge_rename;
-use rename_rules::module_of;
 use tables::ROW_WORDS;
 use tables::Row;
 use tables::put_bytes;
 use tables::put_row;
 use tables::word;
 use tables::zero_bytes;
-use wire_names::Module;
-use wires::wire_index;
 ghost use mathlib.Core.Path.{_≡_};
 ghost use Prim.Native.Nat.{_+_, _-_, _*_, _≤_};
 ghost use lib.ListN.{length, replicate};
-ghost use lib.IntN.{pos};
 ghost use Rattle.rules.specs.Limits.{longestName};
-ghost use Rattle.rules.specs.Session.{Call, indexIn};
+ghost use Rattle.rules.specs.Session.{Call};
 ghost use Rattle.rules.specs.Layout.{renameRow};
 ghost use Rattle.tables.specs.Store.{store};
-ghost use Rattle.wires.specs.Rows.{column, wireOf};
+ghost use Rattle.wires.specs.Rows.{column};
 ghost use Rattle.netlist.specs.Results.{result, lent};
-ghost use Rattle.session.specs.Called.{CalledAs, answer, LookedUp, IndexGiven};
+ghost use Rattle.session.specs.Called.{CalledAs};
 ghost use Rattle.session.specs.Steps.{Holding, OpenedIs};
-ghost use Rattle.rename_rules.specs.Search.{searchNow};
 
 // The column of a rename's row where its new name's start stands.
 const RENAME_NAME: usize = 1;
-
-// Number 0 is none.
-pub struct Found {
-    pub number: u32,
-    pub wire: WireNumber,
-}
-
-pub struct Indexed {
-    pub number: u32,
-    pub index: i64,
-}
 
 // Memory that holds a design, whose statements end at a place; or the refusal's number.
 pub enum Opened {
@@ -269,90 +248,5 @@ pub fn undo(
             renames,
             room,
         },
-    }
-}
-
-// The first wire of a module that has this name now.
-fn find(names: &[u8], wires: &[u32], rows: &[u32], m: Module, name: &[u8]) -> Found
-    ensures { λ r. ⌜ (r .number, r .wire .0) ≡ answer 0 (searchNow (now (names .entry)) (now (wires .entry)) (now (rows .entry)) m (now (name .entry)) (m .wires) 0) ⌝ }
-{
-    let named = find_named(names, wires, rows, m, name);
-    match named {
-        Named::At(wire) => Found { number: 0, wire },
-        Named::Nothing => Found {
-            number: NOT_THERE,
-            wire: WireNumber(0),
-        },
-    }
-}
-
-pub fn look_up(
-    names: &[u8],
-    strings: &[u8],
-    bits: &[u32],
-    wires: &[u32],
-    rows: &[u32],
-    renames: u32,
-    room: u32,
-    m: ModuleNumber,
-    name: &[u8],
-) -> Found
-    ensures { λ r. ⌜ LookedUp (lent (now (names .entry)) (now (strings .entry)) (now (bits .entry)) (now (wires .entry)) (now (rows .entry)) renames room) (m .0) (now (name .entry)) r ⌝ }
-{
-    match open_memory(names, strings, bits, wires, rows, renames, room) {
-        Opened::Open(place) => find(
-            names,
-            wires,
-            rows,
-            module_of(wires, place, renames, m),
-            name,
-        ),
-        Opened::Refused(number) => Found {
-            number,
-            wire: WireNumber(0),
-        },
-    }
-}
-
-// The index of a bit of the wire in a row.
-fn row_index(wires: &[u32], row: u32, bit: u32) -> Indexed
-    ensures { λ r. ⌜ (r .number, r .index) ≡ answer (pos 0) (indexIn (wireOf (now (wires .entry)) row) bit) ⌝ }
-{
-    match wire_index(wires, row, bit) {
-        numbers::signed::Index::At(index) => Indexed { number: 0, index },
-        numbers::signed::Index::Past => Indexed {
-            number: BAD_WIDTH,
-            index: 0,
-        },
-    }
-}
-
-pub fn index(
-    names: &[u8],
-    strings: &[u8],
-    bits: &[u32],
-    wires: &[u32],
-    rows: &[u32],
-    renames: u32,
-    room: u32,
-    m: ModuleNumber,
-    w: WireNumber,
-    bit: u32,
-) -> Indexed
-    ensures { λ r. ⌜ IndexGiven (lent (now (names .entry)) (now (strings .entry)) (now (bits .entry)) (now (wires .entry)) (now (rows .entry)) renames room) (m .0) (w .0) bit r ⌝ }
-{
-    match open_memory(names, strings, bits, wires, rows, renames, room) {
-        Opened::Open(place) => {
-            let own = module_wires(wires, place.wires, m);
-            let number = w.0;
-            if own.count <= number {
-                return Indexed {
-                    number: NOT_THERE,
-                    index: 0,
-                };
-            }
-            row_index(wires, own.first + number, bit)
-        }
-        Opened::Refused(number) => Indexed { number, index: 0 },
     }
 }

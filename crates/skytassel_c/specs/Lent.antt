@@ -4,8 +4,8 @@ use Prim.Native.Nat.{ℕ, _-_, _≤_}
 use mathlib.Core.Path.{_≡_}
 use Rattle.rules.specs.Layout.{Memory}
 use Rattle.netlist.specs.Results.{Result, result, lent}
-use Rattle.session.specs.declared.Found.{Found}
-use Rattle.session.specs.declared.Indexed.{Indexed}
+use Rattle.look_up.specs.declared.Found.{Found}
+use Rattle.look_up.specs.declared.Indexed.{Indexed}
 use Rattle.show.specs.Parts.{numberOf, bytesIn, InRange, ShownAs, ShownAt}
 use Rattle.show.specs.declared.Shown.{Shown}
 use Rattle.writer.specs.declared.Written.{Written}

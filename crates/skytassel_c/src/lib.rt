@@ -1,10 +1,10 @@
 // The calls for other languages: a struct is laid out as C's, and the session card is lent and changed in place.
+use look_up::index;
+use look_up::look_up;
 use netlist::results::CallResult;
 use numbers::kinds::ModuleNumber;
 use numbers::kinds::WireNumber;
 use reader::read;
-use session::index;
-use session::look_up;
 use session::rename;
 use session::undo;
 use show::Shown;
@@ -15,7 +15,8 @@ ghost use mathlib.Core.Path.{_≡_};
 ghost use Rattle.rules.specs.Session.{Call};
 ghost use Rattle.netlist.specs.Results.{result, lent};
 ghost use Rattle.reader.specs.Read.{readInto};
-ghost use Rattle.session.specs.Called.{CalledAs, LookedUp, IndexGiven};
+ghost use Rattle.session.specs.Called.{CalledAs};
+ghost use Rattle.look_up.specs.Asked.{LookedUp, IndexGiven};
 ghost use Rattle.writer.specs.Write.{MeasuredAs, WrittenAs};
 ghost use Rattle.skytassel_c.specs.Lent.{lentWith, answered, foundBy, indexedBy, writtenBy, partOf, Ordered, PartGiven};
 

@@ -4,7 +4,7 @@ use native.Mathlib.Omega.{arith}
 use denote.Ref.{now}
 use Rattle.netlist.specs.Results.{lent}
 use Rattle.session.proofs.OpenLaws.{opened, not-opened}
-use Rattle.session.proofs.AskLaws.{index-fits}
+use Rattle.session.proofs.HoldLaws.{wire-fits}
 use Rattle.show.proofs.ShowLaws.{shown-there, shown-missing, shown-refused}
 use borrow.Author.Needs.{needs}
 use Rattle.show.proofs.find_shown.Statement.{statement}
@@ -38,10 +38,10 @@ add-shown-wire c =
     let module-wires = c .before .before .before .module-wires in
     omega (
       arith,
-      index-fits
+      wire-fits
           (opened
           (lent (now (args .names)) (now (args .strings)) (now (args .bits)) (now (args .wires)) (now (args .rows)) (args .renames) (args .room))
-          _ (open-memory .ensures) _ (place .given .1)) (args .m .0) (args .w .0) 0 _ (module-wires .ensures)
+          _ (open-memory .ensures) _ (place .given .1)) (args .m .0) (args .w .0) _ (module-wires .ensures)
           (c .before .if1 .left),
     )
 

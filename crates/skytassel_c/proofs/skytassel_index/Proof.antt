@@ -1,4 +1,4 @@
--- What `session::index` ensures, of plain numbers. The index is signed, and a local holds its bits.
+-- What `look_up::index` ensures, of plain numbers. The index is signed, and a local holds its bits.
 -- Assumes nothing.
 use mir.Syntax.{w64}
 use mir.Facts.{toZ-ofZ}

@@ -1,4 +1,4 @@
--- What `session::look_up` ensures, of a plain number.
+-- What `look_up::look_up` ensures, of a plain number.
 -- Assumes nothing.
 use borrow.Author.Needs.{needs}
 use Rattle.skytassel_c.proofs.skytassel_look_up.Statement.{statement}

@@ -3,10 +3,10 @@ use lib.IntN.{ℤ, pos}
 use mir.Facts.{toZ-ofZ}
 use mir.Syntax.{w64}
 use Rattle.numbers.specs.Signed.{verdictOf}
 use Rattle.session.specs.Called.{answer}
 use borrow.Author.Needs.{needs}
-use Rattle.session.proofs.row_index.Statement.{statement}
-use Rattle.session.proofs.row_index.Tie as tie
+use Rattle.look_up.proofs.row_index.Statement.{statement}
+use Rattle.look_up.proofs.row_index.Tie as tie
 
 wire-index-requires : tie.Need-wire-index-requires
 wire-index-requires c κs = search needs

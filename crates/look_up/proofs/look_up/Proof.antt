@@ -1,11 +1,11 @@
 use denote.Ref.{now}
 use Rattle.netlist.specs.Results.{lent}
 use Rattle.session.proofs.OpenLaws.{opened, not-opened}
 use Rattle.session.proofs.CallLaws.{not-open}
-use Rattle.session.proofs.AskLaws.{looked-up}
+use Rattle.look_up.proofs.AskLaws.{looked-up}
 use borrow.Author.Needs.{needs}
-use Rattle.session.proofs.look_up.Statement.{statement}
-use Rattle.session.proofs.look_up.Tie as tie
+use Rattle.look_up.proofs.look_up.Statement.{statement}
+use Rattle.look_up.proofs.look_up.Tie as tie
 
 open-memory-requires : tie.Need-open-memory-requires
 open-memory-requires c κs = search needs

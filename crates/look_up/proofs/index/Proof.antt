@@ -2,12 +2,13 @@ use native.Mathlib.Omega.{arith}
 use lib.IntN.{pos}
 use denote.Ref.{now}
 use Rattle.netlist.specs.Results.{lent}
 use Rattle.session.proofs.OpenLaws.{opened, not-opened}
+use Rattle.session.proofs.HoldLaws.{wire-fits}
 use Rattle.session.proofs.CallLaws.{not-open}
-use Rattle.session.proofs.AskLaws.{index-fits, index-there, index-missing}
+use Rattle.look_up.proofs.AskLaws.{index-there, index-missing}
 use borrow.Author.Needs.{needs}
-use Rattle.session.proofs.index.Statement.{statement}
-use Rattle.session.proofs.index.Tie as tie
+use Rattle.look_up.proofs.index.Statement.{statement}
+use Rattle.look_up.proofs.index.Tie as tie
 
 open-memory-requires : tie.Need-open-memory-requires
 open-memory-requires c κs = search needs
@@ -37,10 +38,10 @@ add-row-index c =
     let module-wires = c .before .before .before .module-wires in
     omega (
       arith,
-      index-fits
+      wire-fits
           (opened
           (lent (now (args .names)) (now (args .strings)) (now (args .bits)) (now (args .wires)) (now (args .rows)) (args .renames) (args .room))
-          _ (open-memory .ensures) _ (place .given .1)) (args .m .0) (args .w .0) (args .bit) _
+          _ (open-memory .ensures) _ (place .given .1)) (args .m .0) (args .w .0) _
           (module-wires .ensures) (c .before .if1 .left),
     )
 

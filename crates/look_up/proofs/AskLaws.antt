@@ -2,11 +2,9 @@
 -- Assumes nothing.
 use Prim.Native.Nat.{ℕ, zero, suc, _+_, _≤_, _<_}
 use mathlib.Core.Path.{_≡_, refl, sym, ap, _∙_}
-use mathlib.Core.List.{List, [], _∷_, map, reverse}
+use mathlib.Core.List.{List, [], _∷_, map}
 use mathlib.Core.Option.{Option, none, some, Option·map, Option·elim}
 use mathlib.Core.Bool.{cond}
-use native.Mathlib.Omega.{arith}
-use lib.Dec.{ltb}
 use lib.IntN.{ℤ, pos}
 use Rattle.rules.specs.Bytes.{same}
 use Rattle.rules.specs.Tokens.{Name}
@@ -16,9 +14,7 @@ use Rattle.rules.specs.Design.{Object, design}
 use Rattle.rules.specs.Session.{Rename, wiresAt, wireAt, now, search, lookUp, indexIn, index}
 use Rattle.wires.specs.Rows.{wireOf}
 use Rattle.context.specs.declared.place.Place.{Place}
-use Rattle.context.proofs.PlaceLaws.{bounds}
 use Rattle.modules.specs.Ranges.{wireRange}
-use Rattle.modules.specs.RangeLaws.{where-le, where-next}
 use Rattle.modules.specs.Now.{wireNow}
 use Rattle.modules.specs.NowLaws.{wire-now}
 use Rattle.modules.specs.declared.Range.{Range}
@@ -28,10 +24,10 @@ use Rattle.netlist.specs.Results.{lent}
 use Rattle.rename_rules.specs.Judged.{moduleBy}
 use Rattle.lists.specs.Lists.{up}
 use Rattle.rename_rules.specs.LiesLaws.{names-are, there, missing}
 use Rattle.session.specs.Called.{Called, holding, answer}
 use Rattle.rename_rules.specs.Search.{searchNow}
 use Rattle.session.specs.Steps.{Holding}
-use Rattle.session.proofs.HoldLaws as hold
+use Rattle.session.proofs.HoldLaws.{lies}
 
 -- the search by names
 unfoldable searchIn : Name → ℕ → List Name → Verdict ℕ
@@ -50,10 +46,6 @@ unfolding searchIn searchNow
 search-up names wires rows m n zero k = refl
 search-up names wires rows m n (suc l) k = rw (search-up names wires rows m n l (k + 1))
 
-range-within : (t : List ℕ) (total m : ℕ) → wireRange t total m .first + wireRange t total m .count ≤ total
-unfolding wireRange
-range-within t total m = omega (arith, where-next t m total, where-le (λ c. ltb c (suc m)) t total)
-
 body-now : {C : Type 0} (z : C) (g : Wire → C) (rs : List Rename) (m w : ℕ) (o : Option (Object Wire)) → Option·elim (Option·map (wireNow rs m w) o) z (λ o. g (o .body)) ≡ Option·elim o z (λ o. g (o .body))
 unfolding Option·elim wireNow
 body-now z g rs m w none = refl
@@ -71,15 +63,9 @@ module _ {names strings bits wires rows : List ℕ} {renames room : ℕ} {p : Pl
       (ea
       ∙ ap (λ (x : Module). answer 0 (searchNow names wires rows x n (x .wires) 0)) ex
       ∙ ap (answer 0)
-      (sym (search-names n 0 (wiresAt (now (design (h .statements)) (h .renames)) m) ∙ ap (searchIn n 0) (names-are (hold.lies h) m) ∙ search-up names wires rows y n (y .wires) 0)))
+      (sym (search-names n 0 (wiresAt (now (design (h .statements)) (h .renames)) m) ∙ ap (searchIn n 0) (names-are (lies h) m) ∙ search-up names wires rows y n (y .wires) 0)))
 
   module _ (w bit : ℕ) (own : Range) (eo : own ≡ wireRange wires (p .wires) m) where
-    pub index-fits : w < own .count → own .first + w ≤ 4705
-    index-fits b =
-        let c : w < wireRange wires (p .wires) m .count = rw (← eo) b in
-        let q : p .wires ≤ p .rows = rw (← h .place) (bounds (reverse (h .statements)) .wires) in
-        rw eo (omega (arith, range-within wires (p .wires) m, hold.few-rows h))
-
     abbrev Indexes : ℕ × ℤ → Type 0
     Indexes a = Called (lent names strings bits wires rows renames room) (λ e. (e, pos 0)) (λ ss rs. answer (pos 0) (index (now (design ss) rs) m w bit)) a
 
@@ -93,8 +79,8 @@ module _ {names strings bits wires rows : List ℕ} {renames room : ℕ} {p : Pl
         ∙ ap (answer (pos 0)) (body-now (refused 8) (λ (x : Wire). indexIn x bit) (h .renames) m w (wireAt (design (h .statements)) m w) ∙ e)))
 
     pub index-there : (a : ℕ × ℤ) → w < own .count → a ≡ answer (pos 0) (indexIn (wireOf wires (own .first + w)) bit) → Indexes a
-    index-there a b ea = index-says _ (there (hold.lies h) m w (refused 8) (λ (x : Wire). indexIn x bit) (rw (← eo) b)) a (rw (← eo) ea)
+    index-there a b ea = index-says _ (there (lies h) m w (refused 8) (λ (x : Wire). indexIn x bit) (rw (← eo) b)) a (rw (← eo) ea)
 
     pub index-missing : own .count ≤ w → Indexes (8, pos 0)
     unfolding answer
-    index-missing b = index-says (refused 8) (missing (hold.lies h) m w (refused 8) (λ (x : Wire). indexIn x bit) (rw (← eo) b)) (8, pos 0) refl
+    index-missing b = index-says (refused 8) (missing (lies h) m w (refused 8) (λ (x : Wire). indexIn x bit) (rw (← eo) b)) (8, pos 0) refl

@@ -3,9 +3,9 @@
 use mathlib.Core.Path.{sym, ap, _∙_}
 use borrow.Author.Needs.{needs}
 use Rattle.rename_rules.specs.Search.{named}
 use Rattle.session.specs.Called.{answer}
-use Rattle.session.proofs.find.Statement.{statement}
-use Rattle.session.proofs.find.Tie as tie
+use Rattle.look_up.proofs.find.Statement.{statement}
+use Rattle.look_up.proofs.find.Tie as tie
 
 find-named-requires : tie.Need-find-named-requires
 find-named-requires c κs = search needs
