@@ -5,7 +5,7 @@
  * kept between calls.
  *
  * Numbers: 0 none. 1 a table hasn't its exact length. 2 file over 32,768 bytes. 3 memory that holds no design. 4 bad token, ill-formed new name. 5 no permitted
- * shape, a missing line end or end. 6 `process` line, rename of a port wire. 7 number or option rule broken. 8 module or wire not there. 9 name taken. 10 slice or
+ * shape, a missing line end or end. 6 rename of a port wire. 7 number or option rule broken. 8 module or wire not there. 9 name taken. 10 slice or
  * width rule broken, index past the wire. 11 a size exceeded. 12 text over 32,768 bytes or over the room lent. 13 nothing to undo.
  */
 #ifndef SKYTASSEL_H
@@ -18,7 +18,7 @@
 extern "C" {
 #endif
 
-enum { SKYTASSEL_NAMES = 16384, SKYTASSEL_STRINGS = 8192, SKYTASSEL_BITS = 16384, SKYTASSEL_WIRES = 8 * 512, SKYTASSEL_ROWS = 8 * 4769, SKYTASSEL_TEXT = 32768 };
+enum { SKYTASSEL_NAMES = 16384, SKYTASSEL_STRINGS = 8192, SKYTASSEL_BITS = 16384, SKYTASSEL_WIRES = 8 * 512, SKYTASSEL_ROWS = 8 * 6945, SKYTASSEL_TEXT = 32768 };
 
 /* The session card: renames standing, name room used. A refusal's place is 0, but from number 4 on in reading: for 4 the first byte of the line's leftmost bad
  * token, else the refused line's first byte that is neither space nor tab, or the file's length. Look-up, index, show, measure and write give no place, since it

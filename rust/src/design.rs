@@ -117,7 +117,7 @@ impl Design {
         answer(measured.number, measured.length as usize)
     }
 
-    /// Gives a wire a new name, which stands until it is undone. Refused with the lowest that applies: [`Refusal::BadToken`] (no name), [`Refusal::ProcessOrPort`],
+    /// Gives a wire a new name, which stands until it is undone. Refused with the lowest that applies: [`Refusal::BadToken`] (no name), [`Refusal::PortRename`],
     /// [`Refusal::NotThere`], [`Refusal::NameTaken`], [`Refusal::SizeExceeded`] (64 stand, or the name room is full). A refusal changes nothing.
     pub fn rename(
         &mut self,

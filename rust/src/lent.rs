@@ -9,7 +9,7 @@ pub const BITS: usize = 16_384;
 /// Words of a row.
 pub const ROW: usize = 8;
 pub const WIRES: usize = ROW * 512;
-pub const ROWS: usize = ROW * 4_769;
+pub const ROWS: usize = ROW * 6_945;
 
 /// Design memory lent to a call that may change it. Reading takes less than 900 KB of stack.
 #[derive(Debug)]

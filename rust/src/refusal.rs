@@ -15,10 +15,10 @@ pub enum Refusal {
     DamagedMemory = 3,
     /// A bad token, or an ill-formed new name.
     BadToken = 4,
-    /// The line has no permitted shape here, or lacks its line end; a bundle is too deep; the file ends inside a module or after attributes.
+    /// The line has no permitted shape here, or lacks its line end; a bundle or a switch is too deep; the file ends inside a module or after attributes.
     BadShape = 5,
-    /// A `process` line, or the rename of a port wire.
-    ProcessOrPort = 6,
+    /// The rename of a port wire.
+    PortRename = 6,
     /// A number or option rule is broken, an integer is outside 32 bits, a value is over 2,048 wide or has too many digits.
     BadNumber = 7,
     /// The module or wire is not there.
@@ -43,7 +43,7 @@ impl Refusal {
         Refusal::DamagedMemory,
         Refusal::BadToken,
         Refusal::BadShape,
-        Refusal::ProcessOrPort,
+        Refusal::PortRename,
         Refusal::BadNumber,
         Refusal::NotThere,
         Refusal::NameTaken,
@@ -77,7 +77,7 @@ impl fmt::Display for Refusal {
             Refusal::DamagedMemory => "the memory holds no design",
             Refusal::BadToken => "bad token or ill-formed name",
             Refusal::BadShape => "no permitted shape",
-            Refusal::ProcessOrPort => "a process, or the rename of a port wire",
+            Refusal::PortRename => "the rename of a port wire",
             Refusal::BadNumber => "a number or option rule is broken",
             Refusal::NotThere => "module or wire not there",
             Refusal::NameTaken => "name taken",

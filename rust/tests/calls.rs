@@ -11,6 +11,11 @@ const FILE: &[u8] = b"module \\ear
   attribute \\hdlname \"\"
   wire \\y
   memory \\r
+  process \\p
+    assign \\y \\gain [7]
+    sync posedge \\i
+      update \\y 1'0
+  end
 end
 ";
 const EAR: ModuleNumber = ModuleNumber(0);
@@ -34,11 +39,17 @@ fn numbers_are_those_of_the_table() {
 #[test]
 fn refused_files() {
     let long = vec![b'\n'; 32_769];
-    let files: [(&[u8], Refusal, usize); 9] = [
+    let files: [(&[u8], Refusal, usize); 11] = [
         (&long, Refusal::FileTooLong, 0),
         (b"\\", Refusal::BadToken, 0),
         (b"module \\m\n", Refusal::BadShape, 10),
-        (b"module \\m\n process \\p\n", Refusal::ProcessOrPort, 11),
+        (b"module \\m\n process \\p\n", Refusal::BadShape, 22),
+        (b"module \\m\nprocess \\p\ncase\n", Refusal::BadShape, 21),
+        (
+            b"module \\m\nprocess \\p\nsync low 2'00\n",
+            Refusal::BadWidth,
+            21,
+        ),
         (b"module \\m\nwire width 2049 \\a\n", Refusal::BadNumber, 10),
         (b"module \\m\nconnect \\a \\a\n", Refusal::NotThere, 10),
         (b"module \\m\nend\nmodule \\m\n", Refusal::NameTaken, 14),
@@ -59,12 +70,13 @@ fn refused_files() {
 fn refused_calls_change_nothing() {
     let read = design();
     let mut design = read.clone();
-    let renames: [(WireNumber, &[u8], Refusal); 5] = [
+    let renames: [(WireNumber, &[u8], Refusal); 6] = [
         (GAIN, b"gain", Refusal::BadToken),
-        (WireNumber(1), b"\\j", Refusal::ProcessOrPort),
+        (WireNumber(1), b"\\j", Refusal::PortRename),
         (WireNumber(3), b"\\j", Refusal::NotThere),
         (GAIN, b"\\gain", Refusal::NameTaken),
         (GAIN, b"\\r", Refusal::NameTaken),
+        (GAIN, b"\\p", Refusal::NameTaken),
     ];
     for (wire, name, refusal) in renames {
         assert_eq!(design.rename(EAR, wire, name), Err(refusal));
@@ -99,6 +111,10 @@ fn a_session() {
     assert_eq!(design.look_up(EAR, b"\\y"), Err(Refusal::NotThere));
     assert_eq!(design.look_up(EAR, b"$z"), Ok(WireNumber(2)));
     let text = design.write().expect("a short text");
+    let in_process = b"    assign $z \\gain [7]\n    sync posedge \\i\n      update $z 1'0\n";
+    assert!(text
+        .windows(in_process.len())
+        .any(|part| part == in_process));
     assert_eq!(design.measure(), Ok(text.len()));
     assert_eq!(Design::read(&text).expect("its own text").write(), Ok(text));
     design.undo().expect("a rename stands");

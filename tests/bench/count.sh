@@ -97,11 +97,13 @@ if [ $# = 0 ]; then
   growth "judging, 64 to 512 wires, 63 renames" 6 wires64 wires512 8
   growth "read, 128 to 1,024 attributes" 4 attrs128 attrs1024 8
   growth "judging, 128 to 1,024 attributes" 5 attrs128 attrs1024 8
+  growth "read, 125 to 1,000 cases" 4 cases125 cases1000 8
+  growth "judging, 125 to 1,000 cases" 5 cases125 cases1000 8
   echo
   echo "| Call | What its instructions go into, in 100 |"
   echo "|---|---|"
-  for name in k01 k32 wires512 attrs1024; do shares read $name 0 ""; done
-  for name in k01 k32; do shares judge $name 0 ""; done
+  for name in k01 k32 wires512 attrs1024 procs64 procs1024; do shares read $name 0 ""; done
+  for name in k01 k32 procs1024; do shares judge $name 0 ""; done
   shares judge wires512 63 ", 63 renames"
   shares write k32 0 ""
 fi

@@ -29,7 +29,8 @@ int main(void)
     struct skytassel_answer refused = read_text("module \\ear\n  wire width 4096 \\gain\nend\n");
     printf("refused: %u at %u\n", (unsigned)refused.number, (unsigned)refused.place);
 
-    if (read_text("module \\ear\n  wire width 8 offset -4 \\gain\n  attribute \\hdlname \"left ear\"\n  wire \\y\nend\n").number != 0)
+    if (read_text("module \\ear\n  wire width 8 offset -4 \\gain\n  attribute \\hdlname \"left ear\"\n  wire \\y\n"
+                  "  process \\p\n    switch \\gain [7]\n      case 1'1 , 1'x\n        assign \\y \\gain [0]\n    end\n  end\nend\n").number != 0)
         return 1;
     const uint8_t old_name[] = {'\\', 'g', 'a', 'i', 'n'}, new_name[] = {'\\', 'g'};
     struct skytassel_wire_answer gain = skytassel_look_up(VIEW, card.renames, card.room, 0, old_name, sizeof old_name);

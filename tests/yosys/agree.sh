@@ -3,7 +3,8 @@
 # text equals its dump of the original. The vectors' written texts are those stored beside them; a file given goes through
 # target/bin/skytassel. Not part of the gate, since Yosys need not be installed; tried with 0.23.
 #
-# Yosys sorts the objects of a dump by name and numbers ports anew, so order and port numbers are not compared here.
+# Yosys sorts the objects of a dump by name, puts the assigns of a case or process before its switches and numbers ports anew, so these orders and
+# port numbers are not compared here.
 # tests/yosys/known.txt lists the vectors that can't agree, each with its reason. Any other disagreement, or none where one is
 # listed, fails.
 set -euo pipefail

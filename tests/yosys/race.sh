@@ -97,7 +97,7 @@ race() {
 
 if [ ${#files[@]} = 0 ]; then
   "$bench" files "$room" > "$room/names"
-  for name in k01 k04 k32 ram wires512 attrs1024; do files+=("$room/$name.il"); done
+  for name in k01 k04 k32 ram wires512 attrs1024 procs64 procs1024; do files+=("$room/$name.il"); done
 fi
 yosys -V
 echo

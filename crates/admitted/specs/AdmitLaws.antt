@@ -1,9 +1,9 @@
--- What is admitted stands, has fine parts, takes no name and exceeds no size; so there are at most 4,705 statements, the offsets of
+-- What is admitted stands, has fine parts, has signals of fitting width, takes no name and exceeds no size; so there are at most 6,881 statements, the offsets of
 -- their wires fit in 32 bits, and their wires pass what the wires of fine parts pass.
 -- Assumes nothing.
 use Prim.Native.Nat.{_-_, _≤_}
 use mathlib.Core.Path.{_≡_, refl}
-use mathlib.Core.List.{List, [], _∷_, flatMap, zip, reverseAux}
+use mathlib.Core.List.{List, [], _∷_, map, flatMap, zip, reverseAux}
 use mathlib.Core.Bool.{Bool, true, false, not, _||_}
 use lib.Dec.{leb, eqb}
 use lib.IntN.{pos, _+ℤ_}
@@ -15,14 +15,14 @@ use Rattle.rules.specs.Tokens.{Name}
 use Rattle.rules.specs.Statements.{Statement, Wire, aModule, contents, is}
 use Rattle.rules.specs.Numbers.{int32}
 use Rattle.rules.specs.Signals.{Wires}
-use Rattle.rules.specs.Judgement.{Past, until, ofModule, wires, portNumbers, takesName, exceedsSize}
+use Rattle.rules.specs.Judgement.{Past, until, ofModule, wires, portNumbers, takesName, fitWidths, exceedsSize}
 use Rattle.lists.specs.Tests.{by-test, and-true-left, and-true-right}
 use Rattle.lists.specs.Lists.{keeps-before}
 use Rattle.lists.specs.Elements.{all-append, all-implied, test-at}
 use Rattle.context.specs.Sizes.{sumsOf, Within}
 use Rattle.context.specs.Offsets.{fitsOffset, Offsets, no-offsets, more-offsets}
 use Rattle.context.proofs.SizeLaws.{within-past, within-none}
-use Rattle.admitted.specs.Admitted.{stands, fineConstant, ownWire, newPorts, fineMemory, fineSignal, sameLength, fineAlone, fineParts, admits, admitted}
+use Rattle.admitted.specs.Admitted.{stands, fineConstant, ownWire, newPorts, fineMemory, fineSignal, arity, fineAlone, fineParts, admits, admitted}
 use Rattle.admitted.specs.CountLaws.{Standing, none-stand, one-stands, rows-few}
 
 -- a wire's own tests
@@ -46,7 +46,7 @@ pub record FineParts (ws : Wires) (s : Statement) : Type 0 where
   pub constants : all fineConstant (contents s .constants) ≡ true
   pub wires : all ownWire (contents s .wires) ≡ true
   pub memories : all fineMemory (contents s .memories) ≡ true
-  pub same-length : sameLength (contents s .signals) ≡ true
+  pub arities : all (λ p. arity p (length (contents s .signals))) (contents s .steps) ≡ true
   pub ports : all (newPorts ws) (contents s .wires) ≡ true
   pub signals : all (fineSignal ws) (contents s .signals) ≡ true
 
@@ -56,9 +56,9 @@ fine-parts ws s e =
     let c = contents s in
     let h =
     test-at (all legal (c .names))
-    (all int32 (c .integers) ∷ all fineConstant (c .constants) ∷ all ownWire (c .wires) ∷ all fineMemory (c .memories) ∷ sameLength (c .signals) ∷ all (newPorts ws) (c .wires) ∷ all (fineSignal ws) (c .signals) ∷ [])
+    (all int32 (c .integers) ∷ all fineConstant (c .constants) ∷ all ownWire (c .wires) ∷ all fineMemory (c .memories) ∷ all (λ p. arity p (length (c .signals))) (c .steps) ∷ all (newPorts ws) (c .wires) ∷ all (fineSignal ws) (c .signals) ∷ [])
     e in
-    record { names = h 0; integers = h 1; constants = h 2; wires = h 3; memories = h 4; same-length = h 5; ports = h 6; signals = h 7 }
+    record { names = h 0; integers = h 1; constants = h 2; wires = h 3; memories = h 4; arities = h 5; ports = h 6; signals = h 7 }
 
 -- offsets fit
 pub fine-fits : (ws : Wires) (s : Statement) → fineParts ws s ≡ true → fitsOffset s ≡ true
@@ -68,14 +68,16 @@ fine-fits ws s e = all-implied ownWire (λ w. int32 (w .offset)) (λ w h. own-wi
 pub record Admits (ss : Past) (s : Statement) : Type 0 where
   pub standing : stands ss s ≡ true
   pub parts : fineParts (wires ss) s ≡ true
+  pub widths : fitWidths ss s (map length (contents s .signals)) ≡ true
   pub new-name : takesName ss s ≡ false
   pub room : exceedsSize (s ∷ ss) ≡ false
 
 pub admits-all : (ss : Past) (s : Statement) → admits ss s ≡ true → Admits ss s
 unfolding admits
 admits-all ss s e =
-    let h = test-at (stands ss s) (fineParts (wires ss) s ∷ not (takesName ss s) ∷ not (exceedsSize (s ∷ ss)) ∷ []) e in
-    record { standing = h 0; parts = h 1; new-name = not-true (takesName ss s) (h 2); room = not-true (exceedsSize (s ∷ ss)) (h 3) }
+    let h =
+    test-at (stands ss s) (fineParts (wires ss) s ∷ fitWidths ss s (map length (contents s .signals)) ∷ not (takesName ss s) ∷ not (exceedsSize (s ∷ ss)) ∷ []) e in
+    record { standing = h 0; parts = h 1; widths = h 2; new-name = not-true (takesName ss s) (h 3); room = not-true (exceedsSize (s ∷ ss)) (h 4) }
 
 -- all statements so far
 module _ (s : Statement) (ss : Past) (e : admitted (s ∷ ss) ≡ true) where

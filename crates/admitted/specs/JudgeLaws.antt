@@ -40,11 +40,10 @@ by-verdict P a ((n, false) ∷ ts) h f g = by-verdict P a ts (all-later (λ t. l
 
 -- no test holds of an accepted shape
 pub record Passed (ss : Past) (sh : Shape) : Type 0 where
-  pub no-process : is aProcess sh ≡ false
   pub numbers : breaksNumber (wires ss) sh ≡ false
   pub declared : lacksWire (wires ss) sh ≡ false
   pub new-name : takesName ss sh ≡ false
-  pub widths : breaksWidth (wires ss) sh ≡ false
+  pub widths : breaksWidth (wires ss) ss sh ≡ false
   pub room : partTooWide (wires ss) sh || exceedsSize (meaning (wires ss) sh ∷ ss) ≡ false
 
 pub judge-passed : (ss : Past) (sh : Shape) (s : Statement) → judge ss sh ≡ Verdict.accepted s → Passed ss sh
@@ -52,10 +51,9 @@ unfolding judge judgeIn
 judge-passed ss sh s e =
     let h = no-tests (meaning (wires ss) sh) s _ e .1 in
     record {
-      no-process = h .0;
-      numbers = h .1 .0;
-      declared = h .1 .1 .0;
-      new-name = h .1 .1 .1 .0;
-      widths = h .1 .1 .1 .1 .0;
-      room = h .1 .1 .1 .1 .1 .0;
+      numbers = h .0;
+      declared = h .1 .0;
+      new-name = h .1 .1 .0;
+      widths = h .1 .1 .1 .0;
+      room = h .1 .1 .1 .1 .0;
     }

@@ -3,3 +3,4 @@ pub mod JudgeLaws
 pub mod CountLaws
 pub mod AdmitLaws
 pub mod Holds
+pub mod StepLaws

@@ -113,7 +113,7 @@ module _ (m : Memory) (old mid : List ℕ) (n len : ℕ) where
 
 -- TABLES of the lengths that calls ask for
 pub right-lengths :
-    (m : Memory) → length (m .names) ≡ 16384 → length (m .strings) ≡ 8192 → length (m .bits) ≡ 16384 → length (m .wires) ≡ 4096 → length (m .rows) ≡ 38152 →
+    (m : Memory) → length (m .names) ≡ 16384 → length (m .strings) ≡ 8192 → length (m .bits) ≡ 16384 → length (m .wires) ≡ 4096 → length (m .rows) ≡ 55560 →
     rightLengths m ≡ true
 unfolding rightLengths rightSizes
 right-lengths m n s b w r = rw (n, s, b, w, r)

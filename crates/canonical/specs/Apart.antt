@@ -1,17 +1,19 @@
 -- The tests of a statement after those before it, one by one.
 -- Assumes nothing.
 use mathlib.Core.Path.{_≡_, refl, ap}
-use mathlib.Core.List.{[], _∷_}
+use mathlib.Core.List.{[], _∷_, map}
 use mathlib.Core.Bool.{Bool, true, false, not, _&&_}
 use native.Mathlib.Omega.{arith}
+use lib.ListN.{length}
 use borrow.Author.Tests.{not-true}
 use Rattle.rules.specs.Bytes.{any, all, same}
 use Rattle.rules.specs.Statements.{Statement, contents, ownName}
-use Rattle.rules.specs.Judgement.{Past, sum, wires, among, Space, namesIn, nameSpaces, takesName, sizes, exceedsSize}
+use Rattle.rules.specs.Judgement.{Past, sum, wires, among, Space, namesIn, nameSpaces, takesName, fitWidths, sizes, exceedsSize}
 use Rattle.lists.specs.Tests.{and-true-left, and-true-right}
 use Rattle.lists.specs.Elements.{Each, test-at, any-none, none-any}
-use Rattle.admitted.specs.Admitted.{stands, fineSignal, fineAlone, fineParts, admits, admitted}
-use Rattle.admitted.specs.AdmitLaws.{admits-all, admits-last, admitted-before}
+use Rattle.admitted.specs.Admitted.{stands, arity, fineSignal, fineAlone, fineParts, admits, admitted}
+use Rattle.admitted.specs.AdmitLaws.{fine-parts, admits-all, admits-last, admitted-before}
+use Rattle.canonical.specs.Fine.{follows}
 use Rattle.canonical.specs.Tally.{Through, nameTally, moduleNames, objectNames, attributeNames, parameterNames, cellParameterNames, cellPortNames, portTally}
 use Rattle.canonical.specs.Sums.{sizes-fewer}
 
@@ -20,7 +22,7 @@ unfoldable pub sees : Past → Statement → Bool
 sees p s = all (fineSignal (wires p)) (contents s .signals)
 
 pub record Apart (p : Past) (s : Statement) : Type 0 where
-  pub standing : stands p s ≡ true
+  pub standing : follows p s ≡ true
   pub alone : fineAlone s ≡ true
   pub ports : portTally .new p s ≡ true
   pub signals : sees p s ≡ true
@@ -38,13 +40,13 @@ module _ (p : Past) (s : Statement) where
   takesIn z = among (z .kinds) s && any (same (ownName (contents s .names))) (namesIn z p)
 
   pub admits-apart : admits p s ≡ true → Apart p s
-  unfolding fineParts portTally sees nameTally takesName nameSpaces
+  unfolding follows fineParts portTally sees nameTally takesName nameSpaces
   admits-apart e =
       let a = admits-all p s e in
       let h = test-at (fineAlone s) (portTally .new p s ∷ sees p s ∷ []) (a .parts) in
       let n : Each (λ z. takesIn z ≡ false) nameSpaces = any-none takesIn nameSpaces (a .new-name) in
       record {
-        standing = a .standing;
+        standing = rw (a .standing, fine-parts (wires p) s (a .parts) .arities, a .widths);
         alone = h 0;
         ports = h 1;
         signals = h 2;
@@ -58,7 +60,7 @@ module _ (p : Past) (s : Statement) where
       }
 
   pub apart-admits : Apart p s → admits p s ≡ true
-  unfolding admits fineParts portTally sees nameTally takesName nameSpaces
+  unfolding follows admits fineParts portTally sees nameTally takesName nameSpaces
   apart-admits a =
       let n : any takesIn nameSpaces ≡ false =
       none-any takesIn nameSpaces (
@@ -71,11 +73,13 @@ module _ (p : Past) (s : Statement) where
           ),
         ),
       ) in
+      let t = test-at (stands p s) (all (λ q. arity q (length (contents s .signals))) (contents s .steps) ∷ fitWidths p s (map length (contents s .signals)) ∷ []) (a .standing) in
       rw (
-        a .standing,
+        t 0,
         a .alone,
         a .ports,
         a .signals,
+        t 2,
         n,
         a .room,
       )
@@ -91,7 +95,7 @@ includes f h [] t = tt
 includes f h (s ∷ p) t = (h p s (admits-apart p s (t .0)), includes f h p (t .1))
 
 pub record ApartAll (p : Past) : Type 0 where
-  pub standing : Through stands p
+  pub standing : Through follows p
   pub alone : all fineAlone p ≡ true
   pub ports : Through (portTally .new) p
   pub signals : Through sees p
@@ -117,7 +121,7 @@ pub admitted-apart : (p : Past) → admitted p ≡ true → ApartAll p
 admitted-apart p e =
     let t = through-admits p e in
     record {
-      standing = includes stands (λ q s a. a .standing) p t;
+      standing = includes follows (λ q s a. a .standing) p t;
       alone = all-alone p e;
       ports = includes (portTally .new) (λ q s a. a .ports) p t;
       signals = includes sees (λ q s a. a .signals) p t;

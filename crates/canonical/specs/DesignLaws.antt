@@ -1,20 +1,23 @@
--- The design of a file is found kind by kind; so a design is that of its own statements in canonical order.
+-- The design of a file is found kind by kind; so a design is that of its own statements in canonical order, if its processes close their
+-- switches.
 -- Assumes nothing.
+use Prim.Native.Nat.{ℕ, zero, suc, _+_}
 use mathlib.Core.Path.{_≡_, refl, sym, ap, ap₂, _∙_}
-use mathlib.Core.List.{List, [], _∷_, _++_, map, flatMap, zip, zipWith, head?, Option·toList, append-assoc, append-nil, map-append, map-map, map-congr-left}
+use mathlib.Core.List.{List, [], _∷_, _++_, map, flatMap, zip, zipWith, head?, Option·toList, append-assoc, append-nil, map-append, map-map}
 use mathlib.Core.Option.{Option, none, some}
-use mathlib.Core.Bool.{Bool, true, false, not}
+use mathlib.Core.Bool.{Bool, true, false, not, cond, false≢true}
+use native.Mathlib.Omega.{arith}
 use lib.IntN.{ℤ}
-use borrow.Author.Tests.{not-true}
+use borrow.Author.Tests.{not-true, eqb-true}
 use Rattle.rules.specs.Tokens.{Name}
-use Rattle.rules.specs.Statements.{Sort, Constant, Signal, Wire, Memory, Statement, autoidx-stmt, attr-stmt, module-stmt, param-stmt, wire-stmt, memory-stmt, cell-stmt, cell-param-stmt, cell-conn-stmt, conn-stmt, end-stmt, anAttribute, aModule, aCell, is, contents, statementsOpen}
-use Rattle.rules.specs.Bytes.{all}
-use Rattle.rules.specs.Judgement.{until}
-use Rattle.rules.specs.Design.{Setting, Object, object, Cell, Module, Design, Item, settingIn, items, blocks, objectsIn, parameterIn, portIn, pair, connectionIn, cellParameterIn, each, cellOf, moduleOf, design, flatten, objects, cellLines, moduleLines, designOpen}
+use Rattle.rules.specs.Statements.{Sort, Constant, Signal, Wire, Memory, Statement, autoidx-stmt, attr-stmt, module-stmt, param-stmt, wire-stmt, memory-stmt, cell-stmt, cell-param-stmt, cell-conn-stmt, conn-stmt, proc-stmt, step-stmt, end-stmt, Step, anAttribute, aModule, aCell, aProcess, is, contents, statementsOpen}
+use Rattle.rules.specs.Bytes.{any, all}
+use Rattle.rules.specs.Judgement.{until, steps}
+use Rattle.rules.specs.Design.{Setting, Object, object, Cell, Line, step-line, end-line, Module, Design, Item, settingIn, items, blocks, objectsIn, parameterIn, portIn, pair, connectionIn, cellParameterIn, each, cellOf, stepIn, shut, linesIn, processOf, moduleOf, design, flatten, objects, cellLines, lineStatements, processLines, moduleLines, designOpen}
 use Rattle.lists.specs.Tests.{and-true-left, and-true-right}
 use Rattle.lists.specs.Lists.{flatMap-append, flatMap-same, flatMap-map, flatMap-flatMap, flatMap-none, flatMap-one, flatMap-self}
-use Rattle.lists.specs.Elements.{until-none, all-append, all-map, all-each, map-back, each-all, all-flatMap}
-use Rattle.canonical.specs.Nesting.{CellEntry, parameter-entry, port-entry, Entry, param-entry, wire-entry, memory-entry, cell-entry, connection-entry, File, settings, lineIn, linesOf, linesOfModule, linesOfFile, parameterOf, portOf, parametersOf, wiresOf, memoriesOf, cellBody, cellsOf, connectionsOf, bodyOf, moduleIn, designOf, cellEntries, entries, asFile, fileOf, nestingOpen}
+use Rattle.lists.specs.Elements.{Each, until-none, all-append, all-one, all-map, all-each, map-back, each-all, each-through, all-flatMap}
+use Rattle.canonical.specs.Nesting.{CellEntry, parameter-entry, port-entry, Entry, param-entry, wire-entry, memory-entry, cell-entry, process-entry, connection-entry, File, settings, lineIn, linesOf, linesOfModule, linesOfFile, parameterOf, portOf, parametersOf, wiresOf, memoriesOf, cellBody, cellsOf, processesOf, connectionsOf, bodyOf, moduleIn, designOf, cellEntries, entries, asFile, fileOf, isSwitch, balancedTo, Balanced, BalancedFile, BalancedDesign, nestingOpen}
 
 none-of : {A B : Type 0} (xs : List A) → flatMap {B = B} (λ (x : A). []) xs ≡ []
 none-of xs = flatMap-none (λ x. []) (λ x. refl) xs
@@ -50,6 +53,16 @@ module _ {A : Type 0} (g : Statement → A) where
   unfolding lineIn
   cell-none f p k e es = cell-each f (λ x. []) (elim [ parameter-entry o a ↦ p o (a .0) (a .1) | port-entry n x ↦ k n x ]) e es ∙ none-of es
 
+-- THE LINES OF A PROCESS
+pub lines-pass :
+    (f : Statement → Bool) → ((n : Name) (c : Constant) → f (attr-stmt n c) ≡ true) → ((p : Step) (xs : List Signal) → f (step-stmt p xs) ≡ true) → f end-stmt ≡ true →
+    (ls : List Line) → all f (flatMap lineStatements ls ++ end-stmt ∷ []) ≡ true
+unfolding all lineStatements
+lines-pass f a p e ls =
+    let line : (l : Line) → all f (lineStatements l) ≡ true =
+    elim [ step-line at q xs ↦ all-append f (settings at) (step-stmt q xs ∷ []) (settings-pass f a at) (all-one f (step-stmt q xs) (p q xs)) | end-line ↦ all-one f end-stmt e ] in
+    all-append f (flatMap lineStatements ls) (end-stmt ∷ []) (all-flatMap f lineStatements line ls) (all-one f end-stmt e)
+
 -- THE ITEMS OF A FILE
 abbrev plain : Statement → Item
 plain s = record { attributes = []; statement = s }
@@ -84,11 +97,34 @@ items-block at s ls js e h ss =
     ∙ ap (λ (l : List Item). js ++ l) (items-next [] end-stmt ss refl)
     ∙ sym (append-assoc js (plain end-stmt ∷ []) (items [] ss))))
 
+-- of a process
+unfoldable lineItem : Line → Item
+lineItem (step-line at p xs) = with-settings at (step-stmt p xs)
+lineItem end-line = plain end-stmt
+
+abbrev inProcess : List Line → List Item
+inProcess ls = map lineItem ls ++ plain end-stmt ∷ []
+
+line-pass : (f : Item → Bool) → ((at : List Setting) (p : Step) (xs : List Signal) → f (with-settings at (step-stmt p xs)) ≡ true) → f (plain end-stmt) ≡ true → (ls : List Line) → all f (inProcess ls) ≡ true
+unfolding all lineItem
+line-pass f p e [] = rw e
+line-pass f p e (step-line at q xs ∷ ls) = rw (p at q xs) (line-pass f p e ls)
+line-pass f p e (end-line ∷ ls) = rw e (line-pass f p e ls)
+
+line-none :
+    {B : Type 0} (f : Item → List B) → ((at : List Setting) (p : Step) (xs : List Signal) → f (with-settings at (step-stmt p xs)) ≡ []) → f (plain end-stmt) ≡ [] → (ls : List Line) →
+    flatMap f (inProcess ls) ≡ []
+unfolding flatMap lineItem
+line-none f p e [] = rw e
+line-none f p e (step-line at q xs ∷ ls) = rw (p at q xs) (line-none f p e ls)
+line-none f p e (end-line ∷ ls) = rw e (line-none f p e ls)
+
 unfoldable itemsOf : Entry → List Item
 itemsOf (param-entry n c) = plain (param-stmt n c) ∷ []
 itemsOf (wire-entry o) = with-settings (o .attributes) (wire-stmt (o .body) (o .name)) ∷ []
 itemsOf (memory-entry o) = with-settings (o .attributes) (memory-stmt (o .body) (o .name)) ∷ []
 itemsOf (cell-entry at t n es) = with-settings at (cell-stmt t n) ∷ inCell plain es
+itemsOf (process-entry o) = with-settings (o .attributes) (proc-stmt (o .name)) ∷ inProcess (o .body)
 itemsOf (connection-entry x y) = plain (conn-stmt x y) ∷ []
 
 items-cell : (es : List CellEntry) (ss : List Statement) → items [] (map lineIn es ++ ss) ≡ map (λ e. plain (lineIn e)) es ++ items [] ss
@@ -97,12 +133,22 @@ items-cell [] ss = refl
 items-cell (parameter-entry o a ∷ es) ss = ap (λ (l : List Item). plain (cell-param-stmt o (a .0) (a .1)) ∷ l) (items-cell es ss)
 items-cell (port-entry n x ∷ es) ss = ap (λ (l : List Item). plain (cell-conn-stmt n x) ∷ l) (items-cell es ss)
 
+items-lines : (ls : List Line) (ss : List Statement) → items [] (flatMap lineStatements ls ++ ss) ≡ map lineItem ls ++ items [] ss
+unfolding flatMap lineStatements lineItem statementsOpen
+items-lines [] ss = refl
+items-lines (step-line at p xs ∷ ls) ss =
+    ap (items []) (append-assoc (settings at ++ step-stmt p xs ∷ []) (flatMap lineStatements ls) ss ∙ append-assoc (settings at) (step-stmt p xs ∷ []) (flatMap lineStatements ls ++ ss))
+    ∙ items-object at (step-stmt p xs) (flatMap lineStatements ls ++ ss) refl
+    ∙ ap (λ (l : List Item). with-settings at (step-stmt p xs) ∷ l) (items-lines ls ss)
+items-lines (end-line ∷ ls) ss = items-next [] end-stmt (flatMap lineStatements ls ++ ss) refl ∙ ap (λ (l : List Item). plain end-stmt ∷ l) (items-lines ls ss)
+
 items-entry : (e : Entry) (ss : List Statement) → items [] (linesOf e ++ ss) ≡ itemsOf e ++ items [] ss
 unfolding nestingOpen itemsOf statementsOpen
 items-entry (param-entry n c) ss = items-next [] (param-stmt n c) ss refl
 items-entry (wire-entry o) ss = rw append-assoc (items-object (o .attributes) (wire-stmt (o .body) (o .name)) ss refl)
 items-entry (memory-entry o) ss = rw append-assoc (items-object (o .attributes) (memory-stmt (o .body) (o .name)) ss refl)
 items-entry (cell-entry at t n es) ss = items-block at (cell-stmt t n) (map lineIn es) (map (λ e. plain (lineIn e)) es) refl (items-cell es) ss
+items-entry (process-entry o) ss = items-block (o .attributes) (proc-stmt (o .name)) (flatMap lineStatements (o .body)) (map lineItem (o .body)) refl (items-lines (o .body)) ss
 items-entry (connection-entry x y) ss = items-next [] (conn-stmt x y) ss refl
 
 items-entries : (es : List Entry) (ss : List Statement) → items [] (flatMap linesOf es ++ ss) ≡ flatMap itemsOf es ++ items [] ss
@@ -148,6 +194,7 @@ entry-in-module (param-entry n c) = refl
 entry-in-module (wire-entry o) = refl
 entry-in-module (memory-entry o) = refl
 entry-in-module (cell-entry at t n es) = cell-pass plain (closed (is aModule)) (λ o m c. refl) (λ m x. refl) refl es
+entry-in-module (process-entry o) = line-pass (closed (is aModule)) (λ at p xs. refl) refl (o .body)
 entry-in-module (connection-entry x y) = refl
 
 all-in-module : (es : List Entry) → all (closed (is aModule)) (inModule es) ≡ true
@@ -179,19 +226,22 @@ module _ {A : Type 0} (f : Item → List A) (g : Entry → List A) where
       ((o : Object Wire) → f (with-settings (o .attributes) (wire-stmt (o .body) (o .name))) ≡ g (wire-entry o)) →
       ((o : Object Memory) → f (with-settings (o .attributes) (memory-stmt (o .body) (o .name))) ≡ g (memory-entry o)) →
       ((at : List Setting) (t n : Name) (es : List CellEntry) → f (with-settings at (cell-stmt t n)) ≡ g (cell-entry at t n es)) →
+      ((o : Object (List Line)) → f (with-settings (o .attributes) (proc-stmt (o .name))) ≡ g (process-entry o)) →
       ((x y : Signal) → f (plain (conn-stmt x y)) ≡ g (connection-entry x y)) →
       ((o : Sort) (n : Name) (c : Constant) → f (plain (cell-param-stmt o n c)) ≡ []) →
       ((n : Name) (x : Signal) → f (plain (cell-conn-stmt n x)) ≡ []) →
+      ((at : List Setting) (q : Step) (xs : List Signal) → f (with-settings at (step-stmt q xs)) ≡ []) →
       f (plain end-stmt) ≡ [] → (es : List Entry) →
       flatMap f (inModule es) ≡ flatMap g es
   unfolding inModule itemsOf flatMap
-  in-module p w m c k cp ck e es =
+  in-module p w m c r k cp ck st e es =
       let h : (e : Entry) → flatMap f (itemsOf e) ≡ g e =
       elim [
         | param-entry n v ↦ append-nil _ ∙ p n v
         | wire-entry o ↦ append-nil _ ∙ w o
         | memory-entry o ↦ append-nil _ ∙ m o
         | cell-entry at t n cs ↦ rw (cell-none plain f cp ck e cs) (append-nil _ ∙ c at t n cs)
+        | process-entry o ↦ rw (line-none f st e (o .body)) (append-nil _ ∙ r o)
         | connection-entry x y ↦ append-nil _ ∙ k x y
       ] in
       flatMap-append f (flatMap itemsOf es) (plain end-stmt ∷ [])
@@ -199,19 +249,19 @@ module _ {A : Type 0} (f : Item → List A) (g : Entry → List A) where
 
 parameters-in : (es : List Entry) → flatMap (λ i. parameterIn (i .statement)) (inModule es) ≡ flatMap parametersOf es
 unfolding nestingOpen designOpen statementsOpen
-parameters-in = in-module (λ i. parameterIn (i .statement)) parametersOf (λ n. elim [ none ↦ refl | some c ↦ refl ]) (λ o. refl) (λ o. refl) (λ at t n es. refl) (λ x y. refl) (λ o n c. refl) (λ n x. refl) refl
+parameters-in = in-module (λ i. parameterIn (i .statement)) parametersOf (λ n. elim [ none ↦ refl | some c ↦ refl ]) (λ o. refl) (λ o. refl) (λ at t n es. refl) (λ o. refl) (λ x y. refl) (λ o n c. refl) (λ n x. refl) (λ at p xs. refl) refl
 
 wires-in : (es : List Entry) → flatMap (objectsIn (λ c. c .wires)) (inModule es) ≡ flatMap wiresOf es
 unfolding nestingOpen designOpen statementsOpen
-wires-in = in-module (objectsIn (λ c. c .wires)) wiresOf (λ n c. refl) (λ o. refl) (λ o. refl) (λ at t n es. refl) (λ x y. refl) (λ o n c. refl) (λ n x. refl) refl
+wires-in = in-module (objectsIn (λ c. c .wires)) wiresOf (λ n c. refl) (λ o. refl) (λ o. refl) (λ at t n es. refl) (λ o. refl) (λ x y. refl) (λ o n c. refl) (λ n x. refl) (λ at p xs. refl) refl
 
 memories-in : (es : List Entry) → flatMap (objectsIn (λ c. c .memories)) (inModule es) ≡ flatMap memoriesOf es
 unfolding nestingOpen designOpen statementsOpen
-memories-in = in-module (objectsIn (λ c. c .memories)) memoriesOf (λ n c. refl) (λ o. refl) (λ o. refl) (λ at t n es. refl) (λ x y. refl) (λ o n c. refl) (λ n x. refl) refl
+memories-in = in-module (objectsIn (λ c. c .memories)) memoriesOf (λ n c. refl) (λ o. refl) (λ o. refl) (λ at t n es. refl) (λ o. refl) (λ x y. refl) (λ o n c. refl) (λ n x. refl) (λ at p xs. refl) refl
 
 connections-in : (es : List Entry) → flatMap (λ i. connectionIn (i .statement)) (inModule es) ≡ flatMap connectionsOf es
 unfolding nestingOpen designOpen statementsOpen
-connections-in = in-module (λ i. connectionIn (i .statement)) connectionsOf (λ n c. refl) (λ o. refl) (λ o. refl) (λ at t n es. refl) (λ x y. refl) (λ o n c. refl) (λ n x. refl) refl
+connections-in = in-module (λ i. connectionIn (i .statement)) connectionsOf (λ n c. refl) (λ o. refl) (λ o. refl) (λ at t n es. refl) (λ o. refl) (λ x y. refl) (λ o n c. refl) (λ n x. refl) (λ at p xs. refl) refl
 
 -- CELLS: behind a cell's end, up to the next cell, nothing is a cell's
 unfoldable outside : {A : Type 0} → (Statement → List A) → Entry → Type 0
@@ -219,9 +269,16 @@ outside f (param-entry n c) = f (param-stmt n c) ≡ []
 outside f (wire-entry o) = f (wire-stmt (o .body) (o .name)) ≡ []
 outside f (memory-entry o) = f (memory-stmt (o .body) (o .name)) ≡ []
 outside f (cell-entry at t n es) = Unit {0}
+outside f (process-entry o) = (f (proc-stmt (o .name)) ≡ []) × ((p : Step) (xs : List Signal) → f (step-stmt p xs) ≡ [])
 outside f (connection-entry x y) = f (conn-stmt x y) ≡ []
 
 module _ {A : Type 0} (f : Statement → List A) (out : (e : Entry) → outside f e) (ends : f end-stmt ≡ []) where
+  lines-outside : (ls : List Line) (js : List Item) → ((p : Step) (xs : List Signal) → f (step-stmt p xs) ≡ []) → each f (until (λ j. is aCell (j .statement)) (inProcess ls ++ js)) ≡ each f (until (λ j. is aCell (j .statement)) js)
+  unfolding each lineItem until flatMap statementsOpen
+  lines-outside [] js h = rw ends
+  lines-outside (step-line at p xs ∷ ls) js h = rw (h p xs) (lines-outside ls js h)
+  lines-outside (end-line ∷ ls) js h = rw ends (lines-outside ls js h)
+
   none-outside : (es : List Entry) → each f (until (λ j. is aCell (j .statement)) (inModule es)) ≡ []
   unfolding outside each inModule itemsOf until flatMap statementsOpen
   none-outside [] = rw ends
@@ -229,15 +286,19 @@ module _ {A : Type 0} (f : Statement → List A) (out : (e : Entry) → outside 
   none-outside (wire-entry o ∷ es) = rw (out (wire-entry o)) (none-outside es)
   none-outside (memory-entry o ∷ es) = rw (out (memory-entry o)) (none-outside es)
   none-outside (cell-entry at t n cs ∷ es) = refl
+  none-outside (process-entry o ∷ es) =
+      let h = out (process-entry o) in
+      let a = append-assoc (inProcess (o .body)) (flatMap itemsOf es) (plain end-stmt ∷ []) in
+      rw (h .0, a) (lines-outside (o .body) (flatMap itemsOf es ++ plain end-stmt ∷ []) (h .1) ∙ none-outside es)
   none-outside (connection-entry x y ∷ es) = rw (out (connection-entry x y)) (none-outside es)
 
 outside-parameter : (e : Entry) → outside cellParameterIn e
 unfolding outside designOpen statementsOpen
-outside-parameter = elim [ param-entry n c ↦ refl | wire-entry o ↦ refl | memory-entry o ↦ refl | cell-entry at t n es ↦ tt | connection-entry x y ↦ refl ]
+outside-parameter = elim [ param-entry n c ↦ refl | wire-entry o ↦ refl | memory-entry o ↦ refl | cell-entry at t n es ↦ tt | process-entry o ↦ (refl, λ p xs. refl) | connection-entry x y ↦ refl ]
 
 outside-port : (e : Entry) → outside portIn e
 unfolding outside designOpen statementsOpen
-outside-port = elim [ param-entry n c ↦ refl | wire-entry o ↦ refl | memory-entry o ↦ refl | cell-entry at t n es ↦ tt | connection-entry x y ↦ refl ]
+outside-port = elim [ param-entry n c ↦ refl | wire-entry o ↦ refl | memory-entry o ↦ refl | cell-entry at t n es ↦ tt | process-entry o ↦ (refl, λ p xs. refl) | connection-entry x y ↦ refl ]
 
 cell-in-cell : (es : List CellEntry) → all (closed (is aCell)) (inCell plain es) ≡ true
 unfolding statementsOpen
@@ -279,23 +340,60 @@ cells-in (cell-entry at t n cs ∷ es) =
     let u = until-none (λ j. is aCell (j .statement)) inside (flatMap itemsOf es ++ plain end-stmt ∷ []) h in
     let b = blocks-none (is aCell) inside (flatMap itemsOf es ++ plain end-stmt ∷ []) h in
     rw (a, u, b, cell-block at t n cs es) (ap (λ (l : List (Object Cell)). cellAt at t n cs ∷ l) (cells-in es))
+cells-in (process-entry o ∷ es) =
+    let a = append-assoc (inProcess (o .body)) (flatMap itemsOf es) (plain end-stmt ∷ []) in
+    let b = blocks-none (is aCell) (inProcess (o .body)) (flatMap itemsOf es ++ plain end-stmt ∷ []) (line-pass (closed (is aCell)) (λ at p xs. refl) refl (o .body)) in
+    rw (a, b) (cells-in es)
 cells-in (connection-entry x y ∷ es) = cells-in es
 
+-- PROCESSES: the lines of one come back, if its switches are closed
+lines-back : (k : ℕ) (ls : List Line) (js : List Item) → balancedTo 0 k ls ≡ true → linesIn k (inProcess ls ++ js) ≡ ls
+unfolding balancedTo isSwitch linesIn shut stepIn lineItem steps any statementsOpen
+lines-back zero [] js e = refl
+lines-back (suc k) [] js e = let z = eqb-true (suc k) 0 e in absurd (omega arith)
+lines-back k (step-line at p xs ∷ ls) js e = ap (λ (l : List Line). step-line at p xs ∷ l) (lines-back (cond (isSwitch p) (k + 1) k) ls js e)
+lines-back zero (end-line ∷ ls) js e = absurd (false≢true e)
+lines-back (suc k) (end-line ∷ ls) js e = ap (λ (l : List Line). end-line ∷ l) (lines-back k ls js e)
+
+processes-in : (es : List Entry) → Balanced (flatMap processesOf es) → map processOf (blocks (is aProcess) (inModule es)) ≡ flatMap processesOf es
+unfolding inModule itemsOf blocks flatMap processesOf processOf statementsOpen
+processes-in [] b = refl
+processes-in (param-entry n c ∷ es) b = processes-in es b
+processes-in (wire-entry o ∷ es) b = processes-in es b
+processes-in (memory-entry o ∷ es) b = processes-in es b
+processes-in (cell-entry at t n cs ∷ es) b =
+    let a = append-assoc (inCell plain cs) (flatMap itemsOf es) (plain end-stmt ∷ []) in
+    let k = blocks-none (is aProcess) (inCell plain cs) (flatMap itemsOf es ++ plain end-stmt ∷ []) (cell-pass plain (closed (is aProcess)) (λ o m c. refl) (λ m x. refl) refl cs) in
+    rw (a, k) (processes-in es b)
+processes-in (process-entry o ∷ es) b =
+    let inside : List Item = inProcess (o .body) in
+    let h = line-pass (closed (is aProcess)) (λ at p xs. refl) refl (o .body) in
+    let a = append-assoc inside (flatMap itemsOf es) (plain end-stmt ∷ []) in
+    let u = until-none (λ j. is aProcess (j .statement)) inside (flatMap itemsOf es ++ plain end-stmt ∷ []) h in
+    let k = blocks-none (is aProcess) inside (flatMap itemsOf es ++ plain end-stmt ∷ []) h in
+    rw (a, u, k, lines-back 0 (o .body) (until (λ j. is aProcess (j .statement)) (flatMap itemsOf es ++ plain end-stmt ∷ [])) (b .0)) (ap (λ (l : List (Object (List Line))). o ∷ l) (processes-in es (b .1)))
+processes-in (connection-entry x y ∷ es) b = processes-in es b
+
 -- A MODULE, A FILE
-module-block : (o : Object (List Entry)) → moduleOf (blockOf o) ≡ moduleIn o
+abbrev BalancedIn : Object (List Entry) → Type 0
+BalancedIn o = Balanced (bodyOf (o .body) .processes)
+
+module-block : (o : Object (List Entry)) → BalancedIn o → moduleOf (blockOf o) ≡ moduleIn o
 unfolding moduleOf each moduleIn bodyOf statementsOpen
-module-block o =
+module-block o b =
     let es = o .body in
     rw (
       parameters-in es,
       wires-in es,
       memories-in es,
       cells-in es,
+      processes-in es b,
       connections-in es,
     )
 
-module-blocks : (os : List (Object (List Entry))) → map moduleOf (map blockOf os) ≡ map moduleIn os
-module-blocks os = map-map moduleOf blockOf os ∙ map-congr-left {l = os} (λ o m. module-block o)
+module-blocks : (os : List (Object (List Entry))) → Each BalancedIn os → map moduleOf (map blockOf os) ≡ map moduleIn os
+module-blocks [] b = refl
+module-blocks (o ∷ os) b = ap₂ (λ (m : Object Module) (ms : List (Object Module)). m ∷ ms) (module-block o (b .0)) (module-blocks os (b .1))
 
 -- no module has an `autoidx` line
 abbrev integersIn : List Statement → List ℤ
@@ -308,12 +406,22 @@ settings-integers at = flatMap-map (λ s. contents s .integers) _ at ∙ flatMap
 after-settings : (at : List Setting) (ss : List Statement) → integersIn (settings at ++ ss) ≡ integersIn ss
 after-settings at ss = flatMap-append (λ s. contents s .integers) (settings at) ss ∙ rw (settings-integers at)
 
+lines-integers : (ls : List Line) → integersIn (flatMap lineStatements ls ++ end-stmt ∷ []) ≡ []
+unfolding flatMap lineStatements statementsOpen
+lines-integers [] = refl
+lines-integers (step-line at p xs ∷ ls) =
+    ap integersIn (append-assoc (settings at ++ step-stmt p xs ∷ []) (flatMap lineStatements ls) (end-stmt ∷ []) ∙ append-assoc (settings at) (step-stmt p xs ∷ []) _)
+    ∙ after-settings at _
+    ∙ lines-integers ls
+lines-integers (end-line ∷ ls) = lines-integers ls
+
 entry-integers : (e : Entry) → integersIn (linesOf e) ≡ []
-unfolding flatMap linesOf statementsOpen
+unfolding flatMap linesOf processLines statementsOpen
 entry-integers (param-entry n c) = refl
 entry-integers (wire-entry o) = after-settings (o .attributes) _
 entry-integers (memory-entry o) = after-settings (o .attributes) _
 entry-integers (cell-entry at t n es) = after-settings at _ ∙ cell-none (λ s. s) (λ s. contents s .integers) (λ o m c. refl) (λ m x. refl) refl es
+entry-integers (process-entry o) = after-settings (o .attributes) _ ∙ lines-integers (o .body)
 entry-integers (connection-entry x y) = refl
 
 module-integers : (o : Object (List Entry)) → integersIn (linesOfModule o) ≡ []
@@ -326,21 +434,21 @@ module-integers o =
 file-integers : (os : List (Object (List Entry))) → integersIn (flatMap linesOfModule os) ≡ []
 file-integers os = flatMap-flatMap (λ s. contents s .integers) linesOfModule os ∙ flatMap-none (λ o. integersIn (linesOfModule o)) module-integers os
 
-modules-lines : (os : List (Object (List Entry))) → map moduleOf (blocks (is aModule) (items [] (flatMap linesOfModule os))) ≡ map moduleIn os
-modules-lines os = ap (map moduleOf) (ap (blocks (is aModule)) (items-modules os) ∙ blocks-modules os) ∙ module-blocks os
+modules-lines : (os : List (Object (List Entry))) → Each BalancedIn os → map moduleOf (blocks (is aModule) (items [] (flatMap linesOfModule os))) ≡ map moduleIn os
+modules-lines os b = ap (map moduleOf) (ap (blocks (is aModule)) (items-modules os) ∙ blocks-modules os) ∙ module-blocks os b
 
 abbrev designBy : Option ℤ → List (Object Module) → Design
 designBy a os = record { autoidx = a; modules = os }
 
 lines-by :
-    (a : Option ℤ) (os : List (Object (List Entry))) →
+    (a : Option ℤ) (os : List (Object (List Entry))) → Each BalancedIn os →
     design (linesOfFile (record { autoidx = a; modules = os })) ≡ designOf (record { autoidx = a; modules = os })
 unfolding design linesOfFile designOf flatMap items blocks Option·toList statementsOpen
-lines-by none os = ap₂ designBy (ap head? (file-integers os)) (modules-lines os)
-lines-by (some i) os = ap (designBy (some i)) (modules-lines os)
+lines-by none os b = ap₂ designBy (ap head? (file-integers os)) (modules-lines os b)
+lines-by (some i) os b = ap (designBy (some i)) (modules-lines os b)
 
-pub design-lines : (f : File) → design (linesOfFile f) ≡ designOf f
-design-lines f = lines-by (f .autoidx) (f .modules)
+pub design-lines : (f : File) → BalancedFile f → design (linesOfFile f) ≡ designOf f
+design-lines f b = lines-by (f .autoidx) (f .modules) b
 
 -- THE CANONICAL ORDER
 alone : {A : Type 0} (xs : List A) → flatMap (λ x. x ∷ []) xs ≡ xs
@@ -356,6 +464,7 @@ module _ {A : Type 0} (f : Entry → List A) (m : Module) where
       ++ flatMap (λ w. f (wire-entry w)) (m .wires)
       ++ flatMap (λ y. f (memory-entry y)) (m .memories)
       ++ flatMap (λ c. f (cellEntry c)) (m .cells)
+      ++ flatMap (λ o. f (process-entry o)) (m .processes)
       ++ flatMap (λ k. f (connection-entry (k .0) (k .1))) (m .connections)
   unfolding entries
   kinds-apart = simp (flatMap-append, flatMap-map)
@@ -384,9 +493,13 @@ cells-apart : (m : Module) → flatMap cellsOf (entries m) ≡ m .cells
 unfolding cellsOf
 cells-apart m = kinds-apart cellsOf m ∙ simp (none-of, append-nil) (flatMap-self (λ c. cellsOf (cellEntry c)) cell-apart (m .cells))
 
+processes-apart : (m : Module) → flatMap processesOf (entries m) ≡ m .processes
+unfolding processesOf
+processes-apart m = kinds-apart processesOf m ∙ simp (none-of, append-nil, alone (m .processes))
+
 pub body-entries : (m : Module) → bodyOf (entries m) ≡ m
 unfolding bodyOf
-body-entries m = rw (parameters-apart m, wires-apart m, memories-apart m, cells-apart m, connections-apart m)
+body-entries m = rw (parameters-apart m, wires-apart m, memories-apart m, cells-apart m, processes-apart m, connections-apart m)
 
 pub design-file : (d : Design) → designOf (fileOf d) ≡ d
 unfolding designOf fileOf moduleIn
@@ -416,5 +529,9 @@ flatten-file d =
     (λ o. ap (λ (l : List Statement). settings (o .attributes) ++ l) (module-lines (o .body) (o .name))) (d .modules) in
     rw (flatMap-map linesOfModule asFile) (ap (λ (l : List Statement). map autoidx-stmt (Option·toList (d .autoidx)) ++ l) m)
 
-pub design-flatten : (d : Design) → design (flatten d) ≡ d
-design-flatten d = ap design (flatten-file d) ∙ design-lines (fileOf d) ∙ design-file d
+file-balanced : (d : Design) → BalancedDesign d → BalancedFile (fileOf d)
+unfolding fileOf
+file-balanced d b = each-through (λ (m : Object Module). Balanced (m .body .processes)) asFile BalancedIn (λ m h. rw (body-entries (m .body)) h) (d .modules) b
+
+pub design-flatten : (d : Design) → BalancedDesign d → design (flatten d) ≡ d
+design-flatten d b = ap design (flatten-file d) ∙ design-lines (fileOf d) (file-balanced d b) ∙ design-file d

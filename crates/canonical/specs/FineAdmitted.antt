@@ -94,7 +94,7 @@ module _ (d : Design) (fine : FineDesign d) where
   unfolding fileOf
   fine-apart =
       record {
-        standing = file-ready file .at .standing;
+        standing = file-ready file modules-fine .at .standing;
         alone = all-fewer (reverse (linesOfFile file)) (flatten d) (λ f. omega (arith, file-sum f)) _ (fine .statements);
         ports = module-tally port-numbers (λ o f. f .port-numbers);
         signals = signals-seen;
@@ -110,4 +110,4 @@ module _ (d : Design) (fine : FineDesign d) where
       }
 
   pub fine-admitted : (admitted (reverse (flatten d)) ≡ true) × (closes (reverse (flatten d)) ≡ true)
-  fine-admitted = rw (flatten-file d) (apart-admitted (reverse (linesOfFile file)) fine-apart, ready-closes (reverse (linesOfFile file)) (file-ready file))
+  fine-admitted = rw (flatten-file d) (apart-admitted (reverse (linesOfFile file)) fine-apart, ready-closes (reverse (linesOfFile file)) (file-ready file modules-fine))

@@ -2,6 +2,7 @@ pub mod Nesting
 pub mod DesignLaws
 pub mod Fine
 pub mod Tally
+pub mod Following
 pub mod Sums
 pub mod Apart
 pub mod BodySums

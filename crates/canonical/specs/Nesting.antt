@@ -1,11 +1,17 @@
--- A file by its nesting: its modules, in each module its entries and in each cell its entries, in file order, attributes with the object
--- that they stand before.
+-- A file by its nesting: its modules, in each module its entries, in each cell its entries and in each process its lines, in file order,
+-- attributes with the object or step that they stand before.
+use Prim.Native.Nat.{ℕ, zero, suc, _+_}
+use mathlib.Core.Path.{_≡_}
 use mathlib.Core.List.{List, [], _∷_, _++_, map, flatMap, Option·toList}
 use mathlib.Core.Option.{Option}
+use mathlib.Core.Bool.{Bool, true, false, cond}
+use lib.Dec.{eqb}
 use lib.IntN.{ℤ}
+use Rattle.rules.specs.Bytes.{any}
 use Rattle.rules.specs.Tokens.{Name}
-use Rattle.rules.specs.Statements.{Sort, Constant, Signal, Wire, Memory, Statement, autoidx-stmt, attr-stmt, module-stmt, param-stmt, wire-stmt, memory-stmt, cell-stmt, cell-param-stmt, cell-conn-stmt, conn-stmt, end-stmt}
-use Rattle.rules.specs.Design.{Setting, Object, object, Cell, Module, Design}
+use Rattle.rules.specs.Statements.{Sort, Constant, Signal, Wire, Memory, Statement, autoidx-stmt, attr-stmt, module-stmt, param-stmt, wire-stmt, memory-stmt, cell-stmt, cell-param-stmt, cell-conn-stmt, conn-stmt, end-stmt, Step, switch, stepCode}
+use Rattle.rules.specs.Design.{Setting, Object, object, Cell, Line, step-line, end-line, Module, Design, lineStatements, processLines}
+use Rattle.lists.specs.Elements.{Each}
 
 pub data CellEntry : Type 0 where
   parameter-entry : Sort → Setting → CellEntry
@@ -16,6 +22,7 @@ pub data Entry : Type 0 where
   wire-entry : Object Wire → Entry
   memory-entry : Object Memory → Entry
   cell-entry : List Setting → (type name : Name) → List CellEntry → Entry
+  process-entry : Object (List Line) → Entry
   connection-entry : Signal → Signal → Entry
 
 pub record File : Type 0 where
@@ -35,6 +42,7 @@ linesOf (param-entry n c) = param-stmt n c ∷ []
 linesOf (wire-entry o) = settings (o .attributes) ++ wire-stmt (o .body) (o .name) ∷ []
 linesOf (memory-entry o) = settings (o .attributes) ++ memory-stmt (o .body) (o .name) ∷ []
 linesOf (cell-entry at t n es) = settings at ++ (cell-stmt t n ∷ map lineIn es ++ end-stmt ∷ [])
+linesOf (process-entry o) = settings (o .attributes) ++ processLines (o .body) (o .name)
 linesOf (connection-entry x y) = conn-stmt x y ∷ []
 
 unfoldable pub linesOfModule : Object (List Entry) → List Statement
@@ -57,6 +65,7 @@ parametersOf (param-entry n c) = (n, c) ∷ []
 parametersOf (wire-entry o) = []
 parametersOf (memory-entry o) = []
 parametersOf (cell-entry at t n es) = []
+parametersOf (process-entry o) = []
 parametersOf (connection-entry x y) = []
 
 unfoldable pub wiresOf : Entry → List (Object Wire)
@@ -64,6 +73,7 @@ wiresOf (param-entry n c) = []
 wiresOf (wire-entry o) = o ∷ []
 wiresOf (memory-entry o) = []
 wiresOf (cell-entry at t n es) = []
+wiresOf (process-entry o) = []
 wiresOf (connection-entry x y) = []
 
 unfoldable pub memoriesOf : Entry → List (Object Memory)
@@ -71,6 +81,7 @@ memoriesOf (param-entry n c) = []
 memoriesOf (wire-entry o) = []
 memoriesOf (memory-entry o) = o ∷ []
 memoriesOf (cell-entry at t n es) = []
+memoriesOf (process-entry o) = []
 memoriesOf (connection-entry x y) = []
 
 abbrev pub cellBody : Name → List CellEntry → Cell
@@ -81,13 +92,23 @@ cellsOf (param-entry n c) = []
 cellsOf (wire-entry o) = []
 cellsOf (memory-entry o) = []
 cellsOf (cell-entry at t n es) = object at n (cellBody t es) ∷ []
+cellsOf (process-entry o) = []
 cellsOf (connection-entry x y) = []
+
+unfoldable pub processesOf : Entry → List (Object (List Line))
+processesOf (param-entry n c) = []
+processesOf (wire-entry o) = []
+processesOf (memory-entry o) = []
+processesOf (cell-entry at t n es) = []
+processesOf (process-entry o) = o ∷ []
+processesOf (connection-entry x y) = []
 
 unfoldable pub connectionsOf : Entry → List (Signal × Signal)
 connectionsOf (param-entry n c) = []
 connectionsOf (wire-entry o) = []
 connectionsOf (memory-entry o) = []
 connectionsOf (cell-entry at t n es) = []
+connectionsOf (process-entry o) = []
 connectionsOf (connection-entry x y) = (x, y) ∷ []
 
 unfoldable pub bodyOf : List Entry → Module
@@ -97,6 +118,7 @@ bodyOf es =
       wires = flatMap wiresOf es;
       memories = flatMap memoriesOf es;
       cells = flatMap cellsOf es;
+      processes = flatMap processesOf es;
       connections = flatMap connectionsOf es;
     }
 
@@ -116,6 +138,7 @@ entries m =
     ++ map wire-entry (m .wires)
     ++ map memory-entry (m .memories)
     ++ map (λ c. cell-entry (c .attributes) (c .body .type) (c .name) (cellEntries (c .body))) (m .cells)
+    ++ map process-entry (m .processes)
     ++ map (λ k. connection-entry (k .0) (k .1)) (m .connections)
 
 abbrev pub asFile : Object Module → Object (List Entry)
@@ -124,6 +147,29 @@ asFile o = object (o .attributes) (o .name) (entries (o .body))
 unfoldable pub fileOf : Design → File
 fileOf d = record { autoidx = d .autoidx; modules = map asFile (d .modules) }
 
+-- SWITCHES that are closed: with so many open before some lines, so many are open behind them
+unfoldable pub isSwitch : Step → Bool
+isSwitch p = any (λ q. eqb (stepCode switch) (stepCode q)) (p ∷ [])
+
+unfoldable pub balancedTo : (behind before : ℕ) → List Line → Bool
+balancedTo d k [] = eqb k d
+balancedTo d k (step-line at p xs ∷ ls) = balancedTo d (cond (isSwitch p) (k + 1) k) ls
+balancedTo d zero (end-line ∷ ls) = false
+balancedTo d (suc k) (end-line ∷ ls) = balancedTo d k ls
+
+abbrev pub balanced : ℕ → List Line → Bool
+balanced k ls = balancedTo 0 k ls
+
+-- each process closes its switches
+abbrev pub Balanced : List (Object (List Line)) → Type 0
+Balanced os = Each (λ o. balanced 0 (o .body) ≡ true) os
+
+abbrev pub BalancedFile : File → Type 0
+BalancedFile x = Each (λ o. Balanced (bodyOf (o .body) .processes)) (x .modules)
+
+abbrev pub BalancedDesign : Design → Type 0
+BalancedDesign d = Each (λ m. Balanced (m .body .processes)) (d .modules)
+
 unfoldable pub nestingOpen : Unit {0}
-unfolding lineIn linesOf linesOfModule linesOfFile parameterOf portOf parametersOf wiresOf memoriesOf cellsOf connectionsOf bodyOf moduleIn designOf cellEntries entries fileOf flatMap Option·toList
+unfolding lineIn linesOf linesOfModule linesOfFile parameterOf portOf parametersOf wiresOf memoriesOf cellsOf processesOf connectionsOf bodyOf moduleIn designOf cellEntries entries fileOf lineStatements processLines flatMap Option·toList
 nestingOpen = tt

@@ -13,8 +13,8 @@ use lib.ListN.{length, getElem?}
 use Rattle.rules.specs.Limits.{nameRoom, mostRenames, mostWidth}
 use Rattle.rules.specs.Bytes.{same, any, all, legal}
 use Rattle.rules.specs.Tokens.{Name}
-use Rattle.rules.specs.Statements.{Signal, Bit, digit, bit, Wire, Statement, aModule, aParameter, aWire, aMemory, aCell, aCellParameter, aCellConnection, aConnection, anAttribute, wire-stmt, statementsOpen}
-use Rattle.rules.specs.Judgement.{sum, among, count, signalSize, valueSize, stringSize, nameSize, exceedsSize, Verdict, accepted, portNumbers}
+use Rattle.rules.specs.Statements.{Signal, Bit, digit, bit, Wire, Statement, aModule, aParameter, aWire, aMemory, aCell, aCellParameter, aCellConnection, aConnection, aProcess, aStep, anAttribute, wire-stmt, statementsOpen}
+use Rattle.rules.specs.Judgement.{sum, among, count, stepSignals, signalSize, valueSize, stringSize, nameSize, exceedsSize, Verdict, accepted, portNumbers}
 use Rattle.rules.specs.Design.{Object, object, Module, Design, flatten}
 use Rattle.rules.specs.Session.{Rename, wireAt, change, renameWire, renamed, now, roomUsed, names, taken, renameCall, undoCall}
 use Rattle.admitted.specs.Admitted.{fineBit, fineSignal, fineAlone}
@@ -101,7 +101,7 @@ module _ (r : Rename) (d : Design) where
   names-renamed = renamed-sum nameSize r (length (r .newName)) (λ w n. omega arith) d
 
   sizes-renamed : sum nameSize (flatten (renamed r d)) ≤ nameRoom → exceedsSize (flatten d) ≡ false → exceedsSize (flatten (renamed r d)) ≡ false
-  unfolding sumsOf sizesBy count among signalSize valueSize stringSize statementsOpen
+  unfolding sumsOf sizesBy count among stepSignals signalSize valueSize stringSize statementsOpen
   sizes-renamed h e =
       let b = within-past (flatten d) e in
       sym (exceeds-sums (flatten (renamed r d)))
@@ -115,6 +115,9 @@ module _ (r : Rename) (d : Design) where
         attributes = le-trans (same-size (count (anAttribute ∷ [])) (λ w n m. refl)) (b .attributes);
         ports = le-trans (same-size (count (aCellConnection ∷ [])) (λ w n m. refl)) (b .ports);
         connections = le-trans (same-size (count (aConnection ∷ [])) (λ w n m. refl)) (b .connections);
+        processes = le-trans (same-size (count (aProcess ∷ [])) (λ w n m. refl)) (b .processes);
+        steps = le-trans (same-size (count (aStep ∷ [])) (λ w n m. refl)) (b .steps);
+        step-signals = le-trans (same-size stepSignals (λ w n m. refl)) (b .step-signals);
         signal-bits = le-trans (same-size signalSize (λ w n m. refl)) (b .signal-bits);
         value-bits = le-trans (same-size valueSize (λ w n m. refl)) (b .value-bits);
         string-bytes = le-trans (same-size stringSize (λ w n m. refl)) (b .string-bytes);
@@ -134,8 +137,11 @@ module _ (r : Rename) (m : Module) where
       let vs = change (renameTo (r .newName)) (r .wireNumber) (m .wires) in
       let ys : List Name = map (λ o. o .name) (m .memories) in
       let cs : List Name = map (λ o. o .name) (m .cells) in
+      let rs : List Name = map (λ o. o .name) (m .processes) in
       omega (
         arith,
+        sum-append f (map (λ o. o .name) vs ++ ys ++ cs) rs,
+        sum-append f (map (λ o. o .name) ws ++ ys ++ cs) rs,
         sum-append f (map (λ o. o .name) vs ++ ys) cs,
         sum-append f (map (λ o. o .name) vs) ys,
         sum-append f (map (λ o. o .name) ws ++ ys) cs,
@@ -196,6 +202,8 @@ module-renamed r o t f =
       wires = each-change (renameTo (r .newName)) _ (r .wireNumber) (o .body .wires) (λ w q p. p) (f .wires);
       memories = f .memories;
       cells = f .cells;
+      processes = f .processes;
+      connections = f .connections;
       signals = all-same _ _ (signal-renamed r (o .body)) (signalsIn (o .body)) ∙ f .signals;
     }
 

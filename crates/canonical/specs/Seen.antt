@@ -12,22 +12,22 @@ use lib.ListN.{length}
 use Rattle.rules.specs.Limits.{mostWidth}
 use Rattle.rules.specs.Bytes.{any, all}
 use Rattle.rules.specs.Tokens.{Name}
-use Rattle.rules.specs.Statements.{Constant, Signal, Bit, digit, bit, Wire, Statement, module-stmt, param-stmt, wire-stmt, memory-stmt, cell-param-stmt, cell-conn-stmt, conn-stmt, end-stmt, aModule, aWire, is, contents, statementsOpen}
+use Rattle.rules.specs.Statements.{Constant, Signal, Bit, digit, bit, Wire, Statement, module-stmt, param-stmt, wire-stmt, memory-stmt, cell-param-stmt, cell-conn-stmt, conn-stmt, step-stmt, end-stmt, aModule, aWire, is, contents, statementsOpen}
 use Rattle.rules.specs.Signals.{Wires}
 use Rattle.rules.specs.Judgement.{Past, sum, wires}
-use Rattle.rules.specs.Design.{Setting, Object, Cell, Module}
+use Rattle.rules.specs.Design.{Setting, Object, Cell, Line, step-line, end-line, Module, lineStatements, processLines}
 use Rattle.admitted.specs.Admitted.{fineBit, fineSignal}
 use Rattle.lists.specs.Tests.{and-true-left, and-true-right}
 use Rattle.lists.specs.Lists.{flatMap-append, element-stays, flatMap-map}
 use Rattle.lists.specs.Elements.{all-append, all-implied, all-both, all-right, all-flatMap}
-use Rattle.canonical.specs.Nesting.{CellEntry, Entry, param-entry, wire-entry, memory-entry, cell-entry, connection-entry, settings, lineIn, linesOf, wiresOf, bodyOf, linesOfModule, cellEntries, entries, asFile}
-use Rattle.canonical.specs.DesignLaws.{settings-pass, cell-pass, cellEntry, body-entries}
-use Rattle.canonical.specs.Fine.{wiresIn, signalsIn}
+use Rattle.canonical.specs.Nesting.{CellEntry, Entry, param-entry, wire-entry, memory-entry, cell-entry, process-entry, connection-entry, settings, lineIn, linesOf, wiresOf, bodyOf, linesOfModule, cellEntries, entries, asFile}
+use Rattle.canonical.specs.DesignLaws.{settings-pass, cell-pass, lines-pass, cellEntry, body-entries}
+use Rattle.canonical.specs.Fine.{wiresIn, lineSignals, signalsIn}
 use Rattle.canonical.specs.Tally.{Through, behind-all, through-before}
 use Rattle.canonical.specs.Apart.{sees}
 use Rattle.lists.specs.Sums.{sum-append, sum-map, sum-flatMap, sum-same, sum-zero}
 use Rattle.canonical.specs.Sums.{fails, all-none, none-all}
-use Rattle.canonical.specs.BodySums.{cellSum, bodySum, body-sum, settings-zero}
+use Rattle.canonical.specs.BodySums.{cellSum, processSum, bodySum, body-sum, settings-zero}
 use Rattle.canonical.specs.Walks.{noModule}
 use Rattle.context.specs.Forms.{by-wire}
 use Rattle.context.proofs.PlaceLaws.{wires-none, wires-one, wires-reset}
@@ -56,6 +56,14 @@ cell-quiet : (es : List CellEntry) → all quiet (map lineIn es ++ end-stmt ∷ 
 unfolding quiet statementsOpen
 cell-quiet es = cell-pass (λ s. s) quiet (λ o n c. refl) (λ n x. refl) refl es
 
+lines-quiet : (ls : List Line) → all quiet (flatMap lineStatements ls ++ end-stmt ∷ []) ≡ true
+unfolding quiet statementsOpen
+lines-quiet ls = lines-pass quiet (λ n c. refl) (λ p xs. refl) refl ls
+
+process-quiet : (o : Object (List Line)) → all quiet (settings (o .attributes) ++ processLines (o .body) (o .name)) ≡ true
+unfolding processLines all quiet statementsOpen
+process-quiet o = all-append quiet (settings (o .attributes)) _ (settings-quiet (o .attributes)) (lines-quiet (o .body))
+
 entry-wires : (e : Entry) (p : Past) → wires (reverseAux (linesOf e) p) ≡ reverseAux (map seen (wiresOf e)) (wires p)
 unfolding linesOf wiresOf all quiet statementsOpen
 entry-wires (param-entry n c) p = wires-still (param-stmt n c ∷ []) p refl
@@ -65,6 +73,7 @@ entry-wires (wire-entry o) p =
 entry-wires (memory-entry o) p =
     wires-still (linesOf (memory-entry o)) p (all-append quiet (settings (o .attributes)) _ (settings-quiet (o .attributes)) refl)
 entry-wires (cell-entry at t n es) p = wires-still (linesOf (cell-entry at t n es)) p (all-append quiet (settings at) _ (settings-quiet at) (cell-quiet es))
+entry-wires (process-entry o) p = wires-still (linesOf (process-entry o)) p (process-quiet o)
 entry-wires (connection-entry x y) p = wires-still (conn-stmt x y ∷ []) p refl
 
 pub entries-wires : (es : List Entry) (p : Past) → wires (reverseAux (flatMap linesOf es) p) ≡ reverseAux (map seen (flatMap wiresOf es)) (wires p)
@@ -145,6 +154,18 @@ module _ (h : Signal → ℕ) where
       let k : sum (λ k. signalsBy h (cell-conn-stmt (k .0) (k .1))) (c .body .connections) ≡ sum (λ k. h (k .1)) (c .body .connections) = sum-same _ _ (λ k. omega arith) (c .body .connections) in
       omega (arith, by-zero (c .attributes), sum-map h (λ (k : Name × Signal). k .1) (c .body .connections))
 
+  by-line : (l : Line) → sum (signalsBy h) (lineStatements l) ≡ sum h (lineSignals l)
+  unfolding lineStatements lineSignals signalsBy sum statementsOpen
+  by-line (step-line at p xs) = omega (arith, sum-append (signalsBy h) (settings at) (step-stmt p xs ∷ []), by-zero at)
+  by-line end-line = refl
+
+  by-process : (o : Object (List Line)) → processSum (signalsBy h) o ≡ sum h (flatMap lineSignals (o .body))
+  unfolding processSum signalsBy sum statementsOpen
+  by-process o =
+      let b : sum (signalsBy h) (flatMap lineStatements (o .body)) ≡ sum h (flatMap lineSignals (o .body)) =
+      sum-flatMap (signalsBy h) lineStatements (o .body) ∙ sum-same _ _ by-line (o .body) ∙ sym (sum-flatMap h lineSignals (o .body)) in
+      omega (arith, by-zero (o .attributes))
+
   signal-sum : (m : Module) → bodySum (signalsBy h) m ≡ sum h (signalsIn m)
   unfolding bodySum signalsIn signalsBy sum statementsOpen
   signal-sum m =
@@ -153,9 +174,13 @@ module _ (h : Signal → ℕ) where
       let w : sum (λ w. sum f (settings (w .attributes)) + f (wire-stmt (w .body) (w .name))) (m .wires) ≡ 0 = sum-zero _ (λ w. omega (arith, by-zero (w .attributes))) (m .wires) in
       let y : sum (λ y. sum f (settings (y .attributes)) + f (memory-stmt (y .body) (y .name))) (m .memories) ≡ 0 = sum-zero _ (λ y. omega (arith, by-zero (y .attributes))) (m .memories) in
       let c = sum-same (cellSum f) (λ c. sum h (map (λ k. k .1) (c .body .connections))) by-cell (m .cells) in
+      let r = sum-same (processSum f) (λ o. sum h (flatMap lineSignals (o .body))) by-process (m .processes) in
+      let ports : List Signal = flatMap (λ (c : Object Cell). map (λ k. k .1) (c .body .connections)) (m .cells) in
+      let inside : List Signal = flatMap (λ o. flatMap lineSignals (o .body)) (m .processes) in
       let cs = sum-flatMap h (λ (c : Object Cell). map (λ k. k .1) (c .body .connections)) (m .cells) in
+      let rs = sum-flatMap h (λ (o : Object (List Line)). flatMap lineSignals (o .body)) (m .processes) in
       let ks = sum-flatMap h (λ (k : Signal × Signal). k .0 ∷ k .1 ∷ []) (m .connections) in
-      omega (arith, sum-append h (flatMap (λ (c : Object Cell). map (λ k. k .1) (c .body .connections)) (m .cells)) (flatMap (λ k. k .0 ∷ k .1 ∷ []) (m .connections)))
+      omega (arith, sum-append h (ports ++ inside) (flatMap (λ k. k .0 ∷ k .1 ∷ []) (m .connections)), sum-append h ports inside)
 
 module _ (ws : Wires) where
   sound-none : (l : List Statement) → all (sound ws) l ≡ true → sum (signalsBy (fails (fineSignal ws))) l ≡ 0
@@ -208,12 +233,14 @@ module _ (m : Module) where
   declares = map (λ p. param-entry (p .0) (p .1)) (m .parameters) ++ map wire-entry (m .wires) ++ map memory-entry (m .memories)
 
   abbrev connects : List Entry
-  connects = map cellEntry (m .cells) ++ map (λ k. connection-entry (k .0) (k .1)) (m .connections)
+  connects = map cellEntry (m .cells) ++ (map process-entry (m .processes) ++ map (λ k. connection-entry (k .0) (k .1)) (m .connections))
 
   entries-apart : flatMap linesOf (entries m) ≡ flatMap linesOf declares ++ flatMap linesOf connects
   unfolding entries
   entries-apart =
-      ap (flatMap linesOf) (append-assoc declares (map cellEntry (m .cells)) (map (λ k. connection-entry (k .0) (k .1)) (m .connections)))
+      ap (flatMap linesOf)
+      (append-assoc (declares ++ map cellEntry (m .cells)) (map process-entry (m .processes)) (map (λ k. connection-entry (k .0) (k .1)) (m .connections))
+      ∙ append-assoc declares (map cellEntry (m .cells)) (map process-entry (m .processes) ++ map (λ k. connection-entry (k .0) (k .1)) (m .connections)))
       ∙ flatMap-append linesOf declares connects
 
   declares-mute : all mute (flatMap linesOf declares) ≡ true
@@ -233,8 +260,10 @@ module _ (m : Module) where
   connects-quiet =
       let c = all-kind quiet cellEntry (λ c. all-append quiet (settings (c .attributes)) _ (settings-quiet (c .attributes)) (cell-quiet (cellEntries (c .body)))) (m .cells) in
       let k = all-kind quiet (λ (k : Signal × Signal). connection-entry (k .0) (k .1)) (λ k. refl) (m .connections) in
-      rw (flatMap-append linesOf (map cellEntry (m .cells)))
-      (all-append quiet (flatMap linesOf (map cellEntry (m .cells))) (flatMap linesOf (map (λ k. connection-entry (k .0) (k .1)) (m .connections))) c k)
+      let r = all-kind quiet process-entry process-quiet (m .processes) in
+      let ks : List Entry = map (λ k. connection-entry (k .0) (k .1)) (m .connections) in
+      rw (flatMap-append linesOf (map cellEntry (m .cells)), flatMap-append linesOf (map process-entry (m .processes)))
+      (all-append quiet (flatMap linesOf (map cellEntry (m .cells))) _ c (all-append quiet (flatMap linesOf (map process-entry (m .processes))) (flatMap linesOf ks) r k))
 
   body-sees :
       (n : Name) (p : Past) → all (fineSignal (wiresIn m)) (signalsIn m) ≡ true → Through sees (module-stmt n ∷ p) →

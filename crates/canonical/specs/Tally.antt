@@ -10,7 +10,7 @@ use borrow.Author.Tests.{not-true, eqb-true, eq-eqb}
 use lib.Dec.{eqb}
 use Rattle.rules.specs.Bytes.{same, any, all}
 use Rattle.rules.specs.Tokens.{Name}
-use Rattle.rules.specs.Statements.{Wire, Direction, Statement, statementsOpen, Kind, anAttribute, aModule, aParameter, aWire, aMemory, aCell, aCellParameter, aCellConnection, code, contents, is, ownName}
+use Rattle.rules.specs.Statements.{Wire, Direction, Statement, statementsOpen, Kind, anAttribute, aModule, aParameter, aWire, aMemory, aCell, aProcess, aCellParameter, aCellConnection, code, contents, is, ownName}
 use Rattle.rules.specs.Signals.{Wires}
 use Rattle.rules.specs.Judgement.{Past, sum, wires, portNumbers, among, Space, space, namesIn, only, until, ofModule, ofCell, ofObject}
 use Rattle.lists.specs.Tests.{by-test, and-true-left, and-true-right}
@@ -162,7 +162,7 @@ abbrev pub moduleNames : Tally Name
 moduleNames = nameTally (space (aModule ∷ []) (λ ss. ss)) never
 
 abbrev pub objectNames : Tally Name
-objectNames = nameTally (space (aWire ∷ aMemory ∷ aCell ∷ []) ofModule) (is aModule)
+objectNames = nameTally (space (aWire ∷ aMemory ∷ aCell ∷ aProcess ∷ []) ofModule) (is aModule)
 
 abbrev pub attributeNames : Tally Name
 attributeNames = nameTally (space (anAttribute ∷ []) ofObject) notAttribute

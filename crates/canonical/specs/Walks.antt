@@ -9,17 +9,18 @@ use native.Mathlib.Omega.{arith}
 use borrow.Author.Tests.{not-true}
 use lib.IntN.{ℤ}
 use lib.Dec.{eqb}
+use lib.ListN.{length}
 use Rattle.rules.specs.Bytes.{same, any, all}
 use Rattle.rules.specs.Tokens.{Name}
-use Rattle.rules.specs.Statements.{Constant, Signal, Wire, Memory, Statement, autoidx-stmt, attr-stmt, module-stmt, param-stmt, wire-stmt, memory-stmt, cell-stmt, conn-stmt, end-stmt, aModule, aCell, aCellParameter, aCellConnection, is, statementsOpen}
+use Rattle.rules.specs.Statements.{Constant, Signal, Wire, Memory, Statement, autoidx-stmt, attr-stmt, module-stmt, param-stmt, wire-stmt, memory-stmt, cell-stmt, conn-stmt, proc-stmt, step-stmt, end-stmt, aModule, aCell, aCellParameter, aCellConnection, is, statementsOpen}
 use Rattle.rules.specs.Judgement.{Past, sum, among, space}
-use Rattle.rules.specs.Design.{Setting, Object, Cell, Module}
+use Rattle.rules.specs.Design.{Setting, Object, Cell, Line, step-line, end-line, Module, lineStatements, processLines}
 use Rattle.rules.specs.Session.{names}
 use Rattle.lists.specs.Tests.{or-false-left, or-false-right}
 use Rattle.lists.specs.Elements.{all-append, all-each, all-same, all-first, all-later, Each, all-flatMap, each-front, each-back, each-apart}
-use Rattle.canonical.specs.Nesting.{CellEntry, Entry, param-entry, wire-entry, memory-entry, cell-entry, connection-entry, File, settings, lineIn, linesOf, linesOfModule, linesOfFile, wiresOf, memoriesOf, cellBody, cellsOf, bodyOf, moduleIn, nestingOpen}
-use Rattle.canonical.specs.DesignLaws.{settings-pass, cell-pass}
-use Rattle.canonical.specs.Fine.{times, Differ, portsIn, settingNames, FineCell, FineModule}
+use Rattle.canonical.specs.Nesting.{CellEntry, Entry, param-entry, wire-entry, memory-entry, cell-entry, process-entry, connection-entry, File, settings, lineIn, linesOf, linesOfModule, linesOfFile, wiresOf, memoriesOf, cellBody, cellsOf, processesOf, connectionsOf, bodyOf, moduleIn, nestingOpen}
+use Rattle.canonical.specs.DesignLaws.{settings-pass, cell-pass, lines-pass}
+use Rattle.canonical.specs.Fine.{times, Differ, portsIn, settingNames, lineSettings, FineCell, FineProcess, FineModule}
 use Rattle.canonical.specs.Tally.{Through, Tally, Lawful, behind-all, through-behind, held-once, part-once, part-new, notAttribute, nameTally, moduleNames, objectNames, attributeNames, parameterNames, cellParameterNames, cellPortNames, portTally, module-names-lawful, object-names-lawful, attribute-names-lawful, parameter-names-lawful, cell-parameter-names-lawful, cell-port-names-lawful, port-lawful}
 use Rattle.canonical.specs.BodySums.{bodySum, body-end, Sparse, object-sparse, parameter-sparse, port-sparse, object-sum, parameter-sum, port-sum, file-names-sum, cell-parameter-sum, cell-port-sum, attribute-sum}
 
@@ -58,11 +59,12 @@ unfolding statementsOpen
 attribute-no-module n c = refl
 
 pub entry-inside : (e : Entry) → all noModule (linesOf e) ≡ true
-unfolding all linesOf statementsOpen
+unfolding all linesOf processLines statementsOpen
 entry-inside (param-entry n c) = refl
 entry-inside (wire-entry o) = all-append noModule (settings (o .attributes)) _ (settings-pass noModule attribute-no-module (o .attributes)) refl
 entry-inside (memory-entry o) = all-append noModule (settings (o .attributes)) _ (settings-pass noModule attribute-no-module (o .attributes)) refl
 entry-inside (cell-entry at t n es) = all-append noModule (settings at) _ (settings-pass noModule attribute-no-module at) (cell-pass (λ s. s) noModule (λ o n c. refl) (λ n x. refl) refl es)
+entry-inside (process-entry o) = all-append noModule (settings (o .attributes)) _ (settings-pass noModule attribute-no-module (o .attributes)) (lines-pass noModule attribute-no-module (λ p xs. refl) refl (o .body))
 entry-inside (connection-entry x y) = refl
 
 pub body-inside : (es : List Entry) → all noModule (flatMap linesOf es ++ end-stmt ∷ []) ≡ true
@@ -125,7 +127,7 @@ module _ {I : Type 0} {t : Tally I} {of : Module → I → ℕ} (w : OfModule t 
       Through (t .new) (reverseAux (flatMap linesOfModule os) p)
   modules-new os p e h = behind-each linesOfModule _ (Through (t .new)) module-new os p e h
 
--- wires, memories and cells; parameters; port numbers
+-- wires, memories, cells and processes; parameters; port numbers
 pub objects : OfModule objectNames (λ m n. times (same n) (names m))
 unfolding nameTally
 objects = record { lawful = object-names-lawful; ends = λ s. refl; sparse = object-sparse; sums = object-sum }
@@ -170,7 +172,7 @@ module _ {t : Tally Name} {of : Cell → Name → ℕ} (w : OfCell t of) where
   Once c = (i : Name) → of (c .body) i ≤ 1
 
   entry-new : (e : Entry) (p : Past) → Each Once (cellsOf e) → Through (t .new) p → Through (t .new) (reverseAux (linesOf e) p)
-  unfolding insideCell linesOf cellsOf all among any statementsOpen
+  unfolding insideCell linesOf processLines cellsOf all among any statementsOpen
   entry-new (param-entry n c) p b h = outside-new (linesOf (param-entry n c)) p refl h
   entry-new (wire-entry o) p b h = outside-new (linesOf (wire-entry o)) p (all-append (λ s. not (insideCell s)) (settings (o .attributes)) _ (settings-outside (o .attributes)) refl) h
   entry-new (memory-entry o) p b h = outside-new (linesOf (memory-entry o)) p (all-append (λ s. not (insideCell s)) (settings (o .attributes)) _ (settings-outside (o .attributes)) refl) h
@@ -179,6 +181,9 @@ module _ {t : Tally Name} {of : Cell → Name → ℕ} (w : OfCell t of) where
       (part-new t (w .lawful) (cell-stmt y n) (map lineIn es ++ end-stmt ∷ []) (reverseAux (settings at) p) (w .ends (cell-stmt y n) ∙ is-cell y n) (cell-stays t (w .ends) es)
       (λ i. rw (w .sums i y es) (b .0 i))
       (outside-new (settings at) p (settings-outside at) h))
+  entry-new (process-entry o) p b h =
+      outside-new (linesOf (process-entry o)) p
+      (all-append (λ s. not (insideCell s)) (settings (o .attributes)) _ (settings-outside (o .attributes)) (lines-pass (λ s. not (insideCell s)) (λ n c. refl) (λ q xs. refl) refl (o .body))) h
   entry-new (connection-entry x y) p b h = outside-new (linesOf (connection-entry x y)) p refl h
 
   cells-new-in : (o : Object (List Entry)) (p : Past) → Each Once (bodyOf (o .body) .cells) → Through (t .new) p → Through (t .new) (reverseAux (linesOfModule o) p)
@@ -250,35 +255,65 @@ object-attributed at s l p d e h =
     rw (reverseAux-append (settings at))
     (others-attributed l (s ∷ reverseAux (settings at) p) (all-later notAttribute s l e) (next-attributed s (reverseAux (settings at) p) (all-first notAttribute s l e) t))
 
-pub record EntryDiffers (e : Entry) : Type 0 where
+line-attributed : (l : Line) (p : Past) → Differ (settingNames (lineSettings l)) → Attributed p → Attributed (reverseAux (lineStatements l) p)
+unfolding all lineStatements lineSettings statementsOpen
+line-attributed (step-line at q xs) p d h = object-attributed at (step-stmt q xs) [] p d refl h
+line-attributed end-line p d h = others-attributed (end-stmt ∷ []) p refl h
+
+process-attributed : (o : Object (List Line)) (p : Past) → FineProcess o → Attributed p → Attributed (reverseAux (settings (o .attributes) ++ processLines (o .body) (o .name)) p)
+unfolding all processLines statementsOpen
+process-attributed o p f h =
+    let front = object-attributed (o .attributes) (proc-stmt (o .name)) [] p (f .attributes) refl h in
+    let inside : Attributed (proc-stmt (o .name) ∷ reverseAux (settings (o .attributes)) p) = rw reverseAux-append at front in
+    rw (reverseAux-append (settings (o .attributes)), reverseAux-append (flatMap lineStatements (o .body)))
+    (others-attributed (end-stmt ∷ []) _ refl (behind-each lineStatements _ Attributed line-attributed (o .body) _ (f .steps) inside))
+
+-- what an entry has of a fine module
+pub record FineEntry (e : Entry) : Type 0 where
   pub wires : Each (λ w. Differ (settingNames (w .attributes))) (wiresOf e)
   pub memories : Each (λ y. Differ (settingNames (y .attributes))) (memoriesOf e)
   pub cells : Each FineCell (cellsOf e)
+  pub processes : Each FineProcess (processesOf e)
+  pub connections : Each (λ k. eqb (length (k .0)) (length (k .1)) ≡ true) (connectionsOf e)
 
-entry-attributed : (e : Entry) (p : Past) → EntryDiffers e → Attributed p → Attributed (reverseAux (linesOf e) p)
+entry-attributed : (e : Entry) (p : Past) → FineEntry e → Attributed p → Attributed (reverseAux (linesOf e) p)
 unfolding all nestingOpen statementsOpen
 entry-attributed (param-entry n c) p d h = others-attributed (param-stmt n c ∷ []) p refl h
 entry-attributed (wire-entry o) p d h = object-attributed (o .attributes) (wire-stmt (o .body) (o .name)) [] p (d .wires .0) refl h
 entry-attributed (memory-entry o) p d h = object-attributed (o .attributes) (memory-stmt (o .body) (o .name)) [] p (d .memories .0) refl h
 entry-attributed (cell-entry at y n es) p d h = object-attributed at (cell-stmt y n) (map lineIn es ++ end-stmt ∷ []) p (d .cells .0 .attributes) (cell-pass (λ s. s) notAttribute (λ o m c. refl) (λ m x. refl) refl es) h
+entry-attributed (process-entry o) p d h = process-attributed o p (d .processes .0) h
 entry-attributed (connection-entry x y) p d h = others-attributed (conn-stmt x y ∷ []) p refl h
 
-entries-differ : (es : List Entry) → let m = bodyOf es in Each (λ w. Differ (settingNames (w .attributes))) (m .wires) → Each (λ y. Differ (settingNames (y .attributes))) (m .memories) → Each FineCell (m .cells) → Each EntryDiffers es
+entries-apart :
+    (es : List Entry) → let m = bodyOf es in
+    Each (λ w. Differ (settingNames (w .attributes))) (m .wires) → Each (λ y. Differ (settingNames (y .attributes))) (m .memories) → Each FineCell (m .cells) →
+    Each FineProcess (m .processes) → Each (λ k. eqb (length (k .0)) (length (k .1)) ≡ true) (m .connections) → Each FineEntry es
 unfolding bodyOf flatMap
-entries-differ [] w y c = tt
-entries-differ (e ∷ es) w y c = (
-  record { wires = each-front _ (wiresOf e) _ w; memories = each-front _ (memoriesOf e) _ y; cells = each-front _ (cellsOf e) _ c },
-  entries-differ es (each-back _ (wiresOf e) _ w) (each-back _ (memoriesOf e) _ y) (each-back _ (cellsOf e) _ c),
+entries-apart [] w y c r k = tt
+entries-apart (e ∷ es) w y c r k = (
+  record {
+    wires = each-front _ (wiresOf e) _ w;
+    memories = each-front _ (memoriesOf e) _ y;
+    cells = each-front _ (cellsOf e) _ c;
+    processes = each-front _ (processesOf e) _ r;
+    connections = each-front _ (connectionsOf e) _ k;
+  },
+  entries-apart es (each-back _ (wiresOf e) _ w) (each-back _ (memoriesOf e) _ y) (each-back _ (cellsOf e) _ c) (each-back _ (processesOf e) _ r) (each-back _ (connectionsOf e) _ k),
 )
 
-abbrev FineIn : Object (List Entry) → Type 0
+abbrev pub FineIn : Object (List Entry) → Type 0
 FineIn o = FineModule (moduleIn o)
+
+pub entries-fine : (o : Object (List Entry)) → FineIn o → Each FineEntry (o .body)
+unfolding moduleIn
+entries-fine o f = entries-apart (o .body) (f .wires) (f .memories) (f .cells) (f .processes) (f .connections)
 
 module-attributed : (o : Object (List Entry)) (p : Past) → FineIn o → Attributed p → Attributed (reverseAux (linesOfModule o) p)
 unfolding all moduleIn statementsOpen
 module-attributed o p f h =
     let front = object-attributed (o .attributes) (module-stmt (o .name)) [] p (f .attributes) refl h in
-    behind-module EntryDiffers Attributed Attributed entry-attributed (λ q. others-attributed (end-stmt ∷ []) q refl) o p (entries-differ (o .body) (f .wires) (f .memories) (f .cells))
+    behind-module FineEntry Attributed Attributed entry-attributed (λ q. others-attributed (end-stmt ∷ []) q refl) o p (entries-fine o f)
     (rw reverseAux-append at front)
 
 pub attributes-new :

@@ -1,20 +1,23 @@
 -- Laws of the sizes: the sums are carried on by one statement, they exceed a limit as the rules say, and what is within the limits is small.
 -- Assumes nothing.
 use Prim.Native.Nat.{ℕ, _≤_}
-use mathlib.Core.Path.{_≡_, refl, _∙_}
-use mathlib.Core.Bool.{false}
-use mathlib.Core.List.{List, [], _∷_}
+use mathlib.Core.Path.{_≡_, refl, sym, ap, _∙_}
+use mathlib.Core.Bool.{Bool, false, cond, _||_, or-false, or-assoc}
+use mathlib.Core.List.{List, [], _∷_, map}
 use native.Mathlib.Nat.{le-trans}
 use native.Mathlib.Omega.{arith}
+use lib.ListN.{length, drop}
+use lib.Dec.{ltb}
 use borrow.Author.Tests.{ltb-false, le-ltb}
 use Rattle.rules.specs.Bytes.{any}
-use Rattle.rules.specs.Statements.{Statement, anAttribute, aModule, aParameter, aWire, aMemory, aCell, aCellParameter, aCellConnection, aConnection, code, contents}
-use Rattle.rules.specs.Judgement.{Past, sum, signalSize, valueSize, stringSize, nameSize, sizes, exceedsSize}
+use Rattle.rules.specs.Statements.{Statement, anAttribute, aModule, aParameter, aWire, aMemory, aCell, aCellParameter, aCellConnection, aConnection, aProcess, aStep, code, contents, is}
+use Rattle.rules.specs.Judgement.{Past, sum, stepSignals, signalSize, valueSize, stringSize, nameSize, sizes, exceedsSize}
 use Rattle.context.specs.Place.{placeOf, wiresIn}
 use Rattle.context.specs.Sizes.{sizesBy, sizesOf, sumsOf, plusOf, limits, exceeds, Within, AtMost, kindSizes, KindSizesAre}
 use Rattle.context.specs.declared.sizes.Sizes.{Sizes}
 use Rattle.lists.specs.Elements.{Each, any-none, each-map, none-any}
-use Rattle.context.proofs.KindLaws.{count-le, count-one, count-two}
+use Rattle.lists.specs.Tests.{by-test}
+use Rattle.context.proofs.KindLaws.{is-code, count-le, count-one, count-two}
 
 -- the sums with one statement more
 pub sums-step : (ss : Past) (s : Statement) → sumsOf (s ∷ ss) ≡ plusOf (sumsOf ss) (sizesOf s)
@@ -25,6 +28,20 @@ sums-step ss s = refl
 pub exceeds-sums : (ss : Past) → exceeds (sumsOf ss) ≡ exceedsSize ss
 unfolding any sizesBy sumsOf limits exceeds sizes exceedsSize
 exceeds-sums ss = refl
+
+-- tests joined from the left are those of a list
+unfoldable pub orFrom : Bool → List Bool → Bool
+orFrom b [] = b
+orFrom b (c ∷ cs) = orFrom (b || c) cs
+
+pub or-from : (b : Bool) (cs : List Bool) → orFrom b cs ≡ b || any (λ c. c) cs
+unfolding orFrom any
+or-from b [] = sym (or-false b)
+or-from b (c ∷ cs) = or-from (b || c) cs ∙ or-assoc b c (any (λ d. d) cs)
+
+-- all tests of a limit but the first
+unfoldable pub limitTests : Sizes → List Bool
+limitTests u = map (λ z. ltb (z .0) (z .1)) (drop 1 (limits u))
 
 -- wires and modules are counted alike in the place
 pub same-wires : (ss : Past) → placeOf ss .wires ≡ sumsOf ss .wires
@@ -46,7 +63,7 @@ module _ (u : Sizes) where
   unfolding Below limits exceeds
   limits-within w =
       let b : Below (limits u) =
-      (w .modules, (w .wires, (w .memories, (w .cells, (w .parameters, (w .attributes, (w .ports, (w .connections, (w .signal-bits, (w .value-bits, (w .string-bytes, (w .name-bytes, tt)))))))))))) in
+      (w .modules, (w .wires, (w .memories, (w .cells, (w .parameters, (w .attributes, (w .ports, (w .connections, (w .processes, (w .steps, (w .step-signals, (w .signal-bits, (w .value-bits, (w .string-bytes, (w .name-bytes, tt))))))))))))))) in
       none-any _ (limits u) (each-map _ _ (λ z. le-ltb (z .0) (z .1)) (limits u) b)
 
   -- so that sums of two do not wrap
@@ -61,9 +78,13 @@ pub within-none : Within (sumsOf [])
 unfolding any sum sizes exceedsSize
 within-none = within-past [] refl
 
-pub sizes-small : (s : Statement) (n : ℕ) → 1 ≤ n → signalSize s ≤ n → valueSize s ≤ n → stringSize s ≤ n → nameSize s ≤ n → AtMost n (sizesOf s)
+step-signals-le : (s : Statement) (n : ℕ) → length (contents s .signals) ≤ n → stepSignals s ≤ n
+unfolding stepSignals
+step-signals-le s n h = by-test (is aStep s) (λ e. rw e h) (λ e. rw e (omega arith))
+
+pub sizes-small : (s : Statement) (n : ℕ) → 1 ≤ n → length (contents s .signals) ≤ n → signalSize s ≤ n → valueSize s ≤ n → stringSize s ≤ n → nameSize s ≤ n → AtMost n (sizesOf s)
 unfolding sizesBy sizesOf
-sizes-small s n h g v t m =
+sizes-small s n h c g v t m =
     record {
       modules = le-trans (count-le _ s) h;
       wires = le-trans (count-le _ s) h;
@@ -73,6 +94,9 @@ sizes-small s n h g v t m =
       attributes = le-trans (count-le _ s) h;
       ports = le-trans (count-le _ s) h;
       connections = le-trans (count-le _ s) h;
+      processes = le-trans (count-le _ s) h;
+      steps = le-trans (count-le _ s) h;
+      step-signals = step-signals-le s n c;
       signal-bits = g;
       value-bits = v;
       string-bytes = t;
@@ -80,8 +104,8 @@ sizes-small s n h g v t m =
     }
 
 -- the sizes of a statement are those of its kind with what it holds
-sizes-kind : (s : Statement) → sizesOf s ≡ kindSizes (code (contents s .kind)) (signalSize s) (valueSize s) (stringSize s) (nameSize s)
-unfolding code sizesBy sizesOf kindSizes
+sizes-kind : (s : Statement) → sizesOf s ≡ kindSizes (code (contents s .kind)) (length (contents s .signals)) (signalSize s) (valueSize s) (stringSize s) (nameSize s)
+unfolding code sizesBy sizesOf kindSizes stepSignals
 sizes-kind s =
     λ i.
     record {
@@ -93,11 +117,14 @@ sizes-kind s =
       attributes = count-one s anAttribute i;
       ports = count-one s aCellConnection i;
       connections = count-one s aConnection i;
+      processes = count-one s aProcess i;
+      steps = count-one s aStep i;
+      «step_signals» = ap (λ (b : Bool). cond b (length (contents s .signals)) 0) (is-code s aStep) i;
       «signal_bits» = signalSize s;
       «value_bits» = valueSize s;
       «string_bytes» = stringSize s;
       «name_bytes» = nameSize s;
     }
 
-pub kind-sizes-are : (k g v t n : ℕ) (r : Sizes) → r ≡ kindSizes k g v t n → KindSizesAre k g v t n r
-kind-sizes-are k g v t n r e s ek eg ev et en = rw (e, ek, eg, ev, et, en) (sizes-kind s)
+pub kind-sizes-are : (k c g v t n : ℕ) (r : Sizes) → r ≡ kindSizes k c g v t n → KindSizesAre k c g v t n r
+kind-sizes-are k c g v t n r e s ek ec eg ev et en = rw (e, ek, ec, eg, ev, et, en) (sizes-kind s)

@@ -4,10 +4,11 @@ use mathlib.Core.Path.{_≡_}
 use mathlib.Core.Bool.{Bool, cond, _||_}
 use mathlib.Core.List.{List, [], _∷_}
 use lib.Dec.{eqb, ltb}
-use Rattle.rules.specs.Limits.{mostModules, mostWires, mostMemories, mostCells, mostParameters, mostAttributes, mostCellConnections, mostConnections, mostSignalBits, mostValueBits, mostStringBytes, nameRoom}
+use lib.ListN.{length}
+use Rattle.rules.specs.Limits.{mostModules, mostWires, mostMemories, mostCells, mostParameters, mostAttributes, mostCellConnections, mostConnections, mostProcesses, mostSteps, mostStepSignals, mostSignalBits, mostValueBits, mostStringBytes, nameRoom}
 use Rattle.rules.specs.Bytes.{any}
-use Rattle.rules.specs.Statements.{Statement, anAttribute, aModule, aParameter, aWire, aMemory, aCell, aCellParameter, aCellConnection, aConnection, code, contents, attributeKind, moduleKind, parameterKind, wireKind, memoryKind, cellKind, cellParameterKind, cellConnectionKind, connectionKind}
-use Rattle.rules.specs.Judgement.{Past, sum, count, signalSize, valueSize, stringSize, nameSize}
+use Rattle.rules.specs.Statements.{Statement, anAttribute, aModule, aParameter, aWire, aMemory, aCell, aCellParameter, aCellConnection, aConnection, aProcess, aStep, code, contents, attributeKind, moduleKind, parameterKind, wireKind, memoryKind, cellKind, cellParameterKind, cellConnectionKind, connectionKind, processKind, stepKind}
+use Rattle.rules.specs.Judgement.{Past, sum, count, stepSignals, signalSize, valueSize, stringSize, nameSize}
 use Rattle.context.specs.declared.sizes.Sizes.{Sizes}
 
 -- each size of the rules, taken in one way
@@ -22,6 +23,9 @@ sizesBy f =
       attributes = f (count (anAttribute ∷ []));
       ports = f (count (aCellConnection ∷ []));
       connections = f (count (aConnection ∷ []));
+      processes = f (count (aProcess ∷ []));
+      steps = f (count (aStep ∷ []));
+      «step_signals» = f stepSignals;
       «signal_bits» = f signalSize;
       «value_bits» = f valueSize;
       «string_bytes» = f stringSize;
@@ -47,6 +51,9 @@ plusOf u d =
       attributes = d .attributes + u .attributes;
       ports = d .ports + u .ports;
       connections = d .connections + u .connections;
+      processes = d .processes + u .processes;
+      steps = d .steps + u .steps;
+      «step_signals» = d .«step_signals» + u .«step_signals»;
       «signal_bits» = d .«signal_bits» + u .«signal_bits»;
       «value_bits» = d .«value_bits» + u .«value_bits»;
       «string_bytes» = d .«string_bytes» + u .«string_bytes»;
@@ -64,6 +71,9 @@ limits u =
     ∷ (mostAttributes, u .attributes)
     ∷ (mostCellConnections, u .ports)
     ∷ (mostConnections, u .connections)
+    ∷ (mostProcesses, u .processes)
+    ∷ (mostSteps, u .steps)
+    ∷ (mostStepSignals, u .«step_signals»)
     ∷ (mostSignalBits, u .«signal_bits»)
     ∷ (mostValueBits, u .«value_bits»)
     ∷ (mostStringBytes, u .«string_bytes»)
@@ -84,6 +94,9 @@ pub record Within (u : Sizes) : Type 0 where
   pub attributes : u .attributes ≤ mostAttributes
   pub ports : u .ports ≤ mostCellConnections
   pub connections : u .connections ≤ mostConnections
+  pub processes : u .processes ≤ mostProcesses
+  pub steps : u .steps ≤ mostSteps
+  pub step-signals : u .«step_signals» ≤ mostStepSignals
   pub signal-bits : u .«signal_bits» ≤ mostSignalBits
   pub value-bits : u .«value_bits» ≤ mostValueBits
   pub string-bytes : u .«string_bytes» ≤ mostStringBytes
@@ -99,14 +112,17 @@ pub record AtMost (n : ℕ) (u : Sizes) : Type 0 where
   pub attributes : u .attributes ≤ n
   pub ports : u .ports ≤ n
   pub connections : u .connections ≤ n
+  pub processes : u .processes ≤ n
+  pub steps : u .steps ≤ n
+  pub step-signals : u .«step_signals» ≤ n
   pub signal-bits : u .«signal_bits» ≤ n
   pub value-bits : u .«value_bits» ≤ n
   pub string-bytes : u .«string_bytes» ≤ n
   pub name-bytes : u .«name_bytes» ≤ n
 
--- the sizes of one statement of a kind that holds so many bits and bytes
-unfoldable pub kindSizes : (k g v t n : ℕ) → Sizes
-kindSizes k g v t n =
+-- the sizes of one statement of a kind that holds so many signals, bits and bytes
+unfoldable pub kindSizes : (k c g v t n : ℕ) → Sizes
+kindSizes k c g v t n =
     record {
       modules = cond (eqb k moduleKind) 1 0;
       wires = cond (eqb k wireKind) 1 0;
@@ -116,17 +132,21 @@ kindSizes k g v t n =
       attributes = cond (eqb k attributeKind) 1 0;
       ports = cond (eqb k cellConnectionKind) 1 0;
       connections = cond (eqb k connectionKind) 1 0;
+      processes = cond (eqb k processKind) 1 0;
+      steps = cond (eqb k stepKind) 1 0;
+      «step_signals» = cond (eqb k stepKind) c 0;
       «signal_bits» = g;
       «value_bits» = v;
       «string_bytes» = t;
       «name_bytes» = n;
     }
 
--- r is the sizes of each statement of this kind that holds so many bits and bytes
-abbrev pub KindSizesAre : ℕ → ℕ → ℕ → ℕ → ℕ → Sizes → Type 0
-KindSizesAre k g v t n r =
+-- r is the sizes of each statement of this kind that holds so many signals, bits and bytes
+abbrev pub KindSizesAre : ℕ → ℕ → ℕ → ℕ → ℕ → ℕ → Sizes → Type 0
+KindSizesAre k c g v t n r =
     (s : Statement)
     → k ≡ code (contents s .kind)
+    → c ≡ length (contents s .signals)
     → g ≡ signalSize s
     → v ≡ valueSize s
     → t ≡ stringSize s

@@ -23,5 +23,8 @@ pub const PROCESS_KIND: u32 = 11;
 
 pub const END_KIND: u32 = 12;
 
+// A line inside a process.
+pub const STEP_KIND: u32 = 13;
+
 // A standing rename: no statement, but a row behind them.
-pub const RENAME_KIND: u32 = 13;
+pub const RENAME_KIND: u32 = 14;

@@ -2,3 +2,4 @@
 pub mod kinds;
 pub mod place;
 pub mod sizes;
+pub mod steps;

@@ -7,6 +7,8 @@ use crate::kinds::CONNECTION_KIND;
 use crate::kinds::MEMORY_KIND;
 use crate::kinds::MODULE_KIND;
 use crate::kinds::PARAMETER_KIND;
+use crate::kinds::PROCESS_KIND;
+use crate::kinds::STEP_KIND;
 use crate::kinds::WIRE_KIND;
 ghost use mathlib.Core.Path.{_≡_};
 ghost use mathlib.Core.Bool.{not, cond};
@@ -29,6 +31,12 @@ pub const MOST_ATTRIBUTES: u32 = 1024;
 pub const MOST_CELL_CONNECTIONS: u32 = 1024;
 
 pub const MOST_CONNECTIONS: u32 = 512;
+
+pub const MOST_PROCESSES: u32 = 64;
+
+pub const MOST_STEPS: u32 = 1024;
+
+pub const MOST_STEP_SIGNALS: u32 = 4096;
 
 pub const MOST_SIGNAL_BITS: u32 = 8192;
 
@@ -53,6 +61,10 @@ pub struct Sizes {
     pub ports: u32,
     // Connections of modules.
     pub connections: u32,
+    pub processes: u32,
+    // Lines inside processes, `end` and attributes apart, and the signals in them.
+    pub steps: u32,
+    pub step_signals: u32,
     pub signal_bits: u32,
     pub value_bits: u32,
     pub string_bytes: u32,
@@ -71,6 +83,9 @@ pub fn none() -> Sizes
         attributes: 0,
         ports: 0,
         connections: 0,
+        processes: 0,
+        steps: 0,
+        step_signals: 0,
         signal_bits: 0,
         value_bits: 0,
         string_bytes: 0,
@@ -90,6 +105,9 @@ pub fn within(u: Sizes) -> bool
         | (MOST_ATTRIBUTES < u.attributes)
         | (MOST_CELL_CONNECTIONS < u.ports)
         | (MOST_CONNECTIONS < u.connections)
+        | (MOST_PROCESSES < u.processes)
+        | (MOST_STEPS < u.steps)
+        | (MOST_STEP_SIGNALS < u.step_signals)
         | (MOST_SIGNAL_BITS < u.signal_bits)
         | (MOST_VALUE_BITS < u.value_bits)
         | (MOST_STRING_BYTES < u.string_bytes)
@@ -111,6 +129,9 @@ pub fn plus(u: Sizes, d: Sizes) -> Sizes
         attributes: d.attributes + u.attributes,
         ports: d.ports + u.ports,
         connections: d.connections + u.connections,
+        processes: d.processes + u.processes,
+        steps: d.steps + u.steps,
+        step_signals: d.step_signals + u.step_signals,
         signal_bits: d.signal_bits + u.signal_bits,
         value_bits: d.value_bits + u.value_bits,
         string_bytes: d.string_bytes + u.string_bytes,
@@ -124,15 +145,22 @@ fn one_if(test: bool) -> u32
     if test { 1 } else { 0 }
 }
 
-// The sizes of one statement of a kind that holds so many bits and bytes.
+fn count_if(test: bool, n: u32) -> u32
+    ensures { λ r. ⌜ r ≡ cond test n 0 ⌝ }
+{
+    if test { n } else { 0 }
+}
+
+// The sizes of one statement of a kind that holds so many signals, bits and bytes.
 pub fn kind_sizes(
     kind: u32,
+    signals: u32,
     signal_bits: u32,
     value_bits: u32,
     string_bytes: u32,
     name_bytes: u32,
 ) -> Sizes
-    ensures { λ r. ⌜ r ≡ kindSizes kind «signal_bits» «value_bits» «string_bytes» «name_bytes» ⌝ }
+    ensures { λ r. ⌜ r ≡ kindSizes kind signals «signal_bits» «value_bits» «string_bytes» «name_bytes» ⌝ }
 {
     Sizes {
         modules: one_if(kind == MODULE_KIND),
@@ -143,6 +171,9 @@ pub fn kind_sizes(
         attributes: one_if(kind == ATTRIBUTE_KIND),
         ports: one_if(kind == CELL_CONNECTION_KIND),
         connections: one_if(kind == CONNECTION_KIND),
+        processes: one_if(kind == PROCESS_KIND),
+        steps: one_if(kind == STEP_KIND),
+        step_signals: count_if(kind == STEP_KIND, signals),
         signal_bits: signal_bits,
         value_bits: value_bits,
         string_bytes: string_bytes,

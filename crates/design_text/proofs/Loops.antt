@@ -1,9 +1,9 @@
--- A loop over rows that writes: what is written so far, and what is left. One step further for each loop.
+-- A loop over rows that writes: one step further for each loop.
 -- Assumes nothing.
 use Prim.Native.Nat.{ℕ, suc, _+_, _-_, _≤_, _<_}
-use mathlib.Core.Path.{_≡_, refl, sym, ap, _∙_}
+use mathlib.Core.Path.{_≡_}
 use mathlib.Core.Bool.{cond}
-use mathlib.Core.List.{List, [], _++_, append-assoc, append-nil}
+use mathlib.Core.List.{List, [], _++_}
 use native.Mathlib.Omega.{arith}
 use lib.Dec.{eqb}
 use borrow.Author.Tests.{eq-eqb, ne-eqb}
@@ -14,32 +14,10 @@ use Rattle.wire_names.specs.Now.{wiresIn}
 use Rattle.wire_names.specs.declared.Module.{Module}
 use Rattle.line_text.specs.Lines.{statementNow, lineOf}
 use Rattle.text.specs.Written.{Written, written-none, written-then}
+use Rattle.text.specs.Reaches.{Reaches, reaches-start}
 use Rattle.design_text.specs.declared.Counts.{Counts}
 use Rattle.netlist.specs.Tables.{Tables}
 use Rattle.design_text.specs.Rows.{nextRow, waitingFrom, rowLine, lineIf, kindRows, cellRows, objectIf, objectRows, bodyRows, moduleAt, moduleIf, moduleRows, textRows}
-
--- of a text the part before `rest` is written
-pub record Reaches (at : ℕ) (text rest : List ℕ) (old new : List ℕ) (r : ℕ) : Type 0 where
-  pub done : List ℕ
-  pub written : Written at done old new r
-  pub whole : text ≡ done ++ rest
-
-pub reaches-start : (at : ℕ) (text old : List ℕ) → at ≤ 32769 → Reaches at text text old old at
-reaches-start at text old h = record { done = []; written = written-none at old h; whole = refl }
-
-pub reaches-next :
-    {at r s : ℕ} {text rest x left o p q : List ℕ} → Reaches at text rest o p r → Written r x p q s → rest ≡ x ++ left → Reaches at text left o q s
-reaches-next {x = x} {left = left} h w e =
-    record {
-      done = h .done ++ x;
-      written = written-then (h .written) w;
-      whole = h .whole ∙ ap (λ (l : List ℕ). h .done ++ l) e ∙ sym (append-assoc (h .done) x left);
-    }
-
-pub reaches-end : {at r : ℕ} {text rest o p : List ℕ} → Reaches at text rest o p r → rest ≡ [] → Written at text o p r
-reaches-end {at} {r} {text} {rest} {o} {p} h e =
-    let q : text ≡ h .done = h .whole ∙ ap (λ (l : List ℕ). h .done ++ l) e ∙ append-nil (h .done) in
-    rw q (h .written)
 
 -- ---- the rows from k up to `to`: with the first one taken, and none
 next-of : (k to : ℕ) → k < to → to - k ≡ suc (to - (k + 1))
@@ -105,10 +83,11 @@ module _ (t : Tables) (m : Module) where
   cell-written k c e h w x y v = rw (← h) (written-then (written-then (written-then w x) y) v)
 
   pub body-written :
-      (k c : ℕ) {at a b d f r : ℕ} {o p q s u z : List ℕ} → Written at (kindRows t m 4 1 k c) o p a → Written a (objectRows t m 5 k k c) p q b →
-      Written b (objectRows t m 6 k k c) q s d → Written d (objectRows t m 7 k k c) s u f → Written f (kindRows t m 10 1 k c) u z r → Written at (bodyRows t m k c) o z r
+      (k c : ℕ) {at a b d f g r : ℕ} {o p q s u v z : List ℕ} → Written at (kindRows t m 4 1 k c) o p a → Written a (objectRows t m 5 k k c) p q b →
+      Written b (objectRows t m 6 k k c) q s d → Written d (objectRows t m 7 k k c) s u f → Written f (objectRows t m 11 k k c) u v g → Written g (kindRows t m 10 1 k c) v z r →
+      Written at (bodyRows t m k c) o z r
   unfolding bodyRows
-  body-written k c v w x y z = written-then (written-then (written-then (written-then v w) x) y) z
+  body-written k c v w x y u z = written-then (written-then (written-then (written-then (written-then v w) x) y) u) z
 
 module _ (t : Tables) (C : Counts) (n first k c x : ℕ) (ex : x ≡ kindAt (t .rows) k) where
   pub module-other : (x ≡ 3 → ⊥) → (at : ℕ) (o : List ℕ) → at ≤ 32769 → Written at (moduleIf t C n first k c) o o at

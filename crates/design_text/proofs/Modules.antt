@@ -53,8 +53,9 @@ use Rattle.module_text.specs.StandLaws.{Follows, one-follows, follows, follows-
 use Rattle.design_text.specs.declared.Counts.{Counts}
 use Rattle.design_text.specs.Rows.{nextRow, rowLine, lineIf, kindRows, bodyRows, moduleAt, moduleIf, moduleRows, textRows}
 use Rattle.design_text.proofs.NowLaws.{fronts-past, name-is, wires-are}
-use Rattle.design_text.proofs.Passes.{waits, passes, Rowed, no-rows, one-row, rowed-more, Kinded, no-kinds, one-kind, next-until, more-behind, row-line, attribute-rows, body-rows}
-use Rattle.design_text.proofs.Named.{named-code, named-other, nowed, length-nowed, body-nowed}
+use Rattle.design_text.proofs.Passes.{waits, passes, Rowed, no-rows, one-row, rowed-more, Kinded, no-kinds, one-kind, next-until, more-behind, row-line, attribute-rows}
+use Rattle.design_text.proofs.Processes.{body-rows}
+use Rattle.design_text.proofs.Named.{named-code, named-other, nowed, length-nowed, follows-nowed, body-nowed}
 use Rattle.context.specs.Forms.{by-form, is-other}
 
 -- ---- how many wires
@@ -74,7 +75,7 @@ plain-kinds : (s : Statement) → leb (code (contents s .kind)) 8 ≡ true → c
 unfolding statementsOpen
 plain-kinds =
     by-form (λ s. leb (code (contents s .kind)) 8 ≡ true → contents s .signals ≡ []) (λ i h. refl) (λ n c h. refl) (λ n h. refl) (λ n c h. refl) (λ w n h. refl)
-    (λ m n h. refl) (λ t n h. refl) (λ o n c h. refl) (λ n x h. absurd (false≢true h)) (λ x y h. absurd (false≢true h)) (λ n h. refl) (λ h. refl)
+    (λ m n h. refl) (λ t n h. refl) (λ o n c h. refl) (λ n x h. absurd (false≢true h)) (λ x y h. absurd (false≢true h)) (λ n h. refl) (λ p xs h. absurd (false≢true h)) (λ h. refl)
 
 plain-of : (k : Kind) (s : Statement) → leb (code k) 8 ≡ true → is k s ≡ true → contents s .signals ≡ []
 unfolding is
@@ -260,7 +261,7 @@ module _
         let l : rowLine t m 0 (length ps) ≡ lineOf 0 [] s = row-line t m 0 (length ps) s st ∙ plain-at 0 (line.wiresIn (t .names) (t .wires) (t .rows) m) s (plain-of aModule s refl line-is) in
         let at-is : kindRows t m 2 0 first (length ps - first) ≡ linesOf 0 [] at = attribute-rows t m 0 (length ps - first) d ea r ∙ lines-plain 0 (line.wiresIn (t .names) (t .wires) (t .rows) m) at ea in
         let bd : bodyRows t m (length ps + 1) (nextRow (t .rows) 3 (length ps + 1) (length qs) - (length ps + 1)) ≡ bodyLines rs n (wiresNow rs n own) own =
-        rw (y, j) (ap (bodyRows t m (suc (length ps))) (sym (length-nowed rs n 0 own)) ∙ body-rows t m own-rowed ∙ body-nowed rs n (line.wiresIn (t .names) (t .wires) (t .rows) m) own (follows-until (is aModule) fo) ∙ ap (λ (ws : Wires). bodyLines rs n ws own) seen-is) in
+        rw (y, j) (ap (bodyRows t m (suc (length ps))) (sym (length-nowed rs n 0 own)) ∙ body-rows t m own-rowed (follows-nowed rs n 0 (follows-until (is aModule) fo)) ∙ body-nowed rs n (line.wiresIn (t .names) (t .wires) (t .rows) m) own (follows-until (is aModule) fo) ∙ ap (λ (ws : Wires). bodyLines rs n ws own) seen-is) in
         rw (x, at-is, l, bd, end-top)
 
   -- rows that are no module line

@@ -10,13 +10,15 @@ use lib.Dec.{eqb}
 use lib.ListN.{length, length-append}
 use borrow.Author.Tests.{eqb-true}
 use Rattle.rules.specs.Bytes.{all, bytes}
-use Rattle.rules.specs.Statements.{Statement, Kind, anAttribute, aParameter, aWire, aMemory, aCell, aCellParameter, aCellConnection, aConnection, anEnd, end-stmt, code, contents, is, statementsOpen}
+use Rattle.rules.specs.Statements.{Statement, Kind, anAttribute, aCellParameter, aCellConnection, anEnd, end-stmt, code, contents, is, statementsOpen}
+use Rattle.rules.specs.Shapes.{Scope}
 use Rattle.rules.specs.Signals.{Wires}
 use Rattle.rules.specs.Judgement.{until}
 use Rattle.rules.specs.Text.{textOpen}
 use Rattle.lists.specs.Tests.{by-test, and-true-left, and-true-right, eqb-sym}
 use Rattle.lists.specs.Elements.{all-snoc}
 use Rattle.context.specs.Forms.{is-other}
+use Rattle.admitted.specs.CountLaws.{scopeBehind}
 use Rattle.netlist.specs.Rows.{kindAt}
 use Rattle.wire_names.specs.Now.{wiresIn}
 use Rattle.wire_names.specs.declared.Module.{Module}
@@ -24,8 +26,10 @@ use Rattle.line_text.specs.Lines as line
 use Rattle.line_text.specs.Lines.{statementNow}
 use Rattle.module_text.specs.Blocks.{lineOf}
 use Rattle.module_text.specs.Passes.{linesOf, kindLines, Print, objectLines, printMemory, cellBlock, printToEnd}
+use Rattle.module_text.specs.StandLaws.{Follows, one-follows}
 use Rattle.netlist.specs.Tables.{Tables}
-use Rattle.design_text.specs.Rows.{nextRow, waitingFrom, rowLine, lineIf, kindRows, cellRows, objectIf, objectRows, bodyRows}
+use Rattle.process_text.specs.Rows.{processRows}
+use Rattle.design_text.specs.Rows.{nextRow, waitingFrom, rowLine, lineIf, kindRows, cellRows, objectIf, objectRows}
 
 pub more-behind : (k first : ℕ) (at : List Statement) (s : Statement) → k ≡ first + length at → suc k ≡ first + length (at ++ s ∷ [])
 more-behind k first at s e = omega (arith, length-append at (s ∷ []))
@@ -78,7 +82,7 @@ module _ {t : Tables} {m : Module} where
   rowed-more {k} s j e (one-row x y r) h q = one-row x y (rowed-more s j (omega arith) r h q)
 
 module _ (t : Tables) (m : Module) where
-  abbrev seen : Wires
+  abbrev pub seen : Wires
   seen = wiresIn (t .names) (t .wires) (t .rows) m
 
   pub row-line : (l k : ℕ) (s : Statement) → statementNow (t .names) (t .strings) (t .bits) (t .wires) (t .rows) m k ≡ some s → rowLine t m l k ≡ lineOf l seen s
@@ -108,7 +112,7 @@ module _ (t : Tables) (m : Module) where
   attribute-rows l c {k} {at} e h r = rw e (kind-rows anAttribute 2 l refl r ∙ attribute-lines l at h)
 
   -- A CELL up to its `end`
-  end-line : (ws : Wires) → bytes "  end\n" ≡ lineOf 1 ws end-stmt
+  pub end-line : (ws : Wires) → bytes "  end\n" ≡ lineOf 1 ws end-stmt
   unfolding lineOf textOpen statementsOpen
   end-line ws = refl
 
@@ -132,53 +136,37 @@ module _ (t : Tables) (m : Module) where
   -- OBJECTS OF A KIND, each with the attributes right before it
   module _ (K : Kind) (kind : ℕ) (ek : code K ≡ kind) (other : eqb (code K) (code anAttribute) ≡ false) (print : Print)
       (prints :
-      (n k : ℕ) (at : List Statement) (s : Statement) (more : List Statement) → statementNow (t .names) (t .strings) (t .bits) (t .wires) (t .rows) m k ≡ some s →
-      Rowed t m (suc k) more → linesOf 1 seen at ++ cond (eqb kind 7) (cellRows t m k (length more)) (rowLine t m 1 k) ≡ print n at s more) where
+      (n k : ℕ) (at : List Statement) (s : Statement) (more : List Statement) (p : Scope) → is K s ≡ true →
+      statementNow (t .names) (t .strings) (t .bits) (t .wires) (t .rows) m k ≡ some s → Rowed t m (suc k) more → Follows (scopeBehind p s) false more →
+      linesOf 1 seen at ++ cond (eqb kind 7) (cellRows t m k (length more)) (cond (eqb kind 11) (processRows t m k (length more)) (rowLine t m 1 k)) ≡ print n at s more) where
     -- a row of another kind writes nothing
     object-not : (first k c : ℕ) (s : Statement) → kindAt (t .rows) k ≡ code (contents s .kind) → is K s ≡ false → objectIf t m kind first k c ≡ []
     unfolding objectIf is
     object-not first k c s q h = rw (q, ← ek, eqb-sym (code (contents s .kind)) (code K), h)
 
-    object-here : (first k c : ℕ) (s : Statement) → kindAt (t .rows) k ≡ code (contents s .kind) → is K s ≡ true → objectIf t m kind first k c ≡ kindRows t m 2 1 first (k - first) ++ cond (eqb kind 7) (cellRows t m k c) (rowLine t m 1 k)
+    abbrev body : (k c : ℕ) → List ℕ
+    body k c = cond (eqb kind 7) (cellRows t m k c) (cond (eqb kind 11) (processRows t m k c) (rowLine t m 1 k))
+
+    object-here : (first k c : ℕ) (s : Statement) → kindAt (t .rows) k ≡ code (contents s .kind) → is K s ≡ true → objectIf t m kind first k c ≡ kindRows t m 2 1 first (k - first) ++ body k c
     unfolding objectIf is
     object-here first k c s q h =
         let z : eqb (kindAt (t .rows) k) kind ≡ true = rw (q, ← ek) (eqb-sym (code (contents s .kind)) (code K) ∙ h) in
         rw z
 
     pub object-rows :
-        (n first k : ℕ) (at : List Statement) {ss : List Statement} → k ≡ first + length at → all (is anAttribute) at ≡ true → Rowed t m first at → Rowed t m k ss →
-        objectRows t m kind first k (length ss) ≡ objectLines K print n at ss
+        (n first k : ℕ) (at : List Statement) {ss : List Statement} {p : Scope} {f : Bool} → k ≡ first + length at → all (is anAttribute) at ≡ true → Rowed t m first at → Rowed t m k ss →
+        Follows p f ss → objectRows t m kind first k (length ss) ≡ objectLines K print n at ss
     unfolding objectRows objectLines all
-    object-rows n first k at e h a no-rows = refl
-    object-rows n first k at e h a (one-row {s = s} {ss} x q r) =
+    object-rows n first k at e h a no-rows fo = refl
+    object-rows n first k at {p = p} e h a (one-row {s = s} {ss} x q r) (one-follows g y fo) =
         by-test (is anAttribute s)
         (λ w. rw (object-not first k (length ss) s q (is-other anAttribute K s other w), waits _ first k s q w, w)
-        (object-rows n first (suc k) (at ++ s ∷ []) (more-behind k first at s e) (all-snoc (is anAttribute) at s h w) (rowed-more s k e a x q) r))
+        (object-rows n first (suc k) (at ++ s ∷ []) (more-behind k first at s e) (all-snoc (is anAttribute) at s h w) (rowed-more s k e a x q) r fo))
         (λ w. by-test (is K s)
         (λ z. rw (passes _ first k s q w, w, z)
         (ap₂ _++_
         (object-here first k (length ss) s q z
-        ∙ ap (λ (l : List ℕ). l ++ cond (eqb kind 7) (cellRows t m k (length ss)) (rowLine t m 1 k)) (attribute-rows 1 (k - first) (omega arith) h a)
-        ∙ prints n k at s ss x r)
-        (object-rows (n + 1) (suc k) (suc k) [] (omega arith) refl no-rows r)))
-        (λ z. rw (object-not first k (length ss) s q z, passes _ first k s q w, w, z) (object-rows n (suc k) (suc k) [] (omega arith) refl no-rows r)))
-
-  -- WHAT STANDS IN A MODULE
-  pub body-rows :
-      {k : ℕ} {ss : List Statement} → Rowed t m k ss →
-      bodyRows t m k (length ss)
-      ≡ kindLines aParameter 1 seen ss
-      ++ objectLines aWire (printMemory seen) 0 [] ss
-      ++ objectLines aMemory (printMemory seen) 0 [] ss
-      ++ objectLines aCell (printToEnd seen) 0 [] ss
-      ++ kindLines aConnection 1 seen ss
-  unfolding bodyRows code all
-  body-rows {k} {ss} r =
-      let z : k ≡ k + 0 = omega arith in
-      rw (
-        kind-rows aParameter 4 1 refl r,
-        object-rows aWire 5 refl refl (printMemory seen) (λ n k at s more e r. line-rows n k at s more e) 0 k k [] z refl no-rows r,
-        object-rows aMemory 6 refl refl (printMemory seen) (λ n k at s more e r. line-rows n k at s more e) 0 k k [] z refl no-rows r,
-        object-rows aCell 7 refl refl (printToEnd seen) (λ n k at s more e r. cell-rows n k at s more e r) 0 k k [] z refl no-rows r,
-        kind-rows aConnection 10 1 refl r,
-      )
+        ∙ ap (λ (l : List ℕ). l ++ body k (length ss)) (attribute-rows 1 (k - first) (omega arith) h a)
+        ∙ prints n k at s ss p z x r fo)
+        (object-rows (n + 1) (suc k) (suc k) [] (omega arith) refl no-rows r fo)))
+        (λ z. rw (object-not first k (length ss) s q z, passes _ first k s q w, w, z) (object-rows n (suc k) (suc k) [] (omega arith) refl no-rows r fo)))

@@ -11,7 +11,8 @@ use Rattle.rules.specs.Layout.{Memory, putRenames}
 use Rattle.context.specs.Place.{wiresIn}
 use Rattle.netlist.specs.Laid.{roomsOf}
 use Rattle.admitted.specs.Holds.{Holds}
-use Rattle.module_text.specs.PassLaws.{text-file}
+use Rattle.canonical.specs.Canonical.{now-fine}
+use Rattle.module_text.specs.PassLaws.{fine-leads, text-file}
 use Rattle.design_text.specs.declared.Counts.{Counts}
 use Rattle.design_text.specs.Rows.{textRows}
 use Rattle.netlist.specs.RoomLaws.{rooms-file}
@@ -26,4 +27,4 @@ pub text-held :
     textRows (tablesIn m) C ≡ text (now (design ss) rs)
 text-held m ss rs C h statements wires renames =
     let b : Fronts (putRenames (roomsOf (reverse ss)) rs) (tablesIn m) = rw (h .is, rooms-file ss rs) at (fronts-layout ss rs) in
-    text-of rs C (reverse ss) b (h .admitted) (statements ∙ sym (length-reverse ss)) wires renames ss refl ∙ sym (text-file ss rs)
+    text-of rs C (reverse ss) b (h .admitted) (statements ∙ sym (length-reverse ss)) wires renames ss refl ∙ sym (text-file ss rs (fine-leads (now (design ss) rs) (now-fine ss rs (record { admitted = h .admitted; closes = h .closes }) (h .allowed))))

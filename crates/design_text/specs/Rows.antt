@@ -3,14 +3,14 @@ use Prim.Native.Nat.{ℕ, zero, suc, _+_, _-_}
 use mathlib.Core.List.{List, [], _++_}
 use mathlib.Core.Bool.{cond}
 use lib.Dec.{eqb}
-use Rattle.rules.specs.Statements.{autoidxKind, attributeKind, moduleKind, parameterKind, wireKind, memoryKind, cellKind, cellParameterKind, cellConnectionKind, connectionKind, endKind}
+use Rattle.rules.specs.Statements.{autoidxKind, attributeKind, moduleKind, parameterKind, wireKind, memoryKind, cellKind, cellParameterKind, cellConnectionKind, connectionKind, processKind, endKind}
 use Rattle.rules.specs.Bytes.{bytes}
 use Rattle.netlist.specs.Rows.{kindAt}
 use Rattle.netlist.specs.Tables.{Tables}
 use Rattle.modules.specs.Ranges.{wireRange}
-use Rattle.wire_names.specs.Now.{wiresIn}
 use Rattle.wire_names.specs.declared.Module.{Module}
-use Rattle.line_text.specs.Lines.{statementNow, lineOf}
+unfoldable pub use Rattle.process_text.specs.Rows.{waitingFrom, rowLine}
+use Rattle.process_text.specs.Rows.{processRows}
 use Rattle.design_text.specs.declared.Counts.{Counts}
 
 -- the first row of a kind among count rows from k on, or the row behind them
@@ -18,19 +18,10 @@ unfoldable pub nextRow : (rows : List ℕ) → (kind k count : ℕ) → ℕ
 nextRow rows kind k zero = k
 nextRow rows kind k (suc c) = let r = nextRow rows kind (suc k) c in cond (eqb (kindAt rows k) kind) k r
 
--- where the attributes that wait behind row k begin: an attribute waits on, any other statement ends the wait
-unfoldable pub waitingFrom : (kind first k : ℕ) → ℕ
-waitingFrom kind first k = cond (eqb kind attributeKind) first (k + 1)
-
 module _ (t : Tables) (m : Module) where
-  -- the line of row k, the names of wires being those of now
-  unfoldable pub rowLine : (level k : ℕ) → List ℕ
-  rowLine l k =
-      lineOf l (wiresIn (t .names) (t .wires) (t .rows) m) (statementNow (t .names) (t .strings) (t .bits) (t .wires) (t .rows) m k)
-
-  -- if it is of a kind; and those of count rows from k on that are
+  -- the line of row k, if it is of a kind; and those of count rows from k on that are
   unfoldable pub lineIf : (kind level k : ℕ) → List ℕ
-  lineIf kind l k = let r = rowLine l k in cond (eqb (kindAt (t .rows) k) kind) r []
+  lineIf kind l k = let r = rowLine t m l k in cond (eqb (kindAt (t .rows) k) kind) r []
 
   unfoldable pub kindRows : (kind level k count : ℕ) → List ℕ
   kindRows kind l k zero = []
@@ -40,14 +31,15 @@ module _ (t : Tables) (m : Module) where
   unfoldable pub cellRows : (k count : ℕ) → List ℕ
   cellRows k c =
       let inside = nextRow (t .rows) endKind (k + 1) c - (k + 1) in
-      rowLine 1 k ++ kindRows cellParameterKind 2 (k + 1) inside ++ kindRows cellConnectionKind 2 (k + 1) inside ++ bytes "  end\n"
+      rowLine t m 1 k ++ kindRows cellParameterKind 2 (k + 1) inside ++ kindRows cellConnectionKind 2 (k + 1) inside ++ bytes "  end\n"
 
-  -- an object in row k whose attributes begin in row `first`, if it is of a kind; kind 7 is a cell
+  -- an object in row k whose attributes begin in row `first`, if it is of a kind; kind 7 is a cell, kind 11 a process
   unfoldable pub objectIf : (kind first k count : ℕ) → List ℕ
   objectIf kind first k c =
       let cell = cellRows k c in
-      let line = rowLine 1 k in
-      let r = kindRows attributeKind 1 first (k - first) ++ cond (eqb kind cellKind) cell line in
+      let process = processRows t m k c in
+      let line = rowLine t m 1 k in
+      let r = kindRows attributeKind 1 first (k - first) ++ cond (eqb kind cellKind) cell (cond (eqb kind processKind) process line) in
       cond (eqb (kindAt (t .rows) k) kind) r []
 
   unfoldable pub objectRows : (kind first k count : ℕ) → List ℕ
@@ -56,7 +48,13 @@ module _ (t : Tables) (m : Module) where
 
   -- what stands in a module
   unfoldable pub bodyRows : (k count : ℕ) → List ℕ
-  bodyRows k c = kindRows parameterKind 1 k c ++ objectRows wireKind k k c ++ objectRows memoryKind k k c ++ objectRows cellKind k k c ++ kindRows connectionKind 1 k c
+  bodyRows k c =
+      kindRows parameterKind 1 k c
+      ++ objectRows wireKind k k c
+      ++ objectRows memoryKind k k c
+      ++ objectRows cellKind k k c
+      ++ objectRows processKind k k c
+      ++ kindRows connectionKind 1 k c
 
 -- a module by its number
 unfoldable pub moduleAt : (wires : List ℕ) → Counts → ℕ → Module

@@ -10,11 +10,14 @@ use context::kinds::END_KIND;
 use context::kinds::MEMORY_KIND;
 use context::kinds::MODULE_KIND;
 use context::kinds::PARAMETER_KIND;
+use context::kinds::PROCESS_KIND;
 use context::kinds::WIRE_KIND;
 use line_text::put_line;
 use modules::module_wires;
 use netlist::rows::row_kind;
 use numbers::kinds::ModuleNumber;
+use process_text::put_process;
+use process_text::waiting_from;
 use text::put_bytes;
 use wire_names::Module;
 ghost use mathlib.Core.Path.{_≡_};
@@ -26,7 +29,7 @@ ghost use Rattle.rules.specs.Statements.{moduleKind};
 ghost use Rattle.rules.specs.Limits.{bitsLength, pastText};
 ghost use Rattle.text.specs.Written.{Written};
 ghost use Rattle.netlist.specs.Tables.{tabled};
-ghost use Rattle.design_text.specs.Rows.{nextRow, waitingFrom, lineIf, kindRows, cellRows, objectIf, objectRows, bodyRows, moduleAt, moduleIf, moduleRows, textRows};
+ghost use Rattle.design_text.specs.Rows.{nextRow, lineIf, kindRows, cellRows, objectIf, objectRows, bodyRows, moduleAt, moduleIf, moduleRows, textRows};
 
 // How many rows of each: statements, wires, standing renames.
 pub struct Counts {
@@ -60,17 +63,6 @@ fn next_row(rows: &[u32], kind: u32, from: u32, to: u32) -> u32
         k = k + 1;
     }
     k
-}
-
-// Where the attributes that wait begin behind row k: an attribute waits on, any other statement ends the wait.
-fn waiting_from(kind: u32, first: u32, k: u32) -> u32
-    requires { ⌜ k < 4294967295 ⌝ }
-    ensures { λ r. ⌜ r ≡ waitingFrom kind first k ⌝ }
-{
-    if kind == ATTRIBUTE_KIND {
-        return first;
-    }
-    k + 1
 }
 
 // The line of row k, if it is of this kind.
@@ -227,6 +219,10 @@ fn put_object(
         let to = object.to;
         return put_cell(names, strings, bits, wires, rows, m, k, to, out, line);
     }
+    if kind == PROCESS_KIND {
+        let to = object.to;
+        return put_process(names, strings, bits, wires, rows, m, k, to, out, line);
+    }
     put_line(names, strings, bits, wires, rows, m, k, 1, out, line)
 }
 
@@ -272,7 +268,7 @@ fn put_objects(
     end
 }
 
-// What stands in a module, by the kinds' order: parameters, wires, memories, cells, connections.
+// What stands in a module, by the kinds' order: parameters, wires, memories, cells, processes, connections.
 fn put_body(
     names: &[u8],
     strings: &[u8],
@@ -336,6 +332,18 @@ fn put_body(
         out,
         memories,
     );
+    let processes = put_objects(
+        names,
+        strings,
+        bits,
+        wires,
+        rows,
+        m,
+        PROCESS_KIND,
+        span,
+        out,
+        cells,
+    );
     put_kind(
         names,
         strings,
@@ -347,7 +355,7 @@ fn put_body(
         1,
         span,
         out,
-        cells,
+        processes,
     )
 }
 

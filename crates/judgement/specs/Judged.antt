@@ -4,6 +4,7 @@ use mathlib.Core.Path.{_≡_}
 use mathlib.Core.List.{List, _∷_}
 use mathlib.Core.Option.{Option, some}
 use lib.ListN.{length}
+use Rattle.rules.specs.Limits.{mostSignalBits}
 use Rattle.rules.specs.Statements as rules
 use Rattle.rules.specs.Statements.{Shape}
 use Rattle.rules.specs.Shapes.{shape}
@@ -13,6 +14,7 @@ use Rattle.rules.specs.Reading.{shaped}
 use Rattle.tokens.specs.Rows.{line}
 use Rattle.wires.specs.Rows.{wiresFrom}
 use Rattle.netlist.specs.Laid.{roomsOf, Laid}
+use Rattle.steps.specs.Steps.{Single}
 use Rattle.syntax.specs.Statements.{faultOf, statementIn, Sound, Says}
 use Rattle.syntax.specs.declared.Statement.{Statement}
 use Rattle.context.specs.Place.{placeOf}
@@ -28,6 +30,7 @@ pub record Stands (ss : Past) (p : Place) (u : Sizes) (names wires rows : List �
   pub sums-are : sumsOf ss ≡ u
   pub laid : Laid (roomsOf ss) names rows
   pub wires-are : wiresFrom names wires (p .«wires_from») (p .wires - p .«wires_from») ≡ judgement.wires ss
+  pub single : Single ss
 
 -- a line of this shape is accepted, as this statement, and these are the sums with it
 pub record Accepts (ss : Past) (o : Option Shape) (f s : List ℕ) (a : Statement) (u : Sizes) : Type 0 where
@@ -52,7 +55,7 @@ Storable f (Refused n) = Unit {0}
 -- r is the verdict on each shape that the answer is about, and on the line, after any statements that stand so
 abbrev pub JudgesAs : (f names rows : List ℕ) → Place → Sizes → Statement → Judged → Type 0
 JudgesAs f names rows p u a r =
-    (ss : Past) (wires s : List ℕ) (o : Option Shape) → Stands ss p u names wires rows → 4096 ≤ length s → Says (judgement.wires ss) f s o a → VerdictOn ss o f s r
+    (ss : Past) (wires s : List ℕ) (o : Option Shape) → Stands ss p u names wires rows → mostSignalBits ≤ length s → Says (judgement.wires ss) f s o a → VerdictOn ss o f s r
 
 abbrev pub JudgedAs : (f t : List ℕ) → Place → Sizes → (names wires rows s : List ℕ) → Judged → Type 0
 JudgedAs f t p u names wires rows s r = (ss : Past) → Stands ss p u names wires rows → Verdicts ss f t s r

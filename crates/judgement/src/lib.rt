@@ -10,23 +10,28 @@ use context::kinds::MEMORY_KIND;
 use context::kinds::MODULE_KIND;
 use context::kinds::PARAMETER_KIND;
 use context::kinds::PROCESS_KIND;
+use context::kinds::STEP_KIND;
 use context::kinds::WIRE_KIND;
 use context::place::Place;
 use context::sizes::Sizes;
 use context::sizes::kind_sizes;
 use context::sizes::plus;
 use context::sizes::within;
+use context::steps::NO_STEP;
 use line_forms::Span;
 use literal_rules::literal_width;
 use name_search::indexed_found;
 use netlist::results::BAD_NUMBER;
+use netlist::results::BAD_WIDTH;
 use netlist::results::NO_SHAPE;
 use netlist::results::NOT_THERE;
-use netlist::results::PORT_OR_PROCESS;
 use netlist::results::TAKEN_NAME;
 use netlist::results::TOO_MANY;
 use scanner::parts::part;
 use signals::ModuleWires;
+use signals::merge;
+use steps::Asked;
+use steps::asked_width;
 use strings::string_size;
 use syntax::Statement;
 use syntax::line_statement;
@@ -36,23 +41,26 @@ ghost use mathlib.Core.Path.{_≡_};
 ghost use mathlib.Core.Option.{none};
 ghost use Prim.Native.Nat.{_-_, _≤_};
 ghost use lib.ListN.{length};
-ghost use Rattle.rules.specs.Limits.{longestFile};
+ghost use Rattle.rules.specs.Limits.{longestFile, mostSignalBits};
 ghost use Rattle.line_forms.specs.Forms.{nameIn};
 ghost use Rattle.syntax.specs.Statements.{numberOf, faultOf, Sound, GoodOptional, Ready};
 ghost use Rattle.name_index.specs.Index.{keyAt, Indexed, LinesIndexed};
 ghost use Rattle.context.specs.Place.{Bounds};
 ghost use Rattle.context.specs.Sizes.{Within, AtMost};
-ghost use Rattle.judgement.specs.Parts.{namedParts, refusalParts, connectionParts, partsOf, digitsIn, bytesIn, SizesAre, takenIn};
+ghost use Rattle.judgement.specs.Parts.{namedParts, refusalParts, connectionParts, stepParts, partsOf, bitsIn, digitsIn, bytesIn, SizesAre, takenIn, Coded, UnevenIs};
 ghost use Rattle.judgement.specs.Judged.{JudgedAs, JudgesAs, Storable};
 
 // What the tests of a statement go by: the number of its refusal, or 0; its kind by its code; a cell's type, and the own name, empty where there is
-// none; its constant; the widths of its signals, and the number that they leave, or 0.
+// none; its constant; its step by its code; how many signals it has, the widths of the first two (those of a step are all as wide as its first), and
+// the number that they leave, or 0.
 struct Parts {
     number: u32,
     kind: u32,
     first: Span,
     name: Span,
     value: ConstantSlot,
+    step: u32,
+    count: usize,
     left: usize,
     right: usize,
     fault: u32,
@@ -80,13 +88,15 @@ fn named(kind: u32, first: Span, name: Span, value: ConstantSlot) -> Parts
         first,
         name,
         value,
+        step: NO_STEP,
+        count: 0,
         left: 0,
         right: 0,
         fault: 0,
     }
 }
 
-// A line that is refused; its kind is that of no statement.
+// A line that is refused; its kind says nothing.
 fn refusing(number: u32) -> Parts
     ensures { λ r. ⌜ r ≡ refusalParts number ⌝ }
 {
@@ -97,6 +107,8 @@ fn refusing(number: u32) -> Parts
         first: name,
         name,
         value: ConstantSlot::Nothing,
+        step: NO_STEP,
+        count: 0,
         left: 0,
         right: 0,
         fault: 0,
@@ -104,8 +116,8 @@ fn refusing(number: u32) -> Parts
 }
 
 // A connection of a cell or of a module.
-fn connecting(kind: u32, name: Span, left: usize, right: usize, fault: u32) -> Parts
-    ensures { λ r. ⌜ r ≡ connectionParts kind name left right fault ⌝ }
+fn connecting(kind: u32, name: Span, count: usize, left: usize, right: usize, fault: u32) -> Parts
+    ensures { λ r. ⌜ r ≡ connectionParts kind name count left right fault ⌝ }
 {
     Parts {
         number: 0,
@@ -113,8 +125,29 @@ fn connecting(kind: u32, name: Span, left: usize, right: usize, fault: u32) -> P
         first: no_name(),
         name,
         value: ConstantSlot::Nothing,
+        step: NO_STEP,
+        count,
         left,
         right,
+        fault,
+    }
+}
+
+// A line inside a process.
+fn stepping(step: u32, width: usize, count: usize, fault: u32) -> Parts
+    ensures { λ r. ⌜ r ≡ stepParts step width count fault ⌝ }
+{
+    let name = no_name();
+    Parts {
+        number: 0,
+        kind: STEP_KIND,
+        first: name,
+        name,
+        value: ConstantSlot::Nothing,
+        step,
+        count,
+        left: width,
+        right: 0,
         fault,
     }
 }
@@ -145,6 +178,7 @@ fn parts_of(statement: Statement) -> Parts
         Statement::CellConnection { name, width, fault } => connecting(
             CELL_CONNECTION_KIND,
             name,
+            1,
             width,
             0,
             fault,
@@ -152,13 +186,20 @@ fn parts_of(statement: Statement) -> Parts
         Statement::Connection { left, right, fault } => connecting(
             CONNECTION_KIND,
             empty,
+            2,
             left,
             right,
             fault,
         ),
+        Statement::Step {
+            step,
+            width,
+            count,
+            fault,
+        } => stepping(step, width, count, fault),
         Statement::End => named(END_KIND, empty, empty, ConstantSlot::Nothing),
         Statement::NoShape => refusing(NO_SHAPE),
-        Statement::Process => refusing(PORT_OR_PROCESS),
+        Statement::Process(name) => named(PROCESS_KIND, empty, name, ConstantSlot::Nothing),
         Statement::BadNumber => refusing(BAD_NUMBER),
         Statement::MissingWire => refusing(NOT_THERE),
     }
@@ -201,6 +242,17 @@ fn string_bytes(f: &[u8], value: ConstantSlot) -> u32
     }
 }
 
+// The bits of a statement's signals.
+fn signal_bits(parts: Parts) -> u32
+    requires { ⌜ bitsIn parts ≤ mostSignalBits ⌝ }
+    ensures { λ r. ⌜ r ≡ bitsIn parts ⌝ }
+{
+    if parts.kind == STEP_KIND {
+        return (parts.count * parts.left) as u32;
+    }
+    (parts.left + parts.right) as u32
+}
+
 // The sizes of one statement whose signals leave no number.
 fn statement_sizes(f: &[u8], statement: Statement) -> Sizes
     requires { ⌜ length (now f) ≤ longestFile ⌝ }
@@ -212,11 +264,11 @@ fn statement_sizes(f: &[u8], statement: Statement) -> Sizes
 {
     let parts = parts_of(statement);
     let value = parts.value;
-    let bits = (parts.left + parts.right) as u32;
     let names = span_size(f, parts.first) + span_size(f, parts.name);
     kind_sizes(
         parts.kind,
-        bits,
+        parts.count as u32,
+        signal_bits(parts),
         value_bits(f, value),
         string_bytes(f, value),
         names,
@@ -250,7 +302,25 @@ fn name_is_taken(
     )
 }
 
-// The verdict on a statement or a refusal of 5 to 8: then a taken name, then what its signals leave, then the sums.
+// 10 where the signals of a step are not as wide as it asks, or 0; without signals there is nothing to compare.
+fn uneven(rows: &[u32], place: Place, step: u32, width: usize, count: usize) -> u32
+    requires { ⌜ Coded step ⌝ }
+    ensures { λ r. ⌜ UnevenIs (now (rows .entry)) place step width count r ⌝ }
+{
+    if (step == NO_STEP) | (count == 0) {
+        return 0;
+    }
+    let Asked::Width(asked) = asked_width(rows, place, step) else {
+        return 0;
+    };
+    if asked as usize == width {
+        0
+    } else {
+        BAD_WIDTH
+    }
+}
+
+// The verdict on a statement or a refusal of 5 to 8: then a taken name, then what its signals leave or 10 for what is asked of them, then the sums.
 fn judge_statement(
     f: &[u8],
     names: &[u8],
@@ -276,8 +346,12 @@ fn judge_statement(
     if name_is_taken(f, names, rows, place, statement, heads, chain) {
         return Judged::Refused(TAKEN_NAME);
     }
-    if parts.fault != 0 {
-        return Judged::Refused(parts.fault);
+    let fault = merge(
+        parts.fault,
+        uneven(rows, place, parts.step, parts.left, parts.count),
+    );
+    if fault != 0 {
+        return Judged::Refused(fault);
     }
     let sums = plus(sums, statement_sizes(f, statement));
     if within(sums) {

@@ -1,3 +1,4 @@
 mod PutLaws
 mod Stored
+mod StepLaws
 pub mod PastLaws

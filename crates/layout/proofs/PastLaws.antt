@@ -21,7 +21,7 @@ used-more : (s : Statement) (ss : Past) → usedAfter (used (roomsOf ss)) s ≡ 
 unfolding roomsOf
 used-more s ss = sym (used-put (roomsOf ss) s) ∙ used-past (s ∷ ss)
 
-pub room-past : (ss : Past) (x : Statement) → Within (sumsOf (x ∷ ss)) → length ss < 4769 → RoomFor (used (roomsOf ss)) x
+pub room-past : (ss : Past) (x : Statement) → Within (sumsOf (x ∷ ss)) → length ss < 6945 → RoomFor (used (roomsOf ss)) x
 unfolding usedAfter placeOf sumsOf sizesBy wiresIn
 room-past ss x w h =
     let q : usedAfter (used (roomsOf ss)) x ≡ usedBy (placeOf (x ∷ ss)) (sumsOf (x ∷ ss)) = used-more x ss in

@@ -10,7 +10,7 @@ use denote.Enum.Declared.{tagOf}
 use lib.ListN.{length}
 use Rattle.rules.specs.Tokens.{Name}
 use Rattle.rules.specs.Statements as rules
-use Rattle.rules.specs.Statements.{autoidx-stmt, attr-stmt, module-stmt, param-stmt, wire-stmt, memory-stmt, cell-stmt, cell-param-stmt, cell-conn-stmt, conn-stmt, end-stmt, code, holds, contents}
+use Rattle.rules.specs.Statements.{autoidx-stmt, attr-stmt, module-stmt, param-stmt, wire-stmt, memory-stmt, cell-stmt, cell-param-stmt, cell-conn-stmt, conn-stmt, proc-stmt, end-stmt, code, holds, contents}
 use Rattle.rules.specs.Layout as rooms
 use Rattle.rules.specs.Layout.{padded, row, digitCode, stringBytes, bitCodes, columns, statementRow}
 use Rattle.tables.specs.Store.{store}
@@ -27,7 +27,7 @@ use Rattle.line_forms.specs.Forms.{nameIn, valueIn}
 use Rattle.line_forms.specs.declared.Span.{Span}
 use Rattle.syntax.specs.Statements.{faultOf, wireFrom, memoryFrom, signalIn, statementIn, GoodConstant, GoodOptional, Sound}
 use Rattle.syntax.specs.declared.Statement.{Statement}
-use Rattle.syntax.specs.declared.Statement.the-variants.{Autoidx, Attribute, Module, Parameter, Wire as WireOf, Memory as MemoryOf, Cell, CellParameter, CellConnection, Connection, End, NoShape, Process, BadNumber, MissingWire}
+use Rattle.syntax.specs.declared.Statement.the-variants.{Autoidx, Attribute, Module, Parameter, Wire as WireOf, Memory as MemoryOf, Cell, CellParameter, CellConnection, Connection, Step as StepOf, End, NoShape, Process, BadNumber, MissingWire}
 use Rattle.syntax.proofs.Statement.{the-type}
 use Rattle.netlist.specs.Tables.{Tables, tabled}
 use Rattle.layout.specs.Put.{namesPut, bitsPut, rowsPut, Puts, RoomFor, Fits, constantIn, optionalIn, optionalColumns, optionalBytes, optionalDigits, valuedRow, OptionalFits, WireHas, WirePut}
@@ -41,7 +41,7 @@ use Rattle.netlist.specs.RowLaws.{row-zero}
 use Rattle.layout.proofs.PutLaws.{name-put}
 
 -- what is put for the statement that the answer stands for
-puts-is : (f s : List ℕ) (r : Statement) (u : Used) (t t′ : Tables) (y : rules.Statement) → statementIn f s r ≡ some y → Puts (usedOf u) y t t′ → PutIs f s r u t t′
+pub puts-is : (f s : List ℕ) (r : Statement) (u : Used) (t t′ : Tables) (y : rules.Statement) → statementIn f s r ≡ some y → Puts (usedOf u) y t t′ → PutIs f s r u t t′
 puts-is f s r u t t′ y e p = rw e p
 
 -- ---- a wire and a sort by their numbers
@@ -204,38 +204,40 @@ module _ (f s : List ℕ) (r : Statement) (u : Used) (names names′ bits wires 
 
 -- any other answer that is plain is a refusal
 module _ (f s : List ℕ) (u : Used) (names bits wires rows : List ℕ) where
-  pub refusal-put : (r : Statement) → OneOf (1 ∷ 2 ∷ 3 ∷ 7 ∷ 11 ∷ 12 ∷ 13 ∷ 14 ∷ []) (tagOf the-type r) → PlainPut f s r u names names bits bits wires wires rows rows
+  pub refusal-put : (r : Statement) → OneOf (1 ∷ 2 ∷ 3 ∷ 7 ∷ 10 ∷ 12 ∷ 13 ∷ 14 ∷ 15 ∷ []) (tagOf the-type r) → PlainPut f s r u names names bits bits wires wires rows rows
   unfolding statementIn
-  refusal-put (Autoidx w) o = absurd (miss (1 ∷ 2 ∷ 3 ∷ 7 ∷ 11 ∷ 12 ∷ 13 ∷ 14 ∷ []) 0 tt o)
+  refusal-put (Autoidx w) o = absurd (miss (1 ∷ 2 ∷ 3 ∷ 7 ∷ 10 ∷ 12 ∷ 13 ∷ 14 ∷ 15 ∷ []) 0 tt o)
   refusal-put (Attribute n c) o = λ k. absurd k
   refusal-put (Module n) o = λ k. absurd k
   refusal-put (Parameter n c) o = λ k. absurd k
-  refusal-put (WireOf n w t g p) o = absurd (miss (1 ∷ 2 ∷ 3 ∷ 7 ∷ 11 ∷ 12 ∷ 13 ∷ 14 ∷ []) 4 tt o)
-  refusal-put (MemoryOf n w z t) o = absurd (miss (1 ∷ 2 ∷ 3 ∷ 7 ∷ 11 ∷ 12 ∷ 13 ∷ 14 ∷ []) 5 tt o)
-  refusal-put (Cell t n) o = absurd (miss (1 ∷ 2 ∷ 3 ∷ 7 ∷ 11 ∷ 12 ∷ 13 ∷ 14 ∷ []) 6 tt o)
+  refusal-put (WireOf n w t g p) o = absurd (miss (1 ∷ 2 ∷ 3 ∷ 7 ∷ 10 ∷ 12 ∷ 13 ∷ 14 ∷ 15 ∷ []) 4 tt o)
+  refusal-put (MemoryOf n w z t) o = absurd (miss (1 ∷ 2 ∷ 3 ∷ 7 ∷ 10 ∷ 12 ∷ 13 ∷ 14 ∷ 15 ∷ []) 5 tt o)
+  refusal-put (Cell t n) o = absurd (miss (1 ∷ 2 ∷ 3 ∷ 7 ∷ 10 ∷ 12 ∷ 13 ∷ 14 ∷ 15 ∷ []) 6 tt o)
   refusal-put (CellParameter z n c) o = λ k. absurd k
-  refusal-put (CellConnection n w l) o = absurd (miss (1 ∷ 2 ∷ 3 ∷ 7 ∷ 11 ∷ 12 ∷ 13 ∷ 14 ∷ []) 8 tt o)
-  refusal-put (Connection a b l) o = absurd (miss (1 ∷ 2 ∷ 3 ∷ 7 ∷ 11 ∷ 12 ∷ 13 ∷ 14 ∷ []) 9 tt o)
-  refusal-put End o = absurd (miss (1 ∷ 2 ∷ 3 ∷ 7 ∷ 11 ∷ 12 ∷ 13 ∷ 14 ∷ []) 10 tt o)
+  refusal-put (CellConnection n w l) o = absurd (miss (1 ∷ 2 ∷ 3 ∷ 7 ∷ 10 ∷ 12 ∷ 13 ∷ 14 ∷ 15 ∷ []) 8 tt o)
+  refusal-put (Connection a b l) o = absurd (miss (1 ∷ 2 ∷ 3 ∷ 7 ∷ 10 ∷ 12 ∷ 13 ∷ 14 ∷ 15 ∷ []) 9 tt o)
+  refusal-put (StepOf p w n l) o = λ k. absurd k
+  refusal-put End o = absurd (miss (1 ∷ 2 ∷ 3 ∷ 7 ∷ 10 ∷ 12 ∷ 13 ∷ 14 ∷ 15 ∷ []) 11 tt o)
   refusal-put NoShape o = λ k strings. refl
-  refusal-put Process o = λ k strings. refl
+  refusal-put (Process n) o = λ k. absurd k
   refusal-put BadNumber o = λ k strings. refl
   refusal-put MissingWire o = λ k strings. refl
 
-pub plain-rest : (r : Statement) → OneOf (0 ∷ 4 ∷ 5 ∷ 6 ∷ 8 ∷ 9 ∷ 10 ∷ 11 ∷ 12 ∷ 13 ∷ 14 ∷ []) (tagOf the-type r) → Plain r
+pub plain-rest : (r : Statement) → OneOf (0 ∷ 4 ∷ 5 ∷ 6 ∷ 8 ∷ 9 ∷ 11 ∷ 12 ∷ 14 ∷ 15 ∷ []) (tagOf the-type r) → Plain r
 plain-rest (Autoidx w) o = tt
-plain-rest (Attribute n c) o = absurd (miss (0 ∷ 4 ∷ 5 ∷ 6 ∷ 8 ∷ 9 ∷ 10 ∷ 11 ∷ 12 ∷ 13 ∷ 14 ∷ []) 1 tt o)
-plain-rest (Module n) o = absurd (miss (0 ∷ 4 ∷ 5 ∷ 6 ∷ 8 ∷ 9 ∷ 10 ∷ 11 ∷ 12 ∷ 13 ∷ 14 ∷ []) 2 tt o)
-plain-rest (Parameter n c) o = absurd (miss (0 ∷ 4 ∷ 5 ∷ 6 ∷ 8 ∷ 9 ∷ 10 ∷ 11 ∷ 12 ∷ 13 ∷ 14 ∷ []) 3 tt o)
+plain-rest (Attribute n c) o = absurd (miss (0 ∷ 4 ∷ 5 ∷ 6 ∷ 8 ∷ 9 ∷ 11 ∷ 12 ∷ 14 ∷ 15 ∷ []) 1 tt o)
+plain-rest (Module n) o = absurd (miss (0 ∷ 4 ∷ 5 ∷ 6 ∷ 8 ∷ 9 ∷ 11 ∷ 12 ∷ 14 ∷ 15 ∷ []) 2 tt o)
+plain-rest (Parameter n c) o = absurd (miss (0 ∷ 4 ∷ 5 ∷ 6 ∷ 8 ∷ 9 ∷ 11 ∷ 12 ∷ 14 ∷ 15 ∷ []) 3 tt o)
 plain-rest (WireOf n w t g p) o = tt
 plain-rest (MemoryOf n w z t) o = tt
 plain-rest (Cell t n) o = tt
-plain-rest (CellParameter z n c) o = absurd (miss (0 ∷ 4 ∷ 5 ∷ 6 ∷ 8 ∷ 9 ∷ 10 ∷ 11 ∷ 12 ∷ 13 ∷ 14 ∷ []) 7 tt o)
+plain-rest (CellParameter z n c) o = absurd (miss (0 ∷ 4 ∷ 5 ∷ 6 ∷ 8 ∷ 9 ∷ 11 ∷ 12 ∷ 14 ∷ 15 ∷ []) 7 tt o)
 plain-rest (CellConnection n w l) o = tt
 plain-rest (Connection a b l) o = tt
+plain-rest (StepOf p w n l) o = absurd (miss (0 ∷ 4 ∷ 5 ∷ 6 ∷ 8 ∷ 9 ∷ 11 ∷ 12 ∷ 14 ∷ 15 ∷ []) 10 tt o)
 plain-rest End o = tt
 plain-rest NoShape o = tt
-plain-rest Process o = tt
+plain-rest (Process n) o = absurd (miss (0 ∷ 4 ∷ 5 ∷ 6 ∷ 8 ∷ 9 ∷ 11 ∷ 12 ∷ 14 ∷ 15 ∷ []) 13 tt o)
 plain-rest BadNumber o = tt
 plain-rest MissingWire o = tt
 
@@ -271,6 +273,10 @@ module _ (f s : List ℕ) where
   pub module-valued : (r : Statement) (n : Span) → r ≡ Module n → Sound f r → ValuedHas f s r 3 n literal.Nothing 0
   unfolding statementIn holds contents valueIn Option·map Option·toList Option·elim statementRow columns code valuedRow optionalColumns row padded
   module-valued r n e g = valued (module-stmt (nameIn f n)) (ap (statementIn f s) e) refl refl refl refl tt (λ u. refl)
+
+  pub process-valued : (r : Statement) (n : Span) → r ≡ Process n → Sound f r → ValuedHas f s r 11 n literal.Nothing 0
+  unfolding statementIn holds contents valueIn Option·map Option·toList Option·elim statementRow columns code valuedRow optionalColumns row padded
+  process-valued r n e g = valued (proc-stmt (nameIn f n)) (ap (statementIn f s) e) refl refl refl refl tt (λ u. refl)
 
 -- what they need
 module _ (f s : List ℕ) (r : Statement) (u : Used) (t : Tables) (h : Storable f s r u t) where

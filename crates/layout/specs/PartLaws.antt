@@ -45,6 +45,10 @@ module _ (s : Statement) where
   unfolding bitCodes flatMap
   two-signals x y e g = rw (e, g) (ap (λ (l : List ℕ). map bitCode x ++ l) (append-nil (map bitCode y)))
 
+  pub only-signals : contents s .constants ≡ [] → bitCodes s ≡ flatMap (map bitCode) (contents s .signals)
+  unfolding bitCodes flatMap
+  only-signals e = rw e
+
   pub no-wire : (u : Used) → contents s .wires ≡ [] → wireRows u s ≡ []
   unfolding wireRows zip
   no-wire u e = rw (e, zip-none)

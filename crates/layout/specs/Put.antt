@@ -2,13 +2,13 @@
 use Prim.Native.Nat.{ℕ, _+_, _*_, _<_, _≤_}
 use mathlib.Core.Path.{_≡_}
 use mathlib.Core.List.{List, [], _∷_, _++_}
-use mathlib.Core.Option.{Option, Option·elim, Option·map}
+use mathlib.Core.Option.{Option, some, Option·elim, Option·map}
 use mathlib.Core.Bool.{true}
 use lib.ListN.{length}
-use Rattle.rules.specs.Limits.{mostWires, namesLength, stringsLength, bitsLength, mostRows}
+use Rattle.rules.specs.Limits.{mostWires, mostWidth, longestFile, namesLength, stringsLength, bitsLength, mostRows}
 use Rattle.rules.specs.Tokens.{Name, Digit}
 use Rattle.rules.specs.Statements as rules
-use Rattle.rules.specs.Statements.{Statement, aModule, Wire, digitsOf, bytesOf, wire-stmt}
+use Rattle.rules.specs.Statements.{Statement, Step, aModule, Wire, digitsOf, bytesOf, wire-stmt, step-stmt}
 use Rattle.rules.specs.Judgement.{count}
 use Rattle.rules.specs.Numbers.{goodLiteral}
 use Rattle.rules.specs.Signals.{twosComplement, kept}
@@ -17,6 +17,7 @@ use Rattle.rules.specs.Layout.{row, flags, nameBytes, stringBytes, bitCodes, wi
 use Rattle.tables.specs.Store.{store}
 use Rattle.tables.specs.Flat.{flat}
 use Rattle.netlist.specs.Tables.{Tables, tablesIn}
+use Rattle.netlist.specs.Steps.{stepNamed}
 use Rattle.netlist.specs.Used.{usedOf}
 use Rattle.netlist.specs.declared.used.Used.{Used}
 use Rattle.tokens.specs.Rows.{literalIn}
@@ -24,6 +25,7 @@ use Rattle.tokens.specs.declared.ConstantSpan.{ConstantSpan}
 use Rattle.tokens.specs.declared.ConstantSlot.{ConstantSlot}
 use Rattle.literals.specs.Codes.{Whole}
 use Rattle.line_forms.specs.Forms.{valueIn, ValueHolds}
+use Rattle.syntax.specs.Statements.{signalsIn}
 
 -- each table with one statement more
 module _ (u : layout.Used) (s : Statement) (t : List ℕ) where
@@ -121,3 +123,18 @@ WirePut u n width offset flags′ port names names′ wires wires′ rows rows�
     (names′ ≡ namesPut (usedOf u) (wire-stmt w n) names)
     × (wires′ ≡ wiresPut (usedOf u) (wire-stmt w n) wires)
     × (rows′ ≡ rowsPut (usedOf u) (wire-stmt w n) rows)
+
+-- a step's signals stand in scratch, there is room for them and for its row, and their width and number are words
+pub record StepFits (width count : ℕ) (u : Used) (scratch bits rows : List ℕ) : Type 0 where
+  pub narrow : width ≤ mostWidth
+  pub few : count ≤ longestFile
+  pub stand : count * width ≤ length scratch
+  pub bits-fit : Fits (u .bits) (count * width) bits
+  pub row-fits : 8 * u .rows + 8 ≤ length rows
+
+-- the tables with a step more, whatever the step that has this code
+abbrev pub StepPut : (code width count : ℕ) → Used → (scratch bits bits′ rows rows′ : List ℕ) → Type 0
+StepPut p w n u scratch bits bits′ rows rows′ =
+    (q : Step) → stepNamed p ≡ some q →
+    (bits′ ≡ bitsPut (usedOf u) (step-stmt q (signalsIn scratch w n)) bits)
+    × (rows′ ≡ rowsPut (usedOf u) (step-stmt q (signalsIn scratch w n)) rows)

@@ -14,13 +14,13 @@ use Rattle.line_forms.specs.Forms.{nameIn}
 use Rattle.line_forms.specs.declared.Span.{Span}
 use Rattle.syntax.specs.Statements.{faultOf, statementIn, GoodOptional, Sound}
 use Rattle.syntax.specs.declared.Statement.{Statement}
-use Rattle.syntax.specs.declared.Statement.the-variants.{Autoidx, Attribute, Module, Parameter, Wire as WireOf, Memory as MemoryOf, Cell, CellParameter, CellConnection, Connection, End, NoShape, Process, BadNumber, MissingWire}
+use Rattle.syntax.specs.declared.Statement.the-variants.{Autoidx, Attribute, Module, Parameter, Wire as WireOf, Memory as MemoryOf, Cell, CellParameter, CellConnection, Connection, Step as StepOf, End, NoShape, Process, BadNumber, MissingWire}
 use Rattle.netlist.specs.Tables.{Tables, tabled}
 use Rattle.layout.specs.Put.{Puts, RoomFor, optionalIn, valuedRow}
 use Rattle.netlist.specs.declared.used.Used.{Used}
 use Rattle.netlist.specs.Used.{usedOf}
 use Rattle.layout.specs.declared.put.Valued.{Valued}
-use Rattle.layout.specs.declared.put.Valued.the-variants.{Named, Nothing}
+use Rattle.layout.specs.declared.put.Valued.the-variants.{Named, Step, Nothing}
 
 -- the stated lengths
 pub record Sized (t : Tables) : Type 0 where
@@ -69,14 +69,16 @@ Plain (Cell k n) = Unit {0}
 Plain (CellParameter s n c) = ⊥
 Plain (CellConnection n w l) = Unit {0}
 Plain (Connection a b l) = Unit {0}
+Plain (StepOf p w n l) = ⊥
 Plain End = Unit {0}
 Plain NoShape = Unit {0}
-Plain Process = Unit {0}
+Plain (Process n) = ⊥
 Plain BadNumber = Unit {0}
 Plain MissingWire = Unit {0}
 
 abbrev pub ValuedIs : Statement → Valued → Type 0
 ValuedIs r (Named kind n c sort) = (f s : List ℕ) → Sound f r → ValuedHas f s r kind n c sort
+ValuedIs r (Step p w n) = (l : ℕ) × (r ≡ StepOf p w n l)
 ValuedIs r Nothing = Plain r
 
 -- storing those, whatever the table of strings is

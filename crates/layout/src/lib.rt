@@ -1,11 +1,13 @@
 // Statements in design memory: each is stored behind those before it.
 mod put;
+mod step;
 
 use netlist::used::Used;
 use put::Valued;
 use put::as_valued;
 use put::put_plain;
 use put::put_valued;
+use step::put_step;
 use syntax::Statement;
 ghost use Rattle.netlist.specs.Tables.{tabled};
 ghost use Rattle.layout.specs.Stored.{Storable, PutIs};
@@ -44,6 +46,9 @@ pub fn put_statement(
             bits,
             rows,
         ),
+        Valued::Step { step, width, count } => {
+            put_step(step, width, count, u, scratch, bits, rows)
+        }
         Valued::Nothing => put_plain(f, statement, u, scratch, names, bits, wires, rows),
     }
 }

@@ -9,6 +9,7 @@ use context::kinds::END_KIND;
 use context::kinds::MEMORY_KIND;
 use context::kinds::MODULE_KIND;
 use context::kinds::PARAMETER_KIND;
+use context::kinds::PROCESS_KIND;
 use context::kinds::WIRE_KIND;
 use line_forms::Span;
 use literal_rules::literal_width;
@@ -45,11 +46,13 @@ ghost use Rattle.rules.specs.Layout.{row, digitCode, constantColumns};
 ghost use Rattle.tables.specs.Store.{store};
 ghost use Rattle.strings.specs.Decoded.{decoded, closes};
 ghost use Rattle.tokens.specs.Rows.{integerIn, literalIn};
+ghost use Rattle.tokens.specs.declared.ConstantSlot.the-variants as literal;
 ghost use Rattle.line_forms.specs.Forms.{nameIn};
 ghost use Rattle.syntax.specs.Statements.{signalIn};
 ghost use Rattle.netlist.specs.Used.{usedOf};
 ghost use Rattle.layout.specs.Put.{namesPut, bitsPut, rowsPut, Fits, constantIn, optionalIn, optionalColumns, optionalBytes, optionalDigits, valuedRow, ConstantFits, OptionalFits, WirePut};
 ghost use Rattle.layout.specs.Stored.{ValuedIs, PlainStorable, PlainPut};
+ghost use Rattle.layout.specs.declared.put.Valued.the-variants as valued;
 
 // The columns of a constant: its kind, where it starts and its length; or its kind and the integer.
 pub struct Columns {
@@ -58,7 +61,8 @@ pub struct Columns {
     pub b: u32,
 }
 
-// A statement of a name and, if it has one, a constant: its kind, these, and a cell parameter's sort.
+// A statement of a name and, if it has one, a constant: its kind, these, and a cell parameter's sort. A step: its code, the width of its signals
+// and how many they are.
 pub enum Valued {
     Named {
         kind: u32,
@@ -66,7 +70,24 @@ pub enum Valued {
         value: ConstantSlot,
         sort: u32,
     },
+    Step {
+        step: u32,
+        width: usize,
+        count: usize,
+    },
     Nothing,
+}
+
+// A statement of a name only.
+fn only_named(kind: u32, name: Span) -> Valued
+    ensures { λ r. ⌜ r ≡ valued.Named kind name literal.Nothing 0 ⌝ }
+{
+    Valued::Named {
+        kind,
+        name,
+        value: ConstantSlot::Nothing,
+        sort: 0,
+    }
 }
 
 pub fn as_valued(statement: Statement) -> Valued
@@ -91,18 +112,30 @@ pub fn as_valued(statement: Statement) -> Valued
             value: ConstantSlot::Read(value),
             sort,
         },
-        Statement::Module(name) => Valued::Named {
-            kind: MODULE_KIND,
-            name,
-            value: ConstantSlot::Nothing,
-            sort: 0,
-        },
+        Statement::Module(name) => only_named(MODULE_KIND, name),
+        Statement::Process(name) => only_named(PROCESS_KIND, name),
+        Statement::Step {
+            step,
+            width,
+            count,
+            ..
+        } => Valued::Step { step, width, count },
         _ => Valued::Nothing,
     }
 }
 
 // Row k of a table; its eighth column is 0.
-fn put_columns(table: &mut [u32], k: u32, kind: u32, a: u32, b: u32, c: u32, d: u32, e: u32, g: u32)
+pub fn put_columns(
+    table: &mut [u32],
+    k: u32,
+    kind: u32,
+    a: u32,
+    b: u32,
+    c: u32,
+    d: u32,
+    e: u32,
+    g: u32,
+)
     requires { ⌜ 8 * k + 8 ≤ length (now table) ⌝ }
     ensures { λ _. ⌜ now (table .exit) ≡ store (now (table .entry)) (8 * k) (row (kind ∷ a ∷ b ∷ c ∷ d ∷ e ∷ g ∷ [])) ⌝ }
 {

@@ -2,18 +2,19 @@
 -- Assumes nothing.
 use mathlib.Core.Path.{_≡_, refl, sym, _∙_}
 use mathlib.Core.Bool.{Bool, true, false, cond, false≢true}
-use mathlib.Core.List.{List, [], _∷_}
+use mathlib.Core.List.{List, [], _∷_, _++_}
 use mathlib.Core.Option.{Option, none, some}
 use Prim.Native.Nat.{ℕ, _+_, _/_, _<_, _≤_}
 use Prim.Native.String.{String}
 use native.Mathlib.Omega.{arith}
-use lib.Dec.{eqb}
+use lib.Dec.{eqb, ltb}
 use lib.ListN.{length, drop}
 use borrow.Author.Tests.{ltb-true, eq-eqb, ne-eqb}
+use Rattle.rules.specs.Limits.{mostSwitches}
 use Rattle.rules.specs.Bytes.{bytes, same, any}
 use Rattle.rules.specs.Tokens as rules
 use Rattle.rules.specs.Statements.{Shape, Sort}
-use Rattle.rules.specs.Shapes.{Parse, isWord, give, one, of₁, either, choice, orEnd, sort, Scope, top, inModule, inCell, Context, autoidxForm, attributeForm, topForms, objectForms, bodyForms, cellForms, forms, wholeBy, whole, shape}
+use Rattle.rules.specs.Shapes.{Parse, isWord, give, one, of₁, either, choice, orEnd, sort, Scope, top, inModule, inCell, inProcess, inTail, inSync, inSwitch, inCase, Context, autoidxForm, attributeForm, topForms, objectForms, bodyForms, cellForms, endForm, assignForm, switchForm, caseForm, updateForm, syncForms, syncForm, nestedForms, forms, wholeBy, whole, shape}
 use Rattle.rules.specs.Shapes as shapes
 use Rattle.scanner.specs.Words.{keywordNumber, keywordAt, placeIn}
 use Rattle.lists.specs.Tests.{and-true-left, and-true-right}
@@ -104,16 +105,36 @@ choice-word (p ∷ ps) f t i c k h =
 -- ---- where the first word leads
 
 unfoldable pub wordsOpen : Unit {0}
-unfolding announced numbered rules.isKeyword rules.keywords keywordNumber placeIn same any forms topForms autoidxForm attributeForm objectForms bodyForms cellForms
+unfolding announced numbered rules.isKeyword rules.keywords keywordNumber placeIn same any forms topForms autoidxForm attributeForm objectForms bodyForms cellForms endForm assignForm switchForm caseForm updateForm syncForms syncForm nestedForms
 wordsOpen = tt
 
+-- the forms in a case, by whether one switch more may be opened
+unfoldable pub formsInCase : (deeper attributed : Bool) → List shapes.Form
+formsInCase deeper attributed =
+    let nested = cond deeper (attributeForm ∷ switchForm ∷ caseForm ∷ []) (attributeForm ∷ caseForm ∷ []) in
+    cond attributed nested (nested ++ assignForm ∷ endForm ∷ [])
+
+case-numbered : (deeper attributed : Bool) → numbered (formsInCase deeper attributed) ≡ true
+unfolding wordsOpen formsInCase
+case-numbered true true = refl
+case-numbered true false = refl
+case-numbered false true = refl
+case-numbered false false = refl
+
 forms-numbered : (s : Scope) (first attributed : Bool) → numbered (forms s first attributed) ≡ true
-unfolding wordsOpen
+unfolding wordsOpen formsInCase
 forms-numbered top true attributed = refl
 forms-numbered top false attributed = refl
 forms-numbered inModule first true = refl
 forms-numbered inModule first false = refl
 forms-numbered inCell first attributed = refl
+forms-numbered inProcess first true = refl
+forms-numbered inProcess first false = refl
+forms-numbered inTail first attributed = refl
+forms-numbered inSync first attributed = refl
+forms-numbered (inSwitch k) first true = refl
+forms-numbered (inSwitch k) first false = refl
+forms-numbered (inCase k) first attributed = case-numbered (ltb (k + 1) mostSwitches) attributed
 
 -- a line whose row 0 holds a keyword
 pub shape-word : (x : Context) (f t : List ℕ) (c : ℕ) → WordIs t 0 c → shape x (line f t 0) ≡ whole (announced (forms (x .scope) (x .first) (x .attributed)) c (line f t 1))

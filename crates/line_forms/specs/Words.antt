@@ -6,7 +6,7 @@ use mathlib.Core.List.{List, [], _∷_}
 use mathlib.Core.Option.{Option, none}
 use mathlib.Core.Bool.{Bool, true, false, cond, _&&_}
 use lib.Dec.{eqb}
-use Rattle.rules.specs.Bytes.{bytes}
+use Rattle.rules.specs.Bytes.{bytes, any}
 use Rattle.rules.specs.Tokens.{Token, isKeyword}
 use Rattle.rules.specs.Statements.{Shape}
 use Rattle.rules.specs.Shapes.{isWord, Form}
@@ -31,3 +31,7 @@ announced (p ∷ ps) c ts = cond (eqb c (keywordNumber (bytes (p .0)))) (p .1 ts
 unfoldable pub numbered : List Form → Bool
 numbered [] = true
 numbered (p ∷ ps) = isKeyword (bytes (p .0)) && numbered ps
+
+-- whether the keyword with a number announces one of the forms
+unfoldable pub begins : List Form → ℕ → Bool
+begins ps c = any (λ p. eqb c (keywordNumber (bytes (p .0)))) ps

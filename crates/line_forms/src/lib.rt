@@ -1,9 +1,17 @@
 // Lines of fixed shape, and which shape a line's first word announces, from the rows of the line's tokens.
+use context::place::IN_PROCESS;
+use context::place::IN_SWITCH;
+use context::place::IN_SYNC;
+use context::place::IN_TAIL;
+use scanner::words::ASSIGN;
 use scanner::words::ATTRIBUTE;
 use scanner::words::AUTOIDX;
+use scanner::words::CASE;
 use scanner::words::CELL;
 use scanner::words::CONNECT;
+use scanner::words::EDGE;
 use scanner::words::END;
+use scanner::words::GLOBAL;
 use scanner::words::MEMORY;
 use scanner::words::MODULE;
 use scanner::words::NO_KEYWORD;
@@ -11,6 +19,9 @@ use scanner::words::PARAMETER;
 use scanner::words::PROCESS;
 use scanner::words::REAL;
 use scanner::words::SIGNED;
+use scanner::words::SWITCH;
+use scanner::words::SYNC;
+use scanner::words::UPDATE;
 use scanner::words::WIRE;
 use tokens::ConstantSlot;
 use tokens::ConstantSpan;
@@ -23,12 +34,17 @@ use tokens::id_at;
 use tokens::integer_at;
 use tokens::literal_at;
 use tokens::token_at;
-ghost use mathlib.Core.Bool.{cond};
+ghost use mathlib.Core.Path.{_≡_};
+ghost use mathlib.Core.Bool.{Bool, true, cond};
+ghost use lib.Dec.{eqb};
+ghost use Rattle.rules.specs.Bytes.{any};
 ghost use Rattle.rules.specs.Statements.{autoidx-stmt, attr-stmt, module-stmt, param-stmt, cell-stmt, cell-param-stmt, proc-stmt};
-ghost use Rattle.rules.specs.Shapes.{of₁, of₂, of₃, id, int, const, orEnd, sort, objectForms};
-ghost use Rattle.line_forms.specs.Words.{WordIs};
+ghost use Rattle.rules.specs.Shapes.{of₁, of₂, of₃, id, int, const, orEnd, sort, objectForms, forms, inProcess, inSwitch, inCase};
+ghost use Rattle.line_forms.specs.Words.{WordIs, begins};
 ghost use Rattle.numbers.specs.Kinds.{sortOf};
 ghost use Rattle.line_forms.specs.Forms.{FinishedIs, LineIs, SortedIs, TopIs, AnnouncedIs, ModuleIs, CellIs};
+ghost use Rattle.context.specs.Place.{scopeOf};
+ghost use Rattle.line_forms.specs.Processes.{rootWords, Inside, processForms, SyncIs, BegunIs, ProcessIs};
 
 // The sorts of a cell parameter; an attribute is plain.
 const PLAIN_SORT: u32 = 0;
@@ -36,6 +52,9 @@ const PLAIN_SORT: u32 = 0;
 const SIGNED_SORT: u32 = 1;
 
 const REAL_SORT: u32 = 2;
+
+// The most switches around one inside which another may stand.
+const MOST_AROUND: u32 = 15;
 
 // A name's place in the file.
 pub struct Span {
@@ -81,6 +100,12 @@ pub enum Kind {
 pub enum CellKind {
     Form(Form),
     Connect,
+}
+
+// A line in a process: of fixed shape, or a step by the number of its word (of a sync the word behind it) whose signals stand from a row on.
+pub enum ProcessKind {
+    Form(Form),
+    Step { step: u32, from: usize },
 }
 
 // The form, where no row from i on is left.
@@ -282,4 +307,141 @@ pub fn cell_line_kind(tokens: &[u32]) -> CellKind
         return CellKind::Form(finished(tokens, 1, Form::End));
     }
     CellKind::Form(Form::NoShape)
+}
+
+// Whether the keyword c begins a line outside of switches: the word w, `sync` or `end`.
+fn begins_root(c: usize, w: usize) -> bool
+    ensures { λ r. ⌜ r ≡ any (eqb c) (rootWords w) ⌝ }
+{
+    if c == w {
+        return true;
+    }
+    if c == SYNC {
+        return true;
+    }
+    c == END
+}
+
+// The same before the switch of a process.
+fn begins_body(c: usize, attributed: bool) -> bool
+    ensures { λ r. ⌜ ((first : Bool) → r ≡ begins (forms inProcess first attributed) c) ⌝ }
+{
+    if c == ATTRIBUTE {
+        return true;
+    }
+    if c == SWITCH {
+        return true;
+    }
+    if attributed {
+        return false;
+    }
+    begins_root(c, ASSIGN)
+}
+
+// The same in a switch before its first case.
+fn begins_switch(c: usize, depth: u32, attributed: bool) -> bool
+    ensures { λ r. ⌜ ((first : Bool) → r ≡ begins (forms (inSwitch depth) first attributed) c) ⌝ }
+{
+    if c == ATTRIBUTE {
+        return true;
+    }
+    if c == CASE {
+        return true;
+    }
+    if attributed {
+        return false;
+    }
+    c == END
+}
+
+// The same in a case; a switch only where few enough are open.
+fn begins_case(c: usize, depth: u32, attributed: bool) -> bool
+    ensures { λ r. ⌜ ((first : Bool) → r ≡ begins (forms (inCase depth) first attributed) c) ⌝ }
+{
+    if c == ATTRIBUTE {
+        return true;
+    }
+    if c == SWITCH {
+        return depth < MOST_AROUND;
+    }
+    if c == CASE {
+        return true;
+    }
+    if attributed {
+        return false;
+    }
+    if c == ASSIGN {
+        return true;
+    }
+    c == END
+}
+
+// The same in any scope of a process; depth: how many switches are open around the innermost one.
+fn begins_line(c: usize, scope: u32, depth: u32, attributed: bool) -> bool
+    requires { ⌜ Inside scope ⌝ }
+    ensures { λ r. ⌜ ((first : Bool) → r ≡ begins (forms (scopeOf scope depth) first attributed) c) ⌝ }
+{
+    if scope == IN_PROCESS {
+        return begins_body(c, attributed);
+    }
+    if scope == IN_TAIL {
+        return begins_root(c, ASSIGN);
+    }
+    if scope == IN_SYNC {
+        return begins_root(c, UPDATE);
+    }
+    if scope == IN_SWITCH {
+        return begins_switch(c, depth, attributed);
+    }
+    begins_case(c, depth, attributed)
+}
+
+// What stands behind `sync`: one of the eight words from `global` to `edge`.
+fn sync_line(tokens: &[u32]) -> ProcessKind
+    ensures { λ r. ⌜ SyncIs (now (tokens .entry)) r ⌝ }
+{
+    let c = word_at(tokens, 1);
+    if c < GLOBAL {
+        return ProcessKind::Form(Form::NoShape);
+    }
+    if EDGE < c {
+        return ProcessKind::Form(Form::NoShape);
+    }
+    ProcessKind::Step {
+        step: c as u32,
+        from: 2,
+    }
+}
+
+// What the keyword c announces, which begins a line of a process.
+fn begun_line(tokens: &[u32], c: usize) -> ProcessKind
+    requires { ⌜ WordIs (now tokens) 0 c ⌝ }
+    requires { ⌜ begins processForms c ≡ true ⌝ }
+    ensures { λ r. ⌜ BegunIs (now (tokens .entry)) c r ⌝ }
+{
+    if c == ATTRIBUTE {
+        return ProcessKind::Form(valued_line(tokens, 1, true, PLAIN_SORT));
+    }
+    if c == END {
+        return ProcessKind::Form(finished(tokens, 1, Form::End));
+    }
+    if c == SYNC {
+        return sync_line(tokens);
+    }
+    ProcessKind::Step {
+        step: c as u32,
+        from: 1,
+    }
+}
+
+// A line in a scope of a process; depth: how many switches are open around the innermost one; attributed: it follows attributes.
+pub fn process_line_kind(tokens: &[u32], scope: u32, depth: u32, attributed: bool) -> ProcessKind
+    requires { ⌜ Inside scope ⌝ }
+    ensures { λ r. ⌜ ProcessIs (now (tokens .entry)) scope depth attributed r ⌝ }
+{
+    let c = word_at(tokens, 0);
+    if begins_line(c, scope, depth, attributed) {
+        return begun_line(tokens, c);
+    }
+    ProcessKind::Form(Form::NoShape)
 }

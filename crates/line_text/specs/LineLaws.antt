@@ -1,29 +1,30 @@
 -- What each piece of a line is by the rules, one law for a return of the code.
 -- Assumes nothing.
-use mathlib.Core.Path.{_≡_, sym, ap, _∙_}
-use mathlib.Core.Bool.{false, not, cond}
+use mathlib.Core.Path.{_≡_, refl, sym, ap, _∙_}
+use mathlib.Core.Bool.{false, not}
 use mathlib.Core.List.{List, [], _∷_, _++_, map, reverse, append-nil, Option·toList}
-use mathlib.Core.Option.{none, some, Option·map}
+use mathlib.Core.Option.{Option, none, some, Option·map}
 use Prim.Native.Nat.{ℕ, _+_, _-_, _/_, _%_, _≤_}
 use lib.Dec.{eqb}
 use lib.IntN.{ℤ, pos}
 use lib.ListN.{length}
 use borrow.Author.Tests.{eq-eqb, ne-eqb}
 use Rattle.rules.specs.Bytes.{bytes}
-use Rattle.rules.specs.Tokens.{Name, Literal, value, integer, string, literal, mark}
-use Rattle.rules.specs.Statements.{Sig, Opt, Sort, Wire, autoidx-stmt, attr-stmt, module-stmt, param-stmt, wire-stmt, memory-stmt, cell-stmt, cell-param-stmt, cell-conn-stmt, conn-stmt, translate}
-use Rattle.rules.specs.Shapes.{isMark}
+use Rattle.rules.specs.Tokens.{Name, Literal, value, integer, string, literal}
+use Rattle.rules.specs.Statements.{Sig, Opt, Sort, autoidx-stmt, attr-stmt, module-stmt, param-stmt, wire-stmt, memory-stmt, cell-stmt, cell-param-stmt, cell-conn-stmt, conn-stmt, proc-stmt, step-stmt, Step, Signal, translate}
 use Rattle.rules.specs.Signals.{Wires}
 use Rattle.rules.specs.Numbers.{inRange}
-use Rattle.rules.specs.Text.{cut, sig, literalOf, setting, unless, portOptions, wireOptions, memoryOptions, written, wordToken, numberToken, lowTokens, sigTokens, optionTokens, sortTokens, shapeTokens, decimalText, integerText, literalText, tokenText, tight, behind, spaced}
+use Rattle.rules.specs.Text.{sig, literalOf, setting, unless, portOptions, wireOptions, memoryOptions, written, wordToken, numberToken, sigTokens, optionTokens, sortTokens, shapeTokens, integerText, literalText, tokenText, tight, behind, spaced}
 use Rattle.numbers.specs.Kinds.{digitOf, signalOf}
 use Rattle.numbers.specs.Signed.{signedOf}
 use Rattle.wires.specs.Rows.{column, portOf, wireOf, spanAt}
 use Rattle.netlist.specs.Rows.{kindAt, nameFrom}
+use Rattle.netlist.specs.Steps.{stepNamed, signalsAt}
 use Rattle.netlist.specs.Statements.{constantAt, optionalAt, signalAt, memoryAt, statementBy, statementAt}
 use Rattle.wire_names.specs.declared.Module.{Module}
 use Rattle.wire_names.specs.Now.{nameNow, ownNow}
-use Rattle.line_text.specs.Pieces.{spread, Piece, piece-none, piece-name, piece-word, piece-literal, piece-sig, piece-bounds, spread-name, spread-literal, spread-digits, spread-append, spaced-word, spaced-two, spaced-three}
+use Rattle.signal_text.specs.Pieces.{spread, Piece, piece-none, piece-name, piece-word, piece-literal, piece-sig, spread-name, spread-literal, spread-digits, spread-append, spaced-word, spaced-two, spaced-three}
+use Rattle.signal_text.specs.Steps.{stepText}
 use Rattle.line_text.specs.Options.{piece-options, spread-options}
 use Rattle.line_text.specs.Lines.{statementNow, bodyText}
 use Rattle.lists.specs.Parts.{slice-le}
@@ -45,32 +46,6 @@ module _ (strings bits rows : List ℕ) (k c x : ℕ) (ex : x ≡ column rows k 
   pub constant-string : (w : List ℕ) → w ≡ spanAt strings rows k (c + 1) → (x ≡ 1 → ⊥) → (x ≡ 2 → ⊥) → 32 ∷ literalText (string w) ≡ spread (literal (literalOf (constantAt strings bits rows k c)) ∷ [])
   unfolding constantAt literalOf
   constant-string w ew h l = sym (spread-literal (literalOf (constantAt strings bits rows k c)) ∙ rw (← ex, ne-eqb x 1 h, ne-eqb x 2 l, ← ew))
-
--- ---- bounds and cuts
-module _ (low count h : ℕ) (eh : h ≡ low + count - 1) where
-  pub bounds-one : count ≡ 1 → (32 ∷ 91 ∷ []) ++ (decimalText h ++ 93 ∷ []) ≡ spread (mark 91 ∷ numberToken (pos (low + count - 1)) ∷ lowTokens (cond (eqb count 1) none (some (pos low))) ++ mark 93 ∷ [])
-  unfolding spread behind tight tokenText isMark lowTokens numberToken literalText integerText
-  bounds-one e = rw (← eh, eq-eqb count 1 e)
-
-  pub bounds-two : (count ≡ 1 → ⊥) → (32 ∷ 91 ∷ []) ++ (decimalText h ++ ((58 ∷ []) ++ (decimalText low ++ 93 ∷ []))) ≡ spread (mark 91 ∷ numberToken (pos (low + count - 1)) ∷ lowTokens (cond (eqb count 1) none (some (pos low))) ++ mark 93 ∷ [])
-  unfolding spread behind tight tokenText isMark lowTokens numberToken literalText integerText
-  bounds-two e = rw (← eh, ne-eqb count 1 e)
-
-pub cut-none : (l : Wires) (low count : ℕ) → l ≡ [] → 32 ∷ 123 ∷ 32 ∷ 125 ∷ [] ≡ spread (sigTokens (cut l low count))
-unfolding cut sigTokens spread behind tight tokenText isMark
-cut-none l low count e = rw e
-
-module _ (l : Wires) (n n′ : Name) (en : n ≡ n′) (w : Wire) (ws : Wires) (low count : ℕ) (e : l ≡ (n′, w) ∷ ws) where
-  pub cut-whole : count ≡ w .width → 32 ∷ n ≡ spread (sigTokens (cut l low count))
-  unfolding cut sigTokens
-  cut-whole h = rw (e, ← en, eq-eqb count (w .width) h) (sym (spread-name n))
-
-  pub cut-part : (count ≡ w .width → ⊥) → (32 ∷ n) ++ spread (mark 91 ∷ numberToken (pos (low + count - 1)) ∷ lowTokens (cond (eqb count 1) none (some (pos low))) ++ mark 93 ∷ []) ≡ spread (sigTokens (cut l low count))
-  unfolding cut sigTokens
-  cut-part h =
-      rw (e, ← en, ne-eqb count (w .width) h)
-      (sym (spread-append (piece-name n) (piece-bounds (pos (low + count - 1)) (cond (eqb count 1) none (some (pos low))))
-      ∙ ap (λ (x : List ℕ). x ++ spread (mark 91 ∷ numberToken (pos (low + count - 1)) ∷ lowTokens (cond (eqb count 1) none (some (pos low))) ++ mark 93 ∷ [])) (spread-name n)))
 
 -- ---- options
 pub option-number : (w : List ℕ) (i : ℤ) → (32 ∷ w) ++ (32 ∷ integerText i) ≡ spread (optionTokens ((w, some i) ∷ []))
@@ -125,6 +100,10 @@ module _ (n n′ : Name) (en : n ≡ n′) where
   unfolding shapeTokens wordToken
   line-module = rw (← en) (sym (spaced-word (bytes "module") (piece-name n) ∙ rw (spread-name n)))
 
+  pub line-process : bytes "process" ++ (32 ∷ n) ≡ spaced (shapeTokens (proc-stmt n′))
+  unfolding shapeTokens wordToken
+  line-process = rw (← en) (sym (spaced-word (bytes "process") (piece-name n) ∙ rw (spread-name n)))
+
   -- x is the constant's kind
   module _ (strings bits rows : List ℕ) (k c x : ℕ) (ex : x ≡ column rows k c) where
     pub line-no-constant : x ≡ 0 → bytes "parameter" ++ (32 ∷ n) ≡ spaced (shapeTokens (param-stmt n′ (Option·map literalOf (optionalAt strings bits rows k c))))
@@ -174,6 +153,11 @@ pub own-now : (names wires rows : List ℕ) (x : Module) (k n : ℕ) → n ≡ k
 unfolding ownNow
 own-now names wires rows x k n e = rw e
 
+step-body : (ws : Wires) (o : Option Step) (xs : List Signal) → stepText ws o xs ≡ bodyText ws (Option·map (λ p. step-stmt p xs) o)
+unfolding stepText bodyText written translate
+step-body ws none xs = refl
+step-body ws (some p) xs = refl
+
 -- the statement in row k by its kind y
 module _ (names strings bits wires rows : List ℕ) (x : Module) (ws : Wires) (k y : ℕ) (ey : y ≡ column rows k 0) where
   pub statement-wire : y ≡ 5 → spaced (shapeTokens (wire-stmt (wireOptions (wireOf wires (column rows k 3))) (ownNow names wires rows x (column rows k 3)))) ≡ bodyText ws (statementNow names strings bits wires rows x k)
@@ -187,6 +171,10 @@ module _ (names strings bits wires rows : List ℕ) (x : Module) (ws : Wires) (k
   pub statement-connection : y ≡ 10 → spaced (shapeTokens (conn-stmt (sig ws (signalAt bits rows k 1)) (sig ws (signalAt bits rows k 3)))) ≡ bodyText ws (statementNow names strings bits wires rows x k)
   unfolding statementNow statementAt statementBy kindAt bodyText written translate
   statement-connection e = rw (← ey, e)
+
+  pub statement-step : y ≡ 13 → stepText ws (stepNamed (column rows k 1)) (signalsAt bits rows k) ≡ bodyText ws (statementNow names strings bits wires rows x k)
+  unfolding statementNow statementAt statementBy kindAt
+  statement-step e = rw (← ey, e) (step-body ws (stepNamed (column rows k 1)) (signalsAt bits rows k))
 
   pub statement-plain : eqb y 5 ≡ false → bodyText ws (statementBy names strings bits wires rows k y) ≡ bodyText ws (statementNow names strings bits wires rows x k)
   unfolding statementNow statementAt kindAt

@@ -6,7 +6,7 @@ use mathlib.Core.Option.{Option, none, some}
 use mathlib.Core.Bool.{false, cond}
 use lib.Dec.{eqb}
 use lib.ListN.{replicate}
-use Rattle.rules.specs.Statements.{Statement, wire-stmt, wireKind, cellConnectionKind, connectionKind}
+use Rattle.rules.specs.Statements.{Statement, wire-stmt, wireKind, cellConnectionKind, connectionKind, stepKind}
 use Rattle.rules.specs.Signals.{Wires}
 use Rattle.rules.specs.Text.{written, shapeTokens, spaced}
 use Rattle.wires.specs.Rows.{column, wireOf}
@@ -15,6 +15,10 @@ use Rattle.netlist.specs.Statements.{statementBy, statementAt}
 use Rattle.wire_names.specs.declared.Module.{Module}
 use Rattle.wire_names.specs.Now.{ownNow}
 use Rattle.text.specs.Written.{Written}
+
+-- the highest level that the rows of any table come to: two a row
+abbrev pub mostLevel : ℕ
+mostLevel = 8589934592
 
 -- the statement in row k; a wire's has its name now
 unfoldable pub statementNow : (names strings bits wires rows : List ℕ) → Module → ℕ → Option Statement
@@ -34,5 +38,5 @@ lineOf level ws o = replicate (2 * level) 32 ++ bodyText ws o ++ 10 ∷ []
 -- the statement of a kind other than those that name wires is written, whatever the wires are
 abbrev pub PlainIs : (names strings bits rows : List ℕ) → (k kind at : ℕ) → (old new : List ℕ) → ℕ → Type 0
 PlainIs names strings bits rows k kind at old new r =
-    (wires : List ℕ) (ws : Wires) → eqb kind wireKind ≡ false → eqb kind cellConnectionKind ≡ false → eqb kind connectionKind ≡ false →
+    (wires : List ℕ) (ws : Wires) → eqb kind wireKind ≡ false → eqb kind cellConnectionKind ≡ false → eqb kind connectionKind ≡ false → eqb kind stepKind ≡ false →
     Written at (bodyText ws (statementBy names strings bits wires rows k kind)) old new r

@@ -14,7 +14,7 @@ use Rattle.rules.specs.Text.{numberToken, optionTokens}
 use Rattle.lists.specs.Bytes.{within-above}
 use Rattle.numbers.specs.Signed.{signedOf}
 use Rattle.numbers.specs.SignedLaws.{by-half}
-use Rattle.line_text.specs.Pieces.{spread, Piece, piece-none, piece-word, piece-literal, piece-append, spread-append}
+use Rattle.signal_text.specs.Pieces.{spread, Piece, piece-none, piece-word, piece-literal, piece-append, spread-append}
 
 option-piece : (w : List ℕ) (o : Option ℤ) → Piece (word w ∷ map numberToken (Option·toList o))
 unfolding Option·toList numberToken

@@ -12,11 +12,14 @@ use context::kinds::END_KIND;
 use context::kinds::MEMORY_KIND;
 use context::kinds::MODULE_KIND;
 use context::kinds::PARAMETER_KIND;
+use context::kinds::PROCESS_KIND;
+use context::kinds::STEP_KIND;
 use context::kinds::WIRE_KIND;
-use numbers::kinds::SignalBit;
 use numbers::kinds::WireNumber;
-use numbers::kinds::decode;
-use signal_runs::run_low;
+use signal_text::put_signal;
+use signal_text::put_step;
+use signal_text::put_token;
+use signal_text::words;
 use text::put_byte;
 use text::put_bytes;
 use text::put_decimal;
@@ -31,30 +34,26 @@ use wires::WIRE_WIDTH;
 use wires::bytes_at;
 use wires::column;
 ghost use mathlib.Core.Path.{_≡_};
-ghost use mathlib.Core.Bool.{cond, not};
-ghost use mathlib.Core.List.{[], _∷_, _++_};
+ghost use mathlib.Core.Bool.{not};
+ghost use mathlib.Core.List.{[], _∷_};
 ghost use mathlib.Core.Option.{none, some, Option·map};
-ghost use Prim.Native.Nat.{_+_, _-_, _*_, _≤_, _<_};
+ghost use Prim.Native.Nat.{_≤_, _<_};
 ghost use lib.Dec.{eqb};
 ghost use lib.IntN.{pos};
-ghost use lib.ListN.{length, drop};
-ghost use lib.Seq.{slice};
-ghost use Rattle.rules.specs.Limits.{mostWidth, bitsLength, pastText, manyRows};
-ghost use Rattle.rules.specs.Tokens.{literal, mark};
-ghost use Rattle.rules.specs.Statements.{autoidx-stmt, attr-stmt, module-stmt, param-stmt, wire-stmt, memory-stmt, cell-stmt, cell-param-stmt, cell-conn-stmt, conn-stmt};
-ghost use Rattle.rules.specs.Text.{cut, runSig, sig, literalOf, setting, unless, portOptions, wireOptions, memoryOptions, numberToken, lowTokens, sigTokens, optionTokens, sortTokens, shapeTokens, decimalText, integerText, spaced};
+ghost use lib.ListN.{length};
+ghost use Rattle.rules.specs.Limits.{bitsLength, pastText, manyRows};
+ghost use Rattle.rules.specs.Tokens.{literal};
+ghost use Rattle.rules.specs.Statements.{autoidx-stmt, attr-stmt, module-stmt, param-stmt, wire-stmt, memory-stmt, cell-stmt, cell-param-stmt, cell-conn-stmt, conn-stmt, proc-stmt};
+ghost use Rattle.rules.specs.Text.{sig, literalOf, setting, unless, portOptions, wireOptions, memoryOptions, optionTokens, sortTokens, shapeTokens, decimalText, integerText, spaced};
 ghost use Rattle.rules.specs.Numbers.{inRange};
-ghost use Rattle.numbers.specs.Kinds.{signalOf};
 ghost use Rattle.numbers.specs.Signed.{signedOf};
 ghost use Rattle.wires.specs.Rows.{column, spanAt, portOf, wireOf};
 ghost use Rattle.netlist.specs.Rows.{nameFrom};
 ghost use Rattle.netlist.specs.Statements.{constantAt, optionalAt, signalAt, memoryAt, sortAt};
 ghost use Rattle.wire_names.specs.Now.{wiresIn, ownNow};
 ghost use Rattle.text.specs.Written.{Written};
-ghost use Rattle.line_text.specs.Pieces.{spread};
-ghost use Rattle.signal_runs.specs.Runs.{firstRun};
-ghost use Rattle.line_text.specs.Runs.{runsText};
-ghost use Rattle.line_text.specs.Lines.{statementNow, bodyText, lineOf, PlainIs};
+ghost use Rattle.signal_text.specs.Pieces.{spread};
+ghost use Rattle.line_text.specs.Lines.{mostLevel, statementNow, bodyText, lineOf, PlainIs};
 
 // The columns of a statement's row. A name, a string, a value or a signal has its start in a column and its length behind it.
 const ROW_KIND: usize = 0;
@@ -108,17 +107,6 @@ const DIRECTION_FLAG: u32 = 4;
 // Spaces a level.
 const LEVEL_SPACES: usize = 2;
 
-// The words from start up to end, cut to those that are there.
-fn words<'a>(t: &'a [u32], start: usize, end: usize) -> &'a [u32]
-    ensures { λ r. ⌜ now r ≡ slice start end (now (t .entry)) ⌝ }
-{
-    let stop = if end < t.len() { end } else { t.len() };
-    if stop <= start {
-        return &t[0..0];
-    }
-    &t[start..stop]
-}
-
 fn words_at<'a>(t: &'a [u32], rows: &[u32], row: usize, c: usize) -> &'a [u32]
     requires { ⌜ (row < manyRows) × (c < 7) ⌝ }
     ensures { λ r. ⌜ now r ≡ spanAt (now (t .entry)) (now (rows .entry)) row c ⌝ }
@@ -126,15 +114,6 @@ fn words_at<'a>(t: &'a [u32], rows: &[u32], row: usize, c: usize) -> &'a [u32]
     let start = column(rows, row, c) as usize;
     let size = column(rows, row, c + 1) as usize;
     words(t, start, start + size)
-}
-
-// A token behind a space.
-fn put_token(out: &mut [u8], at: usize, s: &[u8]) -> usize
-    requires { ⌜ at ≤ pastText ⌝ }
-    ensures { λ r. ⌜ Written at (32 ∷ now (s .entry)) (now (out .entry)) (now (out .exit)) r ⌝ }
-{
-    let space = put_byte(out, at, b' ');
-    put_bytes(out, space, s)
 }
 
 fn put_number(out: &mut [u8], at: usize, n: u32) -> usize
@@ -174,124 +153,6 @@ fn put_constant(
         return put_integer(out, space, column(rows, row, c + 1));
     }
     put_string(out, space, bytes_at(strings, rows, row, c + 1))
-}
-
-// `[i]` or `[h:l]`.
-fn put_bounds(out: &mut [u8], at: usize, low: u32, count: u32) -> usize
-    requires { ⌜ (at ≤ pastText) × (low < mostWidth) × (0 < count) × (count ≤ bitsLength) ⌝ }
-    ensures { λ r. ⌜ Written at (spread (mark 91 ∷ numberToken (pos (low + count - 1)) ∷ lowTokens (cond (eqb count 1) none (some (pos low))) ++ mark 93 ∷ [])) (now (out .entry)) (now (out .exit)) r ⌝ }
-{
-    let open = put_bytes(out, at, b" [");
-    let high = put_decimal(out, open, low + count - 1);
-    if count == 1 {
-        return put_byte(out, high, b']');
-    }
-    let colon = put_byte(out, high, b':');
-    let end = put_decimal(out, colon, low);
-    put_byte(out, end, b']')
-}
-
-// So many bits of a wire from a bit up; a number past the module's wires counts as that of the last one.
-fn put_cut(
-    names: &[u8],
-    wires: &[u32],
-    rows: &[u32],
-    m: Module,
-    wire: WireNumber,
-    low: u32,
-    count: u32,
-    out: &mut [u8],
-    at: usize,
-) -> usize
-    requires { ⌜ (at ≤ pastText) × (low < mostWidth) × (0 < count) × (count ≤ bitsLength) ⌝ }
-    ensures { λ r. ⌜ Written at (spread (sigTokens (cut (drop (m .wires - (wire .0 + 1)) (wiresIn (now (names .entry)) (now (wires .entry)) (now (rows .entry)) m)) low count))) (now (out .entry)) (now (out .exit)) r ⌝ }
-{
-    let many = m.wires;
-    if many == 0 {
-        return put_bytes(out, at, b" { }");
-    }
-    let n = if wire.0 < many { wire.0 } else { many - 1 };
-    let row = m.first as usize + n as usize;
-    let end = put_token(out, at, name_now(names, wires, rows, m, WireNumber(n), row));
-    if count == column(wires, row, WIRE_WIDTH) {
-        return end;
-    }
-    put_bounds(out, end, low, count)
-}
-
-// The run of the bits from j up to i.
-fn put_run(
-    names: &[u8],
-    wires: &[u32],
-    rows: &[u32],
-    m: Module,
-    s: &[u32],
-    j: usize,
-    i: usize,
-    out: &mut [u8],
-    at: usize,
-) -> usize
-    requires { ⌜ (at ≤ pastText) × (j < i) × (i ≤ length (now s)) × (length (now s) ≤ bitsLength) ⌝ }
-    ensures { λ r. ⌜ Written at (spread (sigTokens (runSig (wiresIn (now (names .entry)) (now (wires .entry)) (now (rows .entry)) m) (firstRun (drop j (now (s .entry))) (i - j))))) (now (out .entry)) (now (out .exit)) r ⌝ }
-{
-    match decode(s[j]) {
-        SignalBit::Digit(_) => {
-            let space = put_byte(out, at, b' ');
-            put_value(out, space, &s[j..i])
-        }
-        SignalBit::Wire(wire, low) => {
-            let count = (i - j) as u32;
-            put_cut(names, wires, rows, m, wire, low, count, out, at)
-        }
-    }
-}
-
-// The runs of a signal, the highest first.
-fn put_runs(
-    names: &[u8],
-    wires: &[u32],
-    rows: &[u32],
-    m: Module,
-    s: &[u32],
-    out: &mut [u8],
-    at: usize,
-) -> usize
-    requires { ⌜ (at ≤ pastText) × (length (now s) ≤ bitsLength) ⌝ }
-    ensures { λ r. ⌜ Written at (runsText (wiresIn (now (names .entry)) (now (wires .entry)) (now (rows .entry)) m) (now (s .entry))) (now (out .entry)) (now (out .exit)) r ⌝ }
-{
-    let mut end = at;
-    let mut i = s.len();
-    while 0 < i {
-        let j = run_low(s, i);
-        end = put_run(names, wires, rows, m, s, j, i, out, end);
-        i = j;
-    }
-    end
-}
-
-// One run stands bare, none or several in `{ }`.
-fn put_signal(
-    names: &[u8],
-    wires: &[u32],
-    rows: &[u32],
-    m: Module,
-    s: &[u32],
-    out: &mut [u8],
-    at: usize,
-) -> usize
-    requires { ⌜ (at ≤ pastText) × (length (now s) ≤ bitsLength) ⌝ }
-    ensures { λ r. ⌜ Written at (spread (sigTokens (sig (wiresIn (now (names .entry)) (now (wires .entry)) (now (rows .entry)) m) (signalOf (now (s .entry)))))) (now (out .entry)) (now (out .exit)) r ⌝ }
-{
-    let n = s.len();
-    if n == 0 {
-        return put_bytes(out, at, b" { }");
-    }
-    if run_low(s, n) == 0 {
-        return put_run(names, wires, rows, m, s, 0, n, out, at);
-    }
-    let open = put_bytes(out, at, b" {");
-    let end = put_runs(names, wires, rows, m, s, out, open);
-    put_bytes(out, end, b" }")
 }
 
 // An option with its number, left out where it is the default.
@@ -417,6 +278,14 @@ fn put_module(names: &[u8], rows: &[u32], row: usize, out: &mut [u8], at: usize)
     ensures { λ r. ⌜ Written at (spaced (shapeTokens (module-stmt (nameFrom (now (names .entry)) (now (rows .entry)) row 1)))) (now (out .entry)) (now (out .exit)) r ⌝ }
 {
     let first = put_bytes(out, at, b"module");
+    put_token(out, first, bytes_at(names, rows, row, ROW_NAME))
+}
+
+fn put_process(names: &[u8], rows: &[u32], row: usize, out: &mut [u8], at: usize) -> usize
+    requires { ⌜ (at ≤ pastText) × (row < manyRows) ⌝ }
+    ensures { λ r. ⌜ Written at (spaced (shapeTokens (proc-stmt (nameFrom (now (names .entry)) (now (rows .entry)) row 1)))) (now (out .entry)) (now (out .exit)) r ⌝ }
+{
+    let first = put_bytes(out, at, b"process");
     put_token(out, first, bytes_at(names, rows, row, ROW_NAME))
 }
 
@@ -595,6 +464,9 @@ fn put_plain(
     if kind == CELL_PARAMETER_KIND {
         return put_cell_parameter(names, strings, bits, rows, row, out, at);
     }
+    if kind == PROCESS_KIND {
+        return put_process(names, rows, row, out, at);
+    }
     if kind == END_KIND {
         return put_bytes(out, at, b"end");
     }
@@ -625,6 +497,9 @@ fn put_statement(
     if kind == CONNECTION_KIND {
         return put_connection(names, bits, wires, rows, m, row, out, at);
     }
+    if kind == STEP_KIND {
+        return put_step(names, bits, wires, rows, m, row, out, at);
+    }
     put_plain(names, strings, bits, rows, row, kind, out, at)
 }
 
@@ -641,7 +516,7 @@ pub fn put_line(
     out: &mut [u8],
     at: usize,
 ) -> usize
-    requires { ⌜ (at ≤ pastText) × (level ≤ 2) × (length (now bits) ≤ bitsLength) ⌝ }
+    requires { ⌜ (at ≤ pastText) × (level ≤ mostLevel) × (length (now bits) ≤ bitsLength) ⌝ }
     ensures { λ r. ⌜ Written at (lineOf level (wiresIn (now (names .entry)) (now (wires .entry)) (now (rows .entry)) m) (statementNow (now (names .entry)) (now (strings .entry)) (now (bits .entry)) (now (wires .entry)) (now (rows .entry)) m k)) (now (out .entry)) (now (out .exit)) r ⌝ }
 {
     let body = put_spaces(out, at, LEVEL_SPACES * level);

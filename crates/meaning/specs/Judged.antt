@@ -1,7 +1,7 @@
 -- A written statement that may stand is accepted, as that statement.
 -- Assumes nothing.
 use Prim.Native.Nat.{ℕ}
-use mathlib.Core.Path.{_≡_, refl, ap, _∙_}
+use mathlib.Core.Path.{_≡_, refl, ap, ap₂, _∙_}
 use mathlib.Core.List.{List, [], _∷_, map, flatMap}
 use mathlib.Core.Option.{none, some}
 use mathlib.Core.Bool.{Bool, true, false, _&&_}
@@ -10,18 +10,17 @@ use lib.Dec.{leb}
 use lib.ListN.{length, getD, length-reverse}
 use borrow.Author.Tests.{le-leb}
 use Rattle.rules.specs.Bytes.{all}
-use Rattle.rules.specs.Statements.{Sig, Constant, Signal, Statement, holds, autoidx-stmt, attr-stmt, module-stmt, param-stmt, wire-stmt, memory-stmt, cell-stmt, cell-param-stmt, cell-conn-stmt, conn-stmt, proc-stmt, end-stmt, aProcess, contents, is, statementsOpen}
+use Rattle.rules.specs.Statements.{Sig, Constant, Signal, Statement, holds, autoidx-stmt, attr-stmt, module-stmt, param-stmt, wire-stmt, memory-stmt, cell-stmt, cell-param-stmt, cell-conn-stmt, conn-stmt, proc-stmt, step-stmt, end-stmt, contents, is, statementsOpen}
 use Rattle.rules.specs.Shapes.{shape}
 use Rattle.rules.specs.Numbers.{goodLiteral, goodNumbers, goodWire, goodMemory}
 use Rattle.rules.specs.Signals.{Wires, literalBits, kept, width, bits, declaredWire, goodSlice, parts}
-use Rattle.rules.specs.Judgement.{Past, context, wires, among, newPort, allParts, breaksNumber, lacksWire, takesName, equalWidths, breaksWidth, partTooWide, lowest, Verdict, verdict, meaning, judgeIn, judge}
+use Rattle.rules.specs.Judgement.{Past, context, wires, among, newPort, allParts, breaksNumber, lacksWire, takesName, fitWidths, breaksWidth, partTooWide, lowest, Verdict, verdict, meaning, judgeIn, judge}
 use Rattle.rules.specs.Reading.{shaped}
 use Rattle.rules.specs.Text.{sig, literalOf, wireOptions, memoryOptions, written, shapeTokens}
-use Rattle.admitted.specs.Admitted.{stands, fineConstant, ownWire, newPorts, fineMemory, fineSignal, sameLength, admits, admitted}
-use Rattle.lists.specs.Elements.{all-append, all-first, all-later, all-implied, all-map, all-through, all-both, test-at}
+use Rattle.admitted.specs.Admitted.{stands, fineConstant, ownWire, newPorts, fineMemory, fineSignal, admits, admitted}
+use Rattle.lists.specs.Elements.{all-append, all-first, all-later, all-implied, all-map, all-through, all-both, each-of, map-back, test-at}
 use Rattle.admitted.specs.AdmitLaws.{FineParts, fine-parts, Admits, admits-all}
 use Rattle.context.specs.Forms.{translated, contents-translated}
-use Rattle.admitted.specs.CountLaws.{never-process}
 use Rattle.meaning.specs.Shapes.{shape-written}
 use Rattle.meaning.specs.Wires.{Sound}
 use Rattle.meaning.specs.Bits.{fill-all}
@@ -47,6 +46,9 @@ module _ (ws : Wires) (sound : Sound ws) where
   signal-back : (g : Signal) → fineSignal ws g ≡ true → bits ws (sig ws g) ≡ g
   signal-back g h = sig-means ws sound g h .same-bits
 
+  signals-back : (gs : List Signal) → all (fineSignal ws) gs ≡ true → map (bits ws) (map (sig ws) gs) ≡ gs
+  signals-back gs h = map-back (sig ws) (bits ws) gs (each-of _ (fineSignal ws) signal-back gs h)
+
   pub meaning-written : (s : Statement) → FineParts ws s → meaning ws (written ws s) ≡ s
   unfolding meaning written statementsOpen
   meaning-written (autoidx-stmt i) f = refl
@@ -62,6 +64,7 @@ module _ (ws : Wires) (sound : Sound ws) where
   meaning-written (conn-stmt g h) f =
       rw (signal-back g (all-first (fineSignal ws) g (h ∷ []) (f .signals)), signal-back h (all-first (fineSignal ws) h [] (all-later (fineSignal ws) g (h ∷ []) (f .signals))))
   meaning-written (proc-stmt n) f = refl
+  meaning-written (step-stmt p gs) f = rw (signals-back gs (f .signals))
   meaning-written end-stmt f = refl
 
 -- ---- what stands in it
@@ -69,12 +72,6 @@ module _ (ws : Wires) (sound : Sound ws) where
 contents-written : (ws : Wires) (s : Statement) → contents (written ws s) ≡ translated literalOf (sig ws) wireOptions memoryOptions (contents s)
 unfolding written
 contents-written ws s = contents-translated literalOf (sig ws) wireOptions memoryOptions s
-
--- ---- 6: no process may stand
-
-no-process : (ss : Past) (s : Statement) → stands ss s ≡ true → is aProcess (written (wires ss) s) ≡ false
-unfolding is translated holds
-no-process ss s h = rw (contents-written (wires ss) s) (never-process s ss h)
 
 -- ---- 7, 8, 10, 11: the parts of its signals
 
@@ -86,12 +83,10 @@ module _ (ws : Wires) (sound : Sound ws) where
       all-append (goodPart ws) (parts (sig ws g)) (flatMap parts (map (sig ws) gs)) (sig-means ws sound g (all-first (fineSignal ws) g gs h) .good-parts)
       (parts-good gs (all-later (fineSignal ws) g gs h))
 
-  widths-equal : (gs : List Signal) → all (fineSignal ws) gs ≡ true → sameLength gs ≡ true → equalWidths ws (map (sig ws) gs) ≡ true
-  unfolding sameLength equalWidths
-  widths-equal [] h k = refl
-  widths-equal (g ∷ []) h k = refl
-  widths-equal (g ∷ q ∷ gs) h k =
-      rw (sig-means ws sound g (all-first (fineSignal ws) g (q ∷ gs) h) .same-width, sig-means ws sound q (all-first (fineSignal ws) q gs (all-later (fineSignal ws) g (q ∷ gs) h)) .same-width) k
+  widths-back : (gs : List Signal) → all (fineSignal ws) gs ≡ true → map (width ws) (map (sig ws) gs) ≡ map length gs
+  widths-back [] h = refl
+  widths-back (g ∷ gs) h =
+      ap₂ (λ (w : ℕ) (vs : List ℕ). w ∷ vs) (sig-means ws sound g (all-first (fineSignal ws) g gs h) .same-width) (widths-back gs (all-later (fineSignal ws) g gs h))
 
   -- what a good part keeps, by number
   part-keeps : (x : Sig) → goodPart ws x ≡ true → (i : ℕ) → getD (goodNumbers x ∷ declaredWire ws x ∷ goodSlice ws x ∷ leb (width ws x) 2048 ∷ []) i true ≡ true
@@ -122,9 +117,9 @@ module _ (ws : Wires) (sound : Sound ws) where
     unfolding lacksWire
     wires-there = rw (each-good (declaredWire ws) (λ x h. part-keeps x h 1))
 
-    pub widths-kept : breaksWidth ws (written ws s) ≡ false
-    unfolding breaksWidth translated holds
-    widths-kept = rw (each-good (goodSlice ws) (λ x h. part-keeps x h 2), contents-written ws s, widths-equal (contents s .signals) (f .signals) (f .same-length))
+    pub widths-kept : (ss : Past) → fitWidths ss s (map length (contents s .signals)) ≡ true → breaksWidth ws ss (written ws s) ≡ false
+    unfolding breaksWidth fitWidths translated holds
+    widths-kept ss h = rw (each-good (goodSlice ws) (λ x h. part-keeps x h 2), contents-written ws s, widths-back (contents s .signals) (f .signals), h)
 
     pub parts-narrow : partTooWide ws (written ws s) ≡ false
     unfolding partTooWide
@@ -145,8 +140,10 @@ judge-written ss s h k =
     let sound : Sound ws = admitted-sound ss h in
     let a : Admits ss s = admits-all ss s k in
     let f : FineParts ws s = fine-parts ws s (a .parts) in
-    rw (no-process ss s (a .standing), numbers-kept ws sound s f, wires-there ws sound s f, takes-written ss ws s, a .new-name, widths-kept ws sound s f, parts-narrow ws sound s f, meaning-written ws sound s f, a .room)
+    rw (numbers-kept ws sound s f, wires-there ws sound s f, takes-written ss ws s, a .new-name, widths-kept ws sound s f ss (a .widths), parts-narrow ws sound s f, meaning-written ws sound s f, a .room)
 
 pub shaped-written : (ss : Past) (s : Statement) → admitted ss ≡ true → admits ss s ≡ true → shaped ss (shape (context ss) (shapeTokens (written (wires ss) s))) ≡ Verdict.accepted s
 unfolding shaped stands
-shaped-written ss s h k = rw (shape-written (context ss) (wires ss) s (admits-all ss s k .standing)) (judge-written ss s h k)
+shaped-written ss s h k =
+    let a : Admits ss s = admits-all ss s k in
+    rw (shape-written (context ss) (wires ss) s (a .standing) (fine-parts (wires ss) s (a .parts) .arities)) (judge-written ss s h k)

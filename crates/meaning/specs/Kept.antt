@@ -7,7 +7,7 @@ use mathlib.Core.Option.{none}
 use mathlib.Core.Bool.{true, false}
 use Rattle.rules.specs.Bytes.{same, any}
 use Rattle.rules.specs.Tokens.{Name}
-use Rattle.rules.specs.Statements.{Constant, Signal, Wire, Memory, Statement, wire-stmt, aWire, aMemory, aCell, contents, ownName, statementsOpen}
+use Rattle.rules.specs.Statements.{Constant, Signal, Wire, Memory, Statement, wire-stmt, aWire, aMemory, aCell, aProcess, contents, ownName, statementsOpen}
 use Rattle.rules.specs.Signals.{Wires, find}
 use Rattle.rules.specs.Judgement.{Past, until, only, ofModule, wires, among, space, namesIn, nameSpaces, takesName}
 use Rattle.context.specs.Forms.{by-form}
@@ -23,7 +23,7 @@ use Rattle.meaning.specs.Settings.{wire-width}
 
 -- the names among some statements
 abbrev ownNames : List Statement → List Name
-ownNames xs = map (λ s. ownName (contents s .names)) (only (among (aWire ∷ aMemory ∷ aCell ∷ [])) xs)
+ownNames xs = map (λ s. ownName (contents s .names)) (only (among (aWire ∷ aMemory ∷ aCell ∷ aProcess ∷ [])) xs)
 
 not-found : (n : Name) (xs : List Statement) → any (same n) (ownNames xs) ≡ false → find n (flatMap (λ s. zip (contents s .names) (contents s .wires)) xs) ≡ none
 unfolding statementsOpen any only among flatMap zip find
@@ -33,7 +33,7 @@ not-found n (s ∷ xs) h =
     (λ i. not-found n xs) (λ m c. not-found n xs) (λ m. not-found n xs) (λ m c. not-found n xs)
     (λ w m k. rw (same-sym m n, or-false-left (same n m) _ k) (not-found n xs (or-false-right (same n m) _ k)))
     (λ y m k. not-found n xs (or-false-right (same n m) _ k)) (λ t m k. not-found n xs (or-false-right (same n m) _ k))
-    (λ o m c. not-found n xs) (λ m g. not-found n xs) (λ x y. not-found n xs) (λ m. not-found n xs) (not-found n xs) s h
+    (λ o m c. not-found n xs) (λ m g. not-found n xs) (λ x y. not-found n xs) (λ m k. not-found n xs (or-false-right (same n m) _ k)) (λ p gs. not-found n xs) (not-found n xs) s h
 
 wire-new : (ss : Past) (w : Wire) (n : Name) → takesName {C = Constant} {S = Signal} {M = Memory} ss (wire-stmt w n) ≡ false → find n (wires ss) ≡ none
 unfolding takesName nameSpaces namesIn space any among statementsOpen wires
@@ -49,7 +49,7 @@ sound-more ss =
     by-form (λ s. Admits ss s → Sound (wires ss) → Sound (wires (s ∷ ss)))
     (λ i a h. h) (λ m c a h. h) (λ m a h. no-wire) (λ m c a h. h)
     (λ w m a. one-more (wire-new ss w m (a .new-name)) (wire-narrow (wires ss) w m (fine-parts (wires ss) (wire-stmt w m) (a .parts))))
-    (λ y m a h. h) (λ t m a h. h) (λ o m c a h. h) (λ m g a h. h) (λ x y a h. h) (λ m a h. h) (λ a h. h)
+    (λ y m a h. h) (λ t m a h. h) (λ o m c a h. h) (λ m g a h. h) (λ x y a h. h) (λ m a h. h) (λ p gs a h. h) (λ a h. h)
 
 no-past : Sound (wires [])
 unfolding wires ofModule until flatMap

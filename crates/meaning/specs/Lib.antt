@@ -1,6 +1,7 @@
 pub mod Items
 pub mod Sigs
 pub mod Options
+pub mod Steps
 pub mod Shapes
 pub mod Wires
 pub mod Bits

@@ -115,6 +115,12 @@ written-no-slice [] rest gs = refl
 written-no-slice (s ∷ []) rest gs = member-no-slice rest (gs .0)
 written-no-slice (s ∷ t ∷ ss) rest gs = refl
 
+written-long : (ss : List Sig) → Each Member ss → 1 ≤ length (sigTokens (runsSig ss))
+unfolding runsSig sigTokens
+written-long [] gs = omega arith
+written-long (s ∷ []) gs = member-long (gs .0)
+written-long (s ∷ t ∷ ss) gs = omega arith
+
 -- ---- the runs of a signal are members
 
 cut-member : (ws : Wires) (l n : ℕ) → Member (cut ws l n)
@@ -139,3 +145,7 @@ module _ (ws : Wires) (bs : Signal) (rest : List Token) where
   pub sig-no-slice : slices (sigTokens (sig ws bs) ++ rest) ≡ false
   unfolding sig
   sig-no-slice = written-no-slice (map (runSig ws) (runs bs)) rest (run-members ws (runs bs))
+
+pub sig-long : (ws : Wires) (bs : Signal) → 1 ≤ length (sigTokens (sig ws bs))
+unfolding sig
+sig-long ws bs = written-long (map (runSig ws) (runs bs)) (run-members ws (runs bs))

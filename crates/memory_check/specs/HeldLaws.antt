@@ -135,7 +135,7 @@ module _ {m : layouts.Memory} {ss : List Statement} {rs : List Rename} (h : Hold
       let b : length (m .strings) ≡ stringsLength = sym (holds-as (λ x. length (x .strings))) ∙ length-padded stringsLength (S .strings) (omega (arith, in-place .strings, sums-fit .string-bytes)) in
       let c : length (m .bits) ≡ bitsLength = sym (holds-as (λ x. length (x .bits))) ∙ length-padded bitsLength (S .bits) (omega (arith, in-place .bits, sums-fit .value-bits, sums-fit .signal-bits)) in
       let d : length (m .wires) ≡ 4096 = sym (holds-as (λ x. length (x .wires))) ∙ length-padded wiresLength (flat (S .wires)) (omega (arith, in-place .wires, wires-fit)) in
-      let e : length (m .rows) ≡ 38152 =
+      let e : length (m .rows) ≡ 55560 =
       sym (holds-as (λ x. length (x .rows))) ∙ length-padded rowsLength (flat (S .rows)) (omega (arith, in-place .rows, admitted-few (reverse ss) (h .admitted), allowed-few (h .allowed))) in
       rw (a, b, c, d, e)
 
@@ -160,11 +160,11 @@ module _ {m : layouts.Memory} {ss : List Statement} {rs : List Rename} (h : Hold
   fronts : Fronts (roomsOf (reverse ss)) (tablesIn m)
   fronts = fronts-renames (roomsOf (reverse ss)) rs (subst (λ (R : Rooms). Fronts R (tablesIn m)) (rooms-file ss rs) holds-fronts)
 
-rename-kind : (x : _) (at : ℕ) (q : Rename) → RowOf x at q → x .kind ≡ 13
+rename-kind : (x : _) (at : ℕ) (q : Rename) → RowOf x at q → x .kind ≡ 14
 unfolding isRename
-rename-kind x at q f = eqb-true (x .kind) 13 (and-true-left (eqb (x .kind) 13) _ (f .is))
+rename-kind x at q f = eqb-true (x .kind) 14 (and-true-left (eqb (x .kind) 14) _ (f .is))
 
-kind-ends : (rows : List ℕ) (at : ℕ) → rowAt rows at .kind ≡ 13 → isStatement (wordAt rows at) ≡ false
+kind-ends : (rows : List ℕ) (at : ℕ) → rowAt rows at .kind ≡ 14 → isStatement (wordAt rows at) ≡ false
 unfolding rowAt wordAt isStatement within
 kind-ends rows at k = rw k
 
@@ -182,7 +182,7 @@ rows-end q (r ∷ rs) names rows l e =
     let R : Rooms = roomsOf q in
     let n = laid-next R (eights-rows q) r (laid-renames (putRename R r) rs l) in
     let x = rowAt rows (8 * length (R .rows)) in
-    let k : x .kind ≡ 13 = rename-kind x (length (R .names)) r (words-rename x (length (R .names)) r (n .row)) in
+    let k : x .kind ≡ 14 = rename-kind x (length (R .names)) r (words-rename x (length (R .names)) r (n .row)) in
     kind-ends rows (8 * length (R .rows)) k
 
 pub holds-stored : {m : layouts.Memory} {ss : List Statement} {rs : List Rename} → Holds m ss rs → Stored (partsOf m) (m .rows) (reverse ss)

@@ -34,8 +34,8 @@ module _ (x : Row) (at : ℕ) where
   pub rename-words : (n : Name) → isRename x at ≡ true → length n ≡ x .b → words x ≡ renameRow at (record { moduleNumber = x .c; wireNumber = x .d; newName = n })
   unfolding isRename words renameRow row padded
   rename-words n e l =
-      let h = test-at (eqb (x .kind) 13) (eqb (x .a) at ∷ eqb (x .e) 0 ∷ eqb (x .f) 0 ∷ eqb (x .g) 0 ∷ []) (simp (← and-assoc) at e) in
-      rw (eqb-true (x .kind) 13 (h 0), eqb-true (x .a) at (h 1), eqb-true (x .e) 0 (h 2), eqb-true (x .f) 0 (h 3), eqb-true (x .g) 0 (h 4), l)
+      let h = test-at (eqb (x .kind) 14) (eqb (x .a) at ∷ eqb (x .e) 0 ∷ eqb (x .f) 0 ∷ eqb (x .g) 0 ∷ []) (simp (← and-assoc) at e) in
+      rw (eqb-true (x .kind) 14 (h 0), eqb-true (x .a) at (h 1), eqb-true (x .e) 0 (h 2), eqb-true (x .f) 0 (h 3), eqb-true (x .g) 0 (h 4), l)
 
   pub record RowOf (q : Rename) : Type 0 where
     pub is : isRename x at ≡ true
@@ -46,13 +46,13 @@ module _ (x : Row) (at : ℕ) where
   pub words-rename : (q : Rename) → words x ≡ renameRow at q → RowOf q
   unfolding isRename words renameRow row padded
   words-rename q e =
-      let k : x .kind ≡ 13 = cc in
+      let k : x .kind ≡ 14 = cc in
       let a : x .a ≡ at = cc in
       let b : x .e ≡ 0 = cc in
       let c : x .f ≡ 0 = cc in
       let d : x .g ≡ 0 = cc in
       record {
-        is = rw (eq-eqb (x .kind) 13 k, eq-eqb (x .a) at a, eq-eqb (x .e) 0 b, eq-eqb (x .f) 0 c, eq-eqb (x .g) 0 d);
+        is = rw (eq-eqb (x .kind) 14 k, eq-eqb (x .a) at a, eq-eqb (x .e) 0 b, eq-eqb (x .f) 0 c, eq-eqb (x .g) 0 d);
         long = cc;
         module-number = cc;
         wire-number = cc;

@@ -18,7 +18,7 @@ use tables::get_row;
 use tables::zero_bytes_from;
 use tables::zero_from;
 ghost use mathlib.Core.Path.{_≡_};
-ghost use Prim.Native.Nat.{_≤_};
+ghost use Prim.Native.Nat.{_+_, _≤_};
 ghost use lib.ListN.{length};
 ghost use Rattle.rules.specs.Limits.{mostWires, namesLength};
 ghost use Rattle.netlist.specs.Lengths.{rightSizes};
@@ -194,6 +194,13 @@ fn standing_renames(
     )
 }
 
+// The words of bits that values and signals use.
+fn bits_used(values: u32, signals: u32) -> usize
+    ensures { λ r. ⌜ r ≡ values + signals ⌝ }
+{
+    values as usize + signals as usize
+}
+
 // Unused room is zero.
 fn rest_is_zero(
     names: &[u8],
@@ -215,7 +222,7 @@ fn rest_is_zero(
     if !zero_bytes_from(strings, sums.string_bytes as usize) {
         return false;
     }
-    if !zero_from(bits, sums.value_bits as usize + sums.signal_bits as usize) {
+    if !zero_from(bits, bits_used(sums.value_bits, sums.signal_bits)) {
         return false;
     }
     if !zero_from(wires, ROW_WORDS * place.wires as usize) {

@@ -13,7 +13,7 @@ pub plain-written : (ws : Wires) (s : Statement) → contents s .signals ≡ [] 
 unfolding written statementsOpen
 plain-written ws =
     by-form _ (λ i e. refl) (λ x c e. refl) (λ x e. refl) (λ x c e. refl) (λ w x e. refl) (λ m x e. refl) (λ t x e. refl) (λ o x c e. refl)
-    (λ x g e. absurd (cons≢nil e)) (λ g h e. absurd (cons≢nil e)) (λ x e. refl) (λ e. refl)
+    (λ x g e. absurd (cons≢nil e)) (λ g h e. absurd (cons≢nil e)) (λ x e. refl) (λ p xs e. rw e) (λ e. refl)
 
 pub plain-line : (l : ℕ) (ws : Wires) (s : Statement) → contents s .signals ≡ [] → lineOf l ws s ≡ plainLine l s
 unfolding plainLine lineOf

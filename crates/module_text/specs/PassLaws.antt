@@ -1,18 +1,20 @@
 -- The passes over the statements of a file write the text of its design with the names now.
 -- Assumes nothing.
-use Prim.Native.Nat.{ℕ, suc, _+_}
+use Prim.Native.Nat.{ℕ, zero, suc, _+_}
 use native.Mathlib.Omega.{arith}
 use mathlib.Core.Path.{_≡_, refl, sym, ap, ap₂, _∙_}
 use mathlib.Core.Option.{Option}
-use mathlib.Core.Bool.{true, cond}
-use mathlib.Core.List.{List, [], _∷_, _++_, map, map-append, flatMap, head?, reverse, Option·toList, append-nil}
+use mathlib.Core.Bool.{true, false, cond, false≢true}
+use mathlib.Core.List.{List, [], _∷_, _++_, map, map-append, flatMap, head?, reverse, reverseAux, reverseAux-append, Option·toList, append-nil}
 use Rattle.rules.specs.Tokens.{Name}
-use Rattle.rules.specs.Statements.{Sort, Constant, Signal, Wire, Statement, autoidx-stmt, attr-stmt, module-stmt, param-stmt, wire-stmt, memory-stmt, cell-stmt, cell-param-stmt, cell-conn-stmt, conn-stmt, end-stmt, Kind, anAutoidx, anAttribute, aModule, aParameter, aWire, aMemory, aCell, aCellParameter, aCellConnection, aConnection, is, contents, statementsOpen}
+use Rattle.rules.specs.Statements.{Sort, Constant, Signal, Wire, Statement, autoidx-stmt, attr-stmt, module-stmt, param-stmt, wire-stmt, memory-stmt, cell-stmt, cell-param-stmt, cell-conn-stmt, conn-stmt, proc-stmt, step-stmt, end-stmt, switch, Kind, anAutoidx, anAttribute, aModule, aParameter, aWire, aMemory, aCell, aCellParameter, aCellConnection, aConnection, aProcess, is, contents, statementsOpen}
 use Rattle.rules.specs.Signals.{Wires}
-use Rattle.rules.specs.Judgement.{until, only}
-use Rattle.rules.specs.Design.{Setting, settingIn, Object, object, Cell, Module, Item, items, blocks, objectsIn, parameterIn, portIn, connectionIn, cellParameterIn, each, cellOf, moduleOf, design, designOpen}
+use Rattle.rules.specs.Bytes.{any}
+use Rattle.rules.specs.Shapes.{Scope, inProcess}
+use Rattle.rules.specs.Judgement.{Past, until, only, outer, behindStep, scope, steps}
+use Rattle.rules.specs.Design.{Setting, settingIn, Object, object, Cell, Line, step-line, end-line, Module, Design, Item, items, blocks, objectsIn, parameterIn, portIn, connectionIn, cellParameterIn, each, cellOf, stepIn, shut, linesIn, processOf, moduleOf, design, lineStatements, processLines, designOpen}
 use Rattle.rules.specs.Session.{Rename, now}
-use Rattle.rules.specs.Text.{text}
+use Rattle.rules.specs.Text.{level, holder, text}
 use Rattle.lists.specs.Tests.{by-test}
 use Rattle.lists.specs.Lists.{flatMap-same, flatMap-map}
 use Rattle.context.specs.Forms.{by-form, by-attribute}
@@ -20,11 +22,13 @@ use Rattle.modules.specs.DesignLaws.{only-attribute, items-until, wires-pairs}
 use Rattle.modules.specs.Now.{numbered, nameNow, wireNow, moduleNow, designNow}
 use Rattle.modules.specs.NowLaws.{numbered-same, map-numbered, now-is}
 use Rattle.canonical.specs.Nesting.{settings}
-use Rattle.canonical.specs.Fine.{wiresIn}
-use Rattle.module_text.specs.Blocks.{lineOf, plainLine, attributesText, wireText, memoryText, cellText, bodyText, moduleText, designText}
-use Rattle.module_text.specs.BlockLaws.{text-modules}
+use Rattle.lists.specs.Elements.{Each, each-map}
+use Rattle.canonical.specs.Fine.{wiresIn, FineProcess, FineModule, FineDesign}
+use Rattle.canonical.specs.Following.{process-leaves}
+use Rattle.module_text.specs.Blocks.{lineOf, plainLine, attributesText, wireText, memoryText, cellText, linesText, processText, bodyText, moduleText, designText}
+use Rattle.module_text.specs.BlockLaws.{behindLine, behindLines, Leaves, text-modules}
 use Rattle.module_text.specs.LineLaws.{plain-line}
-use Rattle.module_text.specs.Passes.{declaredNow, named, wiresNow, linesOf, kindLines, firstLine, Print, objectLines, printWire, printMemory, cellBlock, printCell, bodyLines, printModule, fileText}
+use Rattle.module_text.specs.Passes.{declaredNow, named, wiresNow, linesOf, kindLines, firstLine, Print, objectLines, printWire, printMemory, cellBlock, printCell, shutLines, stepLines, printProcess, bodyLines, printModule, fileText}
 use Rattle.module_text.specs.StatementLaws.{parameters-are, connections-are, cell-parameters-are, ports-are}
 
 -- ---- the lines of a kind
@@ -99,7 +103,7 @@ memories-text ws n at ss =
     (λ n at. by-form (Steps aMemory (printMemory ws) (flatMap (objectsIn (λ c. c .memories))) (λ i. memoryText) n at)
     (λ i ss. refl) (λ x c ss. refl) (λ x ss. refl) (λ x c ss. refl) (λ w x ss. refl)
     (λ m x ss. ap (λ (l : List ℕ). l ++ texts (λ i. memoryText) (n + 1) (flatMap (objectsIn (λ c. c .memories)) (items [] ss))) (ap₂ _++_ (attributes-lines 1 ws at) (plain-line 1 ws (memory-stmt m x) refl)))
-    (λ t x ss. refl) (λ o x c ss. refl) (λ x g ss. refl) (λ g h ss. refl) (λ x ss. refl) (λ ss. refl)) n at ss
+    (λ t x ss. refl) (λ o x c ss. refl) (λ x g ss. refl) (λ g h ss. refl) (λ x ss. refl) (λ p xs ss. refl) (λ ss. refl)) n at ss
     ∙ texts-each memoryText n (flatMap (objectsIn (λ c. c .memories)) (items at ss))
 
 -- ---- wires, each with its number and its name now
@@ -116,7 +120,7 @@ wires-text rs m ws ss =
     (λ n at. by-form (Steps aWire (printWire rs m ws) (flatMap (objectsIn (λ c. c .wires))) (λ i o. wireText (wireNow rs m i o)) n at)
     (λ i ss. refl) (λ x c ss. refl) (λ x ss. refl) (λ x c ss. refl)
     (λ w x ss. ap (λ (l : List ℕ). l ++ texts (λ i o. wireText (wireNow rs m i o)) (n + 1) (flatMap (objectsIn (λ c. c .wires)) (items [] ss))) (wire-text rs m ws n at w x ss))
-    (λ y x ss. refl) (λ t x ss. refl) (λ o x c ss. refl) (λ x g ss. refl) (λ g h ss. refl) (λ x ss. refl) (λ ss. refl)) 0 [] ss
+    (λ y x ss. refl) (λ t x ss. refl) (λ o x c ss. refl) (λ x g ss. refl) (λ g h ss. refl) (λ x ss. refl) (λ p xs ss. refl) (λ ss. refl)) 0 [] ss
     ∙ texts-first wireText (wireNow rs m) (flatMap (objectsIn (λ c. c .wires)) (items [] ss))
 
 -- ---- cells
@@ -156,8 +160,62 @@ cells-text ws n at ss =
     (λ n at. by-form (Steps aCell (printCell ws) (λ is′. flatMap cellOf (blocks (is aCell) is′)) (λ i. cellText ws) n at)
     (λ i ss. refl) (λ x c ss. refl) (λ x ss. refl) (λ x c ss. refl) (λ w x ss. refl) (λ m x ss. refl)
     (λ t x ss. ap (λ (l : List ℕ). l ++ texts (λ i. cellText ws) (n + 1) (flatMap cellOf (blocks (is aCell) (items [] ss)))) (cell-text ws n at t x ss))
-    (λ o x c ss. refl) (λ x g ss. refl) (λ g h ss. refl) (λ x ss. refl) (λ ss. refl)) n at ss
+    (λ o x c ss. refl) (λ x g ss. refl) (λ g h ss. refl) (λ x ss. refl) (λ p xs ss. refl) (λ ss. refl)) n at ss
     ∙ texts-each (cellText ws) n (flatMap cellOf (blocks (is aCell) (items at ss)))
+
+-- ---- processes
+
+-- behind an `end`: of the process, or of one of its switches
+shut-text : (p : Scope) (ws : Wires) (k : ℕ) (f : ℕ → List ℕ) (g : ℕ → List Line) → ((j : ℕ) → f j ≡ linesText (outer p) ws (g j)) → shutLines k (λ j. lineOf (level (outer p)) ws end-stmt ++ f j) ≡ linesText p ws (shut k g)
+unfolding shutLines shut linesText statementsOpen
+shut-text p ws zero f g h = refl
+shut-text p ws (suc k) f g h = ap₂ _++_ (plain-line (level (outer p)) ws end-stmt refl) (h k)
+
+-- the lines that the items give, if those behind this statement do
+abbrev LinesAt : Wires → Scope → ℕ → List Setting → List Statement → Statement → Type 0
+LinesAt ws p k at ss s =
+    is anAttribute s ≡ false →
+    stepLines ws p k (settings at) (s ∷ ss) ≡ linesText p ws (linesIn k (record { attributes = at; statement = s } ∷ items [] ss))
+
+lines-here : (ws : Wires) (p : Scope) (k : ℕ) (at : List Setting) (ss : List Statement) → ((p : Scope) (k : ℕ) → stepLines ws p k [] ss ≡ linesText p ws (linesIn k (items [] ss))) → (s : Statement) → LinesAt ws p k at ss s
+unfolding stepLines linesIn linesText stepIn steps any statementsOpen
+lines-here ws p k at ss onward =
+    by-form (LinesAt ws p k at ss)
+    (λ i e. onward p k) (λ x c e. absurd (false≢true (sym e))) (λ x e. onward p k) (λ x c e. onward p k) (λ w x e. onward p k) (λ m x e. onward p k)
+    (λ t x e. onward p k) (λ o x c e. onward p k) (λ x g e. onward p k) (λ g h e. onward p k) (λ x e. onward p k)
+    (λ q xs e.
+    let l : ℕ = level (holder p q) in
+    ap₂ _++_ (ap (λ (x : List ℕ). x ++ lineOf l ws (step-stmt q xs)) (attributes-lines l ws at)) (onward (behindStep p q) (cond (steps switch (step-stmt q xs)) (k + 1) k)))
+    (λ e. shut-text p ws k (λ j. stepLines ws (outer p) j [] ss) (λ j. linesIn j (items [] ss)) (λ j. onward (outer p) j))
+
+steps-text : (ws : Wires) (ss : List Statement) (p : Scope) (k : ℕ) (at : List Setting) → stepLines ws p k (settings at) ss ≡ linesText p ws (linesIn k (items at ss))
+unfolding stepLines items linesIn linesText
+steps-text ws [] p k at = refl
+steps-text ws (s ∷ ss) p k at =
+    by-test (is anAttribute s)
+    (λ e. rw (e, is-attribute s e, ← map-append) (steps-text ws ss p k (at ++ settingIn s)))
+    (λ e. rw e (rw e at (lines-here ws p k at ss (λ p k. steps-text ws ss p k []) s e)))
+
+process-text : (ws : Wires) (n : ℕ) (at : List Setting) (x : Name) (ss : List Statement) → printProcess ws n (settings at) (proc-stmt x) ss ≡ processText ws (object at x (linesIn 0 (until (λ j. is aProcess (j .statement)) (items [] ss))))
+unfolding printProcess processText statementsOpen
+process-text ws n at x ss =
+    ap₂ _++_
+    (ap₂ _++_
+    (ap₂ _++_ (attributes-lines 1 ws at) (plain-line 1 ws (proc-stmt x) refl))
+    (steps-text ws (until (is aProcess) ss) inProcess 0 []))
+    (plain-line 1 ws end-stmt refl)
+    ∙ ap (λ (is′ : List Item). processText ws (object at x (linesIn 0 is′))) (sym (items-until (is aProcess) (λ s h. only-attribute s h .no-process) [] ss))
+
+pub processes-text : (ws : Wires) (n : ℕ) (at : List Setting) (ss : List Statement) → objectLines aProcess (printProcess ws) n (settings at) ss ≡ flatMap (processText ws) (map processOf (blocks (is aProcess) (items at ss)))
+unfolding texts statementsOpen designOpen
+processes-text ws n at ss =
+    objects-text aProcess (printProcess ws) (λ is′. map processOf (blocks (is aProcess) is′)) (λ i. processText ws) refl
+    (λ n at. by-form (Steps aProcess (printProcess ws) (λ is′. map processOf (blocks (is aProcess) is′)) (λ i. processText ws) n at)
+    (λ i ss. refl) (λ x c ss. refl) (λ x ss. refl) (λ x c ss. refl) (λ w x ss. refl) (λ m x ss. refl) (λ t x ss. refl)
+    (λ o x c ss. refl) (λ x g ss. refl) (λ g h ss. refl)
+    (λ x ss. ap (λ (l : List ℕ). l ++ texts (λ i. processText ws) (n + 1) (map processOf (blocks (is aProcess) (items [] ss)))) (process-text ws n at x ss))
+    (λ p xs ss. refl) (λ ss. refl)) n at ss
+    ∙ texts-each (processText ws) n (map processOf (blocks (is aProcess) (items at ss)))
 
 -- ---- modules
 
@@ -169,6 +227,7 @@ moduleIn is′ =
       wires = flatMap (objectsIn (λ c. c .wires)) is′;
       memories = flatMap (objectsIn (λ c. c .memories)) is′;
       cells = flatMap cellOf (blocks (is aCell) is′);
+      processes = map processOf (blocks (is aProcess) is′);
       connections = each connectionIn is′;
     }
 
@@ -179,6 +238,7 @@ bodyNow rs m b =
       wires = numbered (wireNow rs m) (b .wires);
       memories = b .memories;
       cells = b .cells;
+      processes = b .processes;
       connections = b .connections;
     }
 
@@ -199,8 +259,10 @@ unfolding bodyLines bodyText
 body-text rs m ws ss =
     ap₂ _++_
     (ap₂ _++_
+    (ap₂ _++_
     (ap₂ _++_ (ap₂ _++_ (parameters-text ws [] ss) (wires-text rs m ws ss)) (memories-text ws 0 [] ss))
     (cells-text ws 0 [] ss))
+    (processes-text ws 0 [] ss))
     (connections-text ws [] ss)
 
 -- its wires by their names now
@@ -230,7 +292,7 @@ modules-text rs ss =
     (λ m at. by-form (Steps aModule (printModule rs) (λ is′. map moduleOf (blocks (is aModule) is′)) (λ i o. moduleText (moduleNow rs i o)) m at)
     (λ i ss. refl) (λ x c ss. refl)
     (λ x ss. ap (λ (l : List ℕ). l ++ texts (λ i o. moduleText (moduleNow rs i o)) (m + 1) (map moduleOf (blocks (is aModule) (items [] ss)))) (module-text rs m at x ss))
-    (λ x c ss. refl) (λ w x ss. refl) (λ y x ss. refl) (λ t x ss. refl) (λ o x c ss. refl) (λ x g ss. refl) (λ g h ss. refl) (λ x ss. refl) (λ ss. refl)) 0 [] ss
+    (λ x c ss. refl) (λ w x ss. refl) (λ y x ss. refl) (λ t x ss. refl) (λ o x c ss. refl) (λ x g ss. refl) (λ g h ss. refl) (λ x ss. refl) (λ p xs ss. refl) (λ ss. refl)) 0 [] ss
     ∙ texts-first moduleText (moduleNow rs) (map moduleOf (blocks (is aModule) (items [] ss)))
 
 autoidx-text : (ss : List Statement) → firstLine anAutoidx ss ≡ flatMap (λ i. plainLine 0 (autoidx-stmt i)) (Option·toList (head? (flatMap (λ s. contents s .integers) ss)))
@@ -239,14 +301,46 @@ autoidx-text [] = refl
 autoidx-text (s ∷ ss) =
     by-form (λ s. firstLine anAutoidx (s ∷ ss) ≡ flatMap (λ i. plainLine 0 (autoidx-stmt i)) (Option·toList (head? (flatMap (λ s. contents s .integers) (s ∷ ss)))))
     (λ i. sym (append-nil (lineOf 0 [] (autoidx-stmt i)))) (λ x c. autoidx-text ss) (λ x. autoidx-text ss) (λ x c. autoidx-text ss) (λ w x. autoidx-text ss) (λ m x. autoidx-text ss)
-    (λ t x. autoidx-text ss) (λ o x c. autoidx-text ss) (λ x g. autoidx-text ss) (λ g h. autoidx-text ss) (λ x. autoidx-text ss) (autoidx-text ss) s
+    (λ t x. autoidx-text ss) (λ o x c. autoidx-text ss) (λ x g. autoidx-text ss) (λ g h. autoidx-text ss) (λ x. autoidx-text ss) (λ p xs. autoidx-text ss) (autoidx-text ss) s
 
 -- ---- the whole
 
+-- a fine process leads back to its module
+settings-behind : (at : List Setting) (q : Past) → scope (reverseAux (settings at) q) ≡ scope q
+unfolding scope statementsOpen
+settings-behind [] q = refl
+settings-behind (a ∷ at) q = settings-behind at (attr-stmt (a .0) (a .1) ∷ q)
+
+lines-behind : (ls : List Line) (q : Past) → scope (reverseAux (flatMap lineStatements ls) q) ≡ behindLines (scope q) ls
+unfolding scope lineStatements behindLine flatMap statementsOpen
+lines-behind [] q = refl
+lines-behind (step-line at p xs ∷ ls) q =
+    ap scope (reverseAux-append (settings at ++ step-stmt p xs ∷ []) (flatMap lineStatements ls) q)
+    ∙ lines-behind ls (reverseAux (settings at ++ step-stmt p xs ∷ []) q)
+    ∙ ap (λ (z : Scope). behindLines z ls)
+    (ap scope (reverseAux-append (settings at) (step-stmt p xs ∷ []) q) ∙ ap (λ (z : Scope). behindStep z p) (settings-behind at q))
+lines-behind (end-line ∷ ls) q = lines-behind ls (end-stmt ∷ q)
+
+process-leads : (o : Object (List Line)) → FineProcess o → Leaves o
+unfolding scope processLines statementsOpen
+process-leads o f =
+    let q : Past = module-stmt (o .name) ∷ [] in
+    let b : List Statement = flatMap lineStatements (o .body) in
+    ap outer (sym (lines-behind (o .body) (proc-stmt (o .name) ∷ q)))
+    ∙ ap scope (sym (reverseAux-append b (end-stmt ∷ []) (proc-stmt (o .name) ∷ q)))
+    ∙ process-leaves o f q refl
+
+abbrev pub Lead : Design → Type 0
+Lead d = Each (λ o. Each Leaves (o .body .processes)) (d .modules)
+
+pub fine-leads : (d : Design) → FineDesign d → Lead d
+fine-leads d f =
+    each-map FineModule _ (λ o m. each-map FineProcess Leaves process-leads (o .body .processes) (m .processes)) (d .modules) (f .modules)
+
 -- THE WRITTEN TEXT of what a file's statements define, with the names now
-pub text-file : (ss : List Statement) (rs : List Rename) → text (now (design ss) rs) ≡ fileText rs ss
+pub text-file : (ss : List Statement) (rs : List Rename) → Lead (now (design ss) rs) → text (now (design ss) rs) ≡ fileText rs ss
 unfolding fileText designText designNow design
-text-file ss rs =
-    ap text (now-is (design ss) rs)
-    ∙ text-modules (designNow rs (design ss))
+text-file ss rs h =
+    text-modules (now (design ss) rs) h
+    ∙ ap designText (now-is (design ss) rs)
     ∙ ap₂ _++_ (sym (autoidx-text ss)) (sym (modules-text rs ss))

@@ -1,12 +1,14 @@
 -- The written text by passes over the statements of a file, in their order: each pass goes through them once.
-use Prim.Native.Nat.{ℕ, _+_}
-use mathlib.Core.List.{List, [], _∷_, _++_, flatMap, reverse}
+use Prim.Native.Nat.{ℕ, zero, suc, _+_}
+use mathlib.Core.List.{List, [], _∷_, _++_, flatMap, foldl, reverse}
 use mathlib.Core.Bool.{cond}
 use lib.ListN.{length}
 use Rattle.rules.specs.Tokens.{Name}
-use Rattle.rules.specs.Statements.{Wire, Statement, autoidx-stmt, attr-stmt, module-stmt, param-stmt, memory-stmt, cell-stmt, cell-param-stmt, cell-conn-stmt, conn-stmt, proc-stmt, Kind, anAutoidx, anAttribute, aModule, aParameter, aWire, aMemory, aCell, aCellParameter, aCellConnection, aConnection, anEnd, wire-stmt, end-stmt, is}
+use Rattle.rules.specs.Statements.{Wire, Statement, autoidx-stmt, attr-stmt, module-stmt, param-stmt, memory-stmt, cell-stmt, cell-param-stmt, cell-conn-stmt, conn-stmt, proc-stmt, step-stmt, switch, Kind, anAutoidx, anAttribute, aModule, aParameter, aWire, aMemory, aCell, aCellParameter, aCellConnection, aConnection, aProcess, anEnd, aStep, wire-stmt, end-stmt, contents, is}
+use Rattle.rules.specs.Shapes.{Scope, inProcess}
 use Rattle.rules.specs.Signals.{Wires}
-use Rattle.rules.specs.Judgement.{until}
+use Rattle.rules.specs.Judgement.{until, outer, behindStep, steps}
+use Rattle.rules.specs.Text.{level, holder}
 use Rattle.rules.specs.Session.{Rename}
 use Rattle.modules.specs.Modules.{wiresOf}
 use Rattle.modules.specs.Now.{numbered, nameNow}
@@ -38,6 +40,7 @@ named f (cell-param-stmt o x c) = cell-param-stmt o x c
 named f (cell-conn-stmt x g) = cell-conn-stmt x g
 named f (conn-stmt g h) = conn-stmt g h
 named f (proc-stmt x) = proc-stmt x
+named f (step-stmt p xs) = step-stmt p xs
 named f end-stmt = end-stmt
 
 -- PASSES. The lines of some statements; of those of a kind; of the first of a kind
@@ -88,6 +91,29 @@ printCell ws n at s more = cellBlock ws at s (until (is aCell) more)
 unfoldable pub printToEnd : Wires → Print
 printToEnd ws n at s more = cellBlock ws at s (until (is anEnd) more)
 
+-- THE LINES OF A PROCESS from a scope on, where so many of its switches are open, up to its own `end`; attributes wait for the step behind them
+unfoldable pub shutLines : ℕ → (ℕ → List ℕ) → List ℕ
+shutLines zero more = []
+shutLines (suc k) more = more k
+
+unfoldable pub stepLines : Wires → Scope → (opened : ℕ) → (waiting : List Statement) → List Statement → List ℕ
+stepLines ws p k at [] = []
+stepLines ws p k at (s ∷ ss) =
+    let l = level (foldl holder p (contents s .steps)) in
+    let waits = stepLines ws p k (at ++ s ∷ []) ss in
+    let closes = shutLines k (λ j. lineOf (level (outer p)) ws end-stmt ++ stepLines ws (outer p) j [] ss) in
+    let writes =
+    linesOf l ws at
+    ++ lineOf l ws s
+    ++ stepLines ws (foldl behindStep p (contents s .steps)) (cond (steps switch s) (k + 1) k) [] ss in
+    let passes = stepLines ws p k [] ss in
+    cond (is anAttribute s) waits (cond (is anEnd s) closes (cond (is aStep s) writes passes))
+
+-- they stand before the next process line of its module
+unfoldable pub printProcess : Wires → Print
+printProcess ws n at s more =
+    linesOf 1 ws at ++ lineOf 1 ws s ++ stepLines ws inProcess 0 [] (until (is aProcess) more) ++ lineOf 1 ws end-stmt
+
 -- module m, whose wires are ws, by the statements behind its line up to the next module line
 unfoldable pub bodyLines : List Rename → (m : ℕ) → Wires → List Statement → List ℕ
 bodyLines rs m ws ss =
@@ -95,6 +121,7 @@ bodyLines rs m ws ss =
     ++ objectLines aWire (printWire rs m ws) 0 [] ss
     ++ objectLines aMemory (printMemory ws) 0 [] ss
     ++ objectLines aCell (printCell ws) 0 [] ss
+    ++ objectLines aProcess (printProcess ws) 0 [] ss
     ++ kindLines aConnection 1 ws ss
 
 unfoldable pub printModule : List Rename → Print

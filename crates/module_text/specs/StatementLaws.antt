@@ -33,22 +33,22 @@ pub parameters-are : (at : List Setting) (ss : List Statement) → map (λ p. pa
 unfolding designOpen statementsOpen
 parameters-are =
     of-kind aParameter parameterIn (λ p. param-stmt (p .0) (p .1)) refl
-    (by-form _ (λ i. refl) (λ n c. refl) (λ n. refl) (λ n c. rw (value-back c)) (λ w n. refl) (λ m n. refl) (λ t n. refl) (λ o n c. refl) (λ n x. refl) (λ x y. refl) (λ n. refl) refl)
+    (by-form _ (λ i. refl) (λ n c. refl) (λ n. refl) (λ n c. rw (value-back c)) (λ w n. refl) (λ m n. refl) (λ t n. refl) (λ o n c. refl) (λ n x. refl) (λ x y. refl) (λ n. refl) (λ p xs. refl) refl)
 
 pub connections-are : (at : List Setting) (ss : List Statement) → map (λ k. conn-stmt (k .0) (k .1)) (each connectionIn (items at ss)) ≡ only (is aConnection) ss
 unfolding designOpen statementsOpen
 connections-are =
     of-kind aConnection connectionIn (λ k. conn-stmt (k .0) (k .1)) refl
-    (by-form _ (λ i. refl) (λ n c. refl) (λ n. refl) (λ n c. refl) (λ w n. refl) (λ m n. refl) (λ t n. refl) (λ o n c. refl) (λ n x. refl) (λ x y. refl) (λ n. refl) refl)
+    (by-form _ (λ i. refl) (λ n c. refl) (λ n. refl) (λ n c. refl) (λ w n. refl) (λ m n. refl) (λ t n. refl) (λ o n c. refl) (λ n x. refl) (λ x y. refl) (λ n. refl) (λ p xs. refl) refl)
 
 pub cell-parameters-are : (at : List Setting) (ss : List Statement) → map (λ p. cell-param-stmt (p .0) (p .1 .0) (p .1 .1)) (each cellParameterIn (items at ss)) ≡ only (is aCellParameter) ss
 unfolding designOpen statementsOpen
 cell-parameters-are =
     of-kind aCellParameter cellParameterIn (λ p. cell-param-stmt (p .0) (p .1 .0) (p .1 .1)) refl
-    (by-form _ (λ i. refl) (λ n c. refl) (λ n. refl) (λ n c. refl) (λ w n. refl) (λ m n. refl) (λ t n. refl) (λ o n c. refl) (λ n x. refl) (λ x y. refl) (λ n. refl) refl)
+    (by-form _ (λ i. refl) (λ n c. refl) (λ n. refl) (λ n c. refl) (λ w n. refl) (λ m n. refl) (λ t n. refl) (λ o n c. refl) (λ n x. refl) (λ x y. refl) (λ n. refl) (λ p xs. refl) refl)
 
 pub ports-are : (at : List Setting) (ss : List Statement) → map (λ k. cell-conn-stmt (k .0) (k .1)) (each portIn (items at ss)) ≡ only (is aCellConnection) ss
 unfolding designOpen statementsOpen
 ports-are =
     of-kind aCellConnection portIn (λ k. cell-conn-stmt (k .0) (k .1)) refl
-    (by-form _ (λ i. refl) (λ n c. refl) (λ n. refl) (λ n c. refl) (λ w n. refl) (λ m n. refl) (λ t n. refl) (λ o n c. refl) (λ n x. refl) (λ x y. refl) (λ n. refl) refl)
+    (by-form _ (λ i. refl) (λ n c. refl) (λ n. refl) (λ n c. refl) (λ w n. refl) (λ m n. refl) (λ t n. refl) (λ o n c. refl) (λ n x. refl) (λ x y. refl) (λ n. refl) (λ p xs. refl) refl)

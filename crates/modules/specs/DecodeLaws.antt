@@ -3,19 +3,21 @@
 use Prim.Native.Nat.{ℕ, _+_}
 use mathlib.Core.Path.{_≡_, refl, sym, ap, ap₂, subst, _∙_}
 use mathlib.Core.List.{List, [], _∷_, _++_, map, flatMap, append-nil, Option·toList}
-use mathlib.Core.Option.{Option, none, some, Option·elim}
+use mathlib.Core.Option.{Option, none, some, Option·map, Option·elim}
 use mathlib.Core.Bool.{true, false, _&&_, false≢true}
 use native.Mathlib.Omega.{arith}
 use lib.Dec.{eqb, leb}
-use lib.ListN.{length, length-map}
+use lib.ListN.{length, drop, length-map}
 use Rattle.rules.specs.Bytes.{all, within}
 use Rattle.rules.specs.Tokens.{Name}
-use Rattle.rules.specs.Statements.{Sort, Statement, Constant, value, integer, string, digitsOf, bytesOf, Wire, Memory, Signal, aProcess, is, contents, holds, code, autoidx-stmt, attr-stmt, module-stmt, param-stmt, wire-stmt, memory-stmt, cell-stmt, cell-param-stmt, cell-conn-stmt, conn-stmt, proc-stmt, end-stmt}
+use Rattle.rules.specs.Statements.{Sort, Statement, Constant, value, integer, string, digitsOf, bytesOf, Wire, Memory, Signal, Step, is, contents, holds, code, autoidx-stmt, attr-stmt, module-stmt, param-stmt, wire-stmt, memory-stmt, cell-stmt, cell-param-stmt, cell-conn-stmt, conn-stmt, proc-stmt, step-stmt, end-stmt, stepCode}
 use Rattle.rules.specs.Signals.{Wires, twosComplement}
 use Rattle.rules.specs.Numbers.{int32}
-use Rattle.rules.specs.Judgement.{Past, wires}
-use Rattle.rules.specs.Layout.{Used, padded, row, digitCode, bitCode, nameBytes, stringBytes, bitCodes, constantColumns, sortCode, columns, statementRow, used}
+use Rattle.rules.specs.Judgement.{Past, wires, equal, stepWidths, fitWidths}
+use Rattle.rules.specs.Layout.{Used, padded, row, digitCode, bitCode, nameBytes, stringBytes, bitCodes, constantColumns, sortCode, eachLength, columns, statementRow, used}
 use Rattle.lists.specs.Tests.{and-true-left, and-true-right}
+use Rattle.lists.specs.Lists.{flatMap-map}
+use Rattle.lists.specs.Elements.{Each, each-through, each-of, map-back}
 use Rattle.numbers.specs.Kinds.{digitOf, signalOf}
 use Rattle.numbers.specs.Signed.{signedOf}
 use Rattle.numbers.specs.SignedLaws.{signed-word}
@@ -26,10 +28,11 @@ use Rattle.netlist.specs.Rows.{kindAt, nameFrom}
 use Rattle.netlist.specs.RowLaws.{row-zero}
 use Rattle.netlist.specs.Statements.{constantAt, optionalAt, signalAt, memoryAt, sortAt, statementBy, statementAt}
 use Rattle.admitted.specs.Admitted.{fineConstant, fineMemory, fineSignal, fineParts, admitted}
-use Rattle.admitted.specs.CountLaws.{never-process}
 use Rattle.admitted.specs.AdmitLaws.{fine-parts, fine-fits, admitted-before, admitted-last}
 use Rattle.netlist.specs.Spans.{Has, has-first, has-second}
 use Rattle.netlist.specs.Laid.{roomsOf}
+use Rattle.netlist.specs.Steps.{stepNamed, pieces, signalsAt}
+use Rattle.netlist.specs.StepLaws.{step-back, has-pieces, even-widths, equal-last}
 use Rattle.netlist.specs.Tables.{Tables}
 use Rattle.netlist.specs.Fronts.{Fronts, Parts}
 use Rattle.netlist.specs.FrontLaws.{fronts-stand, fronts-row, parts-wire}
@@ -89,11 +92,23 @@ module _ (names strings bits wires rows : List ℕ) (u : Used) (ws : Wires) (wid
   valued : (c : Constant) → Columned rows k u c → Has strings (u .strings) (bytesOf c ++ []) → Has bits (u .bits) ((map digitCode (digitsOf c) ++ []) ++ []) → fineConstant c ≡ true → constantAt strings bits rows k 3 ≡ c
   valued c h hs hb f = constant-is strings bits rows k u c h (rw append-nil at hs) (rw (append-nil, append-nil) at hb) f
 
+  signals-are :
+      (xs : List Signal) → column rows k 2 ≡ u .bits → column rows k 3 ≡ eachLength xs → column rows k 4 ≡ length xs →
+      Has bits (u .bits) (flatMap (map bitCode) xs) → all (fineSignal ws) xs ≡ true → equal (map length xs) ≡ true → signalsAt bits rows k ≡ xs
+  unfolding signalsAt
+  signals-are xs ea ew en h f e =
+      let codes : List (List ℕ) = map (map bitCode) xs in
+      let even : Each (λ c. length c ≡ eachLength xs) codes = each-through _ (map bitCode) _ (λ x q. length-map x bitCode ∙ q) xs (even-widths xs e) in
+      let cut : pieces (eachLength xs) (length xs) (drop (u .bits) bits) ≡ codes =
+      ap (λ (n : ℕ). pieces (eachLength xs) n (drop (u .bits) bits)) (sym (length-map xs (map bitCode)))
+      ∙ has-pieces bits (eachLength xs) codes even (u .bits) (rw (flatMap-map (λ x. x) (map bitCode) xs) h) in
+      rw (ea, ew, en, cut) (map-back (map bitCode) signalOf xs (each-of _ (fineSignal ws) (signal-back ws wide) xs f))
+
   memory-is : (m : Memory) → column rows k 3 ≡ m .width → column rows k 4 ≡ m .size → signedOf (column rows k 5) ≡ m .offset → memoryAt rows k ≡ m
   unfolding memoryAt
   memory-is m w z e = λ i. record { width = w i; size = z i; offset = e i }
 
-  pub decodes : (s : Statement) → Parts names strings bits wires u s → RowIs rows k (statementRow u s) → fineParts ws s ≡ true → is aProcess s ≡ false → statementAt names strings bits wires rows k ≡ some s
+  pub decodes : (s : Statement) → Parts names strings bits wires u s → RowIs rows k (statementRow u s) → fineParts ws s ≡ true → equal (map length (contents s .signals)) ≡ true → statementAt names strings bits wires rows k ≡ some s
   unfolding statementBy statementRow columns code contents holds is row padded nameBytes stringBytes bitCodes flatMap optionalAt Option·elim Option·toList all fineMemory kindAt nameFrom Has
   decodes (autoidx-stmt i) d r g p =
       let f = fine-parts ws (autoidx-stmt i) g in
@@ -150,7 +165,12 @@ module _ (names strings bits wires rows : List ℕ) (u : Used) (ws : Wires) (wid
       ∙ ap₂ (λ (a b : Signal). some (conn-stmt a b))
       (signal-is 1 (u .bits) x (r 1 (omega arith)) (r 2 (omega arith)) (has-first bits (u .bits) (map bitCode x) (map bitCode y ++ []) (d .bits-has)) (and-true-left (fineSignal ws x) _ (f .signals)))
       (signal-is 3 (u .bits + length x) y (r 3 (omega arith)) (r 4 (omega arith)) q (and-true-left (fineSignal ws y) true (and-true-right (fineSignal ws x) _ (f .signals))))
-  decodes (proc-stmt n) d r g p = absurd (false≢true (sym p))
+  decodes (proc-stmt n) d r g p = by-kind 11 (r 0 (omega arith)) ∙ ap (λ x. some (proc-stmt x)) (first-name n (r 1 (omega arith)) (r 2 (omega arith)) (d .names-has))
+  decodes (step-stmt q xs) d r g p =
+      let f = fine-parts ws (step-stmt q xs) g in
+      by-kind 13 (r 0 (omega arith))
+      ∙ ap₂ (λ (y : Option Step) (z : List Signal). Option·map (λ x. step-stmt x z) y) (ap stepNamed (r 1 (omega arith)) ∙ step-back q)
+      (signals-are xs (r 2 (omega arith)) (r 3 (omega arith)) (r 4 (omega arith)) (d .bits-has) (f .signals) p)
   decodes end-stmt d r g p = by-kind 12 (r 0 (omega arith))
 
 -- ---- the last of admitted statements
@@ -158,7 +178,8 @@ module _ (names strings bits wires rows : List ℕ) (u : Used) (ws : Wires) (wid
 pub decodes-last :
     {t : Tables} (s : Statement) (ss : Past) → Fronts (roomsOf (s ∷ ss)) t → admitted (s ∷ ss) ≡ true →
     statementAt (t .names) (t .strings) (t .bits) (t .wires) (t .rows) (length ss) ≡ some s
+unfolding fitWidths
 decodes-last {t} s ss f e =
     let a = admitted-last s ss e in
     decodes (t .names) (t .strings) (t .bits) (t .wires) (t .rows) (used (roomsOf ss)) (wires ss) (narrow-past ss (admitted-before s ss e)) (length ss) s
-    (fronts-stand s ss f .parts) (fronts-row s ss f) (a .parts) (never-process s ss (a .standing))
+    (fronts-stand s ss f .parts) (fronts-row s ss f) (a .parts) (equal-last (flatMap (stepWidths ss) (contents s .steps)) _ (a .widths))

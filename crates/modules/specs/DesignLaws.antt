@@ -1,4 +1,4 @@
--- A module of a design, by the statements behind its line: its wires, the names of its memories and cells, and which names are taken.
+-- A module of a design, by the statements behind its line: its wires, the names of its memories, cells and processes, and which names are taken.
 -- Assumes nothing.
 use Prim.Native.Nat.{ℕ}
 use mathlib.Core.Path.{_≡_, refl, sym, ap, ap₂, _∙_}
@@ -8,27 +8,28 @@ use mathlib.Core.Bool.{Bool, true, false, cond, _&&_, _||_, or-false, or-assoc, 
 use lib.ListN.{getD, getElem?, List·getD-map}
 use Rattle.rules.specs.Bytes.{same, any}
 use Rattle.rules.specs.Tokens.{Name}
-use Rattle.rules.specs.Statements.{Statement, Wire, Kind, anAttribute, aModule, aMemory, aCell, contents, is, ownName, statementsOpen}
+use Rattle.rules.specs.Statements.{Statement, Wire, Kind, anAttribute, aModule, aMemory, aCell, aProcess, contents, is, ownName, statementsOpen}
 use Rattle.rules.specs.Judgement.{until, only, among}
-use Rattle.rules.specs.Design.{Setting, Object, object, Module, Item, Inside, settingIn, items, blocks, objectsIn, pair, each, cellOf, moduleOf, Design, design}
+use Rattle.rules.specs.Design.{Setting, Object, object, Line, Module, Item, Inside, settingIn, items, blocks, objectsIn, pair, each, cellOf, processOf, moduleOf, Design, design}
 use Rattle.rules.specs.Session.{wiresAt, names, taken}
 use Rattle.context.specs.Forms.{by-form, by-attribute}
 use Rattle.lists.specs.Tests.{by-test}
-use Rattle.lists.specs.Lists.{zip-none, flatMap-same, elim-at, elim-map, flatMap-only, map-flatMap}
+use Rattle.lists.specs.Lists.{zip-none, flatMap-same, elim-at, elim-map, flatMap-only, flatMap-one, map-flatMap}
 use Rattle.lists.specs.Elements.{each-all, any-append, any-same, any-only, any-map, any-or}
 use Rattle.netlist.specs.NameLaws.{ownNames}
-use Rattle.modules.specs.Modules.{modulesIn, statementsOf, wiresOf, memoriesAt, cellsAt}
+use Rattle.modules.specs.Modules.{modulesIn, statementsOf, wiresOf, memoriesAt, cellsAt, processesAt}
 
 -- an attribute is of no other kind
 pub record OnlyAttribute (s : Statement) : Type 0 where
   pub no-module : is aModule s ≡ false
   pub no-cell : is aCell s ≡ false
+  pub no-process : is aProcess s ≡ false
   pub no-wires : contents s .wires ≡ []
   pub no-memories : contents s .memories ≡ []
 
 pub only-attribute : (s : Statement) → is anAttribute s ≡ true → OnlyAttribute s
 unfolding statementsOpen
-only-attribute = by-attribute OnlyAttribute (λ n c. record { no-module = refl; no-cell = refl; no-wires = refl; no-memories = refl })
+only-attribute = by-attribute OnlyAttribute (λ n c. record { no-module = refl; no-cell = refl; no-process = refl; no-wires = refl; no-memories = refl })
 
 -- THE ITEMS OF A BLOCK are those of the statements behind the line that opens it
 pub items-until : (f : Statement → Bool) → ((s : Statement) → is anAttribute s ≡ true → f s ≡ false) → (at : List Setting) (ss : List Statement) → until (λ j. f (j .statement)) (items at ss) ≡ items at (until f ss)
@@ -81,7 +82,7 @@ wires-pairs at qs =
 -- the own names of memories
 memory-name : (s : Statement) → map (λ x. x .0) (zip (contents s .names) (contents s .memories)) ≡ cond (among (aMemory ∷ []) s) (ownName (contents s .names) ∷ []) []
 unfolding zip zipWith among any statementsOpen
-memory-name = by-form _ (λ i. refl) (λ n c. refl) (λ n. refl) (λ n c. refl) (λ w n. refl) (λ m n. refl) (λ t n. refl) (λ o n c. refl) (λ n x. refl) (λ x y. refl) (λ n. refl) refl
+memory-name = by-form _ (λ i. refl) (λ n c. refl) (λ n. refl) (λ n c. refl) (λ w n. refl) (λ m n. refl) (λ t n. refl) (λ o n c. refl) (λ n x. refl) (λ x y. refl) (λ n. refl) (λ p xs. refl) refl
 
 pub memory-names : (at : List Setting) (qs : List Statement) → map (λ o. o .name) (flatMap (objectsIn (λ c. c .memories)) (items at qs)) ≡ ownNames (aMemory ∷ []) qs
 unfolding each
@@ -119,7 +120,7 @@ cell-pairs at qs =
 
 cell-name : (s : Statement) → map (λ x. x .1) (cellNames s) ≡ cond (among (aCell ∷ []) s) (ownName (contents s .names) ∷ []) []
 unfolding cellNames pair among any statementsOpen
-cell-name = by-form _ (λ i. refl) (λ n c. refl) (λ n. refl) (λ n c. refl) (λ w n. refl) (λ m n. refl) (λ t n. refl) (λ o n c. refl) (λ n x. refl) (λ x y. refl) (λ n. refl) refl
+cell-name = by-form _ (λ i. refl) (λ n c. refl) (λ n. refl) (λ n c. refl) (λ w n. refl) (λ m n. refl) (λ t n. refl) (λ o n c. refl) (λ n x. refl) (λ x y. refl) (λ n. refl) (λ p xs. refl) refl
 
 pub cell-names : (at : List Setting) (qs : List Statement) → map (λ o. o .name) (flatMap cellOf (blocks (is aCell) (items at qs))) ≡ ownNames (aCell ∷ []) qs
 cell-names at qs =
@@ -129,19 +130,36 @@ cell-names at qs =
     ∙ flatMap-same _ _ cell-name qs
     ∙ flatMap-only (among (aCell ∷ [])) (λ s. ownName (contents s .names)) qs
 
--- whether some name of some kinds passes a test; names of two kinds
+-- a process's own name
+process-name : (s : Statement) → cond (is aProcess s) (ownName (contents s .names) ∷ []) [] ≡ cond (among (aProcess ∷ []) s) (ownName (contents s .names) ∷ []) []
+unfolding among any
+process-name s = rw (or-false (is aProcess s))
+
+pub process-names : (at : List Setting) (qs : List Statement) → map (λ o. o .name) (map processOf (blocks (is aProcess) (items at qs))) ≡ ownNames (aProcess ∷ []) qs
+unfolding processOf
+process-names at qs =
+    let bs = blocks (is aProcess) (items at qs) in
+    let own : Item × List Item → Name = λ b. ownName (contents (b .0 .statement) .names) in
+    map-map (λ o. o .name) processOf bs
+    ∙ sym (flatMap-one (λ b. own b ∷ []) own (λ b. refl) bs)
+    ∙ opened (is aProcess) (λ s. ownName (contents s .names) ∷ []) (items at qs)
+    ∙ each-items (λ s. cond (is aProcess s) (ownName (contents s .names) ∷ []) []) (λ s e. rw (only-attribute s e .no-process)) at qs
+    ∙ flatMap-same _ _ process-name qs
+    ∙ flatMap-only (among (aProcess ∷ [])) (λ s. ownName (contents s .names)) qs
+
+-- whether some name of some kinds passes a test; names of one kind more
 pub any-own : (f : Name → Bool) (ks : List Kind) (qs : List Statement) → any f (ownNames ks qs) ≡ any (λ s. among ks s && f (ownName (contents s .names))) qs
 any-own f ks qs = any-map f _ (only (among ks) qs) ∙ sym (any-only (among ks) _ qs)
 
-pub any-kinds : (f : Name → Bool) (k l : Kind) (qs : List Statement) → any f (ownNames (k ∷ l ∷ []) qs) ≡ any f (ownNames (k ∷ []) qs) || any f (ownNames (l ∷ []) qs)
+pub any-kinds : (f : Name → Bool) (k : Kind) (ks : List Kind) (qs : List Statement) → any f (ownNames (k ∷ ks) qs) ≡ any f (ownNames (k ∷ []) qs) || any f (ownNames ks qs)
 unfolding among any
-any-kinds f k l qs =
-    any-own f (k ∷ l ∷ []) qs
+any-kinds f k ks qs =
+    any-own f (k ∷ ks) qs
     ∙ any-same _ _ qs
     (each-all _
-    (λ s. ap (λ (b : Bool). (b || (is l s || false)) && f (ownName (contents s .names))) (sym (or-false (is k s))) ∙ and-or-distrib-right (is k s || false) (is l s || false) (f (ownName (contents s .names)))) qs)
+    (λ s. ap (λ (b : Bool). (b || among ks s) && f (ownName (contents s .names))) (sym (or-false (is k s))) ∙ and-or-distrib-right (is k s || false) (among ks s) (f (ownName (contents s .names)))) qs)
     ∙ any-or _ _ qs
-    ∙ ap₂ _||_ (sym (any-own f (k ∷ []) qs)) (sym (any-own f (l ∷ []) qs))
+    ∙ ap₂ _||_ (sym (any-own f (k ∷ []) qs)) (sym (any-own f ks qs))
 
 -- THE MODULE OF A NUMBER
 module _ (ss : List Statement) (m : ℕ) where
@@ -168,23 +186,33 @@ module _ (ss : List Statement) (m : ℕ) where
   pub cell-names-at : map (λ o. o .name) (cellsAt (design ss) m) ≡ ownNames (aCell ∷ []) (statementsOf m ss)
   cell-names-at = ap (map (λ o. o .name)) cells-are ∙ cell-names [] (statementsOf m ss)
 
+  processes-are : processesAt (design ss) m ≡ map processOf (blocks (is aProcess) (items [] (statementsOf m ss)))
+  unfolding processesAt moduleOf blocks
+  processes-are = module-at (λ o. o .processes) (λ l. map processOf (blocks (is aProcess) l)) refl (λ b. refl) ss m
+
+  pub process-names-at : map (λ o. o .name) (processesAt (design ss) m) ≡ ownNames (aProcess ∷ []) (statementsOf m ss)
+  process-names-at = ap (map (λ o. o .name)) processes-are ∙ process-names [] (statementsOf m ss)
+
 -- WHICH NAMES ARE TAKEN in any design
+abbrev named : {A : Type 0} → Name → List (Object A) → Bool
+named n os = any (same n) (map (λ o. o .name) os)
+
+any-four : (f : Name → Bool) (ws ms cs ps : List Name) → any f (ws ++ ms ++ cs ++ ps) ≡ any f ws || (any f ms || (any f cs || any f ps))
+any-four f ws ms cs ps =
+    rw (any-append, any-append, any-append) (or-assoc (any f ws || any f ms) (any f cs) (any f ps) ∙ or-assoc (any f ws) (any f ms) (any f cs || any f ps))
+
 parts-by :
     (n : Name) (o : Option (Object Module)) →
     any (same n) (Option·elim o [] (λ o. names (o .body)))
-    ≡ any (same n) (map (λ o. o .name) (Option·elim o [] (λ o. o .body .wires)))
-    || (any (same n) (map (λ o. o .name) (Option·elim o [] (λ o. o .body .memories))) || any (same n) (map (λ o. o .name) (Option·elim o [] (λ o. o .body .cells))))
+    ≡ named n (Option·elim o [] (λ o. o .body .wires))
+    || (named n (Option·elim o [] (λ o. o .body .memories)) || (named n (Option·elim o [] (λ o. o .body .cells)) || named n (Option·elim o [] (λ o. o .body .processes))))
 unfolding Option·elim names any
 parts-by n none = refl
 parts-by n (some o) =
-    let ws : List Name = map (λ o. o .name) (o .body .wires) in
-    let ms : List Name = map (λ o. o .name) (o .body .memories) in
-    let cs : List Name = map (λ o. o .name) (o .body .cells) in
-    any-append (same n) (ws ++ ms) cs ∙ rw any-append (or-assoc (any (same n) ws) (any (same n) ms) (any (same n) cs))
+    any-four (same n) (map (λ o. o .name) (o .body .wires)) (map (λ o. o .name) (o .body .memories)) (map (λ o. o .name) (o .body .cells)) (map (λ o. o .name) (o .body .processes))
 
 pub taken-parts :
     (d : Design) (m : ℕ) (n : Name) →
-    taken d m n
-    ≡ any (same n) (map (λ o. o .name) (wiresAt d m)) || (any (same n) (map (λ o. o .name) (memoriesAt d m)) || any (same n) (map (λ o. o .name) (cellsAt d m)))
-unfolding taken wiresAt memoriesAt cellsAt
+    taken d m n ≡ named n (wiresAt d m) || (named n (memoriesAt d m) || (named n (cellsAt d m) || named n (processesAt d m)))
+unfolding taken wiresAt memoriesAt cellsAt processesAt
 taken-parts d m n = parts-by n (getElem? (d .modules) m)

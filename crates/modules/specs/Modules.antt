@@ -8,7 +8,7 @@ use lib.Dec.{leb}
 use lib.ListN.{getD, getElem?}
 use Rattle.rules.specs.Statements.{Memory, Statement, aModule, aWire, is}
 use Rattle.rules.specs.Judgement.{Past, until, sum, count}
-use Rattle.rules.specs.Design.{Object, Cell, Design}
+use Rattle.rules.specs.Design.{Object, Cell, Line, Design}
 pub use Rattle.netlist.specs.WireLaws.{wiresOf}
 
 -- for each module line, in the order of the file, the statements behind it up to the next module line
@@ -34,9 +34,12 @@ pub data Headed : Past → Type 0 where
   none-headed : Headed []
   one-headed : {s : Statement} {ss : Past} → (is aWire s ≡ true → 0 < moduleCount ss) → Headed ss → Headed (s ∷ ss)
 
--- the memories and the cells of a module of the design, as the rules have its wires
+-- the memories, cells and processes of a module of the design, as the rules have its wires
 unfoldable pub memoriesAt : Design → ℕ → List (Object Memory)
 memoriesAt d m = Option·elim (getElem? (d .modules) m) [] (λ o. o .body .memories)
 
 unfoldable pub cellsAt : Design → ℕ → List (Object Cell)
 cellsAt d m = Option·elim (getElem? (d .modules) m) [] (λ o. o .body .cells)
+
+unfoldable pub processesAt : Design → ℕ → List (Object (List Line))
+processesAt d m = Option·elim (getElem? (d .modules) m) [] (λ o. o .body .processes)

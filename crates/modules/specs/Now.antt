@@ -33,6 +33,7 @@ moduleNow rs m o =
       wires = numbered (wireNow rs m) (o .body .wires);
       memories = o .body .memories;
       cells = o .body .cells;
+      processes = o .body .processes;
       connections = o .body .connections;
     })
 

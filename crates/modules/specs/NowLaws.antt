@@ -9,14 +9,14 @@ use lib.Dec.{eqb, eqb·zero-suc, eqb·suc-zero, eqb·suc-suc}
 use lib.ListN.{getElem?}
 use Rattle.rules.specs.Bytes.{same, any}
 use Rattle.rules.specs.Tokens.{Name}
-use Rattle.rules.specs.Statements.{Statement, Wire, aMemory, aCell}
+use Rattle.rules.specs.Statements.{Statement, Wire, aMemory, aCell, aProcess}
 use Rattle.rules.specs.Design.{Object, object, Module, Design, design}
 use Rattle.rules.specs.Session.{Rename, wiresAt, wireAt, change, renameWire, renamed, now, taken}
 use Rattle.lists.specs.Tests.{by-test}
 use Rattle.netlist.specs.NameLaws.{ownNames}
-use Rattle.modules.specs.Modules.{statementsOf, wiresOf, memoriesAt, cellsAt}
+use Rattle.modules.specs.Modules.{statementsOf, wiresOf, memoriesAt, cellsAt, processesAt}
 use Rattle.modules.specs.Now.{numbered, renames, nameNow, wireNow, moduleNow, designNow}
-use Rattle.modules.specs.DesignLaws.{wire-names-at, memories-at, cell-names-at, any-kinds, taken-parts}
+use Rattle.modules.specs.DesignLaws.{wire-names-at, memories-at, cell-names-at, process-names-at, any-kinds, taken-parts}
 
 -- ELEMENTS CHANGED BY THEIR NUMBER
 module _ {A : Type 0} where
@@ -143,22 +143,26 @@ module _ (d : Design) (rs : List Rename) where
     unfolding cellsAt moduleNow
     cells-now = rw module-now (now-kept (λ b. b .cells) rs m (λ o. refl) (getElem? (d .modules) m))
 
+    pub processes-now : processesAt (now d rs) m ≡ processesAt d m
+    unfolding processesAt moduleNow
+    processes-now = rw module-now (now-kept (λ b. b .processes) rs m (λ o. refl) (getElem? (d .modules) m))
+
     pub taken-now :
         (n : Name) →
         taken (now d rs) m n
         ≡ any (same n) (numbered (nameNow rs m) (map (λ o. o .name) (wiresAt d m)))
-        || (any (same n) (map (λ o. o .name) (memoriesAt d m)) || any (same n) (map (λ o. o .name) (cellsAt d m)))
-    taken-now n = taken-parts (now d rs) m n ∙ rw (names-now, memories-now, cells-now)
+        || (any (same n) (map (λ o. o .name) (memoriesAt d m)) || (any (same n) (map (λ o. o .name) (cellsAt d m)) || any (same n) (map (λ o. o .name) (processesAt d m))))
+    taken-now n = taken-parts (now d rs) m n ∙ rw (names-now, memories-now, cells-now, processes-now)
 
 -- the same by the statements behind the module's line
 module _ (ss : List Statement) (rs : List Rename) (m : ℕ) where
   pub taken-read-now :
       (n : Name) →
       taken (now (design ss) rs) m n
-      ≡ any (same n) (numbered (nameNow rs m) (map (λ x. x .0) (wiresOf (statementsOf m ss)))) || any (same n) (ownNames (aMemory ∷ aCell ∷ []) (statementsOf m ss))
+      ≡ any (same n) (numbered (nameNow rs m) (map (λ x. x .0) (wiresOf (statementsOf m ss)))) || any (same n) (ownNames (aMemory ∷ aCell ∷ aProcess ∷ []) (statementsOf m ss))
   taken-read-now n =
       taken-now (design ss) rs m n
-      ∙ rw (wire-names-at ss m, memories-at ss m, cell-names-at ss m, any-kinds (same n) aMemory aCell (statementsOf m ss))
+      ∙ rw (wire-names-at ss m, memories-at ss m, cell-names-at ss m, process-names-at ss m, any-kinds (same n) aMemory (aCell ∷ aProcess ∷ []) (statementsOf m ss), any-kinds (same n) aCell (aProcess ∷ []) (statementsOf m ss))
 
 -- the newest rename gives its wire its name, and every other wire stays as it was
 module _ (d : Design) (rs : List Rename) (r : Rename) (m w : ℕ) where

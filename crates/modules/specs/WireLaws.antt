@@ -143,7 +143,7 @@ offsets-before s ss (more-offsets h o) = o
 -- wires from the end
 zip-back : (s : Statement) → reverse (zip (contents s .names) (contents s .wires)) ≡ zip (contents s .names) (contents s .wires)
 unfolding zip zipWith statementsOpen
-zip-back = by-form _ (λ i. refl) (λ n c. refl) (λ n. refl) (λ n c. refl) (λ w n. refl) (λ m n. refl) (λ t n. refl) (λ o n c. refl) (λ n x. refl) (λ x y. refl) (λ n. refl) refl
+zip-back = by-form _ (λ i. refl) (λ n c. refl) (λ n. refl) (λ n c. refl) (λ w n. refl) (λ m n. refl) (λ t n. refl) (λ o n c. refl) (λ n x. refl) (λ x y. refl) (λ n. refl) (λ p xs. refl) refl
 
 pub wires-back : (qs : List Statement) → reverse (wiresOf qs) ≡ wiresOf (reverse qs)
 unfolding flatMap

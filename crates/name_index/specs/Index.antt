@@ -19,7 +19,7 @@ keyCount = 513
 
 -- room for the rows of a file and for its wires, and one more of each
 abbrev pub rowRoom : ℕ
-rowRoom = 4706
+rowRoom = 6882
 
 abbrev pub wireRoom : ℕ
 wireRoom = 513
@@ -29,7 +29,7 @@ abbrev pub allHeads : ℕ
 allHeads = 1026
 
 abbrev pub allChain : ℕ
-allChain = 5219
+allChain = 7395
 
 -- the hash of a name
 unfoldable pub hashStep : ℕ → ℕ → ℕ

@@ -5,6 +5,7 @@
 use context::kinds::AUTOIDX_KIND;
 use context::kinds::CONNECTION_KIND;
 use context::kinds::END_KIND;
+use context::kinds::STEP_KIND;
 use context::kinds::WIRE_KIND;
 use netlist::rows::row_kind;
 use netlist::rows::row_name;
@@ -29,12 +30,12 @@ const NAMELESS: usize = 512;
 pub const ROW_HEADS: usize = 513;
 
 // Its chain: a place for each of a file's rows, and one more. That of the wires may stand behind it.
-pub const ROW_CHAIN: usize = 4706;
+pub const ROW_CHAIN: usize = 6882;
 
 // Both together: as many heads again, and places for 512 wires and one more.
 pub const ALL_HEADS: usize = 1026;
 
-pub const ALL_CHAIN: usize = 5219;
+pub const ALL_CHAIN: usize = 7395;
 
 // Below 512.
 pub fn hash(name: &[u8]) -> usize
@@ -68,7 +69,10 @@ fn is_named(kind: u32) -> bool
     if kind == CONNECTION_KIND {
         return false;
     }
-    kind != END_KIND
+    if kind == END_KIND {
+        return false;
+    }
+    kind != STEP_KIND
 }
 
 fn row_key(names: &[u8], rows: &[u32], row: u32) -> usize

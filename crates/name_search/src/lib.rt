@@ -66,6 +66,10 @@ pub fn indexed_found(
     ensures { λ r. ⌜ r ≡ foundIn (now (names .entry)) (now (rows .entry)) place kind (now (name .entry)) ⌝ }
 {
     let from = space_from(place, kind);
+    // Of a row without a name the columns of a name say nothing: it is not hashed.
+    if from == place.rows {
+        return false;
+    }
     indexed_taken(
         names,
         rows,

@@ -9,7 +9,7 @@ use lib.Dec.{eqb, ltb}
 use lib.ListN.{length}
 use Rattle.rules.specs.Bytes.{same, any}
 use Rattle.rules.specs.Tokens.{Name}
-use Rattle.rules.specs.Statements.{Kind, anAutoidx, anAttribute, aModule, aParameter, aWire, aMemory, aCell, aCellParameter, aCellConnection, aConnection, aProcess, anEnd, Stmt, code, contents, ownName}
+use Rattle.rules.specs.Statements.{Kind, anAutoidx, anAttribute, aModule, aParameter, aWire, aMemory, aCell, aCellParameter, aCellConnection, aConnection, aProcess, anEnd, aStep, Stmt, code, contents, ownName}
 use Rattle.rules.specs.Judgement.{Past, only, space, nameSpaces, ofModule, ofCell, ofObject, takesName}
 use Rattle.netlist.specs.Rows.{namesBetween}
 use Rattle.netlist.specs.Kinds.{isKind, ofKinds}
@@ -32,7 +32,7 @@ space-within p k b =
     let z : 0 ≤ p .rows = omega arith in
     let r : p .rows ≤ p .rows = omega arith in
     pick-le (eqb k 2) _ _ _ (b .object-from)
-    (pick-le (eqb k 3) _ _ _ z (pick-le (ltb k 4) _ _ _ r (pick-le (ltb k 8) _ _ _ (b .module-from) (pick-le (ltb k 10) _ _ _ (b .cell-from) r))))
+    (pick-le (eqb k 3) _ _ _ z (pick-le (ltb k 4) _ _ _ r (pick-le (ltb k 8) _ _ _ (b .module-from) (pick-le (ltb k 10) _ _ _ (b .cell-from) (pick-le (eqb k 11) _ _ _ (b .module-from) r)))))
 
 -- the search for a name in count rows from a row on
 module _ (names rows : List ℕ) (n : Name) where
@@ -61,8 +61,9 @@ module _ (names rows : List ℕ) (n : Name) where
   space-rows aCellParameter ss = last-rows _ (length ss) _ _ (until-le _ ss) refl
   space-rows aCellConnection ss = last-rows _ (length ss) _ _ (until-le _ ss) refl
   space-rows aConnection ss = no-rows _ (length ss)
-  space-rows aProcess ss = no-rows _ (length ss)
+  space-rows aProcess ss = last-rows _ (length ss) _ _ (until-le _ ss) refl
   space-rows anEnd ss = no-rows _ (length ss)
+  space-rows aStep ss = no-rows _ (length ss)
 
 -- so a taken name is one that the search finds
 pub takes-found :

@@ -1,4 +1,4 @@
--- Three codes for one kind or for three; kinds that all have names.
+-- Four codes for one kind or for four; kinds that all have names.
 -- Assumes nothing.
 use Prim.Native.Nat.{ℕ}
 use mathlib.Core.Path.{_≡_, sym, ap, _∙_}
@@ -9,15 +9,15 @@ use borrow.Author.Tests.{eqb-true}
 use Rattle.rules.specs.Bytes.{any, all}
 use Rattle.rules.specs.Statements.{Kind, code}
 use Rattle.lists.specs.Tests.{by-test, and-true-left, and-true-right}
-use Rattle.netlist.specs.Kinds.{isKind, ofKinds, Tests, hasName, oneKind, threeKinds}
+use Rattle.netlist.specs.Kinds.{isKind, ofKinds, Tests, hasName, oneKind, fourKinds}
 
 pub one-kind : (k : Kind) → Tests (isKind (oneKind k)) (k ∷ [])
 unfolding isKind ofKinds any
-one-kind k n = or-self-left (eqb (code k) n) _ ∙ or-self (eqb (code k) n) ∙ sym (or-false (eqb (code k) n))
+one-kind k n = or-self-left (eqb (code k) n) _ ∙ or-self-left (eqb (code k) n) _ ∙ or-self (eqb (code k) n) ∙ sym (or-false (eqb (code k) n))
 
-pub three-kinds : (k l m : Kind) → Tests (isKind (threeKinds k l m)) (k ∷ l ∷ m ∷ [])
+pub four-kinds : (k l m o : Kind) → Tests (isKind (fourKinds k l m o)) (k ∷ l ∷ m ∷ o ∷ [])
 unfolding isKind ofKinds any
-three-kinds k l m n = ap (λ (b : Bool). eqb (code k) n || (eqb (code l) n || b)) (sym (or-false (eqb (code m) n)))
+four-kinds k l m o n = ap (λ (b : Bool). eqb (code k) n || (eqb (code l) n || (eqb (code m) n || b))) (sym (or-false (eqb (code o) n)))
 
 -- a code of kinds that have names
 pub kinds-named : (ks : List Kind) (k : ℕ) → all (λ l. hasName (code l)) ks ≡ true → ofKinds ks k ≡ true → hasName k ≡ true

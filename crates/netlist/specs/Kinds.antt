@@ -5,12 +5,12 @@ use mathlib.Core.List.{List, [], _∷_}
 use mathlib.Core.Bool.{Bool, not, _||_}
 use lib.Dec.{eqb}
 use Rattle.rules.specs.Bytes.{any}
-use Rattle.rules.specs.Statements.{Kind, anAutoidx, aConnection, anEnd, code}
+use Rattle.rules.specs.Statements.{Kind, anAutoidx, aConnection, anEnd, aStep, code}
 use Rattle.netlist.specs.declared.rows.Kinds.{Kinds}
 
--- whether a code is one of the three
+-- whether a code is one of the four
 unfoldable pub isKind : Kinds → ℕ → Bool
-isKind K k = eqb (K .a) k || (eqb (K .b) k || eqb (K .c) k)
+isKind K k = eqb (K .a) k || (eqb (K .b) k || (eqb (K .c) k || eqb (K .d) k))
 
 -- whether a code is that of one of some kinds
 unfoldable pub ofKinds : List Kind → ℕ → Bool
@@ -22,11 +22,11 @@ Tests f ks = (k : ℕ) → f k ≡ ofKinds ks k
 
 -- a statement has a name, unless it is of these kinds
 unfoldable pub hasName : ℕ → Bool
-hasName k = not (ofKinds (anAutoidx ∷ aConnection ∷ anEnd ∷ []) k)
+hasName k = not (ofKinds (anAutoidx ∷ aConnection ∷ anEnd ∷ aStep ∷ []) k)
 
--- a kind, three times
+-- a kind, four times
 abbrev pub oneKind : Kind → Kinds
-oneKind k = record { a = code k; b = code k; c = code k }
+oneKind k = record { a = code k; b = code k; c = code k; d = code k }
 
-abbrev pub threeKinds : (k l m : Kind) → Kinds
-threeKinds k l m = record { a = code k; b = code l; c = code m }
+abbrev pub fourKinds : (k l m o : Kind) → Kinds
+fourKinds k l m o = record { a = code k; b = code l; c = code m; d = code o }

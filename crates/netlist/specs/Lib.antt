@@ -1,4 +1,6 @@
 pub mod Rows
+pub mod Steps
+pub mod StepLaws
 pub mod Statements
 pub mod Kinds
 pub mod KindLaws

@@ -9,7 +9,7 @@ use native.Mathlib.Omega.{arith}
 use lib.ListN.{length, length-append}
 use Rattle.rules.specs.Bytes.{any}
 use Rattle.rules.specs.Tokens.{Name}
-use Rattle.rules.specs.Statements.{Statement, Constant, value, integer, string, autoidx-stmt, attr-stmt, module-stmt, param-stmt, wire-stmt, memory-stmt, cell-stmt, cell-param-stmt, cell-conn-stmt, conn-stmt, proc-stmt, end-stmt, code, holds, contents, ownName}
+use Rattle.rules.specs.Statements.{Statement, Constant, value, integer, string, autoidx-stmt, attr-stmt, module-stmt, param-stmt, wire-stmt, memory-stmt, cell-stmt, cell-param-stmt, cell-conn-stmt, conn-stmt, proc-stmt, step-stmt, end-stmt, code, holds, contents, ownName}
 use Rattle.rules.specs.Layout.{Used, padded, row, nameBytes, constantColumns, columns, statementRow}
 use Rattle.tables.specs.Padded.{length-row}
 use Rattle.wires.specs.Rows.{column}
@@ -39,6 +39,7 @@ length-columns u (cell-param-stmt o n c) = simp length-append (omega (arith, len
 length-columns u (cell-conn-stmt n s) = omega arith
 length-columns u (conn-stmt s t) = omega arith
 length-columns u (proc-stmt n) = omega arith
+length-columns u (step-stmt p xs) = omega arith
 length-columns u end-stmt = omega arith
 
 pub length-statement-row : (u : Used) (s : Statement) → length (statementRow u s) ≡ 8
@@ -80,6 +81,7 @@ row-own names t k u (cell-param-stmt o n c) h e p = first-name names t k n _ _ _
 row-own names t k u (cell-conn-stmt n s) h e p = first-name names t k n _ _ _ h refl p
 row-own names t k u (conn-stmt s r) h e p = cc
 row-own names t k u (proc-stmt n) h e p = first-name names t k n _ _ _ h refl p
+row-own names t k u (step-stmt q xs) h e p = cc
 row-own names t k u end-stmt h e p = cc
 
 -- a column 0 behind a constant's is padding

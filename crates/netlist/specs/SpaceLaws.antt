@@ -8,13 +8,13 @@ use native.Mathlib.Omega.{arith}
 use lib.ListN.{length, take, length-take}
 use lib.Seq.{take-length}
 use Rattle.rules.specs.Bytes.{same, any, all}
-use Rattle.rules.specs.Statements.{Kind, anAutoidx, anAttribute, aModule, aParameter, aWire, aMemory, aCell, aCellParameter, aCellConnection, aConnection, aProcess, anEnd, Stmt, code, contents, is, ownName}
+use Rattle.rules.specs.Statements.{Kind, anAutoidx, anAttribute, aModule, aParameter, aWire, aMemory, aCell, aCellParameter, aCellConnection, aConnection, aProcess, anEnd, aStep, Stmt, code, contents, is, ownName}
 use Rattle.rules.specs.Judgement.{Past, only, ofModule, ofCell, ofObject, among, Space, space, namesIn, nameSpaces, takesName}
 use Rattle.lists.specs.Elements.{Each, each-map, any-only, any-same}
 use Rattle.lists.specs.Lists.{until-take}
 use Rattle.netlist.specs.Rows.{namesBetween}
-use Rattle.netlist.specs.Kinds.{isKind, ofKinds, hasName, oneKind, threeKinds}
-use Rattle.netlist.specs.KindLaws.{one-kind, three-kinds}
+use Rattle.netlist.specs.Kinds.{isKind, ofKinds, hasName, oneKind, fourKinds}
+use Rattle.netlist.specs.KindLaws.{one-kind, four-kinds}
 use Rattle.netlist.specs.declared.rows.Kinds.{Kinds}
 use Rattle.netlist.specs.Laid.{roomsOf, Laid}
 use Rattle.netlist.specs.NameLaws.{ownNames, names-laid}
@@ -32,15 +32,15 @@ module _ {names rows : List ℕ} {test : ℕ → Bool} {from count : ℕ} (z : S
   unfolding namesIn
   space-names = ap (ownNames (z .kinds)) (r .part-is) ∙ sym (names-laid (z .kinds) (r .named) test (r .tests) ss l from count (r .ends))
 
--- a space of one kind, and one of three
+-- a space of one kind, and one of four
 module _ (f : Past → Past) (ss : Past) (from count : ℕ) (part-is : f ss ≡ take count ss) (ends : from + count ≡ length ss) where
   pub ranged-one : (k : Kind) → hasName (code k) ≡ true → Ranged (space (k ∷ []) f) ss (isKind (oneKind k)) from count
   unfolding space all
   ranged-one k h = record { named = rw h; tests = one-kind k; part-is = part-is; ends = ends }
 
-  pub ranged-three : (k l m : Kind) → hasName (code k) && (hasName (code l) && hasName (code m)) ≡ true → Ranged (space (k ∷ l ∷ m ∷ []) f) ss (isKind (threeKinds k l m)) from count
+  pub ranged-four : (k l m o : Kind) → hasName (code k) && (hasName (code l) && (hasName (code m) && hasName (code o))) ≡ true → Ranged (space (k ∷ l ∷ m ∷ o ∷ []) f) ss (isKind (fourKinds k l m o)) from count
   unfolding space all
-  ranged-three k l m h = record { named = rw and-true h; tests = three-kinds k l m; part-is = part-is; ends = ends }
+  ranged-four k l m o h = record { named = rw and-true h; tests = four-kinds k l m o; part-is = part-is; ends = ends }
 
 -- ---- the six spaces
 
@@ -58,12 +58,12 @@ one-in-rows : (f : Past → Past) (ss : Past) → f ss ≡ take (length (f ss)) 
 unfolding space
 one-in-rows f ss e k q h = one-space k (oneKind k) ss (space (k ∷ []) f) q (ranged-one f ss _ _ e (last-ends (f ss) ss e) k h)
 
-three-in-rows : (k : Kind) (ss : Past) → kindsOf k ≡ threeKinds aWire aMemory aCell → Each (InRows k ss) (space (aWire ∷ aMemory ∷ aCell ∷ []) ofModule ∷ [])
+four-in-rows : (k : Kind) (ss : Past) → kindsOf k ≡ fourKinds aWire aMemory aCell aProcess → Each (InRows k ss) (space (aWire ∷ aMemory ∷ aCell ∷ aProcess ∷ []) ofModule ∷ [])
 unfolding space ofModule hasName ofKinds any code
-three-in-rows k ss q =
+four-in-rows k ss q =
     let e : ofModule ss ≡ take (length (ofModule ss)) ss = until-take _ ss in
-    one-space k (threeKinds aWire aMemory aCell) ss (space (aWire ∷ aMemory ∷ aCell ∷ []) ofModule) q
-    (ranged-three ofModule ss _ _ e (last-ends (ofModule ss) ss e) aWire aMemory aCell refl)
+    one-space k (fourKinds aWire aMemory aCell aProcess) ss (space (aWire ∷ aMemory ∷ aCell ∷ aProcess ∷ []) ofModule) q
+    (ranged-four ofModule ss _ _ e (last-ends (ofModule ss) ss e) aWire aMemory aCell aProcess refl)
 
 spaces-in-rows : (k : Kind) (ss : Past) → Each (InRows k ss) (spacesOf k)
 unfolding spacesOf nameSpaces space only ofKinds any code kindsOf hasName ofModule ofCell ofObject
@@ -71,14 +71,15 @@ spaces-in-rows anAutoidx ss = tt
 spaces-in-rows anAttribute ss = one-in-rows ofObject ss (until-take _ ss) anAttribute refl refl
 spaces-in-rows aModule ss = one-in-rows (λ qs. qs) ss (sym (take-length ss)) aModule refl refl
 spaces-in-rows aParameter ss = one-in-rows ofModule ss (until-take _ ss) aParameter refl refl
-spaces-in-rows aWire ss = three-in-rows aWire ss refl
-spaces-in-rows aMemory ss = three-in-rows aMemory ss refl
-spaces-in-rows aCell ss = three-in-rows aCell ss refl
+spaces-in-rows aWire ss = four-in-rows aWire ss refl
+spaces-in-rows aMemory ss = four-in-rows aMemory ss refl
+spaces-in-rows aCell ss = four-in-rows aCell ss refl
 spaces-in-rows aCellParameter ss = one-in-rows ofCell ss (until-take _ ss) aCellParameter refl refl
 spaces-in-rows aCellConnection ss = one-in-rows ofCell ss (until-take _ ss) aCellConnection refl refl
 spaces-in-rows aConnection ss = tt
-spaces-in-rows aProcess ss = tt
+spaces-in-rows aProcess ss = four-in-rows aProcess ss refl
 spaces-in-rows anEnd ss = tt
+spaces-in-rows aStep ss = tt
 
 -- a name is taken just where a search finds it in the rows of its kind's space
 pub takes-in-rows :

@@ -5,9 +5,9 @@ use mathlib.Core.List.{List, [], _∷_}
 use mathlib.Core.Bool.{Bool, true, cond}
 use lib.ListN.{length, take}
 use Rattle.rules.specs.Bytes.{all}
-use Rattle.rules.specs.Statements.{Kind, aWire, aMemory, aCell, code}
+use Rattle.rules.specs.Statements.{Kind, aWire, aMemory, aCell, aProcess, code}
 use Rattle.rules.specs.Judgement.{Past, only, Space, nameSpaces}
-use Rattle.netlist.specs.Kinds.{ofKinds, Tests, hasName, oneKind, threeKinds}
+use Rattle.netlist.specs.Kinds.{ofKinds, Tests, hasName, oneKind, fourKinds}
 use Rattle.netlist.specs.declared.rows.Kinds.{Kinds}
 
 -- a name space of the statements so far is the rows of some kinds from a row on
@@ -21,6 +21,6 @@ pub record Ranged (z : Space) (ss : Past) (test : ℕ → Bool) (from count : �
 unfoldable pub spacesOf : Kind → List Space
 spacesOf k = only (λ z. ofKinds (z .kinds) (code k)) nameSpaces
 
--- the kinds whose names share a space with a kind's: wires, memories and cells do
+-- the kinds whose names share a space with a kind's: wires, memories, cells and processes do
 unfoldable pub kindsOf : Kind → Kinds
-kindsOf k = cond (ofKinds (aWire ∷ aMemory ∷ aCell ∷ []) (code k)) (threeKinds aWire aMemory aCell) (oneKind k)
+kindsOf k = cond (ofKinds (aWire ∷ aMemory ∷ aCell ∷ aProcess ∷ []) (code k)) (fourKinds aWire aMemory aCell aProcess) (oneKind k)

@@ -2,15 +2,16 @@
 -- table's end counts as 0, and a span past its end is cut.
 use Prim.Native.Nat.{ℕ, _+_}
 use mathlib.Core.List.{List, map}
-use mathlib.Core.Option.{Option, none, some}
+use mathlib.Core.Option.{Option, none, some, Option·map}
 use mathlib.Core.Bool.{cond}
 use lib.Dec.{eqb}
 use Rattle.rules.specs.Layout.{valueConstant, integerConstant}
-use Rattle.rules.specs.Statements.{Sort, Constant, value, integer, string, Signal, Memory, Statement, autoidx-stmt, attr-stmt, module-stmt, param-stmt, wire-stmt, memory-stmt, cell-stmt, cell-param-stmt, cell-conn-stmt, conn-stmt, end-stmt}
+use Rattle.rules.specs.Statements.{Sort, Constant, value, integer, string, Signal, Memory, Statement, autoidx-stmt, attr-stmt, module-stmt, param-stmt, wire-stmt, memory-stmt, cell-stmt, cell-param-stmt, cell-conn-stmt, conn-stmt, proc-stmt, step-stmt, end-stmt}
 use Rattle.numbers.specs.Kinds.{digitOf, signalOf, sortOf}
 use Rattle.numbers.specs.Signed.{signedOf}
 use Rattle.wires.specs.Rows.{column, spanAt, wireOf}
 use Rattle.netlist.specs.Rows.{kindAt, nameFrom}
+use Rattle.netlist.specs.Steps.{stepNamed, signalsAt}
 
 -- the constant of three columns: its kind, 1 a value, 2 an integer, else a string; then its span, or the integer
 unfoldable pub constantAt : (strings bits rows : List ℕ) → (row c : ℕ) → Constant
@@ -31,7 +32,7 @@ memoryAt rows k = record { width = column rows k 3; size = column rows k 4; offs
 unfoldable pub sortAt : (rows : List ℕ) → (row c : ℕ) → Sort
 sortAt rows k c = sortOf (column rows k c)
 
--- by the kind in the first column; of kind 11, a process, and above 12 there is none
+-- by the kind in the first column; above 13 there is none, nor of kind 13 where the code names no step
 module _ (names strings bits wires rows : List ℕ) (k : ℕ) where
   unfoldable pub statementBy : ℕ → Option Statement
   statementBy n =
@@ -45,7 +46,9 @@ module _ (names strings bits wires rows : List ℕ) (k : ℕ) where
       (cond (eqb n 8) (some (cell-param-stmt (sortAt rows k 6) (nameFrom names rows k 1) (constantAt strings bits rows k 3)))
       (cond (eqb n 9) (some (cell-conn-stmt (nameFrom names rows k 1) (signalAt bits rows k 3)))
       (cond (eqb n 10) (some (conn-stmt (signalAt bits rows k 1) (signalAt bits rows k 3)))
-      (cond (eqb n 12) (some end-stmt) none))))))))))
+      (cond (eqb n 11) (some (proc-stmt (nameFrom names rows k 1)))
+      (cond (eqb n 12) (some end-stmt)
+      (cond (eqb n 13) (Option·map (λ p. step-stmt p (signalsAt bits rows k)) (stepNamed (column rows k 1))) none))))))))))))
 
   unfoldable pub statementAt : Option Statement
   statementAt = statementBy (kindAt rows k)

@@ -10,7 +10,7 @@ pub const BITS_LENGTH: usize = 16384;
 
 pub const WIRES_LENGTH: usize = 4096;
 
-pub const ROWS_LENGTH: usize = 38152;
+pub const ROWS_LENGTH: usize = 55560;
 
 pub fn right_lengths(names: usize, strings: usize, bits: usize, wires: usize, rows: usize) -> bool
     ensures { λ r. ⌜ r ≡ rightSizes names strings bits wires rows ⌝ }

@@ -17,7 +17,7 @@ pub const BAD_TOKEN: u32 = 4;
 
 pub const NO_SHAPE: u32 = 5;
 
-pub const PORT_OR_PROCESS: u32 = 6;
+pub const PORT_RENAME: u32 = 6;
 
 pub const BAD_NUMBER: u32 = 7;
 

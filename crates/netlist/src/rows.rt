@@ -26,11 +26,12 @@ pub const INTEGER_CONSTANT: u32 = 2;
 
 pub const STRING_CONSTANT: u32 = 3;
 
-// One to three kinds of statement by their codes: of fewer than three, one is repeated.
+// One to four kinds of statement by their codes: of fewer than four, one is repeated.
 pub struct Kinds {
     pub a: u32,
     pub b: u32,
     pub c: u32,
+    pub d: u32,
 }
 
 fn kind_at(rows: &[u32], row: usize) -> u32
@@ -80,7 +81,10 @@ fn is_kind(kinds: Kinds, kind: u32) -> bool
     if kinds.b == kind {
         return true;
     }
-    kinds.c == kind
+    if kinds.c == kind {
+        return true;
+    }
+    kinds.d == kind
 }
 
 // The kind first, which is one word; then the name.

@@ -7,6 +7,7 @@ use context::kinds::CONNECTION_KIND;
 use context::kinds::MEMORY_KIND;
 use context::kinds::MODULE_KIND;
 use context::kinds::PARAMETER_KIND;
+use context::kinds::PROCESS_KIND;
 use context::kinds::WIRE_KIND;
 use context::place::Place;
 ghost use mathlib.Core.Path.{_≡_};
@@ -31,10 +32,13 @@ pub fn space_from(place: Place, kind: u32) -> u32
     if kind < CONNECTION_KIND {
         return place.cell_from;
     }
+    if kind == PROCESS_KIND {
+        return place.module_from;
+    }
     place.rows
 }
 
-// Wires, memories and cells share one.
+// Wires, memories, cells and processes share one.
 pub fn space_kinds(kind: u32) -> Kinds
     ensures { λ r. ⌜ r ≡ kindsFrom kind ⌝ }
 {
@@ -42,18 +46,19 @@ pub fn space_kinds(kind: u32) -> Kinds
         a: WIRE_KIND,
         b: MEMORY_KIND,
         c: CELL_KIND,
+        d: PROCESS_KIND,
     };
     let own = Kinds {
         a: kind,
         b: kind,
         c: kind,
+        d: kind,
     };
     if kind < WIRE_KIND {
         return own;
     }
     if kind < CELL_PARAMETER_KIND {
-        shared
-    } else {
-        own
+        return shared;
     }
+    if kind == PROCESS_KIND { shared } else { own }
 }

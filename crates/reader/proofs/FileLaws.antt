@@ -50,7 +50,7 @@ use Rattle.reader.specs.declared.Reach.the-variants.{Ended, Longer}
 -- ---- the lines
 
 module _ (f : List ℕ) (at : ℕ) (l : Line) (is : l ≡ lineFrom f at) where
-  fits : (scratch : List ℕ) → at ≤ length f → length f ≤ 32768 → length scratch ≡ 36864 → LineFits f l scratch
+  fits : (scratch : List ℕ) → at ≤ length f → length f ≤ 32768 → length scratch ≡ 43008 → LineFits f l scratch
   unfolding lineFrom
   fits scratch h file s =
       subst (λ (x : Line). LineFits f x scratch) (sym is)
@@ -110,7 +110,7 @@ less {f} {l = l} b l′ h e = omega (arith, on f (l .start) l (b .is) h, ap (λ 
 
 pub reached-start :
     (f scratch : List ℕ) (p : Place) (u : Sizes) (t : Tables) →
-    (length f ≤ 32768) × (length scratch ≡ 36864) × (t ≡ tablesOf (memory empty 0)) →
+    (length f ≤ 32768) × (length scratch ≡ 43008) × (t ≡ tablesOf (memory empty 0)) →
     p ≡ placeOf [] → u ≡ sumsOf [] → Reached f scratch p u t 0
 unfolding roomsOf readAny lines admitted
 reached-start f scratch p u t h ep eu =
@@ -196,7 +196,7 @@ cleared n₀ s₀ b₀ w₀ r₀ z en es eb ew er =
       strings = (es ∙ zeros (length s₀) 8192 (z .strings)) i;
       bits = (eb ∙ zeros (length b₀) 16384 (z .bits)) i;
       wires = (ew ∙ zeros (length w₀) (8 * 512) (z .wires)) i;
-      rows = (er ∙ zeros (length r₀) (8 * 4769) (z .rows)) i;
+      rows = (er ∙ zeros (length r₀) (8 * 6945) (z .rows)) i;
     }
 
 -- tables that keep their lengths

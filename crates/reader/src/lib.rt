@@ -47,7 +47,7 @@ const LONGER_TOKENS: usize = 24576;
 const ALL_TOKENS: usize = 131072;
 
 // The words of the table in which a line's signals are read.
-const SCRATCH: usize = 36864;
+const SCRATCH: usize = 43008;
 
 // What the lines of a file give: so much of the name room is used; or a refusal.
 enum Answer {

@@ -95,7 +95,7 @@ module _ (f old new : List ℕ) (l : Line) (x : Lexed) (L : LexedIs f (l .start)
   pub rows-fit : 4 * n ≤ length new
   rows-fit = omega (arith, among .0, L .kept)
 
-  pub rows-ready : (s : List ℕ) (count : ℕ) → length s ≡ 36864 → count ≤ 512 → (n ≡ 0 → ⊥) → Ready f (take (4 * n - 0) (drop 0 new)) s count
+  pub rows-ready : (s : List ℕ) (count : ℕ) → length s ≡ 43008 → count ≤ 512 → (n ≡ 0 → ⊥) → Ready f (take (4 * n - 0) (drop 0 new)) s count
   rows-ready s count scratch c first =
       let q : 4 * n ≡ 4 * n - 0 = omega arith in
       let k : length (take (4 * n) new) ≡ 4 * n = long f new n rows-fit in

@@ -23,6 +23,7 @@ use Rattle.admitted.specs.Admitted.{admitted}
 use Rattle.netlist.specs.Laid.{roomsOf}
 use Rattle.syntax.specs.Statements.{faultOf, statementIn, Sound}
 use Rattle.syntax.specs.declared.Statement.{Statement}
+use Rattle.syntax.specs.declared.Statement.the-variants.{Autoidx, Attribute, Module, Parameter, Wire, Memory, Cell, CellParameter, CellConnection, Connection, Step as StepOf, End, NoShape, Process, BadNumber, MissingWire}
 use Rattle.netlist.specs.Tables.{Tables}
 use Rattle.layout.specs.Put.{tablesOf}
 use Rattle.name_index.specs.Index.{LinesIndexed}
@@ -51,6 +52,25 @@ pub record PlaceFits (p : Place) (u : Sizes) : Type 0 where
   pub within : Within u
   pub bounds : Bounds p
   pub few : p .wires - p .«wires_from» ≤ mostWires
+
+-- the code of an answer's step, 0 if it is none
+unfoldable pub stepIn : Statement → ℕ
+stepIn (Autoidx w) = 0
+stepIn (Attribute n c) = 0
+stepIn (Module n) = 0
+stepIn (Parameter n c) = 0
+stepIn (Wire n w t k p) = 0
+stepIn (Memory n w z t) = 0
+stepIn (Cell k n) = 0
+stepIn (CellParameter o n c) = 0
+stepIn (CellConnection n w l) = 0
+stepIn (Connection a b l) = 0
+stepIn (StepOf p w n l) = p
+stepIn End = 0
+stepIn NoShape = 0
+stepIn (Process n) = 0
+stepIn BadNumber = 0
+stepIn MissingWire = 0
 
 -- ONE LINE. The verdict as an answer; a refusal is at the line
 unfoldable pub judgedAs : List ℕ → Line → Judged → LineAnswer

@@ -10,10 +10,12 @@ use context::kinds::MEMORY_KIND;
 use context::kinds::MODULE_KIND;
 use context::kinds::PARAMETER_KIND;
 use context::kinds::PROCESS_KIND;
+use context::kinds::STEP_KIND;
 use context::kinds::WIRE_KIND;
 use context::place::Place;
 use context::place::after;
 use context::sizes::Sizes;
+use context::steps::NO_STEP;
 use judgement::Judged;
 use judgement::judge_line;
 use layout::put_statement;
@@ -34,7 +36,7 @@ ghost use Rattle.rules.specs.Statements.{code};
 ghost use Rattle.syntax.specs.Statements.{kindIn};
 ghost use Rattle.name_index.specs.Index.{LinesIndexed};
 ghost use Rattle.netlist.specs.Tables.{tabled};
-ghost use Rattle.reading_step.specs.Steps.{LineFits, PlaceFits, judgedAs, AnswerAs, Storable, SomeDone, StepAs, StepIndexed};
+ghost use Rattle.reading_step.specs.Steps.{LineFits, PlaceFits, stepIn, judgedAs, AnswerAs, Storable, SomeDone, StepAs, StepIndexed};
 
 // The words of a token's row.
 const TOKEN_SIZE: usize = 4;
@@ -200,7 +202,7 @@ pub fn take_line(
         kind,
     );
     Step::Next {
-        place: after(place, kind),
+        place: after(place, kind, step_code(statement)),
         sums: more,
     }
 }
@@ -220,10 +222,21 @@ fn kind_code(statement: Statement) -> u32
         Statement::CellParameter { .. } => CELL_PARAMETER_KIND,
         Statement::CellConnection { .. } => CELL_CONNECTION_KIND,
         Statement::Connection { .. } => CONNECTION_KIND,
+        Statement::Step { .. } => STEP_KIND,
         Statement::End => END_KIND,
         Statement::NoShape => PROCESS_KIND,
-        Statement::Process => PROCESS_KIND,
+        Statement::Process(_) => PROCESS_KIND,
         Statement::BadNumber => PROCESS_KIND,
         Statement::MissingWire => PROCESS_KIND,
     }
+}
+
+// The code of a line's step, if it is one.
+fn step_code(statement: Statement) -> u32
+    ensures { λ r. ⌜ r ≡ stepIn statement ⌝ }
+{
+    let Statement::Step { step, .. } = statement else {
+        return NO_STEP;
+    };
+    step
 }

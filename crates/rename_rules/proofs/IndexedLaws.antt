@@ -66,16 +66,17 @@ range-inside rows total m =
 
 pub object-free :
     (names rows : List ℕ) (total m : ℕ) (n : Name) (b : Bool) →
-    b ≡ any (same n) (namesBetween names rows (isKind (record { a = 6; b = 7; c = 7 })) 0 total) → b ≡ false → objectTaken names rows total m n ≡ false
+    b ≡ any (same n) (namesBetween names rows (isKind (record { a = 6; b = 7; c = 11; d = 11 })) 0 total) → b ≡ false → objectTaken names rows total m n ≡ false
 unfolding objectTaken code
 object-free names rows total m n b eb e =
-    part-free names rows (isKind (record { a = 6; b = 7; c = 7 })) n _ _ total (range-inside rows total m) (sym eb ∙ e)
+    part-free names rows (isKind (record { a = 6; b = 7; c = 11; d = 11 })) n _ _ total (range-inside rows total m) (sym eb ∙ e)
 
-pub objects-named : (rows : List ℕ) (from count : ℕ) → Named rows (isKind (record { a = 6; b = 7; c = 7 })) from count
+pub objects-named : (rows : List ℕ) (from count : ℕ) → Named rows (isKind (record { a = 6; b = 7; c = 11; d = 11 })) from count
 unfolding isKind hasName ofKinds any code
 objects-named rows from count k q r e =
     by-test (eqb 6 (kindAt rows k)) (λ t. rw (← eqb-true 6 (kindAt rows k) t))
-    (λ t. by-test (eqb 7 (kindAt rows k)) (λ u. rw (← eqb-true 7 (kindAt rows k) u)) (λ u. never false (rw (t, u) at e) refl))
+    (λ t. by-test (eqb 7 (kindAt rows k)) (λ u. rw (← eqb-true 7 (kindAt rows k) u))
+    (λ u. by-test (eqb 11 (kindAt rows k)) (λ v. rw (← eqb-true 11 (kindAt rows k) v)) (λ v. never false (rw (t, u, v) at e) refl)))
 
 -- WIRES
 pub inside-by : (wires : List ℕ) (p : Place) (standing m : ℕ) → moduleBy wires p standing m .first + moduleBy wires p standing m .wires ≤ p .wires

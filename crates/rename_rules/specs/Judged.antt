@@ -8,7 +8,7 @@ use lib.ListN.{length}
 use Rattle.rules.specs.Limits.{nameRoom, mostRenames}
 use Rattle.rules.specs.Bytes.{same, any, legal}
 use Rattle.rules.specs.Tokens.{Name}
-use Rattle.rules.specs.Statements.{Statement, aMemory, aCell}
+use Rattle.rules.specs.Statements.{Statement, aMemory, aCell, aProcess}
 use Rattle.rules.specs.Session.{Rename, isPort}
 use Rattle.rules.specs.Layout.{rooms}
 use Rattle.wires.specs.Rows.{wireOf}
@@ -17,7 +17,7 @@ use Rattle.context.specs.declared.place.Place.{Place}
 use Rattle.admitted.specs.Admitted.{admitted, closes}
 use Rattle.name_index.specs.Index.{wireKey, Indexed}
 use Rattle.netlist.specs.Rows.{namesBetween}
-use Rattle.netlist.specs.Kinds.{isKind, threeKinds}
+use Rattle.netlist.specs.Kinds.{isKind, fourKinds}
 use Rattle.netlist.specs.Laid.{Laid, Wired}
 use Rattle.modules.specs.Ranges.{wireRange, rowRange}
 use Rattle.wire_names.specs.Now.{wiresIn}
@@ -26,7 +26,7 @@ use Rattle.wire_names.specs.declared.Module.{Module}
 -- whether a memory or a cell of module m has this name, in the rows of so many statements
 unfoldable pub objectTaken : (names rows : List ℕ) → (total m : ℕ) → Name → Bool
 objectTaken names rows total m n =
-    any (same n) (namesBetween names rows (isKind (threeKinds aMemory aCell aCell)) (rowRange rows total m .first) (rowRange rows total m .count))
+    any (same n) (namesBetween names rows (isKind (fourKinds aMemory aCell aProcess aProcess)) (rowRange rows total m .first) (rowRange rows total m .count))
 
 -- whether the name space of a module has this name now
 unfoldable pub nameTaken : (names wires rows : List ℕ) → Module → Name → Bool

@@ -24,7 +24,7 @@ use Rattle.lists.specs.Sums.{sum-reverse}
 pub sum-design : (f : Statement → ℕ) (ss : List Statement) → admitted (reverse ss) ≡ true → closes (reverse ss) ≡ true → sum f (flatten (design ss)) ≡ sum f ss
 sum-design f ss e c =
     let y = file-of ss e c in
-    rw (y .1, design-lines (y .0)) (canonical-sum f (y .0))
+    rw (y .lines, design-lines (y .file) (y .balanced)) (canonical-sum f (y .file))
 
 pub room-used :
     (ss : List Statement) (rs : List Rename) → admitted (reverse ss) ≡ true → closes (reverse ss) ≡ true →

@@ -10,7 +10,7 @@ use lib.Dec.{eqb}
 use lib.ListN.{length, getElem?}
 use Rattle.rules.specs.Bytes.{same, any, all}
 use Rattle.rules.specs.Tokens.{Name}
-use Rattle.rules.specs.Statements.{Wire, aMemory, aCell, code}
+use Rattle.rules.specs.Statements.{Wire, aMemory, aCell, aProcess, code}
 use Rattle.rules.specs.Judgement.{Past}
 use Rattle.rules.specs.Signals.{Wires}
 use Rattle.rules.specs.Design.{Object, design}
@@ -21,7 +21,7 @@ use Rattle.lists.specs.Elements.{any-append}
 use Rattle.wires.specs.Rows.{wiresFrom}
 use Rattle.context.specs.Place.{wiresIn, placeOf}
 use Rattle.context.specs.Offsets.{Offsets}
-use Rattle.netlist.specs.Kinds.{isKind, ofKinds, Tests, hasName, threeKinds}
+use Rattle.netlist.specs.Kinds.{isKind, ofKinds, Tests, hasName, fourKinds}
 use Rattle.netlist.specs.Laid.{roomsOf, Laid, Wired}
 use Rattle.netlist.specs.LaidLaws.{laid-renames}
 use Rattle.netlist.specs.NameLaws.{ownNames}
@@ -60,21 +60,21 @@ any-now names wires t from count m first g (suc j) =
     ∙ any-append g (up f j 0) (f (0 + j) ∷ [])
     ∙ ap (λ (b : Bool). any g (up f j 0) || b) (or-false (g (f (0 + j))) ∙ ap (λ (i : ℕ). g (f i)) z))
 
--- MEMORIES AND CELLS
-two-kinds : Tests (isKind (threeKinds aMemory aCell aCell)) (aMemory ∷ aCell ∷ [])
+-- MEMORIES, CELLS AND PROCESSES
+three-kinds : Tests (isKind (fourKinds aMemory aCell aProcess aProcess)) (aMemory ∷ aCell ∷ aProcess ∷ [])
 unfolding isKind ofKinds any
-two-kinds n = let b : Bool = eqb (code aCell) n in ap (λ (c : Bool). eqb (code aMemory) n || c) (or-self b ∙ sym (or-false b))
+three-kinds n = let b : Bool = eqb (code aProcess) n in ap (λ (c : Bool). eqb (code aMemory) n || (eqb (code aCell) n || c)) (or-self b ∙ sym (or-false b))
 
-two-named : all (λ k. hasName (code k)) (aMemory ∷ aCell ∷ []) ≡ true
+three-named : all (λ k. hasName (code k)) (aMemory ∷ aCell ∷ aProcess ∷ []) ≡ true
 unfolding all any hasName ofKinds code
-two-named = refl
+three-named = refl
 
 -- THE NAME SPACE NOW
 module _ {names wires t : List ℕ} (m : ℕ) (ss : Past) (headed : Headed ss) (o : Offsets ss) (rs : List Rename)
     (l : Laid (putRenames (roomsOf ss) rs) names t) (k : Wired (roomsOf ss) names wires) (n : Name) where
-  objects-taken : objectTaken names t (length ss) m n ≡ any (same n) (ownNames (aMemory ∷ aCell ∷ []) (statementsOf m (reverse ss)))
+  objects-taken : objectTaken names t (length ss) m n ≡ any (same n) (ownNames (aMemory ∷ aCell ∷ aProcess ∷ []) (statementsOf m (reverse ss)))
   unfolding objectTaken
-  objects-taken = taken-range m ss (laid-renames (roomsOf ss) rs l) (aMemory ∷ aCell ∷ []) two-named _ two-kinds n
+  objects-taken = taken-range m ss (laid-renames (roomsOf ss) rs l) (aMemory ∷ aCell ∷ aProcess ∷ []) three-named _ three-kinds n
 
   pub taken-laid : nameTaken names wires t (moduleBy wires (placeOf ss) (length rs) m) n ≡ taken (now (design (reverse ss)) rs) m n
   unfolding nameTaken rows.wiresIn placeOf

@@ -2,6 +2,7 @@
 // All of it is total: a word past a table's end counts as 0, and a span past its end is cut.
 use context::kinds::CELL_KIND;
 use context::kinds::MEMORY_KIND;
+use context::kinds::PROCESS_KIND;
 use context::place::Place;
 use context::sizes::MOST_RENAMES;
 use modules::module_rows;
@@ -13,7 +14,7 @@ use names::same_bytes;
 use netlist::lengths::NAMES_LENGTH;
 use netlist::results::BAD_TOKEN;
 use netlist::results::NOT_THERE;
-use netlist::results::PORT_OR_PROCESS;
+use netlist::results::PORT_RENAME;
 use netlist::results::TAKEN_NAME;
 use netlist::results::TOO_MANY;
 use netlist::rows::Kinds;
@@ -147,7 +148,7 @@ fn wire_name_taken(names: &[u8], wires: &[u32], rows: &[u32], m: Module, name: &
     }
 }
 
-// Whether a memory or a cell of the module has this name.
+// Whether a memory, a cell or a process of the module has this name.
 fn object_name_taken(names: &[u8], rows: &[u32], total: u32, m: ModuleNumber, name: &[u8]) -> bool
     ensures { λ r. ⌜ r ≡ objectTaken (now (names .entry)) (now (rows .entry)) total (m .0) (now (name .entry)) ⌝ }
 {
@@ -160,7 +161,8 @@ fn object_name_taken(names: &[u8], rows: &[u32], total: u32, m: ModuleNumber, na
         Kinds {
             a: MEMORY_KIND,
             b: CELL_KIND,
-            c: CELL_KIND,
+            c: PROCESS_KIND,
+            d: PROCESS_KIND,
         },
         name,
     )
@@ -222,7 +224,7 @@ fn indexed_kept(
     false
 }
 
-// The answer of `object_name_taken`. Only where a memory or a cell of any module has the name the module's own are asked.
+// The answer of `object_name_taken`. Only where a memory, a cell or a process of any module has the name the module's own are asked.
 fn indexed_object(
     names: &[u8],
     rows: &[u32],
@@ -245,7 +247,8 @@ fn indexed_object(
         Kinds {
             a: MEMORY_KIND,
             b: CELL_KIND,
-            c: CELL_KIND,
+            c: PROCESS_KIND,
+            d: PROCESS_KIND,
         },
         name,
     ) {
@@ -317,7 +320,7 @@ fn rename_number(wires: &[u32], m: Module, room: u32, w: WireNumber, new: &[u8],
         return NOT_THERE;
     }
     if is_port(wires, m.first as usize + wire as usize) {
-        return PORT_OR_PROCESS;
+        return PORT_RENAME;
     }
     if taken {
         return TAKEN_NAME;

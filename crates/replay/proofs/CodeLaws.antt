@@ -35,7 +35,7 @@ pub all-digit : (ds : List Digit) → all isDigit (map digitCode ds) ≡ true
 unfolding isDigit
 all-digit ds = all-map isDigit digitCode ds ∙ all-each _ (λ d. lt-ltb (digitCode d) 6 (digit-code d)) ds
 
-all-signal : (ws : Wires) (cs : List ℕ) → all (fineBit ws) (signalOf cs) ≡ all (λ c. fineBit ws (bitOf (bitAt c))) cs
+pub all-signal : (ws : Wires) (cs : List ℕ) → all (fineBit ws) (signalOf cs) ≡ all (λ c. fineBit ws (bitOf (bitAt c))) cs
 unfolding signalOf
 all-signal ws cs = all-map (fineBit ws) (λ c. bitOf (bitAt c)) cs
 

@@ -12,9 +12,9 @@ use borrow.Author.Tests.{eq-eqb, ne-eqb}
 use Rattle.rules.specs.Bytes.{same, all, within, legal}
 use Rattle.rules.specs.Statements.{Sort, plain, signed, real, Statement, contents, holds, code, attr-stmt, module-stmt, memory-stmt, proc-stmt, end-stmt}
 use Rattle.rules.specs.Signals.{Wires}
-use Rattle.rules.specs.Judgement.{sum, signalSize, nameSize}
+use Rattle.rules.specs.Judgement.{sum, equal, signalSize, nameSize}
 use Rattle.rules.specs.Layout.{Used, padded, row, nameBytes, wireRows, sortCode, columns, statementRow}
-use Rattle.admitted.specs.Admitted.{fineMemory, sameLength, fineAlone, fineParts}
+use Rattle.admitted.specs.Admitted.{fineMemory, fineAlone, fineParts}
 use Rattle.admitted.specs.AdmitLaws.{fine-parts}
 use Rattle.tables.specs.Row.{words}
 use Rattle.tables.specs.declared.Row.{Row}
@@ -26,7 +26,7 @@ use Rattle.replay.specs.Parts.{span, nameStands}
 use Rattle.numbers.specs.Kinds.{sortOf}
 use Rattle.numbers.specs.KindLaws.{sort-code}
 use Rattle.netlist.specs.RowLaws.{row-zero}
-use Rattle.replay.specs.Reads.{PartTables, partTables, constantOf, optionalOf, memoryOf, statementBy, statementOf, Reads, Tells, TellsNamed, TellsValued, TellsAutoidx, TellsEnd, TellsMemory, TellsCell, TellsParameter, TellsCellParameter}
+use Rattle.replay.specs.Reads.{PartTables, partTables, constantOf, optionalOf, memoryOf, evenSignals, statementBy, statementOf, Reads, Tells, TellsNamed, TellsValued, TellsAutoidx, TellsEnd, TellsMemory, TellsCell, TellsParameter, TellsCellParameter}
 use Rattle.replay.specs.declared.statements.Found.{Found}
 use Rattle.replay.proofs.Spans.{has-none, has-span, spans}
 use Rattle.replay.proofs.CodeLaws.{constant-read}
@@ -34,14 +34,14 @@ use Rattle.replay.proofs.ReadLaws.{name-legal, name-long, name-not, fir
 
 -- ---- a statement without parts
 
-module _ (u : Used) (r x : Row) (f : Found) (ef : f ≡ cond (same (words r) (words x)) (Found.Statement 0 0 0 0) Found.Nothing) where
+module _ (u : Used) (r x : Row) (f : Found) (ef : f ≡ cond (same (words r) (words x)) (Found.Statement 0 0 0 0 0) Found.Nothing) where
   pub tells-autoidx : words x ≡ row (1 ∷ r .a ∷ []) → r .a < 4294967296 → TellsAutoidx u r f
-  unfolding statementRow columns code contents holds fineAlone fineParts all sameLength nameBytes wireRows flatMap zip zipWith signalSize nameSize sum
-  tells-autoidx ex h t ws = laid t u ws r x _ refl (rw (word-signed (r .a) h) ex) (has-none _ _) (has-none _ _) (has-none _ _) (rw (signed-int32 (r .a))) refl refl f ef
+  unfolding statementRow columns code contents holds fineAlone fineParts evenSignals equal all nameBytes wireRows flatMap zip zipWith signalSize nameSize sum
+  tells-autoidx ex h t ws = laid t u ws r x _ refl (rw (word-signed (r .a) h) ex) (has-none _ _) (has-none _ _) (has-none _ _) (rw (signed-int32 (r .a))) refl refl refl refl f ef
 
   pub tells-end : words x ≡ row (12 ∷ []) → TellsEnd u r f
-  unfolding statementRow columns code contents holds fineAlone fineParts all sameLength nameBytes wireRows flatMap zip zipWith signalSize nameSize sum
-  tells-end ex t ws = laid t u ws r x _ refl ex (has-none _ _) (has-none _ _) (has-none _ _) refl refl refl f ef
+  unfolding statementRow columns code contents holds fineAlone fineParts evenSignals equal all nameBytes wireRows flatMap zip zipWith signalSize nameSize sum
+  tells-end ex t ws = laid t u ws r x _ refl ex (has-none _ _) (has-none _ _) (has-none _ _) refl refl refl refl refl f ef
 
 -- ---- a memory
 
@@ -67,12 +67,12 @@ module _ (names : List ℕ) (u : Used) (r : Row) where
   pub memory-settled :
       nameStands names (u .names) (r .b) ≡ true → within 1 2048 (r .c) ≡ true → leb (r .d) 2147483647 ≡ true → r .e < 4294967296 →
       (x : Row) → words x ≡ row (6 ∷ u .names ∷ r .b ∷ r .c ∷ r .d ∷ r .e ∷ []) → (f : Found) →
-      f ≡ cond (same (words r) (words x)) (Found.Statement 0 0 0 (r .b)) Found.Nothing → TellsMemory names u r f
-  unfolding statementRow columns code contents holds fineAlone fineParts all sameLength fineMemory memoryOf nameBytes wireRows flatMap zip zipWith signalSize nameSize sum
+      f ≡ cond (same (words r) (words x)) (Found.Statement 0 0 0 0 (r .b)) Found.Nothing → TellsMemory names u r f
+  unfolding statementRow columns code contents holds fineAlone fineParts evenSignals equal all fineMemory memoryOf nameBytes wireRows flatMap zip zipWith signalSize nameSize sum
   memory-settled h w z o x ex f ef strings bits wires ws =
       let l : r .b ≡ length (span names (u .names) (r .b)) = name-long names (u .names) (r .b) h in
       laid (partTables names strings bits wires) u ws r x _ refl (rw (← l, word-signed (r .e) o) ex) (rw append-nil (has-span names (u .names) (r .b))) (has-none _ _) (has-none _ _)
-      (rw (name-legal names (u .names) (r .b) h, w, z, signed-int32 (r .e))) refl (omega arith) f ef
+      (rw (name-legal names (u .names) (r .b) h, w, z, signed-int32 (r .e))) refl refl refl (omega arith) f ef
 
 -- ---- a cell
 
@@ -89,13 +89,13 @@ module _ (names : List ℕ) (u : Used) (r : Row) where
   pub cell-settled :
       nameStands names (u .names) (r .b) ≡ true → nameStands names (u .names + r .b) (r .d) ≡ true →
       (x : Row) → words x ≡ row (7 ∷ u .names ∷ r .b ∷ (u .names + r .b) ∷ r .d ∷ []) → (f : Found) →
-      f ≡ cond (same (words r) (words x)) (Found.Statement 0 0 0 (r .b + r .d)) Found.Nothing → TellsCell names u r f
-  unfolding statementRow columns code contents holds fineAlone fineParts all sameLength nameBytes wireRows flatMap zip zipWith signalSize nameSize sum
+      f ≡ cond (same (words r) (words x)) (Found.Statement 0 0 0 0 (r .b + r .d)) Found.Nothing → TellsCell names u r f
+  unfolding statementRow columns code contents holds fineAlone fineParts evenSignals equal all nameBytes wireRows flatMap zip zipWith signalSize nameSize sum
   cell-settled h k x ex f ef strings bits wires ws =
       let l : r .b ≡ length (span names (u .names) (r .b)) = name-long names (u .names) (r .b) h in
       let m : r .d ≡ length (span names (u .names + r .b) (r .d)) = name-long names (u .names + r .b) (r .d) k in
       laid (partTables names strings bits wires) u ws r x _ refl (rw (← l, ← m) ex) (rw (append-nil, spans) (has-span names (u .names) (r .b + r .d))) (has-none _ _) (has-none _ _)
-      (rw (name-legal names (u .names) (r .b) h, name-legal names (u .names + r .b) (r .d) k)) refl (omega arith) f ef
+      (rw (name-legal names (u .names) (r .b) h, name-legal names (u .names + r .b) (r .d) k)) refl refl refl (omega arith) f ef
 
 -- ---- parameters
 
@@ -142,10 +142,10 @@ module _ (t : PartTables) (u : Used) (ws : Wires) (r : Row) (f : Found) where
   -- a kind that no other statement has is taken for an end, which its row then is not
   pub other-kind :
       (r .kind ≡ 1 → ⊥) → (r .kind ≡ 2 → ⊥) → (r .kind ≡ 3 → ⊥) → (r .kind ≡ 4 → ⊥) → (r .kind ≡ 5 → ⊥) → (r .kind ≡ 6 → ⊥) → (r .kind ≡ 7 → ⊥) → (r .kind ≡ 8 → ⊥) → (r .kind ≡ 9 → ⊥) →
-      (r .kind ≡ 10 → ⊥) → (r .kind ≡ 11 → ⊥) → Tells t u ws r end-stmt f → Tells t u ws r (statementOf t u r) f
+      (r .kind ≡ 10 → ⊥) → (r .kind ≡ 11 → ⊥) → (r .kind ≡ 13 → ⊥) → Tells t u ws r end-stmt f → Tells t u ws r (statementOf t u r) f
   unfolding statementOf statementBy
-  other-kind a b c d e g h i j k l q =
-      rw (ne-eqb (r .kind) 1 a, ne-eqb (r .kind) 2 b, ne-eqb (r .kind) 3 c, ne-eqb (r .kind) 4 d, ne-eqb (r .kind) 5 e, ne-eqb (r .kind) 6 g, ne-eqb (r .kind) 7 h, ne-eqb (r .kind) 8 i, ne-eqb (r .kind) 9 j, ne-eqb (r .kind) 10 k, ne-eqb (r .kind) 11 l) q
+  other-kind a b c d e g h i j k l m q =
+      rw (ne-eqb (r .kind) 1 a, ne-eqb (r .kind) 2 b, ne-eqb (r .kind) 3 c, ne-eqb (r .kind) 4 d, ne-eqb (r .kind) 5 e, ne-eqb (r .kind) 6 g, ne-eqb (r .kind) 7 h, ne-eqb (r .kind) 8 i, ne-eqb (r .kind) 9 j, ne-eqb (r .kind) 10 k, ne-eqb (r .kind) 11 l, ne-eqb (r .kind) 13 m) q
 
 module _ (names : List ℕ) (u : Used) (r : Row) (f : Found) where
   pub module-told :

@@ -5,6 +5,9 @@ pub mod CodeLaws
 pub mod ReadLaws
 pub mod KindLaws
 pub mod WireLaws
+pub mod PieceLaws
+pub mod StepRowLaws
+pub mod LineLaws
 pub mod UniqueLaws
 pub mod BeginLaws
 pub mod TurnLaws

@@ -13,7 +13,9 @@ use Rattle.rules.specs.Bytes.{all, within}
 use Rattle.rules.specs.Signals.{Wires}
 use Rattle.lists.specs.Tests.{by-test, and-true-left, and-true-right}
 use Rattle.lists.specs.Bytes.{legal-short}
-use Rattle.replay.specs.Parts.{span, whole, nameStands, partStands, textStands, signalStands}
+use Rattle.admitted.specs.Admitted.{fineBit}
+use Rattle.numbers.specs.Kinds.{bitOf, bitAt}
+use Rattle.replay.specs.Parts.{span, whole, nameStands, partStands, textStands, bitsStand, signalStands}
 use Rattle.replay.proofs.Spans.{whole-none, whole-in, whole-out, whole-long, span-none}
 
 pub positive : (n : ℕ) → (n ≡ 0 → ⊥) → 0 < n
@@ -46,6 +48,28 @@ module _ (t : List ℕ) (at n : ℕ) {b : Bool} (w : b ≡ whole t at n) where
     pub part-all : b ≡ true → n ≤ 2048 → {r : Bool} → r ≡ all f (slice at (at + n) t) → r ≡ partStands f t at n
     unfolding span
     part-all e h q = part-in e (rw (le-leb n 2048 h) q)
+
+-- bits that stand, and a signal of so many
+module _ (ws : Wires) (t : List ℕ) (at n : ℕ) where
+  pub bits-out : {b : Bool} → b ≡ whole t at n → b ≡ false → false ≡ bitsStand ws t at n
+  unfolding bitsStand
+  bits-out w e = part-out t at n w _ e
+
+  pub bits-none : n ≡ 0 → true ≡ bitsStand ws t at n
+  unfolding bitsStand all
+  bits-none e = rw (e, whole-none, span-none)
+
+  pub bits-all : {b : Bool} → b ≡ whole t at n → b ≡ true → {r : Bool} → r ≡ all (λ c. fineBit ws (bitOf (bitAt c))) (slice at (at + n) t) → r ≡ bitsStand ws t at n
+  unfolding bitsStand span
+  bits-all w e q = part-in t at n w e q
+
+  pub signal-wide : 2048 < n → false ≡ signalStands ws t at n
+  unfolding signalStands
+  signal-wide h = by-test (whole t at n) (λ e. rw (e, lt-leb n 2048 h)) (λ e. rw e)
+
+  pub signal-narrow : n ≤ 2048 → {r : Bool} → r ≡ bitsStand ws t at n → r ≡ signalStands ws t at n
+  unfolding signalStands bitsStand
+  signal-narrow h e = rw (le-leb n 2048 h) e
 
 -- a part of no values stands everywhere
 module _ (t : List ℕ) (at n : ℕ) (e : n ≡ 0) where

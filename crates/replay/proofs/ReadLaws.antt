@@ -10,9 +10,9 @@ use Rattle.rules.specs.Bytes.{same, all, legal}
 use Rattle.rules.specs.Tokens.{Name}
 use Rattle.rules.specs.Statements.{Sort, Statement, Constant, digitsOf, bytesOf, Kind, contents, holds}
 use Rattle.rules.specs.Signals.{Wires}
-use Rattle.rules.specs.Judgement.{sum, signalSize, valueSize, stringSize, nameSize}
+use Rattle.rules.specs.Judgement.{sum, equal, signalSize, valueSize, stringSize, nameSize}
 use Rattle.rules.specs.Layout.{Used, padded, row, nameBytes, stringBytes, bitCode, bitCodes, wireRows, constantColumns, statementRow}
-use Rattle.admitted.specs.Admitted.{fineConstant, sameLength, fineAlone, fineParts}
+use Rattle.admitted.specs.Admitted.{fineConstant, fineAlone, fineParts}
 use Rattle.admitted.specs.AdmitLaws.{fine-parts}
 use Rattle.tables.specs.Flat.{flat}
 use Rattle.tables.specs.Row.{words}
@@ -24,7 +24,7 @@ use Rattle.lists.specs.Elements.{all-first}
 use Rattle.replay.specs.Parts.{span, whole, nameStands}
 use Rattle.netlist.specs.Spans.{Has}
 use Rattle.netlist.specs.Fronts.{Parts}
-use Rattle.replay.specs.Reads.{PartTables, partTables, constantOf, ReadsConstant, TellsConstant, Reads, Counts, Tells, TellsNamed, TellsValued}
+use Rattle.replay.specs.Reads.{PartTables, partTables, constantOf, ReadsConstant, TellsConstant, evenSignals, Reads, Counts, Tells, TellsNamed, TellsValued}
 use Rattle.replay.specs.declared.statements.Found.{Found}
 use Rattle.replay.specs.declared.statements.Held.{Held}
 use Rattle.replay.proofs.Spans.{whole-long, long-whole, has-none, has-span}
@@ -32,12 +32,12 @@ use Rattle.replay.proofs.CodeLaws.{constant-read}
 
 -- with the parts there, the row decides
 pub settled :
-    {u : Used} {s : Statement} (t : PartTables) (ws : Wires) (r x : Row) {g v z n : ℕ} → words x ≡ statementRow u s → Parts (t .names) (t .strings) (t .bits) (t .wires) u s → fineParts ws s ≡ true → Counts s g v z n →
-    (f : Found) → f ≡ cond (same (words r) (words x)) (Found.Statement g v z n) Found.Nothing → Tells t u ws r s f
+    {u : Used} {s : Statement} (t : PartTables) (ws : Wires) (r x : Row) {c g v z n : ℕ} → words x ≡ statementRow u s → Parts (t .names) (t .strings) (t .bits) (t .wires) u s → fineParts ws s ≡ true → evenSignals s ≡ true → Counts s c g v z n →
+    (f : Found) → f ≡ cond (same (words r) (words x)) (Found.Statement c g v z n) Found.Nothing → Tells t u ws r s f
 unfolding Tells
-settled t ws r x ex p w q f e =
+settled t ws r x ex p w v q f e =
     by-test (same (words r) (words x))
-    (λ h. rw (e, h) (record { parts = p; row = same-eq (words r) (words x) h ∙ ex; fine = w }, q))
+    (λ h. rw (e, h) (record { parts = p; row = same-eq (words r) (words x) h ∙ ex; fine = w; even = v }, q))
     (λ h. rw (e, h) (λ d. never (same (words r) (words x)) (ap (same (words r)) (ex ∙ sym (d .row)) ∙ same-refl (words r)) h))
 
 -- a name
@@ -65,13 +65,13 @@ first-not {ws = ws} {s = s} d h e q =
 pub laid :
     (t : PartTables) (u : Used) (ws : Wires) (r x : Row) (s : Statement) → contents s .constants ≡ [] → words x ≡ statementRow u s →
     Has (t .names) (u .names) (nameBytes s) → Has (t .bits) (u .bits) (flatMap (map bitCode) (contents s .signals)) → Has (t .wires) (8 * u .wires) (flat (wireRows u s)) →
-    fineParts ws s ≡ true → {g n : ℕ} → g ≡ signalSize s → n ≡ nameSize s → (f : Found) → f ≡ cond (same (words r) (words x)) (Found.Statement g 0 0 n) Found.Nothing → Tells t u ws r s f
+    fineParts ws s ≡ true → evenSignals s ≡ true → {c g n : ℕ} → c ≡ length (contents s .signals) → g ≡ signalSize s → n ≡ nameSize s → (f : Found) → f ≡ cond (same (words r) (words x)) (Found.Statement c g 0 0 n) Found.Nothing → Tells t u ws r s f
 unfolding stringBytes bitCodes flatMap valueSize stringSize sum
-laid t u ws r x s e ex hn hb hw w g n f ef =
+laid t u ws r x s e ex hn hb hw w v c g n f ef =
     settled t ws r x ex
     (record { names-has = hn; strings-has = rw e (has-none _ _); bits-has = rw e hb; wires-has = hw })
-    w
-    (record { signals = g; values = rw e; strings = rw e; names = n })
+    w v
+    (record { count = c; signals = g; values = rw e; strings = rw e; names = n })
     f ef
 
 -- ---- a name and nothing else, by the statement's contents
@@ -83,19 +83,19 @@ module _ (names : List ℕ) (u : Used) (r : Row) (kind : ℕ) where
 
   pub named-settled :
       nameStands names (u .names) (r .b) ≡ true → (x : Row) → words x ≡ row (kind ∷ u .names ∷ r .b ∷ []) → (f : Found) →
-      f ≡ cond (same (words r) (words x)) (Found.Statement 0 0 0 (r .b)) Found.Nothing → TellsNamed names u r kind f
-  unfolding fineAlone fineParts all holds nameBytes wireRows flatMap zip zipWith sameLength signalSize nameSize sum
+      f ≡ cond (same (words r) (words x)) (Found.Statement 0 0 0 0 (r .b)) Found.Nothing → TellsNamed names u r kind f
+  unfolding fineAlone fineParts evenSignals equal all holds nameBytes wireRows flatMap zip zipWith signalSize nameSize sum
   named-settled h x ex f ef strings bits wires ws s k e q =
       let l : r .b ≡ length (span names (u .names) (r .b)) = name-long names (u .names) (r .b) h in
       laid (partTables names strings bits wires) u ws r x s (rw e) (rw (q, ← l) ex) (rw (e, append-nil) (has-span names (u .names) (r .b))) (rw e (has-none _ _)) (rw e (has-none _ _))
-      (rw (e, name-legal names (u .names) (r .b) h)) (rw e) (rw e (omega arith)) f ef
+      (rw (e, name-legal names (u .names) (r .b) h)) (rw e) (rw e) (rw e) (rw e (omega arith)) f ef
 
 -- ---- a name and a constant
 
 module _ (names strings bits : List ℕ) (u : Used) (r : Row) (kind sort : ℕ) where
-  module _ (wires : List ℕ) (ws : Wires) (s : Statement) (k : Kind) (os : List Sort) (n : Name) (c : Constant) (e : contents s ≡ holds k (n ∷ []) (c ∷ []) [] [] [] [] os) where
+  module _ (wires : List ℕ) (ws : Wires) (s : Statement) (k : Kind) (os : List Sort) (n : Name) (c : Constant) (e : contents s ≡ holds k (n ∷ []) (c ∷ []) [] [] [] [] os []) where
     valued-fine : fineParts ws s ≡ legal n && fineConstant c
-    unfolding fineAlone fineParts all holds sameLength
+    unfolding fineAlone fineParts all holds
     valued-fine = rw e (simp and-true)
 
     read-constant : statementRow u s ≡ row (kind ∷ u .names ∷ length n ∷ constantColumns u c ++ sort ∷ []) → Reads (partTables names strings bits wires) u ws r s → ReadsConstant strings bits u (r .c) (r .d) (r .e) c
@@ -118,9 +118,13 @@ module _ (names strings bits : List ℕ) (u : Used) (r : Row) (kind sort : ℕ) 
           wires-has = rw e (has-none wires (8 * u .wires));
         }
 
-    valued-counts : (v z m : ℕ) → v ≡ length (digitsOf c) → z ≡ length (bytesOf c) → m ≡ length n → Counts s 0 v z m
+    valued-even : evenSignals s ≡ true
+    unfolding evenSignals equal holds
+    valued-even = rw e
+
+    valued-counts : (v z m : ℕ) → v ≡ length (digitsOf c) → z ≡ length (bytesOf c) → m ≡ length n → Counts s 0 0 v z m
     unfolding holds signalSize valueSize stringSize nameSize sum
-    valued-counts v z m ev ez em = record { signals = rw e; values = rw e (omega arith); strings = rw e (omega arith); names = rw e (omega arith) }
+    valued-counts v z m ev ez em = record { count = rw e; signals = rw e; values = rw e (omega arith); strings = rw e (omega arith); names = rw e (omega arith) }
 
   pub valued-not : nameStands names (u .names) (r .b) ≡ false → TellsValued names strings bits u r kind sort Found.Nothing
   unfolding Tells holds row padded
@@ -135,7 +139,7 @@ module _ (names strings bits : List ℕ) (u : Used) (r : Row) (kind sort : ℕ) 
   pub valued-settled :
       nameStands names (u .names) (r .b) ≡ true → (h : Held) (v z : ℕ) → TellsConstant strings bits u (r .c) (r .d) (r .e) (constantOf strings bits u (r .c) (r .d) (r .e)) h →
       h ≡ Held.Constant v z → (x : Row) → words x ≡ row (kind ∷ u .names ∷ r .b ∷ r .c ∷ r .d ∷ r .e ∷ sort ∷ []) → (f : Found) →
-      f ≡ cond (same (words r) (words x)) (Found.Statement 0 v z (r .b)) Found.Nothing → TellsValued names strings bits u r kind sort f
+      f ≡ cond (same (words r) (words x)) (Found.Statement 0 0 v z (r .b)) Found.Nothing → TellsValued names strings bits u r kind sort f
   unfolding TellsConstant
   valued-settled h held v z d eh x ex f ef wires ws s k os e q =
       let n = span names (u .names) (r .b) in
@@ -148,5 +152,6 @@ module _ (names strings bits : List ℕ) (u : Used) (r : Row) (kind sort : ℕ) 
       ∙ sym q)
       (valued-parts wires ws s k os n c e (has-span names (u .names) (r .b)) (g .0))
       (valued-fine wires ws s k os n c e ∙ rw (name-legal names (u .names) (r .b) h, g .0 .fine))
+      (valued-even wires ws s k os n c e)
       (valued-counts wires ws s k os n c e v z (r .b) (g .1) (g .2) l)
       f ef

@@ -4,7 +4,7 @@ use Prim.Native.Nat.{ℕ, _+_, _-_, _*_, _/_, _≤_, _<_}
 use mathlib.Core.Path.{_≡_, refl, sym, ap, _∙_}
 use mathlib.Core.List.{List, [], _∷_, flatMap, zip, zipWith, append-nil}
 use mathlib.Core.Option.{Option·elim}
-use mathlib.Core.Bool.{Bool, true, false, cond, _||_}
+use mathlib.Core.Bool.{Bool, true, false, cond, _&&_, _||_}
 use native.Mathlib.Omega.{arith}
 use lib.Dec.{eqb, leb}
 use lib.ListN.{length}
@@ -13,10 +13,10 @@ use Rattle.rules.specs.Bytes.{same, all}
 use Rattle.rules.specs.Tokens.{Name}
 use Rattle.rules.specs.Statements.{Statement, Wire, contents, holds, code}
 use Rattle.rules.specs.Signals.{Wires, twosComplement}
-use Rattle.rules.specs.Judgement.{sum, signalSize, nameSize}
+use Rattle.rules.specs.Judgement.{sum, equal, signalSize, nameSize}
 use Rattle.rules.specs.Layout.{Used, padded, row, nameBytes, flags, wireRow, wireRows, columns, statementRow}
 use Rattle.numbers.specs.Kinds.{signalOf}
-use Rattle.admitted.specs.Admitted.{ownWire, fineWire, fineSignal, sameLength, fineAlone, fineParts}
+use Rattle.admitted.specs.Admitted.{ownWire, fineWire, fineSignal, fineAlone, fineParts}
 use Rattle.admitted.specs.AdmitLaws.{fine-parts}
 use Rattle.tables.specs.Row.{words, rowAt}
 use Rattle.tables.specs.declared.Row.{Row}
@@ -29,7 +29,7 @@ use Rattle.wires.specs.Rows.{wordAt, column, portOf, wireOf, wiresFrom}
 use Rattle.wires.specs.RowLaws.{length-wire-row, flags-few, flags-back, port-number-back}
 use Rattle.replay.specs.Parts.{span, nameStands, signalStands}
 use Rattle.netlist.specs.Spans.{Has, row-has, has-row, has-long}
-use Rattle.replay.specs.Reads.{partTables, Decides, Tells, TellsWire, TellsCellConnection, TellsConnection, WireRowStands}
+use Rattle.replay.specs.Reads.{partTables, evenSignals, Decides, Tells, TellsWire, TellsCellConnection, TellsConnection, WireRowStands}
 use Rattle.replay.specs.declared.statements.Found.{Found}
 use Rattle.replay.proofs.Spans.{whole-long, has-none, has-span, spans}
 use Rattle.numbers.specs.KindLaws.{codes-back, length-signal}
@@ -64,13 +64,13 @@ module _ (names bits wires : List ℕ) (u : Used) (first : ℕ) (r : Row) where
   pub port-settled :
       nameStands names (u .names) (r .b) ≡ true → signalStands here bits (u .bits) (r .d) ≡ true →
       (x : Row) → words x ≡ row (9 ∷ u .names ∷ r .b ∷ u .bits ∷ r .d ∷ []) → (f : Found) →
-      f ≡ cond (same (words r) (words x)) (Found.Statement (r .d) 0 0 (r .b)) Found.Nothing → TellsCellConnection names bits wires u first r f
-  unfolding statementRow columns code contents holds fineAlone fineParts all sameLength nameBytes wireRows flatMap zip zipWith signalSize nameSize sum
+      f ≡ cond (same (words r) (words x)) (Found.Statement 1 (r .d) 0 0 (r .b)) Found.Nothing → TellsCellConnection names bits wires u first r f
+  unfolding statementRow columns code contents holds fineAlone fineParts evenSignals equal all nameBytes wireRows flatMap zip zipWith signalSize nameSize sum
   port-settled h k x ex f ef strings =
       let l : r .b ≡ length (span names (u .names) (r .b)) = name-long names (u .names) (r .b) h in
       let m : r .d ≡ length (signalOf (span bits (u .bits) (r .d))) = signal-bits here bits (u .bits) (r .d) k in
       laid (partTables names strings bits wires) u here r x _ refl (rw (← l, ← m) ex) (rw append-nil (has-span names (u .names) (r .b))) (rw (append-nil, codes-back) (has-span bits (u .bits) (r .d))) (has-none _ _)
-      (rw (name-legal names (u .names) (r .b) h, signal-good here bits (u .bits) (r .d) k)) (omega arith) (omega arith) f ef
+      (rw (name-legal names (u .names) (r .b) h, signal-good here bits (u .bits) (r .d) k)) refl refl (omega arith) (omega arith) f ef
 
 -- ---- a connection of a module
 
@@ -89,19 +89,23 @@ module _ (bits wires : List ℕ) (u : Used) (first : ℕ) (r : Row) where
       signal-not (inside names) bits (u .bits + r .b) (r .d) (h names) (same-at 4 (d .row)) (and-true-left _ _ (and-true-right (fineSignal (inside names) (signalOf (span bits (u .bits) (r .b)))) _ (fine-parts (inside names) _ (d .fine) .signals)))
 
   pub connection-widths : (r .b ≡ r .d → ⊥) → TellsConnection bits wires u first r Found.Nothing
-  unfolding Tells statementRow columns contents holds words row padded sameLength
-  connection-widths h names strings d = h (same-at 2 (d .row) ∙ eqb-true _ _ (fine-parts (inside names) _ (d .fine) .same-length) ∙ sym (same-at 4 (d .row)))
+  unfolding Tells statementRow columns contents holds words row padded evenSignals equal all
+  connection-widths h names strings d =
+      let m = length (signalOf (span bits (u .bits) (r .b))) in
+      let n = length (signalOf (span bits (u .bits + r .b) (r .d))) in
+      let e : m ≡ n = eqb-true m n (and-true-left (eqb m n) true (and-true-left (eqb m n && true) _ (d .even))) in
+      h (same-at 2 (d .row) ∙ e ∙ sym (same-at 4 (d .row)))
 
   pub connection-settled :
       ((names : List ℕ) → signalStands (inside names) bits (u .bits) (r .b) ≡ true) → ((names : List ℕ) → signalStands (inside names) bits (u .bits + r .b) (r .d) ≡ true) → r .b ≡ r .d →
       (x : Row) → words x ≡ row (10 ∷ u .bits ∷ r .b ∷ (u .bits + r .b) ∷ r .d ∷ []) → (f : Found) →
-      f ≡ cond (same (words r) (words x)) (Found.Statement (r .b + r .d) 0 0 0) Found.Nothing → TellsConnection bits wires u first r f
-  unfolding statementRow columns code contents holds fineAlone fineParts all sameLength nameBytes wireRows flatMap zip zipWith signalSize nameSize sum
+      f ≡ cond (same (words r) (words x)) (Found.Statement 2 (r .b + r .d) 0 0 0) Found.Nothing → TellsConnection bits wires u first r f
+  unfolding statementRow columns code contents holds fineAlone fineParts evenSignals equal all nameBytes wireRows flatMap zip zipWith signalSize nameSize sum
   connection-settled h k e x ex f ef names strings =
       let l : r .b ≡ length (signalOf (span bits (u .bits) (r .b))) = signal-bits (inside names) bits (u .bits) (r .b) (h names) in
       let m : r .d ≡ length (signalOf (span bits (u .bits + r .b) (r .d))) = signal-bits (inside names) bits (u .bits + r .b) (r .d) (k names) in
       laid (partTables names strings bits wires) u (inside names) r x _ refl (rw (← l, ← m) ex) (has-none _ _) (rw (append-nil, codes-back, codes-back, spans) (has-span bits (u .bits) (r .b + r .d))) (has-none _ _)
-      (rw (signal-good (inside names) bits (u .bits) (r .b) (h names), signal-good (inside names) bits (u .bits + r .b) (r .d) (k names), ← l, ← m, eq-eqb (r .b) (r .d) e)) (omega arith) refl f ef
+      (rw (signal-good (inside names) bits (u .bits) (r .b) (h names), signal-good (inside names) bits (u .bits + r .b) (r .d) (k names))) (rw (← l, ← m, eq-eqb (r .b) (r .d) e)) refl (omega arith) refl f ef
 
 -- ---- a wire
 
@@ -131,13 +135,13 @@ module _ (names wires : List ℕ) (u : Used) (first : ℕ) (r : Row) where
   pub wire-settled :
       nameStands names (u .names) (r .b) ≡ true → (b : Bool) → WireRowStands wires u (r .b) b → b ≡ true → fineWire before (wireOf wires (u .wires)) ≡ true →
       (x : Row) → words x ≡ row (5 ∷ u .names ∷ r .b ∷ u .wires ∷ []) → (f : Found) →
-      f ≡ cond (same (words r) (words x)) (Found.Statement 0 0 0 (r .b)) Found.Nothing → TellsWire names wires u first r f
-  unfolding Decides statementRow columns code contents holds fineWire fineAlone fineParts all sameLength nameBytes wireRows flatMap zip zipWith signalSize nameSize sum
+      f ≡ cond (same (words r) (words x)) (Found.Statement 0 0 0 0 (r .b)) Found.Nothing → TellsWire names wires u first r f
+  unfolding Decides statementRow columns code contents holds fineWire fineAlone fineParts evenSignals equal all nameBytes wireRows flatMap zip zipWith signalSize nameSize sum
   wire-settled h b q e k x ex f ef strings bits =
       let l : r .b ≡ length named = name-long names (u .names) (r .b) h in
       let w = rw e at (q named (sym l)) in
       laid (partTables names strings bits wires) u before r x _ refl (rw (← l) ex) (rw append-nil (has-span names (u .names) (r .b))) (has-none _ _) (rw append-nil w)
-      (rw (name-legal names (u .names) (r .b) h, and-true-left (ownWire (wireOf wires (u .wires))) _ k, and-true-right (ownWire (wireOf wires (u .wires))) _ k)) refl (omega arith) f ef
+      (rw (name-legal names (u .names) (r .b) h, and-true-left (ownWire (wireOf wires (u .wires))) _ k, and-true-right (ownWire (wireOf wires (u .wires))) _ k)) refl refl refl (omega arith) f ef
 
 -- ---- the row of a wire in the table of wires
 

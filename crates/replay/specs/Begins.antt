@@ -5,6 +5,7 @@ use mathlib.Core.List.{List}
 use mathlib.Core.Bool.{Bool, true, false}
 use lib.ListN.{length}
 use Rattle.rules.specs.Bytes.{within}
+use Rattle.rules.specs.Statements.{stepKind}
 use Rattle.rules.specs.Judgement.{Past}
 use Rattle.rules.specs.Layout.{Rooms}
 use Rattle.admitted.specs.Admitted.{admitted, closes}
@@ -22,9 +23,9 @@ use Rattle.replay.specs.declared.Replayed.{Replayed}
 abbrev pub withRows : PartTables → List ℕ → netlist.Tables
 withRows t rows = netlist.tabled (t .names) (t .strings) (t .bits) (t .wires) rows
 
--- the kinds of statements are 1 to 12
+-- the kinds of statements are 1 to 13
 unfoldable pub isStatement : ℕ → Bool
-isStatement k = within 1 12 k
+isStatement k = within 1 stepKind k
 
 -- each table begins with what the rooms hold, and the row behind the last one is no statement's
 pub record Begins (R : Rooms) (t : PartTables) (rows : List ℕ) : Type 0 where

@@ -8,7 +8,7 @@ use mathlib.Core.Bool.{true}
 use native.Mathlib.Omega.{arith}
 use lib.ListN.{length}
 use Rattle.rules.specs.Bytes.{within}
-use Rattle.rules.specs.Statements.{Statement, Kind, anAutoidx, anAttribute, aModule, aParameter, aWire, aMemory, aCell, aCellParameter, aCellConnection, aConnection, aProcess, anEnd, code, contents}
+use Rattle.rules.specs.Statements.{Statement, Kind, anAutoidx, anAttribute, aModule, aParameter, aWire, aMemory, aCell, aCellParameter, aCellConnection, aConnection, aProcess, anEnd, aStep, code, contents}
 use Rattle.rules.specs.Judgement.{Past}
 use Rattle.lists.specs.Tests.{never}
 use Rattle.lists.specs.Lists.{first-next, both-begin}
@@ -38,6 +38,7 @@ statement-kind aCellConnection = refl
 statement-kind aConnection = refl
 statement-kind aProcess = refl
 statement-kind anEnd = refl
+statement-kind aStep = refl
 
 -- a list is these statements, or goes on with one more that the tables begin with too
 abbrev pub GoesOn : PartTables → List ℕ → (qs ss : Past) → Type 0

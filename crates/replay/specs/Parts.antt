@@ -52,6 +52,13 @@ BitFits wires first count c r = (names : List ℕ) → r ≡ fineBit (wiresFrom 
 abbrev pub BitsFit : (wires : List ℕ) → (first count : ℕ) → List ℕ → Bool → Type 0
 BitsFit wires first count cs r = (names : List ℕ) → r ≡ all (λ c. fineBit (wiresFrom names wires first count) (bitOf (bitAt c))) cs
 
+-- so many bits of equally wide signals
+unfoldable pub bitsStand : Wires → List ℕ → (at n : ℕ) → Bool
+bitsStand ws bits at n = whole bits at n && all (λ c. fineBit ws (bitOf (bitAt c))) (span bits at n)
+
+abbrev pub BitsStand : (wires : List ℕ) → (first count : ℕ) → List ℕ → (at n : ℕ) → Bool → Type 0
+BitsStand wires first count bits at n r = (names : List ℕ) → r ≡ bitsStand (wiresFrom names wires first count) bits at n
+
 abbrev pub SignalFits : (wires : List ℕ) → (first count : ℕ) → List ℕ → (at n : ℕ) → Bool → Type 0
 SignalFits wires first count bits at n r = (names : List ℕ) → r ≡ signalStands (wiresFrom names wires first count) bits at n
 

@@ -2,15 +2,15 @@
 use Prim.Native.Nat.{ℕ, _+_, _-_, _*_, _≤_}
 use mathlib.Core.Path.{_≡_}
 use mathlib.Core.List.{List, [], _∷_, _++_, map}
-use mathlib.Core.Option.{Option, none, some}
-use mathlib.Core.Bool.{Bool, true, false, cond}
-use lib.Dec.{eqb}
-use lib.ListN.{length}
-use Rattle.rules.specs.Limits.{namesLength, bitsLength}
+use mathlib.Core.Option.{Option, none, some, Option·elim}
+use mathlib.Core.Bool.{Bool, true, false, cond, _&&_}
+use lib.Dec.{eqb, leb}
+use lib.ListN.{length, drop}
+use Rattle.rules.specs.Limits.{namesLength, bitsLength, mostWidth, mostStepSignals}
 use Rattle.rules.specs.Tokens.{Name}
-use Rattle.rules.specs.Statements.{Sort, Constant, value, integer, string, digitsOf, bytesOf, Statement, Memory, autoidx-stmt, attr-stmt, module-stmt, param-stmt, wire-stmt, memory-stmt, cell-stmt, cell-param-stmt, cell-conn-stmt, conn-stmt, proc-stmt, end-stmt, Kind, contents, holds, autoidxKind, attributeKind, moduleKind, parameterKind, wireKind, memoryKind, cellKind, cellParameterKind, cellConnectionKind, connectionKind, processKind}
+use Rattle.rules.specs.Statements.{Sort, Constant, value, integer, string, digitsOf, bytesOf, Signal, Statement, Memory, Step, always, autoidx-stmt, attr-stmt, module-stmt, param-stmt, wire-stmt, memory-stmt, cell-stmt, cell-param-stmt, cell-conn-stmt, conn-stmt, proc-stmt, step-stmt, end-stmt, Kind, contents, holds, autoidxKind, attributeKind, moduleKind, parameterKind, wireKind, memoryKind, cellKind, cellParameterKind, cellConnectionKind, connectionKind, processKind, stepKind}
 use Rattle.rules.specs.Signals.{Wires}
-use Rattle.rules.specs.Judgement.{signalSize, valueSize, stringSize, nameSize}
+use Rattle.rules.specs.Judgement.{equal, signalSize, valueSize, stringSize, nameSize}
 use Rattle.rules.specs.Layout.{Used, row, digitCode, wireRow, constantColumns, statementRow, valueConstant, integerConstant}
 use Rattle.admitted.specs.Admitted.{fineConstant, fineParts}
 use Rattle.tables.specs.Row.{words}
@@ -20,6 +20,7 @@ use Rattle.numbers.specs.Kinds.{digitOf, sortOf, signalOf}
 use Rattle.wires.specs.Rows.{wireOf, wiresFrom}
 use Rattle.netlist.specs.Spans.{Has}
 use Rattle.netlist.specs.Fronts.{Parts}
+use Rattle.netlist.specs.Steps.{stepNamed, pieces}
 use Rattle.replay.specs.Parts.{span}
 use Rattle.replay.specs.declared.statements.Found.{Found}
 use Rattle.replay.specs.declared.statements.Held.{Held}
@@ -65,6 +66,21 @@ optionalOf strings bits u kind a b = cond (eqb kind 0) none (some (constantOf st
 unfoldable pub memoryOf : Row → Memory
 memoryOf r = record { width = r .c; size = r .d; offset = signedOf (r .e) }
 
+-- the step of a code: one that no step has is taken for the last, which its row then is not
+unfoldable pub stepOr : ℕ → Step
+stepOr t = Option·elim (stepNamed t) always (λ p. p)
+
+unfoldable pub signalsOf : List ℕ → (at width count : ℕ) → List Signal
+signalsOf bits at w n = map signalOf (pieces w n (drop at bits))
+
+-- no signal, no width; else each is at most 2,048 wide, and there are at most 4,096
+unfoldable pub evenFits : (width count : ℕ) → Bool
+evenFits w n = cond (eqb n 0) (eqb w 0) (leb w mostWidth && leb n mostStepSignals)
+
+-- a statement's signals are equally wide, and not more than a design has in the lines of its processes
+unfoldable pub evenSignals : Statement → Bool
+evenSignals s = equal (map length (contents s .signals)) && leb (length (contents s .signals)) mostStepSignals
+
 module _ (t : PartTables) (u : Used) (r : Row) where
   -- its name, or the first of two; its constant
   abbrev pub firstName : Name
@@ -86,7 +102,8 @@ module _ (t : PartTables) (u : Used) (r : Row) where
       (cond (eqb k cellParameterKind) (cell-param-stmt (sortOf (r .f)) firstName constantIn)
       (cond (eqb k cellConnectionKind) (cell-conn-stmt firstName (signalOf (span (t .bits) (u .bits) (r .d))))
       (cond (eqb k connectionKind) (conn-stmt (signalOf (span (t .bits) (u .bits) (r .b))) (signalOf (span (t .bits) (u .bits + r .b) (r .d))))
-      (cond (eqb k processKind) (proc-stmt firstName) end-stmt))))))))))
+      (cond (eqb k processKind) (proc-stmt firstName)
+      (cond (eqb k stepKind) (step-stmt (stepOr (r .a)) (signalsOf (t .bits) (u .bits) (r .c) (r .d))) end-stmt)))))))))))
 
   unfoldable pub statementOf : Statement
   statementOf = statementBy (r .kind)
@@ -96,8 +113,10 @@ pub record Reads (t : PartTables) (u : Used) (ws : Wires) (r : Row) (s : Stateme
   pub parts : Parts (t .names) (t .strings) (t .bits) (t .wires) u s
   pub row : words r ≡ statementRow u s
   pub fine : fineParts ws s ≡ true
+  pub even : evenSignals s ≡ true
 
-pub record Counts (s : Statement) (g v x n : ℕ) : Type 0 where
+pub record Counts (s : Statement) (c g v x n : ℕ) : Type 0 where
+  pub count : c ≡ length (contents s .signals)
   pub signals : g ≡ signalSize s
   pub values : v ≡ valueSize s
   pub strings : x ≡ stringSize s
@@ -105,21 +124,21 @@ pub record Counts (s : Statement) (g v x n : ℕ) : Type 0 where
 
 -- how many bits and bytes it holds; or that it isn't there
 unfoldable pub Tells : PartTables → Used → Wires → Row → Statement → Found → Type 0
-Tells t u ws r s (Found.Statement g v x n) = Reads t u ws r s × Counts s g v x n
+Tells t u ws r s (Found.Statement c g v x n) = Reads t u ws r s × Counts s c g v x n
 Tells t u ws r s Found.Nothing = Reads t u ws r s → ⊥
 
 -- for any other tables, and for each statement that has these contents and this row
 abbrev pub TellsNamed : (names : List ℕ) → Used → Row → (kind : ℕ) → Found → Type 0
 TellsNamed names u r kind f =
     (strings bits wires : List ℕ) (ws : Wires) (s : Statement) (k : Kind) → let n = span names (u .names) (r .b) in
-    contents s ≡ holds k (n ∷ []) [] [] [] [] [] [] → statementRow u s ≡ row (kind ∷ u .names ∷ length n ∷ []) → Tells (partTables names strings bits wires) u ws r s f
+    contents s ≡ holds k (n ∷ []) [] [] [] [] [] [] [] → statementRow u s ≡ row (kind ∷ u .names ∷ length n ∷ []) → Tells (partTables names strings bits wires) u ws r s f
 
 abbrev pub TellsValued : (names strings bits : List ℕ) → Used → Row → (kind sort : ℕ) → Found → Type 0
 TellsValued names strings bits u r kind sort f =
     (wires : List ℕ) (ws : Wires) (s : Statement) (k : Kind) (os : List Sort) →
     let n = span names (u .names) (r .b) in
     let c = constantOf strings bits u (r .c) (r .d) (r .e) in
-    contents s ≡ holds k (n ∷ []) (c ∷ []) [] [] [] [] os → statementRow u s ≡ row (kind ∷ u .names ∷ length n ∷ constantColumns u c ++ sort ∷ []) →
+    contents s ≡ holds k (n ∷ []) (c ∷ []) [] [] [] [] os [] → statementRow u s ≡ row (kind ∷ u .names ∷ length n ∷ constantColumns u c ++ sort ∷ []) →
     Tells (partTables names strings bits wires) u ws r s f
 
 -- for any other tables, the statement of this kind
@@ -164,6 +183,11 @@ TellsConnection bits wires u first r f =
     (names strings : List ℕ) →
     Tells (partTables names strings bits wires) u (wiresFrom names wires first (u .wires - first)) r
     (conn-stmt (signalOf (span bits (u .bits) (r .b))) (signalOf (span bits (u .bits + r .b) (r .d)))) f
+
+abbrev pub TellsStep : (bits wires : List ℕ) → Used → ℕ → Row → Found → Type 0
+TellsStep bits wires u first r f =
+    (names strings : List ℕ) →
+    Tells (partTables names strings bits wires) u (wiresFrom names wires first (u .wires - first)) r (step-stmt (stepOr (r .a)) (signalsOf bits (u .bits) (r .c) (r .d))) f
 
 -- the row of the wire behind those that stand: it is the row of the wire that it holds, with a name of this length
 abbrev pub WireRowStands : (wires : List ℕ) → Used → ℕ → Bool → Type 0

@@ -1,6 +1,6 @@
 // Whether tables hold statements that may stand one after another. The statements are replayed from the first row on, whatever the tables hold:
 // each row says where its parts are, and has to be the row of the statement that they make.
-use context::kinds::END_KIND;
+use context::kinds::STEP_KIND;
 use context::place::Place;
 use context::place::is_closed;
 use context::place::start;
@@ -12,6 +12,7 @@ use tables::word;
 
 mod parts;
 mod statements;
+mod step_rows;
 mod turns;
 mod wiring;
 
@@ -36,7 +37,7 @@ fn is_statement(kind: u32) -> bool
     if kind == 0 {
         return false;
     }
-    kind <= END_KIND
+    kind <= STEP_KIND
 }
 
 // It fills an index of its rows by their names, which stays with the caller.

@@ -3,6 +3,7 @@ use crate::parts::MOST_WIDTH;
 use crate::parts::digits_stand;
 use crate::parts::name_stands;
 use crate::parts::text_stands;
+use crate::step_rows::step_at;
 use crate::wiring::signal_stands;
 use crate::wiring::wire_fits;
 use context::kinds::ATTRIBUTE_KIND;
@@ -16,6 +17,7 @@ use context::kinds::MEMORY_KIND;
 use context::kinds::MODULE_KIND;
 use context::kinds::PARAMETER_KIND;
 use context::kinds::PROCESS_KIND;
+use context::kinds::STEP_KIND;
 use context::kinds::WIRE_KIND;
 use netlist::rows::INTEGER_CONSTANT;
 use netlist::rows::STRING_CONSTANT;
@@ -46,9 +48,10 @@ const PORT_FLAG: u32 = 4;
 
 const MOST_FLAGS: u32 = 15;
 
-// What a statement holds: bits of signals and of values, bytes of strings and of names.
+// What a statement holds: signals, bits of them and of values, bytes of strings and of names.
 pub enum Found {
     Statement {
+        count: u32,
         signals: u32,
         values: u32,
         strings: u32,
@@ -91,11 +94,20 @@ fn same_row(x: Row, y: Row) -> bool
 }
 
 // A statement whose row has to be this one.
-fn settle(r: Row, x: Row, signals: u32, values: u32, strings: u32, names: u32) -> Found
-    ensures { λ f. ⌜ f ≡ cond (same (words r) (words x)) (Found.Statement signals values strings names) Found.Nothing ⌝ }
+pub fn settle(
+    r: Row,
+    x: Row,
+    count: u32,
+    signals: u32,
+    values: u32,
+    strings: u32,
+    names: u32,
+) -> Found
+    ensures { λ f. ⌜ f ≡ cond (same (words r) (words x)) (Found.Statement count signals values strings names) Found.Nothing ⌝ }
 {
     if same_row(r, x) {
         return Found::Statement {
+            count,
             signals,
             values,
             strings,
@@ -174,7 +186,7 @@ fn named(names: &[u8], u: Used, r: Row, kind: u32) -> Found
         f: 0,
         g: 0,
     };
-    settle(r, x, 0, 0, 0, r.b)
+    settle(r, x, 0, 0, 0, 0, r.b)
 }
 
 // A name and a constant.
@@ -208,7 +220,7 @@ fn valued(
                 f: sort,
                 g: 0,
             };
-            settle(r, x, 0, values, bytes, r.b)
+            settle(r, x, 0, 0, values, bytes, r.b)
         }
         Held::Nothing => Found::Nothing,
     }
@@ -237,7 +249,7 @@ fn autoidx_at(u: Used, r: Row) -> Found
         f: 0,
         g: 0,
     };
-    settle(r, x, 0, 0, 0, 0)
+    settle(r, x, 0, 0, 0, 0, 0)
 }
 
 fn end_at(u: Used, r: Row) -> Found
@@ -253,7 +265,7 @@ fn end_at(u: Used, r: Row) -> Found
         f: 0,
         g: 0,
     };
-    settle(r, x, 0, 0, 0, 0)
+    settle(r, x, 0, 0, 0, 0, 0)
 }
 
 fn memory_at(names: &[u8], u: Used, r: Row) -> Found
@@ -281,7 +293,7 @@ fn memory_at(names: &[u8], u: Used, r: Row) -> Found
         f: 0,
         g: 0,
     };
-    settle(r, x, 0, 0, 0, r.b)
+    settle(r, x, 0, 0, 0, 0, r.b)
 }
 
 // A cell's type stands before its name.
@@ -306,7 +318,7 @@ fn cell_at(names: &[u8], u: Used, r: Row) -> Found
         f: 0,
         g: 0,
     };
-    settle(r, x, 0, 0, 0, r.b + r.d)
+    settle(r, x, 0, 0, 0, 0, r.b + r.d)
 }
 
 fn cell_parameter_at(names: &[u8], strings: &[u8], bits: &[u32], u: Used, r: Row) -> Found
@@ -346,7 +358,7 @@ fn cell_connection_at(
         f: 0,
         g: 0,
     };
-    settle(r, x, r.d, 0, 0, r.b)
+    settle(r, x, 1, r.d, 0, 0, r.b)
 }
 
 fn connection_at(bits: &[u32], wires: &[u32], u: Used, first: u32, r: Row) -> Found
@@ -375,7 +387,7 @@ fn connection_at(bits: &[u32], wires: &[u32], u: Used, first: u32, r: Row) -> Fo
         f: 0,
         g: 0,
     };
-    settle(r, x, r.b + r.d, 0, 0, 0)
+    settle(r, x, 2, r.b + r.d, 0, 0, 0)
 }
 
 // A wire that is no port has no port number.
@@ -438,7 +450,7 @@ fn wire_at(names: &[u8], wires: &[u32], u: Used, first: u32, r: Row) -> Found
         f: 0,
         g: 0,
     };
-    settle(r, x, 0, 0, 0, r.b)
+    settle(r, x, 0, 0, 0, 0, r.b)
 }
 
 // The statement of a row, by the row's kind.
@@ -468,6 +480,7 @@ pub fn statement_at(
         CELL_CONNECTION_KIND => cell_connection_at(names, bits, wires, u, first, r),
         CONNECTION_KIND => connection_at(bits, wires, u, first, r),
         PROCESS_KIND => named(names, u, r, PROCESS_KIND),
+        STEP_KIND => step_at(bits, wires, u, first, r),
         _ => end_at(u, r),
     }
 }

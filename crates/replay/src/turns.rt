@@ -11,8 +11,13 @@ use context::kinds::END_KIND;
 use context::kinds::MEMORY_KIND;
 use context::kinds::MODULE_KIND;
 use context::kinds::PARAMETER_KIND;
+use context::kinds::PROCESS_KIND;
+use context::kinds::STEP_KIND;
 use context::kinds::WIRE_KIND;
+use context::place::IN_CELL;
 use context::place::IN_MODULE;
+use context::place::IN_SYNC;
+use context::place::IN_TAIL;
 use context::place::Place;
 use context::place::TOP;
 use context::place::after;
@@ -24,18 +29,27 @@ use context::sizes::Sizes;
 use context::sizes::kind_sizes;
 use context::sizes::plus;
 use context::sizes::within;
+use context::steps::NO_STEP;
 use name_search::indexed_found;
 use netlist::rows::row_name;
 use netlist::used::used_from;
+use steps::Asked;
+use steps::asked_width;
+use steps::step_stands;
 use tables::ROW_WORDS;
+use tables::Row;
 use tables::get_row;
 ghost use mathlib.Core.Path.{_≡_};
-ghost use Rattle.rules.specs.Shapes.{top, inModule};
+ghost use mathlib.Core.Bool.{false, cond};
+ghost use Prim.Native.Nat.{_<_};
+ghost use lib.Dec.{eqb};
+ghost use Rattle.rules.specs.Shapes.{top, inModule, inCell};
+ghost use Rattle.context.specs.Place.{scopeOf};
 ghost use Rattle.admitted.specs.Admitted.{kinds};
 ghost use Rattle.netlist.specs.Kinds.{ofKinds};
 ghost use Rattle.name_index.specs.Index.{keyAt, Indexed};
 ghost use Rattle.replay.specs.Reads.{partTables};
-ghost use Rattle.replay.specs.Turns.{standsAt, Ready, Told, TurnIs, Counted, smallParts};
+ghost use Rattle.replay.specs.Turns.{standsAt, AskedFits, LineStands, Ready, Told, TurnIs, Counted, smallParts};
 ghost use Rattle.replay.specs.Objects.{objectKinds};
 
 // The place and the sums behind the statement.
@@ -48,19 +62,11 @@ pub enum Turn {
 fn is_object(kind: u32) -> bool
     ensures { λ r. ⌜ r ≡ ofKinds objectKinds kind ⌝ }
 {
-    if kind == ATTRIBUTE_KIND {
-        return true;
-    }
-    if kind == WIRE_KIND {
-        return true;
-    }
-    if kind == MEMORY_KIND {
-        return true;
-    }
-    if kind == CELL_KIND {
-        return true;
-    }
-    false
+    (kind == ATTRIBUTE_KIND)
+        | (kind == WIRE_KIND)
+        | (kind == MEMORY_KIND)
+        | (kind == CELL_KIND)
+        | (kind == PROCESS_KIND)
 }
 
 fn is_module_kind(first: bool, attributed: bool, kind: u32) -> bool
@@ -96,6 +102,29 @@ fn is_top_kind(first: bool, attributed: bool, kind: u32) -> bool
     false
 }
 
+fn is_cell_kind(kind: u32) -> bool
+    ensures { λ r. ⌜ r ≡ ofKinds (kinds inCell false false) kind ⌝ }
+{
+    (kind == CELL_PARAMETER_KIND) | (kind == CELL_CONNECTION_KIND) | (kind == END_KIND)
+}
+
+// In a process, which has no attributes behind its root switch.
+fn is_process_kind(scope: u32, depth: u32, first: bool, attributed: bool, kind: u32) -> bool
+    requires { ⌜ 2 < scope ⌝ }
+    ensures { λ r. ⌜ r ≡ ofKinds (kinds (scopeOf scope depth) first attributed) kind ⌝ }
+{
+    if kind == STEP_KIND {
+        return true;
+    }
+    if (scope == IN_TAIL) | (scope == IN_SYNC) {
+        return kind == END_KIND;
+    }
+    if kind == ATTRIBUTE_KIND {
+        return true;
+    }
+    (kind == END_KIND) & !attributed
+}
+
 // Whether a line of this kind has a form at this place.
 fn stands_at(p: Place, kind: u32) -> bool
     ensures { λ r. ⌜ r ≡ standsAt p kind ⌝ }
@@ -106,16 +135,47 @@ fn stands_at(p: Place, kind: u32) -> bool
     if p.scope == IN_MODULE {
         return is_module_kind(p.first, p.attributed, kind);
     }
-    if kind == CELL_PARAMETER_KIND {
+    if p.scope == IN_CELL {
+        return is_cell_kind(kind);
+    }
+    is_process_kind(p.scope, p.depth, p.first, p.attributed, kind)
+}
+
+// Whether the signals of a step have the width that it asks for.
+fn asked_fits(rows: &[u32], p: Place, step: u32, width: u32, count: u32) -> bool
+    ensures { λ r. ⌜ AskedFits (now (rows .entry)) p step width count r ⌝ }
+{
+    let a = asked_width(rows, p, step);
+    match a {
+        Asked::Nothing => true,
+        Asked::Width(w) => (count == 0) | (w == width),
+    }
+}
+
+// Whether the line of a row has a form at this place; of a line inside a process also its step, and its signals the width asked for.
+fn line_stands(rows: &[u32], p: Place, r: Row) -> bool
+    ensures { λ b. ⌜ LineStands (now (rows .entry)) p r b ⌝ }
+{
+    if !stands_at(p, r.kind) {
+        return false;
+    }
+    if r.kind != STEP_KIND {
         return true;
     }
-    if kind == CELL_CONNECTION_KIND {
-        return true;
+    if !step_stands(p.scope, p.depth, p.attributed, r.a) {
+        return false;
     }
-    if kind == END_KIND {
-        return true;
+    asked_fits(rows, p, r.a, r.c, r.d)
+}
+
+// The step of a row, by its kind.
+fn step_of(kind: u32, a: u32) -> u32
+    ensures { λ r. ⌜ r ≡ cond (eqb kind 13) a 0 ⌝ }
+{
+    if kind == STEP_KIND {
+        return a;
     }
-    false
+    NO_STEP
 }
 
 fn small_parts(signals: u32, values: u32, strings: u32, names: u32) -> bool
@@ -142,15 +202,17 @@ fn counted(
     p: Place,
     u: Sizes,
     kind: u32,
+    step: u32,
+    count: u32,
     signals: u32,
     values: u32,
     strings: u32,
     bytes: u32,
 ) -> Turn
     requires { ⌜ Ready p u ⌝ }
-    requires { ⌜ Told kind signals values strings bytes ⌝ }
+    requires { ⌜ Told kind count signals values strings bytes ⌝ }
     requires { ⌜ Indexed (now heads) (now chain) (keyAt (now names) (now rows)) (p .rows) ⌝ }
-    ensures { λ r. ⌜ Counted (now (names .entry)) (now (rows .entry)) p u kind signals values strings bytes r ⌝ }
+    ensures { λ r. ⌜ Counted (now (names .entry)) (now (rows .entry)) p u kind step count signals values strings bytes r ⌝ }
 {
     if indexed_found(
         names,
@@ -166,12 +228,12 @@ fn counted(
     if !small_parts(signals, values, strings, bytes) {
         return Turn::Nothing;
     }
-    let sums = plus(u, kind_sizes(kind, signals, values, strings, bytes));
+    let sums = plus(u, kind_sizes(kind, count, signals, values, strings, bytes));
     if !within(sums) {
         return Turn::Nothing;
     }
     Turn::Next {
-        place: after(p, kind),
+        place: after(p, kind, step),
         sums,
     }
 }
@@ -197,14 +259,14 @@ pub fn one_more(
         return Turn::Nothing;
     }
     let r = get_row(rows, at);
-    let kind = r.kind;
-    if !stands_at(p, kind) {
+    if !line_stands(rows, p, r) {
         return Turn::Nothing;
     }
     let x = used_from(p, u);
     let f = statement_at(names, strings, bits, wires, x, p.wires_from, r);
     match f {
         Found::Statement {
+            count,
             signals,
             values,
             strings: text,
@@ -216,7 +278,9 @@ pub fn one_more(
             chain,
             p,
             u,
-            kind,
+            r.kind,
+            step_of(r.kind, r.a),
+            count,
             signals,
             values,
             text,

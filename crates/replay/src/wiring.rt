@@ -14,7 +14,7 @@ use wires::port_taken;
 ghost use Prim.Native.Nat.{_≤_};
 ghost use lib.ListN.{length};
 ghost use lib.Seq.{slice};
-ghost use Rattle.replay.specs.Parts.{BitFits, BitsFit, SignalFits, WireFits};
+ghost use Rattle.replay.specs.Parts.{BitFits, BitsFit, BitsStand, SignalFits, WireFits};
 
 // A port's direction, times this, stands in its wire's flags.
 const PORT_FLAG: u32 = 4;
@@ -60,7 +60,21 @@ fn all_fit(wires: &[u32], first: u32, count: u32, bits: &[u32], from: usize, to:
     true
 }
 
-// The bits of a signal, by their codes.
+// So many bits, by their codes.
+pub fn bits_stand(wires: &[u32], first: u32, count: u32, bits: &[u32], at: u32, size: u32) -> bool
+    ensures { λ r. ⌜ BitsStand (now (wires .entry)) first count (now (bits .entry)) at size r ⌝ }
+{
+    if !is_whole(bits.len(), at, size) {
+        return false;
+    }
+    if size == 0 {
+        return true;
+    }
+    let from = at as usize;
+    all_fit(wires, first, count, bits, from, from + size as usize)
+}
+
+// The bits of a signal.
 pub fn signal_stands(
     wires: &[u32],
     first: u32,
@@ -71,17 +85,10 @@ pub fn signal_stands(
 ) -> bool
     ensures { λ r. ⌜ SignalFits (now (wires .entry)) first count (now (bits .entry)) at size r ⌝ }
 {
-    if !is_whole(bits.len(), at, size) {
-        return false;
-    }
     if MOST_WIDTH < size {
         return false;
     }
-    if size == 0 {
-        return true;
-    }
-    let from = at as usize;
-    all_fit(wires, first, count, bits, from, from + size as usize)
+    bits_stand(wires, first, count, bits, at, size)
 }
 
 // The wire of row k, whose module's wires before it are those from row first on.

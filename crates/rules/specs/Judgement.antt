@@ -1,17 +1,17 @@
 -- The number that a line of good shape is refused with, after the statements so far.
 -- Source: document 01, "Numbers given back", with the name spaces of "Objects" and the limits of "Sizes"; 004 has none
 -- of these. On one line the lowest number counts, so the tests stand in that order.
-use Prim.Native.Nat.{ℕ, _+_}
-use mathlib.Core.List.{List, [], _∷_, map, flatMap, zip, Option·toList}
+use Prim.Native.Nat.{ℕ, zero, suc, _+_}
+use mathlib.Core.List.{List, [], _∷_, _++_, map, flatMap, zip, foldl, Option·toList}
 use mathlib.Core.Option.{Option, none, some}
 use mathlib.Core.Bool.{Bool, true, false, not, cond, _&&_, _||_}
-use lib.ListN.{length}
+use lib.ListN.{length, take, drop}
 use lib.Dec.{leb, ltb, eqb}
-use Rattle.rules.specs.Limits.{mostModules, mostWires, mostMemories, mostCells, mostParameters, mostAttributes, mostCellConnections, mostConnections, mostSignalBits, mostValueBits, mostStringBytes, nameRoom, mostWidth}
+use Rattle.rules.specs.Limits.{mostModules, mostWires, mostMemories, mostCells, mostParameters, mostAttributes, mostCellConnections, mostConnections, mostProcesses, mostSteps, mostStepSignals, mostSignalBits, mostValueBits, mostStringBytes, nameRoom, mostWidth}
 use Rattle.rules.specs.Bytes.{same, any, all}
 use Rattle.rules.specs.Tokens.{Name}
-use Rattle.rules.specs.Statements.{Sig, digitsOf, bytesOf, Wire, Statement, Shape, Opt, Kind, anAttribute, aModule, aParameter, aWire, aMemory, aCell, aCellParameter, aCellConnection, aConnection, aProcess, anEnd, Stmt, contents, is, ownName, translate}
-use Rattle.rules.specs.Shapes.{Scope, top, inModule, inCell, Context}
+use Rattle.rules.specs.Statements.{Sig, Signal, digitsOf, bytesOf, Wire, Statement, Shape, Opt, Kind, anAttribute, aModule, aParameter, aWire, aMemory, aCell, aCellParameter, aCellConnection, aConnection, aProcess, anEnd, aStep, Step, assign, update, switch, case, low, high, posedge, negedge, edge, global, init, always, stepCode, Stmt, contents, is, ownName, translate}
+use Rattle.rules.specs.Shapes.{Scope, top, inModule, inCell, inProcess, inTail, inSync, inSwitch, inCase, Context}
 use Rattle.rules.specs.Numbers.{int32, goodLiteral, goodNumbers, goodWire, goodMemory, wireOf, memoryOf}
 use Rattle.rules.specs.Signals.{Wires, parts, width, bits, declaredWire, goodSlice, kept}
 
@@ -34,15 +34,73 @@ module _ {A : Type 0} where
   sum f (x ∷ xs) = f x + sum f xs
 
 -- WHAT A LINE SEES OF THE PAST: where it stands, the wires of its module, the names of each name space, and the sums of each size.
--- A module line opens a module and a cell line a cell; `end` closes what was opened last
+-- A module line opens a module, a cell line a cell and a process line a process; `end` closes what was opened last
 unfoldable pub outer : Scope → Scope
 outer top = top
 outer inModule = top
 outer inCell = inModule
+outer inProcess = inModule
+outer inTail = inModule
+outer inSync = inModule
+outer (inSwitch zero) = inTail
+outer (inSwitch (suc k)) = inCase k
+outer (inCase zero) = inTail
+outer (inCase (suc k)) = inCase k
+
+-- how many switches are open around a switch that a line here opens, and around the case that it begins
+unfoldable pub around : Scope → ℕ
+around top = 0
+around inModule = 0
+around inCell = 0
+around inProcess = 0
+around inTail = 0
+around inSync = 0
+around (inSwitch k) = k
+around (inCase k) = k + 1
+
+unfoldable pub nested : Scope → ℕ
+nested top = 0
+nested inModule = 0
+nested inCell = 0
+nested inProcess = 0
+nested inTail = 0
+nested inSync = 0
+nested (inSwitch k) = k
+nested (inCase k) = k
+
+unfoldable pub behindStep : Scope → Step → Scope
+behindStep r assign = r
+behindStep r update = r
+behindStep r switch = inSwitch (around r)
+behindStep r case = inCase (nested r)
+behindStep r low = inSync
+behindStep r high = inSync
+behindStep r posedge = inSync
+behindStep r negedge = inSync
+behindStep r edge = inSync
+behindStep r global = inSync
+behindStep r init = inSync
+behindStep r always = inSync
 
 unfoldable pub scope : Past → Scope
 scope [] = top
-scope (s ∷ ss) = let r = scope ss in cond (is aModule s) inModule (cond (is aCell s) inCell (cond (is anEnd s) (outer r) r))
+scope (s ∷ ss) =
+    let r = scope ss in
+    cond (is aModule s) inModule
+    (cond (is aCell s) inCell
+    (cond (is aProcess s) inProcess
+    (cond (is anEnd s) (outer r)
+    (foldl behindStep r (contents s .steps)))))
+
+unfoldable pub steps : Step → Statement → Bool
+steps p s = any (λ q. eqb (stepCode p) (stepCode q)) (contents s .steps)
+
+-- the signals of the switches that are open, the innermost first
+unfoldable pub switches : Past → List Signal
+switches [] = []
+switches (s ∷ ss) =
+    let r = switches ss in
+    cond (is anEnd s) (drop 1 r) (cond (steps switch s) (contents s .signals ++ r) r)
 
 unfoldable pub context : Past → Context
 context [] = record { scope = top; first = true; attributed = false }
@@ -76,12 +134,12 @@ space ks f = record { kinds = ks; part = f }
 unfoldable pub namesIn : Space → Past → List Name
 namesIn z ss = map (λ s. ownName (contents s .names)) (only (among (z .kinds)) (z .part ss))
 
--- Module names differ. Wires, memories and cells of a module share one name space. Attribute names on one object, parameter names in
+-- Module names differ. Wires, memories, cells and processes of a module share one name space. Attribute names on one object, parameter names in
 -- one cell or module, port names in one cell differ
 unfoldable pub nameSpaces : List Space
 nameSpaces =
     space (aModule ∷ []) (λ ss. ss)
-    ∷ space (aWire ∷ aMemory ∷ aCell ∷ []) ofModule
+    ∷ space (aWire ∷ aMemory ∷ aCell ∷ aProcess ∷ []) ofModule
     ∷ space (anAttribute ∷ []) ofObject
     ∷ space (aParameter ∷ []) ofModule
     ∷ space (aCellParameter ∷ []) ofCell
@@ -105,6 +163,10 @@ stringSize s = sum (λ c. length (bytesOf c)) (contents s .constants)
 unfoldable pub nameSize : Statement → ℕ
 nameSize s = sum length (contents s .names)
 
+-- signals in the lines of processes, parts of a signal not counted
+unfoldable pub stepSignals : Statement → ℕ
+stepSignals s = cond (is aStep s) (length (contents s .signals)) 0
+
 unfoldable pub sizes : List (ℕ × (Statement → ℕ))
 sizes =
     (mostModules, count (aModule ∷ []))
@@ -115,6 +177,9 @@ sizes =
     ∷ (mostAttributes, count (anAttribute ∷ []))
     ∷ (mostCellConnections, count (aCellConnection ∷ []))
     ∷ (mostConnections, count (aConnection ∷ []))
+    ∷ (mostProcesses, count (aProcess ∷ []))
+    ∷ (mostSteps, count (aStep ∷ []))
+    ∷ (mostStepSignals, stepSignals)
     ∷ (mostSignalBits, signalSize)
     ∷ (mostValueBits, valueSize)
     ∷ (mostStringBytes, stringSize)
@@ -149,14 +214,32 @@ lacksWire ws sh = not (all (declaredWire ws) (allParts sh))
 unfoldable pub takesName : {C S W M : Type 0} → Past → Stmt C S W M → Bool
 takesName ss s = any (λ z. among (z .kinds) s && any (same (ownName (contents s .names))) (namesIn z ss)) nameSpaces
 
--- 10: slice rule broken; both sides of a module's `connect` have equal width
-unfoldable pub equalWidths : Wires → List Sig → Bool
-equalWidths ws [] = true
-equalWidths ws (s ∷ []) = true
-equalWidths ws (s ∷ t ∷ ss) = eqb (width ws s) (width ws t)
+-- 10: slice rule broken; the signals of a statement have equal width: both sides of a module's `connect`, of an assign, of an update;
+-- each compare value is exactly as wide as the switch signal, and a sync signal one bit
+unfoldable pub equal : List ℕ → Bool
+equal [] = true
+equal (w ∷ ws) = all (eqb w) ws
 
-unfoldable pub breaksWidth : Wires → Shape → Bool
-breaksWidth ws sh = not (all (goodSlice ws) (allParts sh) && equalWidths ws (contents sh .signals))
+-- the widths that a step's signals have to have, from what stands before it
+unfoldable pub stepWidths : Past → Step → List ℕ
+stepWidths ss assign = []
+stepWidths ss update = []
+stepWidths ss switch = []
+stepWidths ss case = map length (take 1 (switches ss))
+stepWidths ss low = 1 ∷ []
+stepWidths ss high = 1 ∷ []
+stepWidths ss posedge = 1 ∷ []
+stepWidths ss negedge = 1 ∷ []
+stepWidths ss edge = 1 ∷ []
+stepWidths ss global = []
+stepWidths ss init = []
+stepWidths ss always = []
+
+unfoldable pub fitWidths : {C S W M : Type 0} → Past → Stmt C S W M → List ℕ → Bool
+fitWidths ss s ws = equal (flatMap (stepWidths ss) (contents s .steps) ++ ws)
+
+unfoldable pub breaksWidth : Wires → Past → Shape → Bool
+breaksWidth ws ss sh = not (all (goodSlice ws) (allParts sh) && fitWidths ss sh (map (width ws) (contents sh .signals)))
 
 -- 11: a size exceeded; 2,048 bits in any signal or part of one before slicing
 unfoldable pub exceedsSize : Past → Bool
@@ -187,11 +270,10 @@ unfoldable pub judgeIn : Wires → Past → Shape → Verdict Statement
 judgeIn ws ss sh =
     verdict (meaning ws sh)
     (lowest
-    ((6, is aProcess sh)
-    ∷ (7, breaksNumber ws sh)
+    ((7, breaksNumber ws sh)
     ∷ (8, lacksWire ws sh)
     ∷ (9, takesName ss sh)
-    ∷ (10, breaksWidth ws sh)
+    ∷ (10, breaksWidth ws ss sh)
     ∷ (11, partTooWide ws sh || exceedsSize (meaning ws sh ∷ ss))
     ∷ []))
 
@@ -199,5 +281,5 @@ unfoldable pub judge : Past → Shape → Verdict Statement
 judge ss sh = judgeIn (wires ss) ss sh
 
 unfoldable pub judgementOpen : Unit {0}
-unfolding zip flatMap until only sum outer scope context ofModule ofCell ofObject wires among space namesIn nameSpaces count signalSize valueSize stringSize nameSize sizes portNumbers newPort allParts breaksNumber lacksWire takesName equalWidths breaksWidth exceedsSize partTooWide lowest verdict meaning judgeIn judge
+unfolding zip flatMap until only sum outer around nested behindStep steps switches scope context ofModule ofCell ofObject wires among space namesIn nameSpaces count signalSize valueSize stringSize nameSize stepSignals sizes portNumbers newPort allParts breaksNumber lacksWire takesName equal stepWidths fitWidths breaksWidth exceedsSize partTooWide lowest verdict meaning judgeIn judge
 judgementOpen = tt

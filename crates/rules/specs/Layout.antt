@@ -9,7 +9,7 @@ use mathlib.Core.Bool.{cond}
 use lib.ListN.{length, replicate}
 use Rattle.rules.specs.Limits.{namesLength, stringsLength, bitsLength, wiresLength, rowsLength}
 use Rattle.rules.specs.Tokens.{Name, Digit, S0, S1, Sx, Sz, Sm, Sa}
-use Rattle.rules.specs.Statements.{Sort, plain, signed, real, Constant, value, integer, string, digitsOf, bytesOf, Bit, digit, bit, Direction, input, output, inout, Wire, Statement, autoidx-stmt, attr-stmt, module-stmt, param-stmt, wire-stmt, memory-stmt, cell-stmt, cell-param-stmt, cell-conn-stmt, conn-stmt, proc-stmt, end-stmt, aModule, code, contents}
+use Rattle.rules.specs.Statements.{Sort, plain, signed, real, Constant, value, integer, string, digitsOf, bytesOf, Bit, digit, bit, Direction, input, output, inout, Wire, Statement, autoidx-stmt, attr-stmt, module-stmt, param-stmt, wire-stmt, memory-stmt, cell-stmt, cell-param-stmt, cell-conn-stmt, conn-stmt, proc-stmt, step-stmt, end-stmt, Signal, stepCode, aModule, code, contents}
 use Rattle.rules.specs.Signals.{twosComplement}
 use Rattle.rules.specs.Judgement.{count}
 use Rattle.rules.specs.Reading.{readAny, accepted}
@@ -132,6 +132,11 @@ sortCode plain = 0
 sortCode signed = 1
 sortCode real = 2
 
+-- (the signals of a line in a process are equally wide)
+unfoldable pub eachLength : List Signal → ℕ
+eachLength [] = 0
+eachLength (x ∷ xs) = length x
+
 -- the columns of a statement behind its kind: where each part starts and its length, and its numbers
 unfoldable pub columns : Used → Statement → List ℕ
 columns u (autoidx-stmt i) = twosComplement i ∷ []
@@ -145,6 +150,7 @@ columns u (cell-param-stmt o n c) = u .names ∷ length n ∷ constantColumns u 
 columns u (cell-conn-stmt n s) = u .names ∷ length n ∷ u .bits ∷ length s ∷ []
 columns u (conn-stmt s t) = u .bits ∷ length s ∷ (u .bits + length s) ∷ length t ∷ []
 columns u (proc-stmt n) = u .names ∷ length n ∷ []
+columns u (step-stmt p xs) = stepCode p ∷ u .bits ∷ eachLength xs ∷ length xs ∷ []
 columns u end-stmt = []
 
 unfoldable pub statementRow : Used → Statement → List ℕ
@@ -167,7 +173,7 @@ putAll R ss = foldl put R ss
 
 -- the kind of a standing rename's row, behind those of statements
 abbrev pub renameKind : ℕ
-renameKind = 13
+renameKind = 14
 
 -- A standing rename's row: a kind of its own, its new name, its module and wire number
 unfoldable pub renameRow : ℕ → Rename → List ℕ
@@ -216,5 +222,5 @@ pub record Reachable (m : Memory) : Type 0 where
   pub leaves : layout statements (plainSession (design statements) [] calls .1) ≡ m
 
 unfoldable pub layoutOpen : Unit {0}
-unfolding flatMap zip Option·elim padded row used nameBytes stringBytes digitCode bitCode bitCodes directionCode flags wireRow wireRows constantColumns sortCode columns statementRow put putAll renameRow putRename putRenames rooms memory layout
+unfolding flatMap zip Option·elim padded row used nameBytes stringBytes digitCode bitCode bitCodes directionCode flags wireRow wireRows constantColumns sortCode eachLength columns statementRow put putAll renameRow putRename putRenames rooms memory layout
 layoutOpen = tt

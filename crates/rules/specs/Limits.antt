@@ -27,6 +27,20 @@ mostCellConnections = 1024
 abbrev pub mostConnections : ℕ
 mostConnections = 512
 
+abbrev pub mostProcesses : ℕ
+mostProcesses = 64
+
+-- lines inside processes, `end` and attributes apart, and the signals in them
+abbrev pub mostSteps : ℕ
+mostSteps = 1024
+
+abbrev pub mostStepSignals : ℕ
+mostStepSignals = 4096
+
+-- switches in one another, the root's counted
+abbrev pub mostSwitches : ℕ
+mostSwitches = 16
+
 abbrev pub mostSignalBits : ℕ
 mostSignalBits = 8192
 
@@ -70,20 +84,20 @@ abbrev pub wiresLength : ℕ
 wiresLength = 8 * mostWires
 
 abbrev pub mostStatements : ℕ
-mostStatements = 4705
+mostStatements = 6881
 
 abbrev pub mostRows : ℕ
-mostRows = 4769
+mostRows = 6945
 
 abbrev pub rowsLength : ℕ
 rowsLength = 8 * mostRows
 
--- the tables of one call: tokens, four words a byte of the file; bits of two signals and the parts of one at each depth
+-- the tables of one call: tokens, four words a byte of the file; bits of all signals of a line and the parts of one at each depth
 abbrev pub tokensLength : ℕ
 tokensLength = 131072
 
 abbrev pub scratchLength : ℕ
-scratchLength = 36864
+scratchLength = 43008
 
 -- rows of eight words that a number of 64 bits reaches by far
 abbrev pub manyRows : ℕ

@@ -11,7 +11,7 @@ use Rattle.rules.specs.Limits.{longestFile}
 use Rattle.rules.specs.Lines.{Line, lines, place}
 use Rattle.rules.specs.Tokens.{Token, Lexed, bad, good, tokens}
 use Rattle.rules.specs.Statements.{Statement, Shape}
-use Rattle.rules.specs.Shapes.{Scope, top, inModule, inCell, shape}
+use Rattle.rules.specs.Shapes.{Scope, top, inModule, inCell, inProcess, inTail, inSync, inSwitch, inCase, shape}
 use Rattle.rules.specs.Judgement.{Past, context, Verdict, judge}
 
 -- what a line gives: nothing, since it has no token; a statement; or a refusal with its number and place
@@ -52,6 +52,11 @@ unfoldable pub isTop : Scope → Bool
 isTop top = true
 isTop inModule = false
 isTop inCell = false
+isTop inProcess = false
+isTop inTail = false
+isTop inSync = false
+isTop (inSwitch k) = false
+isTop (inCase k) = false
 
 unfoldable pub finish : ℕ → Past → Answer
 finish size ss = cond (isTop (context ss .scope) && not (context ss .attributed)) (accepted (reverse ss)) (refused 5 size)

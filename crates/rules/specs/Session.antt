@@ -44,6 +44,7 @@ renameWire r m =
       wires = change (λ w. object (w .attributes) (r .newName) (w .body)) (r .wireNumber) (m .wires);
       memories = m .memories;
       cells = m .cells;
+      processes = m .processes;
       connections = m .connections;
     }
 
@@ -62,9 +63,9 @@ now d rs = foldl (λ e r. renamed r e) d rs
 unfoldable pub roomUsed : Design → List Rename → ℕ
 roomUsed d rs = sum nameSize (flatten d) + sum (λ r. length (r .newName)) rs
 
--- Wires, memories and cells of a module share one name space
+-- Wires, memories, cells and processes of a module share one name space
 unfoldable pub names : Module → List Name
-names m = map (λ o. o .name) (m .wires) ++ map (λ o. o .name) (m .memories) ++ map (λ o. o .name) (m .cells)
+names m = map (λ o. o .name) (m .wires) ++ map (λ o. o .name) (m .memories) ++ map (λ o. o .name) (m .cells) ++ map (λ o. o .name) (m .processes)
 
 unfoldable pub taken : Design → ℕ → Name → Bool
 taken d m n = any (same n) (Option·elim (getElem? (d .modules) m) [] (λ o. names (o .body)))

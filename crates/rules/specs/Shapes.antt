@@ -1,18 +1,19 @@
 -- The shape of a line's tokens, by the grammar of 004; its rules stand in <>.
 -- Wider than these rules in one place: 004's module body omits `connect`, which its text and 000 list. Stricter: a
--- bundle is at most 16 deep, and no line inside a process has a shape.
-use Prim.Native.Nat.{ℕ, zero, suc}
+-- bundle is at most 16 deep, and so are switches; at most one switch stands at the root of a process.
+use Prim.Native.Nat.{ℕ, zero, suc, _+_}
 use Prim.Native.Char.{Char}
 use Prim.Native.String.{String}
-use mathlib.Core.List.{List, [], _∷_, _++_}
+use mathlib.Core.List.{List, [], _∷_, _++_, reverse}
 use mathlib.Core.Option.{Option, none, some, Option·map}
 use mathlib.Core.Bool.{Bool, false, not, cond}
 use lib.ListN.{length}
 use lib.IntN.{ℤ}
-use lib.Dec.{eqb}
+use lib.Dec.{eqb, ltb}
+use Rattle.rules.specs.Limits.{mostSwitches}
 use Rattle.rules.specs.Bytes.{bytes, byte, same, any}
 use Rattle.rules.specs.Tokens.{Name, Literal, value, integer, string, Token, name, word, literal, mark}
-use Rattle.rules.specs.Statements.{Sig, Sigs, constant, wire, slice, bundle, nothing, _below_, Opt, Sort, Shape, autoidx-stmt, attr-stmt, module-stmt, param-stmt, wire-stmt, memory-stmt, cell-stmt, cell-param-stmt, cell-conn-stmt, conn-stmt, proc-stmt, end-stmt}
+use Rattle.rules.specs.Statements.{Sig, Sigs, constant, wire, slice, bundle, nothing, _below_, Opt, Sort, Shape, autoidx-stmt, attr-stmt, module-stmt, param-stmt, wire-stmt, memory-stmt, cell-stmt, cell-param-stmt, cell-conn-stmt, conn-stmt, proc-stmt, step-stmt, end-stmt, Step, assign, update, switch, case, low, high, posedge, negedge, edge, global, init, always}
 
 -- Takes what it wants from the front of the tokens and leaves the rest; or finds no shape
 abbrev pub Parse : Type 0 → Type 0
@@ -132,11 +133,11 @@ unfoldable pub atom : Parse Sig
 atom = one isAtom
 
 -- [ <integer> (:<integer>)? ]
-unfoldable pub low : Parse (Option ℤ)
-low = either (isMark ":") (of₁ some int) (give none)
+unfoldable pub lowBound : Parse (Option ℤ)
+lowBound = either (isMark ":") (of₁ some int) (give none)
 
 unfoldable pub bounds : Parse (ℤ × Option ℤ)
-bounds = either (isMark "[") (closedBy "]" (of₂ (λ h l. (h, l)) int low)) nowhere
+bounds = either (isMark "[") (closedBy "]" (of₂ (λ h l. (h, l)) int lowBound)) nowhere
 
 -- Slices may follow any signal, also a slice
 unfoldable pub sliced : Sig → List (ℤ × Option ℤ) → Sig
@@ -183,9 +184,11 @@ options os = several (offers os) (choice os)
 unfoldable pub sort : Parse Sort
 sort = either (isWord "signed") (give Sort.signed) (either (isWord "real") (give Sort.real) (give Sort.plain))
 
--- Where a line stands: outside of modules, in a module or in a cell; whether it is the first statement; whether it follows attributes
+-- Where a line stands: outside of modules, in a module or in a cell; in a process before its switch, behind it or in a sync; in a switch before
+-- its first case, or in a case, of a switch inside so many others; whether it is the first statement; whether it follows attributes
 pub data Scope : Type 0 where
-  top inModule inCell : Scope
+  top inModule inCell inProcess inTail inSync : Scope
+  inSwitch inCase : (outside : ℕ) → Scope
 
 pub record Context : Type 0 where
   pub scope : Scope
@@ -222,11 +225,70 @@ unfoldable pub cellForms : List Form
 cellForms =
     ("parameter", of₃ cell-param-stmt sort id const) ∷ ("connect", of₂ cell-conn-stmt id sigspec) ∷ ("end", give end-stmt) ∷ []
 
+-- <sigspec> (, <sigspec>)*
+unfoldable pub compare : Parse (List Sig)
+compare = of₂ (λ s ss. s ∷ reverse ss) sigspec (several (isMark ",") (either (isMark ",") sigspec nowhere))
+
+unfoldable pub compares : Option (List Sig) → List Sig
+compares none = []
+compares (some ss) = ss
+
+-- of no signal, of one, of two; of any number of compare values
+unfoldable pub of0 : Step → Parse Shape
+of0 p = give (step-stmt p [])
+
+unfoldable pub of1 : Step → Parse Shape
+of1 p = of₁ (λ s. step-stmt p (s ∷ [])) sigspec
+
+unfoldable pub of2 : Step → Parse Shape
+of2 p = of₂ (λ s t. step-stmt p (s ∷ t ∷ [])) sigspec sigspec
+
+unfoldable pub endForm : Form
+endForm = ("end", give end-stmt)
+
+unfoldable pub assignForm : Form
+assignForm = ("assign", of2 assign)
+
+unfoldable pub switchForm : Form
+switchForm = ("switch", of1 switch)
+
+unfoldable pub caseForm : Form
+caseForm = ("case", of₁ (λ ss. step-stmt case (compares ss)) (orEnd compare))
+
+unfoldable pub updateForm : Form
+updateForm = ("update", of2 update)
+
+-- <sync-type> <sigspec> | global | init | always
+unfoldable pub syncForms : List Form
+syncForms =
+    ("low", of1 low)
+    ∷ ("high", of1 high)
+    ∷ ("posedge", of1 posedge)
+    ∷ ("negedge", of1 negedge)
+    ∷ ("edge", of1 edge)
+    ∷ ("global", of0 global)
+    ∷ ("init", of0 init)
+    ∷ ("always", of0 always)
+    ∷ []
+
+unfoldable pub syncForm : Form
+syncForm = ("sync", choice syncForms)
+
+-- Switches nest at most 16 deep, the root's counted
+unfoldable pub nestedForms : ℕ → List Form
+nestedForms k = cond (ltb (k + 1) mostSwitches) (attributeForm ∷ switchForm ∷ caseForm ∷ []) (attributeForm ∷ caseForm ∷ [])
+
 -- `autoidx` may only be the first statement
 unfoldable pub forms : Scope → (first attributed : Bool) → List Form
 forms top first attributed = cond first (autoidxForm ∷ topForms) topForms
 forms inModule first attributed = cond attributed objectForms (bodyForms ++ objectForms)
 forms inCell first attributed = cellForms
+forms inProcess first attributed =
+    cond attributed (attributeForm ∷ switchForm ∷ []) (attributeForm ∷ switchForm ∷ assignForm ∷ syncForm ∷ endForm ∷ [])
+forms inTail first attributed = assignForm ∷ syncForm ∷ endForm ∷ []
+forms inSync first attributed = updateForm ∷ syncForm ∷ endForm ∷ []
+forms (inSwitch k) first attributed = cond attributed (attributeForm ∷ caseForm ∷ []) (attributeForm ∷ caseForm ∷ endForm ∷ [])
+forms (inCase k) first attributed = cond attributed (nestedForms k) (nestedForms k ++ assignForm ∷ endForm ∷ [])
 
 -- all tokens of the line, and no other
 unfoldable pub wholeBy : Shape → List Token → Option Shape
@@ -241,5 +303,5 @@ unfoldable pub shape : Context → List Token → Option Shape
 shape c ts = whole (choice (forms (c .scope) (c .first) (c .attributed)) ts)
 
 unfoldable pub shapesOpen : Unit {0}
-unfolding isWord isMark nowhere give one after of₁ of₂ of₃ either choice offers closedBy repeat several orEnd isId isConstant isInteger isAtom id const int atom low bounds sliced withSlices sigs members signal sigspec numbered flag wireOptionForms memoryOptionForms options sort autoidxForm attributeForm topForms objectForms bodyForms cellForms forms wholeBy whole shape
+unfolding isWord isMark nowhere give one after of₁ of₂ of₃ either choice offers closedBy repeat several orEnd isId isConstant isInteger isAtom id const int atom lowBound bounds sliced withSlices sigs members signal sigspec numbered flag wireOptionForms memoryOptionForms options sort autoidxForm attributeForm topForms objectForms bodyForms cellForms compare compares of0 of1 of2 endForm assignForm switchForm caseForm updateForm syncForms syncForm nestedForms forms wholeBy whole shape
 shapesOpen = tt

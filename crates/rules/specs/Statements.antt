@@ -1,8 +1,8 @@
 -- What a line says: a statement as it is written, which is its shape, and as it is meant.
--- Source: 004's rules that end in -stmt, and document 01, "Objects" and "Signals", for what they mean. Of a process
--- only the first line is here, so that it can be refused by its own number.
+-- Source: 004's rules that end in -stmt, and document 01, "Objects" and "Signals", for what they mean. All lines
+-- inside a process have one form.
 use Prim.Native.Nat.{ℕ}
-use mathlib.Core.List.{List, [], _∷_, Option·toList}
+use mathlib.Core.List.{List, [], _∷_, map, Option·toList}
 use mathlib.Core.Option.{Option, Option·map}
 use mathlib.Core.Bool.{Bool}
 use lib.IntN.{ℤ}
@@ -12,6 +12,62 @@ use Rattle.rules.specs.Tokens.{Name, Digit, Literal}
 -- a cell parameter keeps `signed` or `real`
 pub data Sort : Type 0 where
   plain signed real : Sort
+
+-- What a line inside a process says, by its word; of a sync line by what it waits for
+pub data Step : Type 0 where
+  assign update switch case low high posedge negedge edge global init always : Step
+
+-- the codes of steps, as the rows of a design have them: the number of the word among the keywords
+abbrev pub assignStep : ℕ
+assignStep = 19
+
+abbrev pub switchStep : ℕ
+switchStep = 20
+
+abbrev pub caseStep : ℕ
+caseStep = 21
+
+abbrev pub globalStep : ℕ
+globalStep = 23
+
+abbrev pub initStep : ℕ
+initStep = 24
+
+abbrev pub alwaysStep : ℕ
+alwaysStep = 25
+
+abbrev pub lowStep : ℕ
+lowStep = 26
+
+abbrev pub highStep : ℕ
+highStep = 27
+
+abbrev pub posedgeStep : ℕ
+posedgeStep = 28
+
+abbrev pub negedgeStep : ℕ
+negedgeStep = 29
+
+abbrev pub edgeStep : ℕ
+edgeStep = 30
+
+abbrev pub updateStep : ℕ
+updateStep = 31
+
+-- (by this number steps are compared)
+unfoldable pub stepCode : Step → ℕ
+stepCode assign = assignStep
+stepCode switch = switchStep
+stepCode case = caseStep
+stepCode global = globalStep
+stepCode init = initStep
+stepCode always = alwaysStep
+stepCode low = lowStep
+stepCode high = highStep
+stepCode posedge = posedgeStep
+stepCode negedge = negedgeStep
+stepCode edge = edgeStep
+stepCode update = updateStep
 
 -- Each statement is one line. C: its constants, S: its signals, W and M: what it says of a wire and of a memory
 pub data Stmt (C S W M : Type 0) : Type 0 where
@@ -26,6 +82,7 @@ pub data Stmt (C S W M : Type 0) : Type 0 where
   cell-conn-stmt : Name → S → Stmt C S W M
   conn-stmt : S → S → Stmt C S W M
   proc-stmt : Name → Stmt C S W M
+  step-stmt : Step → List S → Stmt C S W M
   end-stmt : Stmt C S W M
 
 infixr 20 _below_
@@ -94,7 +151,7 @@ abbrev pub Statement : Type 0
 Statement = Stmt Constant Signal Wire Memory
 
 pub data Kind : Type 0 where
-  anAutoidx anAttribute aModule aParameter aWire aMemory aCell aCellParameter aCellConnection aConnection aProcess anEnd : Kind
+  anAutoidx anAttribute aModule aParameter aWire aMemory aCell aCellParameter aCellConnection aConnection aProcess anEnd aStep : Kind
 
 -- the codes of kinds, as the rows of a design have them
 abbrev pub autoidxKind : ℕ
@@ -133,6 +190,9 @@ processKind = 11
 abbrev pub endKind : ℕ
 endKind = 12
 
+abbrev pub stepKind : ℕ
+stepKind = 13
+
 -- (by this number kinds are compared)
 unfoldable pub code : Kind → ℕ
 code anAutoidx = autoidxKind
@@ -147,6 +207,7 @@ code aCellConnection = cellConnectionKind
 code aConnection = connectionKind
 code aProcess = processKind
 code anEnd = endKind
+code aStep = stepKind
 
 -- What stands in a statement: of its names wire references are left out, of its constants those in signals
 pub record Contents (C S W M : Type 0) : Type 0 where
@@ -158,25 +219,27 @@ pub record Contents (C S W M : Type 0) : Type 0 where
   pub memories : List M
   pub integers : List ℤ
   pub sorts : List Sort
+  pub steps : List Step
 
 module _ {C S W M : Type 0} where
-  unfoldable pub holds : Kind → List Name → List C → List S → List W → List M → List ℤ → List Sort → Contents C S W M
-  holds k ns cs ss ws ms zs os =
-      record { kind = k; names = ns; constants = cs; signals = ss; wires = ws; memories = ms; integers = zs; sorts = os }
+  unfoldable pub holds : Kind → List Name → List C → List S → List W → List M → List ℤ → List Sort → List Step → Contents C S W M
+  holds k ns cs ss ws ms zs os ps =
+      record { kind = k; names = ns; constants = cs; signals = ss; wires = ws; memories = ms; integers = zs; sorts = os; steps = ps }
 
   unfoldable pub contents : Stmt C S W M → Contents C S W M
-  contents (autoidx-stmt i) = holds anAutoidx [] [] [] [] [] (i ∷ []) []
-  contents (attr-stmt n c) = holds anAttribute (n ∷ []) (c ∷ []) [] [] [] [] []
-  contents (module-stmt n) = holds aModule (n ∷ []) [] [] [] [] [] []
-  contents (param-stmt n c) = holds aParameter (n ∷ []) (Option·toList c) [] [] [] [] []
-  contents (wire-stmt w n) = holds aWire (n ∷ []) [] [] (w ∷ []) [] [] []
-  contents (memory-stmt m n) = holds aMemory (n ∷ []) [] [] [] (m ∷ []) [] []
-  contents (cell-stmt t n) = holds aCell (t ∷ n ∷ []) [] [] [] [] [] []
-  contents (cell-param-stmt o n c) = holds aCellParameter (n ∷ []) (c ∷ []) [] [] [] [] (o ∷ [])
-  contents (cell-conn-stmt n s) = holds aCellConnection (n ∷ []) [] (s ∷ []) [] [] [] []
-  contents (conn-stmt s t) = holds aConnection [] [] (s ∷ t ∷ []) [] [] [] []
-  contents (proc-stmt n) = holds aProcess (n ∷ []) [] [] [] [] [] []
-  contents end-stmt = holds anEnd [] [] [] [] [] [] []
+  contents (autoidx-stmt i) = holds anAutoidx [] [] [] [] [] (i ∷ []) [] []
+  contents (attr-stmt n c) = holds anAttribute (n ∷ []) (c ∷ []) [] [] [] [] [] []
+  contents (module-stmt n) = holds aModule (n ∷ []) [] [] [] [] [] [] []
+  contents (param-stmt n c) = holds aParameter (n ∷ []) (Option·toList c) [] [] [] [] [] []
+  contents (wire-stmt w n) = holds aWire (n ∷ []) [] [] (w ∷ []) [] [] [] []
+  contents (memory-stmt m n) = holds aMemory (n ∷ []) [] [] [] (m ∷ []) [] [] []
+  contents (cell-stmt t n) = holds aCell (t ∷ n ∷ []) [] [] [] [] [] [] []
+  contents (cell-param-stmt o n c) = holds aCellParameter (n ∷ []) (c ∷ []) [] [] [] [] (o ∷ []) []
+  contents (cell-conn-stmt n s) = holds aCellConnection (n ∷ []) [] (s ∷ []) [] [] [] [] []
+  contents (conn-stmt s t) = holds aConnection [] [] (s ∷ t ∷ []) [] [] [] [] []
+  contents (proc-stmt n) = holds aProcess (n ∷ []) [] [] [] [] [] [] []
+  contents (step-stmt p ss) = holds aStep [] [] ss [] [] [] [] (p ∷ [])
+  contents end-stmt = holds anEnd [] [] [] [] [] [] [] []
 
   unfoldable pub is : Kind → Stmt C S W M → Bool
   is k s = eqb (code k) (code (contents s .kind))
@@ -200,8 +263,9 @@ translate f g h k (cell-param-stmt o n c) = cell-param-stmt o n (f c)
 translate f g h k (cell-conn-stmt n s) = cell-conn-stmt n (g s)
 translate f g h k (conn-stmt s t) = conn-stmt (g s) (g t)
 translate f g h k (proc-stmt n) = proc-stmt n
+translate f g h k (step-stmt p ss) = step-stmt p (map g ss)
 translate f g h k end-stmt = end-stmt
 
 unfoldable pub statementsOpen : Unit {0}
-unfolding Option·toList digitsOf bytesOf code holds contents is ownName translate
+unfolding Option·toList digitsOf bytesOf stepCode code holds contents is ownName translate
 statementsOpen = tt

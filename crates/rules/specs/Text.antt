@@ -2,7 +2,7 @@
 -- Source: document 01, "The one written text", and the end of "Sizes" for the program.
 use Prim.Native.Nat.{ℕ, zero, suc, _+_, _-_, _*_, _/_, _%_}
 use Prim.Native.String.{String}
-use mathlib.Core.List.{List, [], _∷_, _++_, map, flatMap, reverse, Option·toList}
+use mathlib.Core.List.{List, [], _∷_, _++_, map, flatMap, foldl, reverse, Option·toList}
 use mathlib.Core.Option.{Option, none, some}
 use mathlib.Core.Bool.{Bool, true, false, not, cond, _&&_, _||_}
 use lib.ListN.{length, replicate, drop}
@@ -11,11 +11,11 @@ use lib.Dec.{ltb, eqb}
 use Rattle.rules.specs.Limits.{longestFile}
 use Rattle.rules.specs.Bytes.{bytes, byte}
 use Rattle.rules.specs.Tokens.{Digit, S0, S1, Sx, Sz, Sm, Sa, Literal, value, integer, string, Token, name, word, literal, mark}
-use Rattle.rules.specs.Statements.{Sig, Sigs, constant, wire, slice, bundle, nothing, _below_, Opt, Sort, plain, signed, real, Shape, Constant, Bit, digit, bit, Signal, Direction, input, output, inout, Wire, Memory, Statement, autoidx-stmt, attr-stmt, module-stmt, param-stmt, wire-stmt, memory-stmt, cell-stmt, cell-param-stmt, cell-conn-stmt, conn-stmt, proc-stmt, end-stmt, anEnd, is, translate}
-use Rattle.rules.specs.Shapes.{sigs, isMark, Scope, top, inModule, inCell}
+use Rattle.rules.specs.Statements.{Sig, Sigs, constant, wire, slice, bundle, nothing, _below_, Opt, Sort, plain, signed, real, Shape, Constant, Bit, digit, bit, Signal, Direction, input, output, inout, Wire, Memory, Statement, autoidx-stmt, attr-stmt, module-stmt, param-stmt, wire-stmt, memory-stmt, cell-stmt, cell-param-stmt, cell-conn-stmt, conn-stmt, proc-stmt, step-stmt, end-stmt, Step, assign, update, switch, case, low, high, posedge, negedge, edge, global, init, always, anAttribute, anEnd, contents, is, translate}
+use Rattle.rules.specs.Shapes.{sigs, isMark, Scope, top, inModule, inCell, inProcess, inTail, inSync, inSwitch, inCase}
 use Rattle.rules.specs.Numbers.{inRange}
 use Rattle.rules.specs.Signals.{Wires}
-use Rattle.rules.specs.Judgement.{Past, scope, wires, Verdict, verdict, lowest}
+use Rattle.rules.specs.Judgement.{Past, outer, nested, scope, wires, Verdict, verdict, lowest}
 use Rattle.rules.specs.Design.{Design, design, flatten}
 use Rattle.rules.specs.Reading.{Answer, accepted, refused, read}
 
@@ -132,6 +132,40 @@ sortTokens plain = []
 sortTokens signed = wordToken "signed" ∷ []
 sortTokens real = wordToken "real" ∷ []
 
+-- the words of a step; ` , ` between compare values
+unfoldable pub stepTokens : Step → List Token
+stepTokens assign = wordToken "assign" ∷ []
+stepTokens update = wordToken "update" ∷ []
+stepTokens switch = wordToken "switch" ∷ []
+stepTokens case = wordToken "case" ∷ []
+stepTokens low = wordToken "sync" ∷ wordToken "low" ∷ []
+stepTokens high = wordToken "sync" ∷ wordToken "high" ∷ []
+stepTokens posedge = wordToken "sync" ∷ wordToken "posedge" ∷ []
+stepTokens negedge = wordToken "sync" ∷ wordToken "negedge" ∷ []
+stepTokens edge = wordToken "sync" ∷ wordToken "edge" ∷ []
+stepTokens global = wordToken "sync" ∷ wordToken "global" ∷ []
+stepTokens init = wordToken "sync" ∷ wordToken "init" ∷ []
+stepTokens always = wordToken "sync" ∷ wordToken "always" ∷ []
+
+unfoldable pub between : Step → List Token
+between assign = []
+between update = []
+between switch = []
+between case = mark (byte ",") ∷ []
+between low = []
+between high = []
+between posedge = []
+between negedge = []
+between edge = []
+between global = []
+between init = []
+between always = []
+
+unfoldable pub listTokens : List Token → List Sig → List Token
+listTokens c [] = []
+listTokens c (s ∷ []) = sigTokens s
+listTokens c (s ∷ t ∷ ss) = sigTokens s ++ c ++ listTokens c (t ∷ ss)
+
 unfoldable pub shapeTokens : Shape → List Token
 shapeTokens (autoidx-stmt i) = wordToken "autoidx" ∷ numberToken i ∷ []
 shapeTokens (attr-stmt n c) = wordToken "attribute" ∷ name n ∷ literal c ∷ []
@@ -144,6 +178,7 @@ shapeTokens (cell-param-stmt o n c) = wordToken "parameter" ∷ sortTokens o ++ 
 shapeTokens (cell-conn-stmt n s) = wordToken "connect" ∷ name n ∷ sigTokens s
 shapeTokens (conn-stmt s t) = wordToken "connect" ∷ sigTokens s ++ sigTokens t
 shapeTokens (proc-stmt n) = wordToken "process" ∷ name n ∷ []
+shapeTokens (step-stmt p ss) = stepTokens p ++ listTokens (between p) ss
 shapeTokens end-stmt = wordToken "end" ∷ []
 
 -- no number has leading zeros or is `-0`: the digits of n in front of ds (more turns than n are enough)
@@ -209,18 +244,42 @@ unfoldable pub level : Scope → ℕ
 level top = 0
 level inModule = 1
 level inCell = 2
+level inProcess = 2
+level inTail = 2
+level inSync = 3
+level (inSwitch k) = 3 + 2 * k
+level (inCase k) = 4 + 2 * k
 
--- (`end` stands at the level of the line that it closes)
+-- (`end` stands at the level of the line that it closes; a case stands in its switch, and a sync in its process)
+unfoldable pub holder : Scope → Step → Scope
+holder p assign = p
+holder p update = p
+holder p switch = p
+holder p case = inSwitch (nested p)
+holder p low = inTail
+holder p high = inTail
+holder p posedge = inTail
+holder p negedge = inTail
+holder p edge = inTail
+holder p global = inTail
+holder p init = inTail
+holder p always = inTail
+
 unfoldable pub indent : Scope → Statement → ℕ
-indent p s = cond (is anEnd s) (level p - 1) (level p)
+indent p s = cond (is anEnd s) (level (outer p)) (level (foldl holder p (contents s .steps)))
+
+-- attributes right before their object at its level
+unfoldable pub object : Statement → List Statement → Statement
+object s [] = s
+object s (t ∷ ts) = let r = object t ts in cond (is anAttribute s) r s
 
 -- line end 10, names as they are now
-unfoldable pub lineText : Past → Statement → List ℕ
-lineText ss s = replicate (2 * indent (scope ss) s) 32 ++ spaced (shapeTokens (written (wires ss) s))
+unfoldable pub lineText : ℕ → Past → Statement → List ℕ
+lineText l ss s = replicate (2 * l) 32 ++ spaced (shapeTokens (written (wires ss) s))
 
 unfoldable pub textFrom : Past → List Statement → List ℕ
 textFrom ss [] = []
-textFrom ss (s ∷ more) = lineText ss s ++ 10 ∷ textFrom (s ∷ ss) more
+textFrom ss (s ∷ more) = lineText (indent (scope ss) (object s more)) ss s ++ 10 ∷ textFrom (s ∷ ss) more
 
 unfoldable pub text : Design → List ℕ
 text d = textFrom [] (flatten d)
@@ -254,5 +313,5 @@ unfoldable pub program : List ℕ → List ℕ
 program file = programBy (read file)
 
 unfoldable pub textOpen : Unit {0}
-unfolding flatMap Option·toList join runs cut runSig runsSig sig literalOf setting unless directionWord wireOptions memoryOptions written numberToken wordToken lowTokens sigTokens optionTokens sortTokens shapeTokens decimalOnto decimalText integerText digitByte escaped literalText tokenText tight behind spaced level indent lineText textFrom text writeText write measureText measure refusal printed programBy program
+unfolding flatMap Option·toList join runs cut runSig runsSig sig literalOf setting unless directionWord wireOptions memoryOptions written numberToken wordToken lowTokens sigTokens optionTokens sortTokens stepTokens between listTokens shapeTokens decimalOnto decimalText integerText digitByte escaped literalText tokenText tight behind spaced level holder indent object lineText textFrom text writeText write measureText measure refusal printed programBy program
 textOpen = tt

@@ -38,7 +38,7 @@ not-open refuse says n (none-held e d q) = damaged e d (ap refuse q)
 
 -- THE MEMORY AT EXIT, by stores in the tables
 module _ (m : Memory) (ss : List Statement) (rs : List Rename) (r : Rename) (row : ℕ) (at-row : row ≡ length (rooms ss rs .rows))
-    (room : length (rooms ss rs .names) + length (r .newName) ≤ 16384) (few : 8 * length (rooms ss rs .rows) + 8 ≤ 8 * 4769) (names′ rows′ : List ℕ) where
+    (room : length (rooms ss rs .names) + length (r .newName) ≤ 16384) (few : 8 * length (rooms ss rs .rows) + 8 ≤ 8 * 6945) (names′ rows′ : List ℕ) where
   renamed-memory :
       layout ss rs ≡ m → names′ ≡ store (m .names) (m .room) (r .newName) → rows′ ≡ store (m .rows) (8 * row) (renameRow (m .room) r) →
       lent names′ (m .strings) (m .bits) (m .wires) rows′ (m .renames + 1) (m .room + length (r .newName)) ≡ layout ss (rs ++ r ∷ [])
@@ -65,7 +65,7 @@ module _ {names strings bits wires rows : List ℕ} {renames room : ℕ} {p : Pl
     passed : Passes (design (h .statements)) (h .renames) r
     passed = passes (design (h .statements)) (h .renames) r (number-is ∙ z)
 
-    pub rename-fits : (renames < 64) × (p .rows ≤ 4705) × (room + length (r .newName) ≤ 16384) × (length (r .newName) ≤ 255) × (length names ≡ 16384) × (length rows ≡ 8 * 4769)
+    pub rename-fits : (renames < 64) × (p .rows ≤ 6881) × (room + length (r .newName) ≤ 16384) × (length (r .newName) ≤ 255) × (length names ≡ 16384) × (length rows ≡ 8 * 6945)
     rename-fits =
         let u : roomUsed (design (h .statements)) (h .renames) ≡ length (rooms (h .statements) (h .renames) .names) =
         room-used (h .statements) (h .renames) (h .holds .admitted) (h .holds .closes) in
@@ -130,13 +130,13 @@ module _ {names strings bits wires rows : List ℕ} {renames room : ℕ} {p : Pl
     room-is : room ≡ length (R .names) + length (last .rename .newName)
     room-is = sym (used h) ∙ room-behind R (last .rename) (rooms (h .statements) (h .renames)) rooms-is
 
-    within : (length (R .names) + length (last .rename .newName) ≤ 16384) × (8 * length (R .rows) + 8 ≤ 8 * 4769)
+    within : (length (R .names) + length (last .rename .newName) ≤ 16384) × (8 * length (R .rows) + 8 ≤ 8 * 6945)
     within =
         let u : roomUsed (design (h .statements)) (last .before) ≡ length (R .names) =
         room-used (h .statements) (last .before) (h .holds .admitted) (h .holds .closes) in
         (omega (arith, last .passed .room), omega (arith, last .passed .few, few-rows h, row-is, length-last))
 
-    pub undo-fits : (p .rows ≤ 4705) × (renames ≤ 64) × (column rows (p .rows + (renames - 1)) 1 ≤ room) × (room ≤ length names) × (8 * (p .rows + (renames - 1)) + 8 ≤ length rows)
+    pub undo-fits : (p .rows ≤ 6881) × (renames ≤ 64) × (column rows (p .rows + (renames - 1)) 1 ≤ room) × (room ≤ length names) × (8 * (p .rows + (renames - 1)) + 8 ≤ length rows)
     undo-fits =
         (few-rows h, omega (arith, length-last, last .passed .few), omega (arith, start-is, room-is), omega (arith, within .0, room-is, long h .0), omega (arith, within .1, row-is, long h .1))
 

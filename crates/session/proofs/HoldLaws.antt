@@ -31,7 +31,7 @@ unfolding wireRange
 range-within t total m = omega (arith, where-next t m total, where-le (λ c. ltb c (suc m)) t total)
 
 module _ {names strings bits wires rows : List ℕ} {renames room : ℕ} {p : Place} (h : Holding (lent names strings bits wires rows renames room) p) where
-  pub long : (length names ≡ 16384) × (length rows ≡ 8 * 4769)
+  pub long : (length names ≡ 16384) × (length rows ≡ 8 * 6945)
   long = let e = lengths-exact _ (h .lengths) in (e .0, e .4)
 
   pub standing : length (h .renames) ≡ renames
@@ -43,7 +43,7 @@ module _ {names strings bits wires rows : List ℕ} {renames room : ℕ} {p : Pl
   pub rows-before : length (h .statements) ≡ p .rows
   rows-before = sym (length-reverse (h .statements)) ∙ place-rows (reverse (h .statements)) (h .place)
 
-  pub few-rows : p .rows ≤ 4705
+  pub few-rows : p .rows ≤ 6881
   few-rows = omega (arith, admitted-few (reverse (h .statements)) (h .holds .admitted), length-reverse (h .statements), rows-before)
 
   pub lies : Lies names wires rows p renames room (h .statements) (h .renames)
@@ -59,7 +59,7 @@ module _ {names strings bits wires rows : List ℕ} {renames room : ℕ} {p : Pl
       }
 
   -- the row of a module's own wire
-  pub wire-fits : (m w : ℕ) (own : Range) → own ≡ wireRange wires (p .wires) m → w < own .count → own .first + w ≤ 4705
+  pub wire-fits : (m w : ℕ) (own : Range) → own ≡ wireRange wires (p .wires) m → w < own .count → own .first + w ≤ 6881
   wire-fits m w own eo b =
       let c : w < wireRange wires (p .wires) m .count = rw (← eo) b in
       let q : p .wires ≤ p .rows = rw (← h .place) (bounds (reverse (h .statements)) .wires) in

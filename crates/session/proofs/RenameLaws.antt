@@ -50,7 +50,7 @@ lent-eq en et ek em = rw (en, et, ek, em)
 unput : (n : ℕ) (xs ys l : List ℕ) (at k : ℕ) → l ≡ padded n (xs ++ ys) → at ≡ length xs → k ≡ length ys → length xs + length ys ≤ n → store l at (replicate k 0) ≡ padded n xs
 unput n xs ys l at k el ea ek h = rw (el, ea, ek) (padded-unput n xs ys h)
 
-module _ (ss : List Statement) (rs : List Rename) (r : Rename) (h : Eights (rooms ss rs .rows)) (room : length (rooms ss rs .names) + length (r .newName) ≤ 16384) (few : 8 * length (rooms ss rs .rows) + 8 ≤ 8 * 4769) where
+module _ (ss : List Statement) (rs : List Rename) (r : Rename) (h : Eights (rooms ss rs .rows)) (room : length (rooms ss rs .names) + length (r .newName) ≤ 16384) (few : 8 * length (rooms ss rs .rows) + 8 ≤ 8 * 6945) where
   pub layout-rename :
       let m = layout ss rs in
       let R = rooms ss rs in
@@ -61,7 +61,7 @@ module _ (ss : List Statement) (rs : List Rename) (r : Rename) (h : Eights (room
       let R : Rooms = rooms ss rs in
       rw file-last
       (lent-eq (store-padded 16384 (R .names) (r .newName) _ _ refl refl room)
-      (store-row (8 * 4769) (R .rows) (renameRow (length (R .names)) r) _ _ refl refl h (length-rename-row (length (R .names)) r) few)
+      (store-row (8 * 6945) (R .rows) (renameRow (length (R .names)) r) _ _ refl refl h (length-rename-row (length (R .names)) r) few)
       (sym (length-append rs (r ∷ [])))
       (sym (length-append (R .names) (r .newName))))
 
@@ -78,5 +78,5 @@ module _ (ss : List Statement) (rs : List Rename) (r : Rename) (h : Eights (room
       let k : length x ≡ 8 = length-rename-row (length (R .names)) r in
       rw file-last
       (lent-eq (padded-unput 16384 (R .names) (r .newName) room)
-      (unput (8 * 4769) (flat (R .rows)) x (padded (8 * 4769) (flat (R .rows ++ x ∷ []))) (8 * length (R .rows)) 8 (ap (padded (8 * 4769)) (flatMap-snoc (λ r. r) (R .rows) x)) (sym e) (sym k) (omega arith))
+      (unput (8 * 6945) (flat (R .rows)) x (padded (8 * 6945) (flat (R .rows ++ x ∷ []))) (8 * length (R .rows)) 8 (ap (padded (8 * 6945)) (flatMap-snoc (λ r. r) (R .rows) x)) (sym e) (sym k) (omega arith))
       refl refl)

@@ -88,7 +88,7 @@ attributed : (s : Statement) → Attributed s
 unfolding statementsOpen
 attributed =
     by-form Attributed (λ i. no-attribute refl) an-attribute (λ n. no-attribute refl) (λ n c. no-attribute refl) (λ w n. no-attribute refl) (λ m n. no-attribute refl)
-    (λ t n. no-attribute refl) (λ o n c. no-attribute refl) (λ n x. no-attribute refl) (λ x y. no-attribute refl) (λ n. no-attribute refl) (no-attribute refl)
+    (λ t n. no-attribute refl) (λ o n c. no-attribute refl) (λ n x. no-attribute refl) (λ x y. no-attribute refl) (λ n. no-attribute refl) (λ p xs. no-attribute refl) (no-attribute refl)
 
 settings-none : (s : Statement) (ss : Past) → is anAttribute s ≡ false → settingsBefore (s ∷ ss) ≡ []
 unfolding settingsBefore ofObject until flatMap

@@ -13,7 +13,7 @@ use borrow.Author.Tests.{lt-ltb, ne-eqb, eqb-true}
 use Rattle.rules.specs.Bytes.{byte}
 use Rattle.rules.specs.Tokens as rules
 use Rattle.rules.specs.Statements.{Sig, bundle}
-use Rattle.rules.specs.Shapes.{Parse, isMark, nowhere, give, after, of₁, of₂, either, closedBy, repeat, several, int, low, bounds, sliced, sigs, withSlices, members, one, isAtom, atom, signal}
+use Rattle.rules.specs.Shapes.{Parse, isMark, nowhere, give, after, of₁, of₂, either, closedBy, repeat, several, int, lowBound, bounds, sliced, sigs, withSlices, members, one, isAtom, atom, signal}
 use Rattle.lists.specs.Tests.{by-order}
 use Rattle.tokens.specs.Rows.{front, tokenIn, tokenAt, rowOf, line, Present}
 use Rattle.tokens.specs.declared.Token.{Token}
@@ -93,12 +93,12 @@ module _ (t : List ℕ) (i : ℕ) where
 -- ---- the bounds of a slice
 
 module _ (f t : List ℕ) (i : ℕ) where
-  low-yes : markAt t i 58 ≡ true → low (line f t i) ≡ of₁ some int (line f t (i + 1))
-  unfolding low
+  low-yes : markAt t i 58 ≡ true → lowBound (line f t i) ≡ of₁ some int (line f t (i + 1))
+  unfolding lowBound
   low-yes e = either-yes t i f ":" (of₁ some int) (give none) e
 
-  low-not : markAt t i 58 ≡ false → low (line f t i) ≡ some (none, line f t i)
-  unfolding low give
+  low-not : markAt t i 58 ≡ false → lowBound (line f t i) ≡ some (none, line f t i)
+  unfolding lowBound give
   low-not e = either-not t i f ":" (of₁ some int) (give none) e
 
   pub bounds-no-high : int (line f t i) ≡ none → boundsBehind (line f t i) ≡ none
@@ -106,19 +106,19 @@ module _ (f t : List ℕ) (i : ℕ) where
   bounds-no-high e = rw e
 
 module _ (f t : List ℕ) (i : ℕ) (h : ℤ) (e : int (line f t i) ≡ some (h, line f t (i + 1))) where
-  no-low : low (line f t (i + 1)) ≡ none → boundsBehind (line f t i) ≡ none
+  no-low : lowBound (line f t (i + 1)) ≡ none → boundsBehind (line f t i) ≡ none
   unfolding boundsBehind closedBy of₂ of₁ after
   no-low g = rw (e, g)
 
-  with-low : (l : Option ℤ) (n : ℕ) → low (line f t (i + 1)) ≡ some (l, line f t n) → boundsBehind (line f t i) ≡ either (isMark "]") (give (h, l)) nowhere (line f t n)
+  with-low : (l : Option ℤ) (n : ℕ) → lowBound (line f t (i + 1)) ≡ some (l, line f t n) → boundsBehind (line f t i) ≡ either (isMark "]") (give (h, l)) nowhere (line f t n)
   unfolding boundsBehind closedBy of₂ of₁ after give
   with-low l n g = rw (e, g)
 
-  closed : (l : Option ℤ) (n m : ℕ) → low (line f t (i + 1)) ≡ some (l, line f t n) → markAt t n 93 ≡ true → m ≡ n + 1 → boundsBehind (line f t i) ≡ some ((h, l), line f t m)
+  closed : (l : Option ℤ) (n m : ℕ) → lowBound (line f t (i + 1)) ≡ some (l, line f t n) → markAt t n 93 ≡ true → m ≡ n + 1 → boundsBehind (line f t i) ≡ some ((h, l), line f t m)
   unfolding give
   closed l n m g c q = with-low l n g ∙ either-yes t n f "]" (give (h, l)) nowhere c ∙ ap (λ (k : ℕ). some ((h, l), line f t k)) (sym q)
 
-  unclosed : (l : Option ℤ) (n : ℕ) → low (line f t (i + 1)) ≡ some (l, line f t n) → markAt t n 93 ≡ false → boundsBehind (line f t i) ≡ none
+  unclosed : (l : Option ℤ) (n : ℕ) → lowBound (line f t (i + 1)) ≡ some (l, line f t n) → markAt t n 93 ≡ false → boundsBehind (line f t i) ≡ none
   unfolding nowhere
   unclosed l n g c = with-low l n g ∙ either-not t n f "]" (give (h, l)) nowhere c
 
@@ -129,7 +129,7 @@ module _ (f t : List ℕ) (i : ℕ) (h : ℤ) (e : int (line f t i) ≡ some (h,
   bounds-open m c = unclosed none (i + 1) (low-not f t (i + 1) c) m
 
   module _ (c : markAt t (i + 1) 58 ≡ true) where
-    low-is : low (line f t (i + 1)) ≡ of₁ some int (line f t (i + 2))
+    low-is : lowBound (line f t (i + 1)) ≡ of₁ some int (line f t (i + 2))
     low-is = low-yes f t (i + 1) c ∙ ap (λ (k : ℕ). of₁ some int (line f t k)) (omega arith)
 
     pub bounds-no-low : int (line f t (i + 2)) ≡ none → boundsBehind (line f t i) ≡ none
@@ -137,7 +137,7 @@ module _ (f t : List ℕ) (i : ℕ) (h : ℤ) (e : int (line f t i) ≡ some (h,
     bounds-no-low g = no-low (low-is ∙ rw g)
 
     module _ (l : ℤ) (g : int (line f t (i + 2)) ≡ some (l, line f t (i + 2 + 1))) where
-      low-given : low (line f t (i + 1)) ≡ some (some l, line f t (i + 3))
+      low-given : lowBound (line f t (i + 1)) ≡ some (some l, line f t (i + 3))
       unfolding of₁ after give
       low-given = low-is ∙ rw g (ap (λ (k : ℕ). some (some l, line f t k)) (omega arith))
 

@@ -9,7 +9,7 @@ use lib.IntN.{ℤ}
 use lib.Dec.{eqb}
 use Rattle.rules.specs.Limits.{longestFile, tokensLength}
 use Rattle.rules.specs.Tokens as rules
-use Rattle.rules.specs.Shapes.{Parse, closedBy, of₁, of₂, int, low, bounds, sliced, sigs, repeat, isMark, atom, members, signal}
+use Rattle.rules.specs.Shapes.{Parse, closedBy, of₁, of₂, int, lowBound, bounds, sliced, sigs, repeat, isMark, atom, members, signal}
 use Rattle.rules.specs.Statements.{Sig, bundle}
 use Rattle.rules.specs.Signals.{Wires}
 use Rattle.tokens.specs.Rows.{integerIn, line, tokenAt}
@@ -44,7 +44,7 @@ slotIn f slot.Absent = none
 
 -- what stands behind `[`
 unfoldable pub boundsBehind : List rules.Token → Option ((ℤ × Option ℤ) × List rules.Token)
-boundsBehind ts = closedBy "]" (of₂ (λ h l. (h, l)) int low) ts
+boundsBehind ts = closedBy "]" (of₂ (λ h l. (h, l)) int lowBound) ts
 
 -- for every file
 abbrev pub BoundsIs : List ℕ → ℕ → Bounds → Type 0

@@ -1,8 +1,8 @@
 -- The parts of what a shape means keep their rules, where those of the shape do.
 -- Assumes nothing.
 use Prim.Native.Nat.{ℕ}
-use mathlib.Core.Path.{_≡_, refl, _∙_}
-use mathlib.Core.List.{List, [], _∷_, _++_, map, flatMap, Option·toList}
+use mathlib.Core.Path.{_≡_, refl, ap₂, _∙_}
+use mathlib.Core.List.{List, [], _∷_, map, flatMap, Option·toList}
 use mathlib.Core.Bool.{Bool, true, _&&_, false≢true}
 use lib.Dec.{leb}
 use lib.IntN.{ℤ, pos, negsuc, natAbs}
@@ -13,14 +13,14 @@ use Rattle.rules.specs.Tokens.{Digit, Literal, value, integer, string}
 use Rattle.rules.specs.Statements.{Sig, Opt, Direction}
 use Rattle.rules.specs.Numbers.{inRange, goodLiteral, goodNumbers, numberOr, ports, portOf, wireOf, memoryOf, goodOptions, goodWire, goodMemory}
 use Rattle.rules.specs.Signals.{Wires, kept, valueBits, literalBits, literalWidth, width, bits, goodSlice, parts}
-use Rattle.rules.specs.Judgement.{portNumbers, equalWidths}
+use Rattle.rules.specs.Judgement.{portNumbers}
 use Rattle.lists.specs.Tests.{and-true-left}
 use Rattle.lists.specs.Bytes.{within-high}
 use Rattle.lists.specs.Elements.{all-map, all-both, all-left, all-right, all-cons, all-first, each-test}
 use Rattle.slices.specs.Slices.{part-self}
 use Rattle.context.specs.Offsets.{good-offset, memory-offset}
 use Rattle.literal_rules.proofs.ReadLaws.{literal-long}
-use Rattle.admitted.specs.Admitted.{fineConstant, ownWire, fineMemory, fineSignal, sameLength}
+use Rattle.admitted.specs.Admitted.{fineConstant, ownWire, fineMemory, fineSignal}
 use Rattle.written.specs.TokenLaws.{fineLiteral}
 use Rattle.soundness.specs.SignalLaws.{bits-fine, bits-long}
 
@@ -96,17 +96,11 @@ module _ (ws : Wires) where
       (signal-fine s (all-left goodNumbers (parts s) r n) (all-left (goodSlice ws) (parts s) r g) (all-left narrow (parts s) r w))
       (signals-fine ss (all-right goodNumbers (parts s) r n) (all-right (goodSlice ws) (parts s) r g) (all-right narrow (parts s) r w))
 
-  pub equal-lengths :
-      (ss : List Sig) → all goodNumbers (flatMap parts ss) ≡ true → all (goodSlice ws) (flatMap parts ss) ≡ true → equalWidths ws ss ≡ true →
-      sameLength (map (bits ws) ss) ≡ true
-  unfolding flatMap equalWidths sameLength
-  equal-lengths [] n g e = refl
-  equal-lengths (s ∷ []) n g e = refl
-  equal-lengths (s ∷ t ∷ ss) n g e =
+  pub same-lengths :
+      (ss : List Sig) → all goodNumbers (flatMap parts ss) ≡ true → all (goodSlice ws) (flatMap parts ss) ≡ true → map length (map (bits ws) ss) ≡ map (width ws) ss
+  unfolding flatMap
+  same-lengths [] n g = refl
+  same-lengths (s ∷ ss) n g =
       let r : List Sig = flatMap parts ss in
-      let n₂ = all-right goodNumbers (parts s) (parts t ++ r) n in
-      let g₂ = all-right (goodSlice ws) (parts s) (parts t ++ r) g in
-      rw (
-        bits-long ws s (all-left goodNumbers (parts s) (parts t ++ r) n) (all-left (goodSlice ws) (parts s) (parts t ++ r) g),
-        bits-long ws t (all-left goodNumbers (parts t) r n₂) (all-left (goodSlice ws) (parts t) r g₂),
-      ) e
+      ap₂ (λ (w : ℕ) (vs : List ℕ). w ∷ vs) (bits-long ws s (all-left goodNumbers (parts s) r n) (all-left (goodSlice ws) (parts s) r g))
+      (same-lengths ss (all-right goodNumbers (parts s) r n) (all-right (goodSlice ws) (parts s) r g))

@@ -1,5 +1,5 @@
--- The bits of a signal: each stands inside a declared wire, and they are as many as its width says; so a slice inside one member of a
--- bundle is a slice of that member (request 12).
+-- The bits of a signal: each stands inside a declared wire; where numbers and slices are good, a slice inside one member of a bundle is a slice
+-- of that member (request 12).
 -- Assumes nothing.
 use Prim.Native.Nat.{ℕ, zero, suc, _+_, _≤_}
 use native.Mathlib.Omega.{arith}
@@ -20,7 +20,7 @@ use Rattle.slices.specs.Slices.{taking, slice-inside}
 use Rattle.slices.specs.Bundles.{joined, parts-joined, slice-member, member-inside}
 use Rattle.lists.specs.Parts.{length-part}
 use Rattle.lists.specs.Tests.{by-cond, and-true-left, and-true-right}
-use Rattle.literal_rules.proofs.ReadLaws.{literal-long}
+pub use Rattle.literal_rules.proofs.SignalLaws.{bits-long, bits-of-long}
 use Rattle.admitted.specs.Admitted.{fineBit}
 use Rattle.lists.specs.Elements.{all-cons, all-first, all-later, all-drop, all-append, all-left, all-right, all-map, all-each, all-take}
 use Rattle.lists.specs.Lists.{length-wire, element-behind}
@@ -72,49 +72,7 @@ module _ (ws : Wires) where
     bits-of-fine nothing = refl
     bits-of-fine (s below ss) = all-append (fineBit ws) (bits ws s) (bitsOf ws ss) (bits-fine s) (bits-of-fine ss)
 
--- ---- the bits are as many as the width says
-
-length-found : (o : Option (ℕ × Wire)) → length (Option·elim o [] (λ w. wireBits (w .0) 0 (w .1 .width))) ≡ Option·elim o 0 (λ w. w .1 .width)
-unfolding Option·elim
-length-found none = refl
-length-found (some w) = length-wire (w .0) 0 (w .1 .width)
-
-inside-room : (w : ℕ) (h l : ℤ) → inside w h l ≡ true → natAbs l + span h l ≤ w
-unfolding inside span
-inside-room w (pos h) (pos l) e =
-    let a : l ≤ h = leb-true l h (and-true-left (leb l h) (ltb h w) e) in
-    let b : suc h ≤ w = ltb-true h w (and-true-right (leb l h) (ltb h w) e) in
-    omega arith
-inside-room w (pos h) (negsuc l) e = absurd (false≢true e)
-inside-room w (negsuc h) (pos l) e = absurd (false≢true e)
-inside-room w (negsuc h) (negsuc l) e = absurd (false≢true e)
-
 module _ (ws : Wires) where
-  slice-long : (s : Sig) (h : ℤ) (l : Option ℤ) → goodSlice ws (slice s h l) ≡ true → length (bits ws s) ≡ width ws s → length (bits ws (slice s h l)) ≡ width ws (slice s h l)
-  unfolding goodSlice bits width
-  slice-long s h l g e =
-      length-part (bits ws s) (natAbs (lower h l)) (span h (lower h l)) (omega (arith, inside-room (width ws s) h (lower h l) g))
-
-  -- where numbers and slices are good
-  mutual
-    unfolding bits width parts goodNumbers
-
-    pub bits-long : (s : Sig) → all goodNumbers (parts s) ≡ true → all (goodSlice ws) (parts s) ≡ true → length (bits ws s) ≡ width ws s
-    bits-long (constant c) n g = length-map (literalBits c) digit ∙ literal-long c (all-first goodNumbers (constant c) [] n)
-    bits-long (wire x) n g = length-found (find x ws)
-    bits-long (slice s h l) n g =
-        slice-long s h l (all-first (goodSlice ws) (slice s h l) (parts s) g)
-        (bits-long s (all-later goodNumbers (slice s h l) (parts s) n) (all-later (goodSlice ws) (slice s h l) (parts s) g))
-    bits-long (bundle ss) n g =
-        bits-of-long ss (all-later goodNumbers (bundle ss) (partsOf ss) n) (all-later (goodSlice ws) (bundle ss) (partsOf ss) g)
-
-    bits-of-long : (ss : Sigs) → all goodNumbers (partsOf ss) ≡ true → all (goodSlice ws) (partsOf ss) ≡ true → length (bitsOf ws ss) ≡ widths ws ss
-    bits-of-long nothing n g = refl
-    bits-of-long (s below ss) n g =
-        length-append (bits ws s) (bitsOf ws ss)
-        ∙ ap₂ _+_ (bits-long s (all-left goodNumbers (parts s) (partsOf ss) n) (all-left (goodSlice ws) (parts s) (partsOf ss) g))
-        (bits-of-long ss (all-right goodNumbers (parts s) (partsOf ss) n) (all-right (goodSlice ws) (parts s) (partsOf ss) g))
-
   -- ---- a slice inside one member of a bundle, moved by the widths below it
 
   module _ (ss us : Sigs) (m : Sig) (k j : ℕ) where
@@ -138,7 +96,7 @@ module _ (ws : Wires) where
         × (bits ws (taking bundled (widths ws ss + k) (widths ws ss + j)) ≡ bits ws (taking m k j))
     member-sliced n g e =
         let i = slice-inside ws m k j e in
-        let w = bits-long m (member-all goodNumbers n) (member-all (goodSlice ws) g) in (
+        let w = bits-long ws m (member-all goodNumbers n) (member-all (goodSlice ws) g) in (
           member-inside ws ss us m (widths ws ss) k j refl e,
-          slice-member ws ss us m (widths ws ss) k j (bits-of-long ss (below-all goodNumbers n) (below-all (goodSlice ws) g)) (i .0) (omega (arith, i .1, w)),
+          slice-member ws ss us m (widths ws ss) k j (bits-of-long ws ss (below-all goodNumbers n) (below-all (goodSlice ws) g)) (i .0) (omega (arith, i .1, w)),
         )

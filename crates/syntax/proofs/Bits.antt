@@ -1,8 +1,8 @@
 -- The bits of a signal whose parts are at most 2,048 wide are those of their codes.
 -- Assumes nothing.
 use Prim.Native.Nat.{ℕ, zero, suc, _+_, _≤_}
-use mathlib.Core.Path.{_≡_, refl, _∙_}
-use mathlib.Core.List.{List, [], _∷_, map, reverse-reverse}
+use mathlib.Core.Path.{_≡_, refl, ap, ap₂, _∙_}
+use mathlib.Core.List.{List, [], _∷_, map, flatMap, reverse, reverse-reverse}
 use mathlib.Core.Option.{Option, none, some, Option·getD, Option·elim}
 use mathlib.Core.Bool.{Bool, true, false, not}
 use native.Mathlib.Omega.{arith}
@@ -20,7 +20,7 @@ use Rattle.rules.specs.Layout.{bitCode}
 use Rattle.lists.specs.Tests.{and-true-left, and-true-right}
 use Rattle.lists.specs.Elements.{all-left, all-right, Each, each-front, each-back, each-append, each-all, each-through}
 use Rattle.lists.specs.Parts.{slice-kept}
-use Rattle.numbers.specs.Kinds.{bitOf, bitAt}
+use Rattle.numbers.specs.Kinds.{bitOf, bitAt, signalOf}
 use Rattle.numbers.specs.KindLaws as kinds
 use Rattle.numbers.specs.KindLaws.{Within, bit-back}
 use Rattle.signals.specs.Faults.{faults, fault}
@@ -70,6 +70,15 @@ module _ (ws : Wires) where
     coded-of nothing h = tt
     coded-of (s below ss) h =
         each-append _ (bits ws s) (bitsOf ws ss) (coded s (all-left narrow (parts s) (partsOf ss) h)) (coded-of ss (all-right narrow (parts s) (partsOf ss) h))
+
+  -- signals from their codes, if all their parts are narrow
+  pub signals-back : (ss : List Sig) → all (λ p. leb (width ws p) 2048) (flatMap parts ss) ≡ true → map (λ xs. signalOf (reverse xs)) (map (λ a. codes (bits ws a)) ss) ≡ map (bits ws) ss
+  unfolding flatMap codes narrow
+  signals-back [] h = refl
+  signals-back (a ∷ ss) h =
+      ap₂ _∷_
+      (ap signalOf (reverse-reverse (map bitCode (bits ws a))) ∙ kinds.signal-back (bits ws a) (coded a (all-left _ (parts a) (flatMap parts ss) h)))
+      (signals-back ss (all-right _ (parts a) (flatMap parts ss) h))
 
   -- where no rule is broken all parts are narrow
   last-holds : (a b c d : Bool) → Option·getD (lowest ((7, a) ∷ (8, b) ∷ (10, c) ∷ (11, not d) ∷ [])) 0 ≡ 0 → d ≡ true

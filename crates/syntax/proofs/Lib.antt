@@ -4,3 +4,4 @@ mod Objects
 mod Bits
 mod Connections
 mod Lines
+mod Steps

@@ -68,15 +68,15 @@ module _ (ws : Wires) (os : List Opt) {w t k p : ℕ} (G : WireGood os w t k p) 
 module _ (ws : Wires) (f s : List ℕ) (os : List Opt) (n : Name) where
   pub wire-bad : goodWire os ≡ false → Judged ws f s (some (wire-stmt os n)) statement.BadNumber
   unfolding plainOpen
-  wire-bad h = bad-number ws f s refl (rw h)
+  wire-bad h = bad-number ws f s (rw h)
 
   pub port-bad : goodWire os ≡ true → newPort ws os ≡ false → Judged ws f s (some (wire-stmt os n)) statement.BadNumber
   unfolding plainOpen
-  port-bad g h = bad-number ws f s refl (rw (g, h))
+  port-bad g h = bad-number ws f s (rw (g, h))
 
   pub memory-bad : goodMemory os ≡ false → Judged ws f s (some (memory-stmt os n)) statement.BadNumber
   unfolding plainOpen
-  memory-bad h = bad-number ws f s refl (rw h)
+  memory-bad h = bad-number ws f s (rw h)
 
 wire-means : (os : List Opt) {w t k p : ℕ} → WireGood os w t k p → wireFrom w t k p ≡ wireOf os
 wire-means os G = rw (← G .width, ← G .offset, ← G .flags, ← G .port) (wire-back (wireOf os) (good-offset os (G .good)))
@@ -94,10 +94,10 @@ wire-sound os G =
 module _ (ws : Wires) (f s : List ℕ) (os : List Opt) (n : Span) where
   pub wire-stated : {w t k p : ℕ} → WireGood os w t k p → newPort ws os ≡ true → Judged ws f s (some (wire-stmt os (nameIn f n))) (statement.Wire n w t k p)
   unfolding plainOpen
-  wire-stated G h = stated ws f s _ refl refl refl refl (rw (G .good, h)) refl refl (wire-sound os G) (rw (wire-means os G))
+  wire-stated G h = stated ws f s _ refl refl refl (rw (G .good, h)) refl refl refl refl (wire-sound os G) (rw (wire-means os G))
 
   pub memory-stated : {w z t : ℕ} → MemoryGood os w z t → Judged ws f s (some (memory-stmt os (nameIn f n))) (statement.Memory n w z t)
   unfolding plainOpen memoryOf memoryFrom
   memory-stated G =
-      stated ws f s _ refl refl refl refl (rw (G .good)) refl refl tt
+      stated ws f s _ refl refl refl (rw (G .good)) refl refl refl refl tt
       (rw (← G .width, ← G .size, number-back _ _ (memory-offset os (G .good)) (G .offset)))

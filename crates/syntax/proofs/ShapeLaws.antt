@@ -7,9 +7,9 @@ use mathlib.Core.Option.{none, some}
 use mathlib.Core.Bool.{true, false}
 use native.Mathlib.Omega.{arith}
 use Rattle.rules.specs.Bytes.{all}
-use Rattle.rules.specs.Statements.{Shape, aProcess, is, contents, statementsOpen}
+use Rattle.rules.specs.Statements.{Shape, contents, statementsOpen}
 use Rattle.rules.specs.Signals.{Wires}
-use Rattle.rules.specs.Judgement.{breaksNumber, lowest, meaning, allParts, lacksWire, breaksWidth, equalWidths, partTooWide, judgementOpen}
+use Rattle.rules.specs.Judgement.{breaksNumber, lowest, meaning, allParts, lacksWire, equal, partTooWide, judgementOpen}
 use Rattle.line_forms.specs.Forms.{formOf, valueIn, InRows, FormFrom}
 use Rattle.line_forms.specs.declared.Form.{Form}
 use Rattle.line_forms.specs.declared.Form.the-variants as form
@@ -17,13 +17,13 @@ use Rattle.tokens.specs.declared.ConstantSpan.{ConstantSpan}
 use Rattle.tokens.specs.declared.ConstantSlot.the-variants as literal
 use Rattle.literals.specs.Codes.{Whole}
 use Rattle.signals.specs.Reads.{Closed}
-use Rattle.syntax.specs.Statements.{numberOf, faultOf, early, widthFault, statementIn, kindIn, namesIn, Sound, WholeForm, Judged}
+use Rattle.syntax.specs.Statements.{numberOf, faultOf, early, overfull, widthFault, statementIn, kindIn, namesIn, stepsOf, widthsIn, Sound, WholeForm, Judged}
 use Rattle.syntax.specs.declared.Statement.{Statement}
 use Rattle.syntax.specs.declared.Statement.the-variants.{BadNumber}
 
 -- what the judgement of a line without signals computes
 unfoldable pub plainOpen : Unit {0}
-unfolding formOf valueIn numberOf early faultOf statementIn kindIn namesIn statementsOpen judgementOpen all
+unfolding formOf valueIn numberOf early faultOf statementIn kindIn namesIn stepsOf widthsIn statementsOpen judgementOpen all
 plainOpen = tt
 
 module _ (ws : Wires) (f s : List ℕ) {sh : Shape} where
@@ -36,28 +36,32 @@ module _ (ws : Wires) (f s : List ℕ) {sh : Shape} where
         early = cc;
         kind = λ g. let z : _≡_ {A = ℕ} 0 1 = cc in absurd (omega arith);
         names = λ g. let z : _≡_ {A = ℕ} 0 1 = cc in absurd (omega arith);
+        steps = λ g. let z : _≡_ {A = ℕ} 0 1 = cc in absurd (omega arith);
+        widths = λ g l. let z : _≡_ {A = ℕ} 0 1 = cc in absurd (omega arith);
         sound = q;
         widthFault = λ g. let z : _≡_ {A = ℕ} 0 1 = cc in absurd (omega arith);
         means = λ g l. let z : _≡_ {A = ℕ} 0 1 = cc in absurd (omega arith);
       }
 
-  pub bad-number : is aProcess sh ≡ false → breaksNumber ws sh ≡ true → Judged ws f s (some sh) BadNumber
+  pub bad-number : breaksNumber ws sh ≡ true → Judged ws f s (some sh) BadNumber
   unfolding numberOf early lowest
-  bad-number p h = refused BadNumber 7 refl tt (rw (p, h))
+  bad-number h = refused BadNumber 7 refl tt (rw h)
 
   -- without signals no wire is missing and no width is wrong
   pub stated :
-      (r : Statement) → numberOf r ≡ none → faultOf r ≡ 0 → contents sh .signals ≡ [] → is aProcess sh ≡ false → breaksNumber ws sh ≡ false →
-      contents sh .kind ≡ kindIn r → contents sh .names ≡ namesIn f r → Sound f r → statementIn f s r ≡ some (meaning ws sh) →
+      (r : Statement) → numberOf r ≡ none → faultOf r ≡ 0 → contents sh .signals ≡ [] → breaksNumber ws sh ≡ false →
+      contents sh .kind ≡ kindIn r → contents sh .names ≡ namesIn f r → contents sh .steps ≡ stepsOf r → widthsIn r ≡ [] → Sound f r → statementIn f s r ≡ some (meaning ws sh) →
       Judged ws f s (some sh) r
-  unfolding early widthFault lowest lacksWire breaksWidth partTooWide equalWidths allParts judgementOpen all
-  stated r g l e p h k n q m =
+  unfolding early widthFault lowest lacksWire overfull partTooWide equal allParts judgementOpen all
+  stated r g l e h k n d v q m =
       record {
         sh = sh;
         is = refl;
-        early = rw (g, p, h, e);
+        early = rw (g, h, e);
         kind = λ _. k;
         names = λ _. n;
+        steps = λ _. d;
+        widths = λ _ _. rw (e, v);
         sound = q;
         widthFault = λ _. rw (e, l);
         means = λ _ _. m;

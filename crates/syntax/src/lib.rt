@@ -1,14 +1,18 @@
 // The statement of a line in its context, from the rows of its tokens, and the first refusal of its shape, its numbers and its wires. What comes
 // behind a taken name, the widths, is told with the statement.
+use context::place::IN_CELL;
 use context::place::IN_MODULE;
 use context::place::Place;
 use context::place::TOP;
+use context::steps::CASE_STEP;
 use line_forms::CellKind;
 use line_forms::Form;
 use line_forms::Kind;
+use line_forms::ProcessKind;
 use line_forms::Span;
 use line_forms::cell_line_kind;
 use line_forms::module_line_kind;
+use line_forms::process_line_kind;
 use line_forms::top_line;
 use literal_rules::Number;
 use literal_rules::good_literal;
@@ -23,11 +27,14 @@ use option_rules::wire_rules;
 use options::Line;
 use options::memory_line;
 use options::wire_line;
+use signal_list::Listed;
+use signal_list::signals_from;
 use signals::Answer;
 use signals::Bits;
 use signals::ModuleWires;
 use signals::merge;
 use signals::signal;
+use steps::arity_fits;
 use tokens::ConstantSlot;
 use tokens::ConstantSpan;
 use tokens::Id;
@@ -38,9 +45,11 @@ ghost use Prim.Native.Nat.{_+_};
 ghost use Rattle.wires.specs.Rows.{wiresFrom};
 ghost use Rattle.name_index.specs.Index.{WiresIndexed};
 ghost use Rattle.line_forms.specs.Forms.{kindOf, cellKindOf};
+ghost use Rattle.line_forms.specs.Processes.{Inside, processKindOf, StepFrom};
 ghost use Rattle.line_forms.specs.declared.CellKind.the-variants as cellKind;
 ghost use Rattle.line_forms.specs.declared.Form.the-variants as form;
 ghost use Rattle.line_forms.specs.declared.Kind.the-variants as kind;
+ghost use Rattle.line_forms.specs.declared.ProcessKind.the-variants as processKind;
 ghost use Rattle.syntax.specs.Statements.{FormIs, PlainIs, WireIs, faulted, ConnectedIs, Says, ModuleIs, CellIs, StatementIs, Ready};
 
 // The words of a token's row.
@@ -55,7 +64,7 @@ const SIGNAL_DEPTH: usize = 16;
 // Where the right signal of a connection starts in the scratch table.
 pub const RIGHT_SIGNAL: usize = 2048;
 
-// A line's statement, or its first refusal of 5, 6, 7 and 8. Offsets and the number of `autoidx` are words in two's complement.
+// A line's statement, or its first refusal of 5, 7 and 8. Offsets and the number of `autoidx` are words in two's complement.
 pub enum Statement {
     Autoidx(u32),
     Attribute {
@@ -99,9 +108,16 @@ pub enum Statement {
         right: usize,
         fault: u32,
     },
+    // A line inside a process: its step by its code, how wide its first signal is, and how many signals it has.
+    Step {
+        step: u32,
+        width: usize,
+        count: usize,
+        fault: u32,
+    },
     End,
     NoShape,
-    Process,
+    Process(Span),
     BadNumber,
     MissingWire,
 }
@@ -144,7 +160,7 @@ fn form_statement(f: &[u8], form: Form) -> Statement
             }
             Statement::BadNumber
         }
-        Form::Process(_) => Statement::Process,
+        Form::Process(name) => Statement::Process(name),
         Form::End => Statement::End,
         Form::NoShape => Statement::NoShape,
     }
@@ -410,6 +426,92 @@ fn cell_statement(
     }
 }
 
+// A line inside a process with a step, whose signals stand from row `from` on; only the values of a case have commas between.
+fn step_statement(
+    f: &[u8],
+    tokens: &[u32],
+    step: u32,
+    from: usize,
+    names: &[u8],
+    wires: &[u32],
+    scope: ModuleWires,
+    scratch: &mut [u32],
+    heads: &[u32],
+    chain: &[u32],
+) -> Statement
+    requires { ⌜ Ready (now f) (now tokens) (now scratch) (scope .count) ⌝ }
+    requires { ⌜ WiresIndexed (now heads) (now chain) (now names) (now wires) (scope .first + scope .count) ⌝ }
+    requires { ⌜ StepFrom (now tokens) step from ⌝ }
+    ensures { λ r. ⌜ Says (wiresFrom (now (names .entry)) (now (wires .entry)) (scope .first) (scope .count)) (now (f .entry)) (now (scratch .exit)) (processKindOf (now (f .entry)) (now (tokens .entry)) (processKind.Step step from)) r ⌝ }
+{
+    let comma = step == CASE_STEP;
+    let Listed::Read {
+        width,
+        count,
+        fault,
+    } = signals_from(
+        f,
+        tokens,
+        from,
+        comma,
+        names,
+        wires,
+        scope,
+        scratch,
+        heads,
+        chain,
+    )
+    else {
+        return Statement::NoShape;
+    };
+    if !arity_fits(step, count as u32) {
+        return Statement::NoShape;
+    }
+    refused(
+        fault,
+        Statement::Step {
+            step,
+            width,
+            count,
+            fault,
+        },
+    )
+}
+
+// A line inside a process.
+fn process_statement(
+    f: &[u8],
+    tokens: &[u32],
+    place: Place,
+    names: &[u8],
+    wires: &[u32],
+    scope: ModuleWires,
+    scratch: &mut [u32],
+    heads: &[u32],
+    chain: &[u32],
+) -> Statement
+    requires { ⌜ Ready (now f) (now tokens) (now scratch) (scope .count) ⌝ }
+    requires { ⌜ WiresIndexed (now heads) (now chain) (now names) (now wires) (scope .first + scope .count) ⌝ }
+    requires { ⌜ Inside (place .scope) ⌝ }
+    ensures { λ r. ⌜ StatementIs place (now (f .entry)) (now (tokens .entry)) (wiresFrom (now (names .entry)) (now (wires .entry)) (scope .first) (scope .count)) (now (scratch .exit)) r ⌝ }
+{
+    match process_line_kind(tokens, place.scope, place.depth, place.attributed) {
+        ProcessKind::Form(form) => form_statement(f, form),
+        ProcessKind::Step { step, from } => step_statement(
+            f,
+            tokens,
+            step,
+            from,
+            names,
+            wires,
+            scope,
+            scratch,
+            heads,
+            chain,
+        ),
+    }
+}
+
 // The statement of a line that has a token. The scope is that of the module in which it stands.
 pub fn line_statement(
     f: &[u8],
@@ -442,5 +544,8 @@ pub fn line_statement(
             chain,
         );
     }
-    cell_statement(f, tokens, names, wires, scope, scratch, heads, chain)
+    if place.scope == IN_CELL {
+        return cell_statement(f, tokens, names, wires, scope, scratch, heads, chain);
+    }
+    process_statement(f, tokens, place, names, wires, scope, scratch, heads, chain)
 }

@@ -31,6 +31,7 @@ moduleNameless o =
       wires = map nameless (o .body .wires);
       memories = o .body .memories;
       cells = o .body .cells;
+      processes = o .body .processes;
       connections = o .body .connections;
     })
 

@@ -21,7 +21,7 @@ use Rattle.admitted.specs.Admitted.{admitted, closes}
 use Rattle.admitted.specs.Holds.{Holds}
 use Rattle.admitted.specs.JudgeLaws.{no-tests}
 use Rattle.canonical.specs.DesignLaws.{design-flatten}
-use Rattle.canonical.specs.Canonical.{Whole, now-whole}
+use Rattle.canonical.specs.Canonical.{Whole, now-balanced, now-whole}
 use Rattle.written.specs.TextLaws.{any-read, text-read}
 
 -- a list of statements, in any order that is admitted, and of any length
@@ -53,7 +53,7 @@ module _ {m : Memory} {ss : List Statement} {rs : List Rename} (h : Holds m ss r
 
   -- which have that design
   pub same-design : design (flatten held) ≡ held
-  same-design = design-flatten held
+  same-design = design-flatten held (now-balanced ss rs (record { admitted = h .admitted; closes = h .closes }) (h .allowed))
 
   -- WRITE, THEN READ: a text that writing gives, whatever the room lent
   pub write-read : (room : ℕ) (t : List ℕ) → write room held ≡ Verdict.accepted t → ReadsAs t held

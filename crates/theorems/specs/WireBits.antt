@@ -3,7 +3,7 @@
 -- Assumes nothing.
 use Prim.Native.Nat.{ℕ}
 use mathlib.Core.Path.{_≡_, refl, sym, _∙_}
-use mathlib.Core.List.{List, [], _∷_, map, flatMap, reverse-reverse}
+use mathlib.Core.List.{List, [], _∷_, _++_, map, flatMap, reverse-reverse}
 use mathlib.Core.Option.{Option·elim}
 use mathlib.Core.Bool.{Bool, true, false, _&&_}
 use lib.Dec.{leb, ltb}
@@ -13,7 +13,7 @@ use Rattle.rules.specs.Bytes.{all}
 use Rattle.rules.specs.Tokens.{Name}
 use Rattle.rules.specs.Statements.{Bit, digit, bit, Signal, Wire, Statement}
 use Rattle.rules.specs.Reading.{accepted, readAny}
-use Rattle.rules.specs.Design.{Object, Cell, Module, Design, design}
+use Rattle.rules.specs.Design.{Object, Cell, Line, Module, Design, design}
 use Rattle.rules.specs.Session.{Rename, now}
 use Rattle.rules.specs.Layout.{Memory}
 use Rattle.lists.specs.Tests.{and-true-right}
@@ -21,7 +21,7 @@ use Rattle.lists.specs.Lists.{elim-map}
 use Rattle.lists.specs.Elements.{all-left, all-right, all-cons, all-first, all-later, all-implied, all-map, all-of, each-map}
 use Rattle.admitted.specs.Admitted.{fineBit, fineSignal}
 use Rattle.admitted.specs.Holds.{Holds}
-use Rattle.canonical.specs.Fine.{wiresIn, signalsIn, FineModule, FineDesign}
+use Rattle.canonical.specs.Fine.{wiresIn, lineSignals, signalsIn, FineModule, FineDesign}
 use Rattle.canonical.specs.AdmittedFine.{admitted-fine}
 use Rattle.canonical.specs.Canonical.{now-fine}
 use Rattle.soundness.specs.ReadLaws.{read-admitted}
@@ -34,10 +34,11 @@ bitInside m (bit w i) = Option·elim (getElem? (m .wires) w) false (λ o. ltb i 
 unfoldable pub signalInside : Module → Signal → Bool
 signalInside m s = all (bitInside m) s
 
--- of each cell the connections, and of each connection of the module both sides
+-- of each cell the connections, of each line of a process all signals, and of each connection of the module both sides
 unfoldable pub insideWires : Module → Bool
 insideWires m =
     all (λ c. all (λ k. signalInside m (k .1)) (c .body .connections)) (m .cells)
+    && all (λ o. all (λ l. all (signalInside m) (lineSignals l)) (o .body)) (m .processes)
     && all (λ k. signalInside m (k .0) && signalInside m (k .1)) (m .connections)
 
 unfoldable pub allInside : Design → Bool
@@ -66,6 +67,9 @@ module _ (m : Module) where
   cell-inside : (ks : List (Name × Signal)) → all fine (map (λ k. k .1) ks) ≡ true → all (λ k. signalInside m (k .1)) ks ≡ true
   cell-inside ks e = all-implied (λ k. fine (k .1)) (λ k. signalInside m (k .1)) (λ k. signal-inside (k .1)) ks (sym (all-map fine (λ k. k .1) ks) ∙ e)
 
+  lines-inside : (ls : List Line) → all fine (flatMap lineSignals ls) ≡ true → all (λ l. all (signalInside m) (lineSignals l)) ls ≡ true
+  lines-inside ls e = all-apart fine lineSignals _ (λ l. all-implied fine (signalInside m) signal-inside (lineSignals l)) ls e
+
   sides-inside : (x y : Signal) → all fine (x ∷ y ∷ []) ≡ true → signalInside m x && signalInside m y ≡ true
   sides-inside x y e = rw (signal-inside x (all-first fine x (y ∷ []) e), signal-inside y (all-first fine y [] (all-later fine x (y ∷ []) e)))
 
@@ -73,10 +77,12 @@ module _ (m : Module) where
   unfolding signalsIn insideWires
   module-inside e =
       let cells : List Signal = flatMap (λ (c : Object Cell). map (λ (k : Name × Signal). k .1) (c .body .connections)) (m .cells) in
+      let steps : List Signal = flatMap (λ (o : Object (List Line)). flatMap lineSignals (o .body)) (m .processes) in
       let sides : List Signal = flatMap (λ (k : Signal × Signal). k .0 ∷ k .1 ∷ []) (m .connections) in
       rw (
-        all-apart fine _ _ (λ (c : Object Cell). cell-inside (c .body .connections)) (m .cells) (all-left fine cells sides e),
-        all-apart fine _ _ (λ (k : Signal × Signal). sides-inside (k .0) (k .1)) (m .connections) (all-right fine cells sides e),
+        all-apart fine _ _ (λ (c : Object Cell). cell-inside (c .body .connections)) (m .cells) (all-left fine cells steps (all-left fine (cells ++ steps) sides e)),
+        all-apart fine _ _ (λ (o : Object (List Line)). lines-inside (o .body)) (m .processes) (all-right fine cells steps (all-left fine (cells ++ steps) sides e)),
+        all-apart fine _ _ (λ (k : Signal × Signal). sides-inside (k .0) (k .1)) (m .connections) (all-right fine (cells ++ steps) sides e),
       )
 
 fine-inside : (d : Design) → FineDesign d → allInside d ≡ true

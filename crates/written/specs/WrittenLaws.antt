@@ -11,15 +11,16 @@ use lib.IntN.{ℤ, pos}
 use lib.ListN.{length, drop}
 use Rattle.rules.specs.Bytes.{bytes, all, legal, bytesOpen}
 use Rattle.rules.specs.Tokens.{Name, Token, name, word, literal, mark, keywords, isKeyword}
-use Rattle.rules.specs.Statements.{Sig, wire, slice, bundle, nothing, Opt, Sort, Constant, Signal, Direction, input, output, inout, Wire, Memory, Statement, autoidx-stmt, attr-stmt, module-stmt, param-stmt, wire-stmt, memory-stmt, cell-stmt, cell-param-stmt, cell-conn-stmt, conn-stmt, proc-stmt, end-stmt, contents, holds, translate}
+use Rattle.rules.specs.Statements.{Sig, wire, slice, bundle, nothing, Opt, Sort, Constant, Signal, Direction, input, output, inout, Wire, Memory, Statement, autoidx-stmt, attr-stmt, module-stmt, param-stmt, wire-stmt, memory-stmt, cell-stmt, cell-param-stmt, cell-conn-stmt, conn-stmt, proc-stmt, step-stmt, end-stmt, Step, contents, holds, translate}
 use Rattle.rules.specs.Shapes.{sigs}
 use Rattle.rules.specs.Signals.{Wires}
-use Rattle.rules.specs.Text.{Run, digits, span, runs, cut, runSig, runsSig, sig, literalOf, setting, directionWord, wireOptions, memoryOptions, written, numberToken, wordToken, lowTokens, sigTokens, sigsTokens, optionTokens, sortTokens, shapeTokens}
+use Rattle.rules.specs.Text.{Run, digits, span, runs, cut, runSig, runsSig, sig, literalOf, setting, directionWord, wireOptions, memoryOptions, written, numberToken, wordToken, lowTokens, sigTokens, sigsTokens, optionTokens, sortTokens, stepTokens, between, listTokens, shapeTokens}
 use Rattle.admitted.specs.Admitted.{fineConstant, fineParts}
 use Rattle.admitted.specs.AdmitLaws.{fine-parts}
 use Rattle.lists.specs.Tests.{by-cond}
 use Rattle.lists.specs.Elements.{Each, all-append, all-cons, all-first, all-later, all-drop, all-map, all-each}
 use Rattle.meaning.specs.Options.{wire-each, memory-each}
+use Rattle.meaning.specs.Steps.{by-word}
 use Rattle.written.specs.TokenLaws.{fineLiteral, fineToken, Fine}
 
 -- the wires' names are legal
@@ -167,7 +168,32 @@ named-fine : (w : String) → isKeyword (bytes w) ≡ true → (os : List Token)
 unfolding fineToken
 named-fine w h os n f g = append-fine (wordToken w ∷ os) (name n ∷ []) (first-fine w h os f) (more-fine (name n) [] g none-fine)
 
+-- the words of a step, and what stands between its signals
+step-fine : (p : Step) → Fine (stepTokens p)
+unfolding stepTokens isKeyword keywords bytesOpen
+step-fine =
+    by-word _ (word-fine "assign" refl) (word-fine "update" refl) (word-fine "switch" refl) (word-fine "case" refl) (sync-fine "low" refl) (sync-fine "high" refl)
+    (sync-fine "posedge" refl) (sync-fine "negedge" refl) (sync-fine "edge" refl) (sync-fine "global" refl) (sync-fine "init" refl) (sync-fine "always" refl)
+  where
+    word-fine : (w : String) → isKeyword (bytes w) ≡ true → Fine (wordToken w ∷ [])
+    word-fine w k = first-fine w k [] none-fine
+
+    sync-fine : (w : String) → isKeyword (bytes w) ≡ true → Fine (wordToken "sync" ∷ wordToken w ∷ [])
+    sync-fine w k = first-fine "sync" refl (wordToken w ∷ []) (word-fine w k)
+
+between-fine : (p : Step) → Fine (between p)
+unfolding between bytesOpen fineToken
+between-fine =
+    by-word _ none-fine none-fine none-fine (more-fine (mark 44) [] refl none-fine) none-fine none-fine none-fine none-fine none-fine none-fine none-fine none-fine
+
 module _ (ws : Wires) (h : legalNames ws ≡ true) where
+  list-fine : (c : List Token) → Fine c → (gs : List Signal) → Fine (listTokens c (map (sig ws) gs))
+  unfolding listTokens
+  list-fine c k [] = none-fine
+  list-fine c k (g ∷ []) = sig-fine ws h g
+  list-fine c k (g ∷ j ∷ gs) =
+      append-fine (sigTokens (sig ws g) ++ c) (listTokens c (map (sig ws) (j ∷ gs))) (append-fine (sigTokens (sig ws g)) c (sig-fine ws h g) k) (list-fine c k (j ∷ gs))
+
   parts-fine : (s : Statement) → all legal (contents s .names) ≡ true → all fineConstant (contents s .constants) ≡ true → Fine (shapeTokens (written ws s))
   unfolding contents holds written translate shapeTokens isKeyword keywords bytesOpen fineToken
   parts-fine (autoidx-stmt i) n c = first-fine "autoidx" refl _ (number-fine i [] none-fine)
@@ -189,6 +215,7 @@ module _ (ws : Wires) (h : legalNames ws ≡ true) where
       (first-fine "connect" refl (sigTokens (sig ws a)) (sig-fine ws h a))
       (sig-fine ws h b)
   parts-fine (proc-stmt m) n c = first-fine "process" refl _ (more-fine (name m) [] (all-first legal m [] n) none-fine)
+  parts-fine (step-stmt p gs) n c = append-fine (stepTokens p) (listTokens (between p) (map (sig ws) gs)) (step-fine p) (list-fine (between p) (between-fine p) gs)
   parts-fine end-stmt n c = first-fine "end" refl [] none-fine
 
 -- the tokens of a written statement can be written

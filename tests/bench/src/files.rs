@@ -15,6 +15,9 @@ pub fn named() -> Vec<(String, Vec<u8>)> {
     files.push(one("refs9448", references_to_first(&short_names())));
     files.push(one("slices4090", slices()));
     files.push(one("collide512", references_to_first(&names_of_one_hash())));
+    files.extend([125, 1_000].map(|count| (format!("cases{count}"), cases(count))));
+    files.push(one("procs64", processes()));
+    files.push(one("procs1024", far_cases()));
     files
 }
 
@@ -99,6 +102,77 @@ fn attributes(count: usize) -> Vec<u8> {
     file.into_bytes()
 }
 
+/// So many cases of one switch.
+fn cases(count: usize) -> Vec<u8> {
+    let cases = "      case 1'1\n".repeat(count);
+    in_process(&format!("    switch \\s\n{cases}    end\n"))
+}
+
+/// A module with a process of these lines.
+fn in_process(lines: &str) -> Vec<u8> {
+    format!("module \\m\n  wire \\s\n  process \\p\n{lines}  end\nend\n").into_bytes()
+}
+
+/// The most processes and lines in them that a design has: counters with a reset and an enable, as Yosys writes them before `proc`.
+fn processes() -> Vec<u8> {
+    let mut file =
+        "module \\m\n  wire input 1 \\clk\n  wire input 2 \\rst\n  wire \\on\n".to_string();
+    for number in 0..PROCESSES {
+        file += &format!("  wire width 4 \\q{number}\n  wire width 4 $0\\q{number}\n");
+    }
+    for number in 0..PROCESSES {
+        file += &process(number);
+    }
+    file += "end\n";
+    file.into_bytes()
+}
+
+/// 16 lines, their `end`s apart.
+fn process(number: usize) -> String {
+    format!(
+        "  process $proc${number}
+    assign {{ }} {{ }}
+    assign $0\\q{number} \\q{number}
+    switch \\rst
+      case 1'1
+        assign $0\\q{number} 4'0000
+      case
+        switch \\on
+          case 1'1
+            assign $0\\q{number} {{ \\q{number} [2:0] \\q{number} [3] }}
+          case
+            assign {{ }} {{ }}
+        end
+    end
+    sync posedge \\clk
+      update \\q{number} $0\\q{number}
+    sync posedge \\rst
+      update \\q{number} $0\\q{number}
+    sync init
+  end
+"
+    )
+}
+
+/// As many lines, made against the search for the switch of a case: the first case of a switch has 600 attributes and in it switches down to
+/// the deepest, and all other cases stand behind them.
+fn far_cases() -> Vec<u8> {
+    let mut lines = "    switch \\s\n".to_string();
+    for number in 0..600 {
+        lines += &format!("      attribute \\{number:03} 1\n");
+    }
+    lines += "      case 1'0\n";
+    for level in 1..DEEPEST {
+        let indent = " ".repeat(4 + 4 * level);
+        lines += &format!("{indent}switch \\s\n{indent}  case 1'0\n");
+    }
+    for level in (1..DEEPEST).rev() {
+        lines += &format!("{}end\n", " ".repeat(4 + 4 * level));
+    }
+    lines += &"      case 1'1\n".repeat(LINES - 2 * DEEPEST);
+    in_process(&(lines + "    end\n"))
+}
+
 /// As many names of 255 bytes as the name room takes.
 pub const LONG_NAMES: usize = 64;
 
@@ -125,9 +199,12 @@ pub fn long_wires(byte: usize) -> Vec<u8> {
     file
 }
 
-/// The longest file that is read, and the most wires that a design has.
+/// The longest file that is read, and the most wires, processes and lines inside processes that a design has; how deep switches nest.
 const LONGEST: usize = 32_768;
 const WIRES: usize = 512;
+const PROCESSES: usize = 64;
+const LINES: usize = 1_024;
+const DEEPEST: usize = 16;
 
 /// A wire of 2,048 bits connected to itself, cut to all its bits as often as the file has room for.
 fn slices() -> Vec<u8> {
@@ -199,6 +276,13 @@ mod tests {
         for (name, file) in named() {
             assert!(reference::read(&file).is_ok(), "{name}");
         }
+        // one line more is refused
+        for file in [processes(), far_cases()] {
+            let text = String::from_utf8(file).expect("plain letters");
+            let longer = text.replacen("case 1'1\n", "case 1'1\ncase 1'1\n", 1);
+            let refusal = reference::read(longer.as_bytes()).expect_err("1,025 lines");
+            assert_eq!(refusal.number, 11);
+        }
         for byte in [254, 253, 1] {
             assert!(reference::read(&long_wires(byte)).is_ok(), "{byte}");
         }
@@ -216,6 +300,6 @@ mod tests {
             .fold(0xcbf2_9ce4_8422_2325_u64, |sum, byte| {
                 (sum ^ *byte as u64).wrapping_mul(0x100_0000_01b3)
             });
-        assert_eq!(sum, 0xd1e6_01b7_28f6_4c00);
+        assert_eq!(sum, 0xb98f_51ce_a801_6dc7);
     }
 }

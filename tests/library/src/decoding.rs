@@ -4,9 +4,10 @@ use crate::layout::{self, kind, layout};
 use crate::lines::text;
 use crate::tables::{Card, Tables, ROW};
 use reference::session::{Rename, Session};
+use reference::sizes::STEP_SIGNALS;
 use reference::statements::{
-    Attribute, Bit, Bits, CellConnection, CellParameter, Constant, Direction, Memory,
-    ModuleConnection, ModuleNumber, ModuleParameter, Port, Sign, Statement, Wire, WireNumber,
+    Action, Attribute, Bit, Bits, CellConnection, CellParameter, Constant, Direction, Memory,
+    ModuleConnection, ModuleNumber, ModuleParameter, Port, Sign, Statement, Step, Wire, WireNumber,
 };
 use reference::tokens::Name;
 use reference::{read_any_length, Design};
@@ -35,7 +36,8 @@ pub fn leaves(tables: &Tables, card: Card) -> Option<(Vec<Statement>, Vec<Rename
 fn decode(tables: &Tables) -> Option<(Vec<Statement>, Vec<Rename>)> {
     let mut statements = Vec::new();
     let mut renames = Vec::new();
-    let mut in_cell = false;
+    // what each of the next `end`s closes, the nearest last
+    let mut ends = Vec::new();
     for row in tables.rows.chunks_exact(ROW) {
         match row[0] {
             0 => break,
@@ -45,17 +47,27 @@ fn decode(tables: &Tables) -> Option<(Vec<Statement>, Vec<Rename>)> {
                 name: tables.name(row[1], row[2])?,
             }),
             _ => {
-                let statement = tables.statement(row, in_cell)?;
-                in_cell = match statement {
-                    Statement::Cell(..) => true,
-                    Statement::CellEnd => false,
-                    _ => in_cell,
+                let statement = match row[0] {
+                    kind::END => ends.pop()?,
+                    _ => tables.statement(row)?,
                 };
+                ends.extend(end_of(&statement));
                 statements.push(statement);
             }
         }
     }
     Some((statements, renames))
+}
+
+/// The `end` of what the statement opens.
+fn end_of(statement: &Statement) -> Option<Statement> {
+    match statement {
+        Statement::Module(_) => Some(Statement::ModuleEnd),
+        Statement::Cell(..) => Some(Statement::CellEnd),
+        Statement::Process(_) => Some(Statement::ProcessEnd),
+        Statement::Step(step) if step.action == Action::Switch => Some(Statement::SwitchEnd),
+        _ => None,
+    }
 }
 
 /// The part of a table, if it lies in it.
@@ -75,7 +87,8 @@ fn sign(column: u32) -> Option<Option<Sign>> {
 }
 
 impl Tables {
-    fn statement(&self, row: &[u32], in_cell: bool) -> Option<Statement> {
+    /// The statement of a row that is no `end`.
+    fn statement(&self, row: &[u32]) -> Option<Statement> {
         Some(match row[0] {
             kind::AUTOIDX => Statement::Autoidx(row[1] as i32),
             kind::ATTRIBUTE => Statement::Attribute(Attribute {
@@ -108,8 +121,11 @@ impl Tables {
                 left: self.signal(row[1], row[2])?,
                 right: self.signal(row[3], row[4])?,
             }),
-            kind::END if in_cell => Statement::CellEnd,
-            kind::END => Statement::ModuleEnd,
+            kind::PROCESS => Statement::Process(self.name(row[1], row[2])?),
+            kind::STEP => Statement::Step(Step {
+                action: layout::STEPS.iter().find(|step| step.0 == row[1])?.1,
+                signals: self.signals(row[2], row[3], row[4])?,
+            }),
             _ => return None,
         })
     }
@@ -152,6 +168,18 @@ impl Tables {
             }
         });
         Some(bits.collect())
+    }
+
+    /// So many signals of this width, one after another.
+    fn signals(&self, start: u32, width: u32, count: u32) -> Option<Vec<Bits>> {
+        if count as usize > STEP_SIGNALS {
+            return None;
+        }
+        let all = self.signal(start, width.checked_mul(count)?)?;
+        Some(match width {
+            0 => vec![vec![]; count as usize],
+            width => all.chunks(width as usize).map(Bits::from).collect(),
+        })
     }
 
     fn wire(&self, name: Name, place: u32) -> Option<Wire> {

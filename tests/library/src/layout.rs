@@ -2,7 +2,9 @@
 
 use crate::tables::{Card, Tables, ROW};
 use reference::session::Rename;
-use reference::statements::{Bit, Constant, Digit, Direction, Sign, Statement, Wire};
+use reference::statements::{
+    Action, Bit, Bits, Constant, Digit, Direction, Event, Sign, Statement, Wire,
+};
 
 /// The digits of values and signals, by their codes.
 pub const DIGITS: &[Digit; 6] = b"01xzm-";
@@ -22,9 +24,27 @@ pub mod kind {
     pub const CELL_PARAMETER: u32 = 8;
     pub const CELL_CONNECTION: u32 = 9;
     pub const MODULE_CONNECTION: u32 = 10;
+    pub const PROCESS: u32 = 11;
     pub const END: u32 = 12;
-    pub const RENAME: u32 = 13;
+    pub const STEP: u32 = 13;
+    pub const RENAME: u32 = 14;
 }
+
+/// The lines inside a process by their codes: the number of the line's word among the keywords, of a sync that of its event's word.
+pub const STEPS: [(u32, Action); 12] = [
+    (19, Action::Assign),
+    (20, Action::Switch),
+    (21, Action::Case),
+    (23, Action::Sync(Event::Global)),
+    (24, Action::Sync(Event::Init)),
+    (25, Action::Sync(Event::Always)),
+    (26, Action::Sync(Event::Low)),
+    (27, Action::Sync(Event::High)),
+    (28, Action::Sync(Event::Posedge)),
+    (29, Action::Sync(Event::Negedge)),
+    (30, Action::Sync(Event::Edge)),
+    (31, Action::Update),
+];
 
 /// The kind of a constant.
 pub const VALUE: u32 = 1;
@@ -115,7 +135,15 @@ impl Rooms {
             Statement::ModuleConnection(one) => {
                 [self.signal(&one.left), self.signal(&one.right)].concat()
             }
-            Statement::CellEnd | Statement::ModuleEnd => vec![],
+            Statement::Process(name) => self.name(name),
+            Statement::Step(one) => {
+                let signals = self.signals(&one.signals);
+                [vec![step_code(one.action)], signals].concat()
+            }
+            Statement::CellEnd
+            | Statement::SwitchEnd
+            | Statement::ProcessEnd
+            | Statement::ModuleEnd => vec![],
         }
     }
 
@@ -147,6 +175,15 @@ impl Rooms {
         let start = self.bits.len();
         self.bits.extend(bits.iter().map(bit_code));
         vec![start as u32, bits.len() as u32]
+    }
+
+    /// Where signals of equal width start, one after another, the width of each and how many they are.
+    fn signals(&mut self, signals: &[Bits]) -> Vec<u32> {
+        let start = self.bits.len();
+        let width = signals.first().map_or(0, Vec::len);
+        assert!(signals.iter().all(|bits| bits.len() == width));
+        self.bits.extend(signals.iter().flatten().map(bit_code));
+        vec![start as u32, width as u32, signals.len() as u32]
     }
 
     /// Which wire of the design it is.
@@ -182,8 +219,18 @@ fn kind_of(statement: &Statement) -> u32 {
         Statement::CellParameter(_) => kind::CELL_PARAMETER,
         Statement::CellConnection(_) => kind::CELL_CONNECTION,
         Statement::ModuleConnection(_) => kind::MODULE_CONNECTION,
-        Statement::CellEnd | Statement::ModuleEnd => kind::END,
+        Statement::Process(_) => kind::PROCESS,
+        Statement::Step(_) => kind::STEP,
+        Statement::CellEnd
+        | Statement::SwitchEnd
+        | Statement::ProcessEnd
+        | Statement::ModuleEnd => kind::END,
     }
+}
+
+fn step_code(action: Action) -> u32 {
+    let step = STEPS.iter().find(|step| step.1 == action);
+    step.expect("every action has its code").0
 }
 
 fn sort_code(sign: Option<Sign>) -> u32 {

@@ -7,6 +7,7 @@ pub mod files;
 pub mod layout;
 pub mod lines;
 pub mod tables;
+pub mod undoing;
 
 pub use decoding::valid;
 pub use exported::{index, look_up, measure, read, rename, show, undo, write, Answer};

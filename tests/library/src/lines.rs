@@ -1,6 +1,6 @@
 //! Statements as lines in their own order, each as plain as can be: every option, every bit of a signal by itself.
 
-use reference::statements::{Bit, Constant, Sign, Statement, Wire};
+use reference::statements::{Action, Bit, Constant, Sign, Statement, Step, Wire};
 use reference::tokens::Name;
 
 /// A text of these statements, if each bit is of a wire that stands before it in its module.
@@ -50,8 +50,27 @@ fn line(statement: &Statement, wires: &[&Name]) -> Option<Vec<u8>> {
             let left = signal(&one.left, wires)?;
             words(&[b"connect", &left, &signal(&one.right, wires)?])
         }
-        Statement::CellEnd | Statement::ModuleEnd => b"end".to_vec(),
+        Statement::Process(name) => words(&[b"process", name]),
+        Statement::Step(one) => step(one, wires)?,
+        Statement::CellEnd
+        | Statement::SwitchEnd
+        | Statement::ProcessEnd
+        | Statement::ModuleEnd => b"end".to_vec(),
     })
+}
+
+/// A line inside a process; a comma stands between the values of a case.
+fn step(step: &Step, wires: &[&Name]) -> Option<Vec<u8>> {
+    let (word, between) = match step.action {
+        Action::Assign => ("assign ".to_string(), " "),
+        Action::Switch => ("switch ".to_string(), " "),
+        Action::Case => ("case ".to_string(), ","),
+        Action::Sync(event) => (format!("sync {} ", event.word()), " "),
+        Action::Update => ("update ".to_string(), " "),
+    };
+    let signals = step.signals.iter().map(|bits| signal(bits, wires));
+    let signals: Vec<_> = signals.collect::<Option<_>>()?;
+    Some([word.into_bytes(), signals.join(between.as_bytes())].concat())
 }
 
 fn words(words: &[&[u8]]) -> Vec<u8> {

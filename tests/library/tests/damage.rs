@@ -3,16 +3,18 @@
 
 use library::files::generated;
 use library::tables::{BITS, NAMES, ROWS, STRINGS, WIRES};
-use library::{layout, undo, valid, Card, Tables};
+use library::undoing::check;
+use library::{layout, Card, Tables};
 use reference::generate::random::Random;
 use reference::generate::{self, SizeClass};
 use reference::session::Session;
 use reference::statements::{ModuleNumber, WireNumber};
 use reference::Design;
 
-const SMALL: [&[u8]; 2] = [
+const SMALL: [&[u8]; 3] = [
     b"autoidx 5\nattribute \\src \"ab\"\nmodule \\m\n  parameter \\P 3'1x0\n  wire width 4 offset -1 upto input 7 signed \\a\n  wire \\y\n  memory size 9 \\r\n  cell $mux $1\n    parameter real \\W -1\n    connect \\A { 1'z \\a [2] }\n  end\n  connect \\y \\a [3]\nend\n",
     b"module \\m\n  wire \\a\nend\nattribute \\b 2'10\nmodule \\n\n  wire width 2 \\b\n  wire width 2 output 1 \\c\n  connect \\b \\c\nend\n",
+    b"module \\m\n  wire width 2 \\a\n  wire \\y\n  attribute \\s 1\n  process \\p\n    assign \\a 2'x1\n    attribute \\s 2'10\n    switch \\a\n      case 2'01 , \\a\n        switch \\y\n          attribute \\s \"s\"\n          case\n        end\n      case\n        assign \\y \\a [1]\n    end\n    assign { } { }\n    sync edge \\y\n      update \\a { \\y 1'z }\n    sync init\n  end\n  process \\q\n    switch { }\n      case { } , { }\n    end\n  end\n  connect \\a 2'00\nend\n",
 ];
 
 /// Every byte and word of memory, in one order: names, strings, bits, wires, rows, card.
@@ -63,22 +65,6 @@ fn memory(file: &[u8], random: &mut Random) -> Option<(Tables, Card)> {
     Some(layout(&statements, plain.renames()))
 }
 
-/// One undo on a copy. Is the memory valid?
-fn check(tables: &Tables, card: Card, what: &str) -> bool {
-    let valid = valid(tables, card);
-    let (mut copy, mut left) = (tables.clone(), card);
-    let answer = undo(&mut copy, &mut left);
-    assert_eq!(answer.place, 0, "{what}");
-    assert_eq!(answer.number != 3, valid, "{what}");
-    if valid {
-        let expected = if card.renames == 0 { 13 } else { 0 };
-        assert_eq!(answer.number, expected, "{what}");
-    } else {
-        assert!(copy == *tables && left == card, "{what}");
-    }
-    valid
-}
-
 /// Values that are near the old one, or at an end of a range.
 fn other(random: &mut Random, old: u32) -> u32 {
     match random.below(8) {
@@ -113,6 +99,66 @@ fn every_place_of_small_designs() {
         }
         assert!(check(&tables, card, "no damage"));
     }
+}
+
+/// The line so many times, each with its number in place of `#`.
+fn each(count: u32, line: &str) -> String {
+    let numbered = |number: u32| line.replace('#', &number.to_string());
+    (0..count).map(numbered).collect()
+}
+
+/// As many rows as any text and accepted renames leave: each size at its limit, all lines of processes but one a switch, 64 renames.
+/// The text is longer than a file may be.
+fn fullest() -> (Tables, Card) {
+    let mut text = String::from("autoidx 1\n");
+    for module in 0..32 {
+        text += &each(16, "attribute \\# 1\nattribute $# 1\n");
+        text += &format!("module \\{module}\nmemory \\r\n");
+        text += &each(16, "wire \\#\nconnect { } { }\n");
+        let parts = each(4, "parameter \\# 1\nconnect \\# { }\n");
+        text += &each(8, &format!("cell \\t $#\n{parts}end\n"));
+        let inside = match module {
+            0 => "case\n".to_string() + &"switch { }\nend\n".repeat(1_024 - 64 - 1),
+            _ => String::new(),
+        };
+        text += &format!("process \\p\nswitch {{ }}\n{inside}end\nend\n");
+        text += "process \\q\nswitch { }\nend\nend\nend\n";
+    }
+    let netlist = reference::read_any_length(text.as_bytes()).expect("within the sizes");
+    assert_eq!(netlist.statements.len(), 6_880);
+    let mut plain = Session::new(netlist.design());
+    for number in 0..64 {
+        let name = format!("\\n{number}");
+        let number = plain.rename(ModuleNumber(0), WireNumber(0), name.as_bytes());
+        assert_eq!(number, 0);
+    }
+    layout(&netlist.statements, plain.renames())
+}
+
+/// Damages this place, checks, and mends it.
+fn check_damaged(tables: &mut Tables, card: &mut Card, place: usize, random: &mut Random) {
+    let old = damage(tables, card, place, |word| other(random, word));
+    check(tables, *card, &format!("place {place}"));
+    damage(tables, card, place, |_| old);
+}
+
+#[test]
+fn fullest_memory() {
+    let mut random = Random::new(5);
+    let (mut tables, mut card) = fullest();
+    assert!(check(&tables, card, "no damage"));
+    let rows = NAMES + STRINGS + BITS + WIRES;
+    let used = 8 * (6_880 + 64);
+    assert!(tables.rows[used - 8] != 0);
+    // the last rename, and the row that is left
+    for place in rows + used - 8..rows + ROWS {
+        check_damaged(&mut tables, &mut card, place, &mut random);
+    }
+    for _ in 0..200 {
+        let place = rows + random.below(used);
+        check_damaged(&mut tables, &mut card, place, &mut random);
+    }
+    assert!(check(&tables, card, "no damage"));
 }
 
 /// How far each table is used, from its first place.

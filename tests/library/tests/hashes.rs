@@ -83,25 +83,36 @@ fn wires_and_references() {
     }
 }
 
-/// Wires, memories and cells share a name space.
+/// Wires, memories, cells and processes share a name space.
 #[test]
 fn objects_of_a_module() {
     for hash in HASHES {
-        let names = names(hash, 532);
+        let names = names(hash, 552);
         let cell = |name: &str| format!("cell \\t {name}\nend\n");
         let memory = |name: &str| format!("memory {name}\n");
-        let objects =
-            wires(&names[..300]) + &each(&names[300..332], memory) + &each(&names[332..532], cell);
+        let process = |name: &str| format!("process {name}\nend\n");
+        let objects = wires(&names[..300])
+            + &each(&names[300..332], memory)
+            + &each(&names[332..532], cell)
+            + &each(&names[532..552], process);
         assert_eq!(number(&module(&objects)), 0);
-        for taken in [0, 299, 300, 331, 332, 531] {
+        for taken in [0, 299, 300, 331, 332, 531, 532, 551] {
             let name = &names[taken];
-            for line in [format!("wire {name}\n"), memory(name), cell(name)] {
+            let lines = [
+                format!("wire {name}\n"),
+                memory(name),
+                cell(name),
+                process(name),
+            ];
+            for line in lines {
                 assert_eq!(number(&module(&(objects.clone() + &line))), 9);
             }
             // of these only wires are referred to
             let reference = format!("connect {name} {name}\n");
             let expected = if taken < 300 { 0 } else { 8 };
             assert_eq!(number(&module(&(objects.clone() + &reference))), expected);
+            let in_process = format!("process \\p\nswitch {name}\ncase {name}\nend\nend\n");
+            assert_eq!(number(&module(&(objects.clone() + &in_process))), expected);
         }
     }
 }

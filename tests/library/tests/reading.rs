@@ -31,7 +31,7 @@ fn difference(file: &[u8], tables: &mut Tables, card: &mut Card) -> Option<&'sta
 #[test]
 fn every_vector() {
     let vectors = vectors();
-    assert!(vectors.len() >= 480);
+    assert!(vectors.len() >= 720);
     let mut random = Random::new(1);
     let mut tables = Tables::zeroed();
     for one in vectors {

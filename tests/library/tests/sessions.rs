@@ -151,7 +151,7 @@ impl Both {
     }
 }
 
-/// A name now or as read of the module's wires, memories and cells, if it has any.
+/// A name now or as read of the module's wires, memories, cells and processes, if it has any.
 fn own_name(random: &mut Random, plain: &Session, module: usize) -> Option<Vec<u8>> {
     let number = ModuleNumber(module);
     let objects = plain.design_read().module(number)?;
@@ -163,6 +163,8 @@ fn own_name(random: &mut Random, plain: &Session, module: usize) -> Option<Vec<u
     let mut names: Vec<Vec<u8>> = now.chain(read).collect();
     names.extend(memories.map(|memory| memory.object.name.clone()));
     names.extend(cells.map(|cell| cell.object.name.clone()));
+    let processes = objects.processes.iter();
+    names.extend(processes.map(|process| process.object.name.clone()));
     (!names.is_empty()).then(|| random.pick(&names).clone())
 }
 

@@ -13,6 +13,9 @@ pub struct Counts {
     pub attributes: usize,
     pub cell_connections: usize,
     pub module_connections: usize,
+    pub processes: usize,
+    pub steps: usize,
+    pub step_signals: usize,
     pub signal_bits: usize,
     pub value_bits: usize,
     pub string_bytes: usize,
@@ -47,7 +50,16 @@ impl Counts {
             }
             Shape::CellConnection(port, _) => counts.name(port).cell_connections = 1,
             Shape::ModuleConnection(..) => counts.module_connections = 1,
-            Shape::Autoidx(_) | Shape::CellEnd | Shape::ModuleEnd | Shape::Process(_) => {}
+            Shape::Process(name) => counts.name(name).processes = 1,
+            Shape::Step(_, signals) => {
+                counts.steps = 1;
+                counts.step_signals = signals.len();
+            }
+            Shape::Autoidx(_)
+            | Shape::CellEnd
+            | Shape::SwitchEnd
+            | Shape::ProcessEnd
+            | Shape::ModuleEnd => {}
         }
         counts
     }
@@ -75,6 +87,9 @@ impl Counts {
             attributes: self.attributes + more.attributes,
             cell_connections: self.cell_connections + more.cell_connections,
             module_connections: self.module_connections + more.module_connections,
+            processes: self.processes + more.processes,
+            steps: self.steps + more.steps,
+            step_signals: self.step_signals + more.step_signals,
             signal_bits: self.signal_bits + more.signal_bits,
             value_bits: self.value_bits + more.value_bits,
             string_bytes: self.string_bytes + more.string_bytes,
@@ -91,6 +106,9 @@ impl Counts {
             && self.attributes <= sizes::ATTRIBUTES
             && self.cell_connections <= sizes::CELL_CONNECTIONS
             && self.module_connections <= sizes::MODULE_CONNECTIONS
+            && self.processes <= sizes::PROCESSES
+            && self.steps <= sizes::STEPS
+            && self.step_signals <= sizes::STEP_SIGNALS
             && self.signal_bits <= sizes::SIGNAL_BITS
             && self.value_bits <= sizes::VALUE_BITS
             && self.string_bytes <= sizes::STRING_BYTES

@@ -2,7 +2,7 @@
 
 use crate::statements::{
     Attribute, CellConnection, CellParameter, Memory, ModuleConnection, ModuleNumber,
-    ModuleParameter, Statement, Wire, WireNumber,
+    ModuleParameter, Statement, Step, Wire, WireNumber,
 };
 use crate::tokens::Name;
 
@@ -21,6 +21,22 @@ pub struct Cell {
     pub connections: Vec<CellConnection>,
 }
 
+/// A line inside a process.
+#[derive(Debug, Clone, PartialEq, Eq)]
+pub enum ProcessLine {
+    /// Only a switch and a case have attributes.
+    Step(Attributed<Step>),
+    /// The `end` of the innermost open switch.
+    SwitchEnd,
+}
+
+/// Its lines are in file order: that order is part of the design.
+#[derive(Debug, Clone, PartialEq, Eq)]
+pub struct Process {
+    pub name: Name,
+    pub lines: Vec<ProcessLine>,
+}
+
 #[derive(Debug, Clone, PartialEq, Eq)]
 pub struct Module {
     pub name: Name,
@@ -28,6 +44,7 @@ pub struct Module {
     pub wires: Vec<Attributed<Wire>>,
     pub memories: Vec<Attributed<Memory>>,
     pub cells: Vec<Attributed<Cell>>,
+    pub processes: Vec<Attributed<Process>>,
     pub connections: Vec<ModuleConnection>,
 }
 
@@ -102,6 +119,7 @@ impl Module {
             wires: vec![],
             memories: vec![],
             cells: vec![],
+            processes: vec![],
             connections: vec![],
         }
     }
@@ -133,8 +151,23 @@ impl Module {
             }
             Statement::CellParameter(parameter) => self.last_cell().parameters.push(parameter),
             Statement::CellConnection(connection) => self.last_cell().connections.push(connection),
+            Statement::Process(name) => self.processes.push(Attributed {
+                attributes: taken(),
+                object: Process {
+                    name,
+                    lines: vec![],
+                },
+            }),
+            Statement::Step(step) => {
+                let line = ProcessLine::Step(Attributed {
+                    attributes: taken(),
+                    object: step,
+                });
+                self.last_process().lines.push(line);
+            }
+            Statement::SwitchEnd => self.last_process().lines.push(ProcessLine::SwitchEnd),
             Statement::ModuleConnection(connection) => self.connections.push(connection),
-            Statement::CellEnd | Statement::ModuleEnd => {}
+            Statement::CellEnd | Statement::ProcessEnd | Statement::ModuleEnd => {}
             Statement::Autoidx(_) | Statement::Attribute(_) | Statement::Module(_) => {
                 unreachable!("no statement of a module")
             }
@@ -146,6 +179,14 @@ impl Module {
             .cells
             .last_mut()
             .expect("the statement stands in a cell")
+            .object
+    }
+
+    fn last_process(&mut self) -> &mut Process {
+        &mut self
+            .processes
+            .last_mut()
+            .expect("the statement stands in a process")
             .object
     }
 
@@ -161,6 +202,9 @@ impl Module {
             + total(&self.cells, |cell| {
                 attribute_bytes(&cell.attributes) + cell.object.name_bytes()
             })
+            + total(&self.processes, |process| {
+                attribute_bytes(&process.attributes) + process.object.name_bytes()
+            })
     }
 }
 
@@ -170,6 +214,16 @@ impl Cell {
             + self.name.len()
             + total(&self.parameters, |parameter| parameter.name.len())
             + total(&self.connections, |connection| connection.port.len())
+    }
+}
+
+impl Process {
+    fn name_bytes(&self) -> usize {
+        let of_line = |line: &ProcessLine| match line {
+            ProcessLine::Step(step) => attribute_bytes(&step.attributes),
+            ProcessLine::SwitchEnd => 0,
+        };
+        self.name.len() + total(&self.lines, of_line)
     }
 }
 

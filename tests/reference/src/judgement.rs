@@ -1,21 +1,18 @@
-//! Judges a well-shaped line: 6, 7, 8, 9, 10, 11, each over the whole line.
+//! Judges a well-shaped line: 7, 8, 9, 10, 11, each over the whole line.
 
 use crate::counts::Counts;
 use crate::shapes::{Base, MemoryOption, Shape, Signal, WireOption, WrittenConstant};
-use crate::signals::{self, extent, wires_there};
+use crate::signals::{self, extent, wires_there, Extent};
 use crate::sizes;
 use crate::statements::{
-    Attribute, CellConnection, CellParameter, Memory, ModuleConnection, ModuleParameter, Port,
-    Statement, Wire,
+    Action, Attribute, CellConnection, CellParameter, Memory, ModuleConnection, ModuleParameter,
+    Port, Statement, Step, Wire,
 };
 use crate::surroundings::Surroundings;
 use crate::tokens::Name;
 
 /// The statement that the line means and what it adds to the counts, or its lowest number.
 pub fn judge(shape: &Shape, surroundings: &Surroundings) -> Result<(Statement, Counts), u32> {
-    if matches!(shape, Shape::Process(_)) {
-        return Err(6);
-    }
     if !numbers_hold(shape, surroundings) {
         return Err(7);
     }
@@ -32,7 +29,7 @@ pub fn judge(shape: &Shape, surroundings: &Surroundings) -> Result<(Statement, C
         .into_iter()
         .map(|signal| extent(signal, surroundings));
     let extents: Vec<_> = extents.collect::<Option<_>>().ok_or(10u32)?;
-    if matches!(shape, Shape::ModuleConnection(..)) && extents[0].width != extents[1].width {
+    if !widths_hold(shape, &extents, surroundings) {
         return Err(10);
     }
     if extents
@@ -54,8 +51,23 @@ fn signals_of(shape: &Shape) -> Vec<&Signal> {
     match shape {
         Shape::CellConnection(_, signal) => vec![signal],
         Shape::ModuleConnection(left, right) => vec![left, right],
+        Shape::Step(_, signals) => signals.iter().collect(),
         _ => vec![],
     }
+}
+
+/// Refusal 10, slices apart: both sides of a connection, an assign or an update are equally wide, each compare value is as wide as the
+/// signal of its switch, and a sync's signal has one bit.
+fn widths_hold(shape: &Shape, extents: &[Extent], surroundings: &Surroundings) -> bool {
+    let wanted = match shape {
+        Shape::ModuleConnection(..) | Shape::Step(Action::Assign | Action::Update, _) => {
+            Some(extents[0].width)
+        }
+        Shape::Step(Action::Case, _) => surroundings.switch_width().map(|width| width as u64),
+        Shape::Step(Action::Sync(_), _) => Some(1),
+        _ => None,
+    };
+    wanted.is_none_or(|width| extents.iter().all(|extent| extent.width == width))
 }
 
 /// The rules of refusal 7.
@@ -172,9 +184,10 @@ fn name_taken(shape: &Shape, surroundings: &Surroundings) -> bool {
         Shape::Attribute(name, _) => surroundings.attribute_names.contains(name),
         Shape::Module(name) => surroundings.module_names.contains(name),
         Shape::ModuleParameter(name, _) => surroundings.module_parameters.contains(name),
-        Shape::Wire(_, name) | Shape::Memory(_, name) | Shape::Cell(_, name) => {
-            surroundings.objects.contains_key(name)
-        }
+        Shape::Wire(_, name)
+        | Shape::Memory(_, name)
+        | Shape::Cell(_, name)
+        | Shape::Process(name) => surroundings.objects.contains_key(name),
         Shape::CellParameter(_, name, _) => surroundings.cell_parameters.contains(name),
         Shape::CellConnection(port, _) => surroundings.cell_ports.contains(port),
         _ => false,
@@ -212,11 +225,17 @@ fn statement(shape: &Shape, surroundings: &Surroundings) -> Statement {
             Statement::CellConnection(CellConnection { port, bits })
         }
         Shape::CellEnd => Statement::CellEnd,
+        Shape::Process(name) => Statement::Process(name),
+        Shape::Step(action, signals) => {
+            let signals = signals.iter().map(bits).collect();
+            Statement::Step(Step { action, signals })
+        }
+        Shape::SwitchEnd => Statement::SwitchEnd,
+        Shape::ProcessEnd => Statement::ProcessEnd,
         Shape::ModuleConnection(left, right) => {
             let (left, right) = (bits(&left), bits(&right));
             Statement::ModuleConnection(ModuleConnection { left, right })
         }
         Shape::ModuleEnd => Statement::ModuleEnd,
-        Shape::Process(_) => unreachable!("refused before"),
     }
 }

@@ -1,7 +1,7 @@
 //! Plain reference for Skytassel: reads, writes and renames a part of RTLIL.
 //!
 //! A line is judged by stages, in ascending refusal number:
-//! 4 `tokens`, 5 `shapes`, 6 to 11 `judgement`.
+//! 4 `tokens`, 5 `shapes`, 7 to 11 `judgement`.
 
 pub mod bytes;
 pub mod counts;

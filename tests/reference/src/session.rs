@@ -102,7 +102,7 @@ impl Session {
         0
     }
 
-    /// Does a wire, memory or cell of the module have the name now?
+    /// Does a wire, memory, cell or process of the module have the name now?
     fn name_space_has(&self, module: ModuleNumber, name: &[u8]) -> bool {
         let Some(objects) = self.design.module(module) else {
             return false;
@@ -113,6 +113,10 @@ impl Session {
                 .iter()
                 .any(|memory| memory.object.name == name)
             || objects.cells.iter().any(|cell| cell.object.name == name)
+            || objects
+                .processes
+                .iter()
+                .any(|process| process.object.name == name)
     }
 
     /// 0 if the last rename is taken off, 13 if none stands.

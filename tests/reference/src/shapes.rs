@@ -1,7 +1,7 @@
 //! The permitted shapes of a line (refusal 5): what stands where, numbers not yet judged.
 
-use crate::sizes::BUNDLE_DEPTH;
-use crate::statements::{Direction, Sign};
+use crate::sizes::{BUNDLE_DEPTH, SWITCH_DEPTH};
+use crate::statements::{Action, Direction, Event, Sign};
 use crate::tokens::{Name, Token};
 use Token::{Mark, Word};
 
@@ -61,16 +61,29 @@ pub enum Shape {
     CellParameter(Option<Sign>, Name, WrittenConstant),
     CellConnection(Name, Signal),
     CellEnd,
-    ModuleConnection(Signal, Signal),
     Process(Name),
+    Step(Action, Vec<Signal>),
+    SwitchEnd,
+    ProcessEnd,
+    ModuleConnection(Signal, Signal),
     ModuleEnd,
 }
 
-#[derive(Debug, Clone, Copy, PartialEq, Eq)]
+#[derive(Debug, Clone, Copy, Default, PartialEq, Eq)]
 pub enum Inside {
+    #[default]
     Top,
     Module,
     Cell,
+    /// A process, before its root switch and its syncs.
+    Process,
+    /// A process behind its root switch.
+    Tail,
+    /// A switch, before its first case.
+    Switch,
+    /// The body of a case.
+    Case,
+    Sync,
 }
 
 /// What the lines before decide about the shapes permitted here.
@@ -80,6 +93,7 @@ pub struct Position {
     /// No statement stands before.
     pub first: bool,
     pub after_attributes: bool,
+    pub open_switches: usize,
 }
 
 /// The shape of the line, none if it has no permitted one here.
@@ -88,6 +102,7 @@ pub fn shape(tokens: &[Token], position: Position) -> Option<Shape> {
         Inside::Top => at_top(tokens),
         Inside::Module => in_module(tokens),
         Inside::Cell => in_cell(tokens),
+        _ => in_process(tokens, position),
     }?;
     let permitted = match shape {
         Shape::Autoidx(_) => position.first,
@@ -101,7 +116,13 @@ fn takes_attributes(shape: &Shape) -> bool {
     use Shape::*;
     matches!(
         shape,
-        Attribute(..) | Module(_) | Wire(..) | Memory(..) | Cell(..) | Process(_)
+        Attribute(..)
+            | Module(_)
+            | Wire(..)
+            | Memory(..)
+            | Cell(..)
+            | Process(_)
+            | Step(Action::Switch | Action::Case, _)
     )
 }
 
@@ -132,8 +153,8 @@ fn in_module(tokens: &[Token]) -> Option<Shape> {
         }
         [Word("process"), Token::Name(name)] => Some(Shape::Process(name.clone())),
         [Word("connect"), rest @ ..] => {
-            let (left, rest) = signal(rest, 0)?;
-            Some(Shape::ModuleConnection(left, whole_signal(rest)?))
+            let [left, right] = two_signals(rest)?;
+            Some(Shape::ModuleConnection(left, right))
         }
         [Word("end")] => Some(Shape::ModuleEnd),
         _ => None,
@@ -159,6 +180,68 @@ fn in_cell(tokens: &[Token]) -> Option<Shape> {
         [Word("end")] => Some(Shape::CellEnd),
         _ => None,
     }
+}
+
+fn in_process(tokens: &[Token], position: Position) -> Option<Shape> {
+    let step = |action, signals| Some(Shape::Step(action, signals));
+    let shape = match tokens {
+        [Word("attribute"), Token::Name(name), token] => attribute(name, token),
+        [Word("assign"), rest @ ..] => step(Action::Assign, two_signals(rest)?.into()),
+        [Word("update"), rest @ ..] => step(Action::Update, two_signals(rest)?.into()),
+        [Word("switch"), rest @ ..] => step(Action::Switch, vec![whole_signal(rest)?]),
+        [Word("case"), rest @ ..] => step(Action::Case, compare_values(rest)?),
+        [Word("sync"), Word(word), rest @ ..] => sync(Event::of(word)?, rest),
+        [Word("end")] => Some(match position.inside {
+            Inside::Switch | Inside::Case => Shape::SwitchEnd,
+            _ => Shape::ProcessEnd,
+        }),
+        _ => None,
+    }?;
+    stands(&shape, position).then_some(shape)
+}
+
+/// May a line of a process stand here? A switch does not stand inside 16 others.
+fn stands(shape: &Shape, position: Position) -> bool {
+    use Action::{Assign, Case, Switch, Sync, Update};
+    let action = match shape {
+        Shape::Step(action, _) => *action,
+        Shape::Attribute(..) => return !matches!(position.inside, Inside::Tail | Inside::Sync),
+        _ => return true,
+    };
+    match position.inside {
+        Inside::Process => matches!(action, Assign | Switch | Sync(_)),
+        Inside::Tail => matches!(action, Assign | Sync(_)),
+        Inside::Switch => action == Case,
+        Inside::Case if action == Switch => position.open_switches < SWITCH_DEPTH,
+        Inside::Case => matches!(action, Assign | Case),
+        Inside::Sync => matches!(action, Update | Sync(_)),
+        Inside::Top | Inside::Module | Inside::Cell => false,
+    }
+}
+
+/// A level or an edge with its signal, another event with none.
+fn sync(event: Event, tokens: &[Token]) -> Option<Shape> {
+    let signals = match event.of_signal() {
+        true => vec![whole_signal(tokens)?],
+        false if tokens.is_empty() => vec![],
+        false => return None,
+    };
+    Some(Shape::Step(Action::Sync(event), signals))
+}
+
+/// The signals of a case, with commas between them; it may have none.
+fn compare_values(tokens: &[Token]) -> Option<Vec<Signal>> {
+    if tokens.is_empty() {
+        return Some(vec![]);
+    }
+    let (value, mut rest) = signal(tokens, 0)?;
+    let mut values = vec![value];
+    while let [Mark(b','), after @ ..] = rest {
+        let (value, next) = signal(after, 0)?;
+        values.push(value);
+        rest = next;
+    }
+    rest.is_empty().then_some(values)
 }
 
 fn attribute(name: &Name, token: &Token) -> Option<Shape> {
@@ -205,6 +288,12 @@ fn memory_options(tokens: &[Token]) -> Option<Vec<MemoryOption>> {
         _ => None,
     };
     tokens.chunks(2).map(option).collect()
+}
+
+/// Two signals that take all tokens.
+fn two_signals(tokens: &[Token]) -> Option<[Signal; 2]> {
+    let (left, rest) = signal(tokens, 0)?;
+    Some([left, whole_signal(rest)?])
 }
 
 /// A signal that takes all tokens.

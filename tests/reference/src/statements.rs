@@ -117,6 +117,71 @@ pub struct ModuleConnection {
     pub right: Bits,
 }
 
+/// What a sync waits for.
+#[derive(Debug, Clone, Copy, PartialEq, Eq)]
+pub enum Event {
+    Low,
+    High,
+    Posedge,
+    Negedge,
+    Edge,
+    Global,
+    Init,
+    Always,
+}
+
+impl Event {
+    pub const ALL: [Event; 8] = [
+        Event::Low,
+        Event::High,
+        Event::Posedge,
+        Event::Negedge,
+        Event::Edge,
+        Event::Global,
+        Event::Init,
+        Event::Always,
+    ];
+
+    pub fn word(self) -> &'static str {
+        match self {
+            Event::Low => "low",
+            Event::High => "high",
+            Event::Posedge => "posedge",
+            Event::Negedge => "negedge",
+            Event::Edge => "edge",
+            Event::Global => "global",
+            Event::Init => "init",
+            Event::Always => "always",
+        }
+    }
+
+    pub fn of(word: &str) -> Option<Event> {
+        Self::ALL.into_iter().find(|event| event.word() == word)
+    }
+
+    /// A level or an edge, which is that of a signal.
+    pub fn of_signal(self) -> bool {
+        !matches!(self, Event::Global | Event::Init | Event::Always)
+    }
+}
+
+/// What a line inside a process does.
+#[derive(Debug, Clone, Copy, PartialEq, Eq)]
+pub enum Action {
+    Assign,
+    Switch,
+    Case,
+    Sync(Event),
+    Update,
+}
+
+/// A line inside a process that is no `end`; its signals are in text order, those of a case its compare values.
+#[derive(Debug, Clone, PartialEq, Eq)]
+pub struct Step {
+    pub action: Action,
+    pub signals: Vec<Bits>,
+}
+
 #[derive(Debug, Clone, PartialEq, Eq)]
 pub enum Statement {
     Autoidx(i32),
@@ -130,6 +195,10 @@ pub enum Statement {
     CellParameter(CellParameter),
     CellConnection(CellConnection),
     CellEnd,
+    Process(Name),
+    Step(Step),
+    SwitchEnd,
+    ProcessEnd,
     ModuleConnection(ModuleConnection),
     ModuleEnd,
 }

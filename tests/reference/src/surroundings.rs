@@ -3,19 +3,20 @@
 use crate::counts::Counts;
 use crate::shapes::{Inside, Position};
 use crate::signals::Wires;
-use crate::statements::{Statement, WireNumber};
+use crate::statements::{Action, Statement, Step, WireNumber};
 use crate::tokens::Name;
 use std::collections::{HashMap, HashSet};
 
 #[derive(Debug, Clone, Default)]
 pub struct Surroundings {
     any_statement: bool,
-    in_module: bool,
-    in_cell: bool,
+    inside: Inside,
+    /// Widths of the signals of the open switches, the innermost last.
+    switches: Vec<usize>,
     /// Of attribute lines whose object is still to come.
     pub attribute_names: HashSet<Name>,
     pub module_names: HashSet<Name>,
-    /// Of the module: wires with number and width, memories and cells without.
+    /// Of the module: wires with number and width, memories, cells and processes without.
     pub objects: HashMap<Name, Option<(WireNumber, usize)>>,
     wires: usize,
     pub port_numbers: HashSet<i32>,
@@ -33,22 +34,22 @@ impl Wires for Surroundings {
 
 impl Surroundings {
     pub fn position(&self) -> Position {
-        let inside = match (self.in_module, self.in_cell) {
-            (_, true) => Inside::Cell,
-            (true, false) => Inside::Module,
-            (false, false) => Inside::Top,
-        };
-        let after_attributes = !self.attribute_names.is_empty();
         Position {
-            inside,
+            inside: self.inside,
             first: !self.any_statement,
-            after_attributes,
+            after_attributes: !self.attribute_names.is_empty(),
+            open_switches: self.switches.len(),
         }
+    }
+
+    /// The width of the innermost open switch's signal.
+    pub fn switch_width(&self) -> Option<usize> {
+        self.switches.last().copied()
     }
 
     /// May the file end here?
     pub fn may_end(&self) -> bool {
-        !self.in_module && self.attribute_names.is_empty()
+        self.inside == Inside::Top && self.attribute_names.is_empty()
     }
 
     /// Takes in an accepted statement.
@@ -82,15 +83,21 @@ impl Surroundings {
             Statement::CellConnection(connection) => {
                 self.cell_ports.insert(connection.port.clone());
             }
-            Statement::CellEnd => self.in_cell = false,
-            Statement::ModuleEnd => self.in_module = false,
+            Statement::CellEnd | Statement::ProcessEnd => self.inside = Inside::Module,
+            Statement::ModuleEnd => self.inside = Inside::Top,
+            Statement::Process(name) => {
+                self.objects.insert(name.clone(), None);
+                self.inside = Inside::Process;
+            }
+            Statement::Step(step) => self.take_step(step),
+            Statement::SwitchEnd => self.close_switch(),
             Statement::Autoidx(_) | Statement::Attribute(_) | Statement::ModuleConnection(_) => {}
         }
     }
 
     fn open_module(&mut self, name: &Name) {
         self.module_names.insert(name.clone());
-        self.in_module = true;
+        self.inside = Inside::Module;
         self.wires = 0;
         self.objects.clear();
         self.port_numbers.clear();
@@ -99,8 +106,29 @@ impl Surroundings {
 
     fn open_cell(&mut self, name: &Name) {
         self.objects.insert(name.clone(), None);
-        self.in_cell = true;
+        self.inside = Inside::Cell;
         self.cell_parameters.clear();
         self.cell_ports.clear();
+    }
+
+    fn take_step(&mut self, step: &Step) {
+        match step.action {
+            Action::Assign | Action::Update => {}
+            Action::Switch => {
+                self.switches.extend(step.signals.iter().map(Vec::len));
+                self.inside = Inside::Switch;
+            }
+            Action::Case => self.inside = Inside::Case,
+            Action::Sync(_) => self.inside = Inside::Sync,
+        }
+    }
+
+    /// Behind the root switch comes the process's tail, behind another the body of the case that it stands in.
+    fn close_switch(&mut self) {
+        self.switches.pop();
+        self.inside = match self.switches.is_empty() {
+            true => Inside::Tail,
+            false => Inside::Case,
+        };
     }
 }

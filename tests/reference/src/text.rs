@@ -1,8 +1,10 @@
 //! The one written text of a design.
 
-use crate::design::{Attributed, Cell, Design, Module};
+use crate::design::{Attributed, Cell, Design, Module, Process, ProcessLine};
 use crate::sizes;
-use crate::statements::{Attribute, Bit, Constant, Digit, Memory, Sign, Wire, WireNumber};
+use crate::statements::{
+    Action, Attribute, Bit, Constant, Digit, Memory, Sign, Step, Wire, WireNumber,
+};
 use crate::tokens::Name;
 
 /// The text, or 12 if it is over 32,768 bytes or over the room.
@@ -72,6 +74,10 @@ fn write_module(text: &mut Vec<u8>, module: &Module) {
     for cell in &module.cells {
         attributes(text, 1, &cell.attributes);
         write_cell(text, &cell.object, &module.wires);
+    }
+    for process in &module.processes {
+        attributes(text, 1, &process.attributes);
+        write_process(text, &process.object, &module.wires);
     }
     for connection in &module.connections {
         let left = signal(&connection.left, &module.wires);
@@ -146,6 +152,70 @@ fn write_cell(text: &mut Vec<u8>, cell: &Cell, wires: &[Attributed<Wire>]) {
         );
     }
     line(text, 1, &[b"end"]);
+}
+
+/// Each line stands one level deeper than the process, switch, case or sync that it is in, and `end` level with its opener.
+fn write_process(text: &mut Vec<u8>, process: &Process, wires: &[Attributed<Wire>]) {
+    line(text, 1, &[b"process", &process.name]);
+    // the switches, cases and syncs that are open, the innermost last
+    let mut open: Vec<Action> = Vec::new();
+    for one in &process.lines {
+        let innermost = open.last().copied();
+        match one {
+            ProcessLine::SwitchEnd => {
+                if innermost == Some(Action::Case) {
+                    open.pop();
+                }
+                open.pop();
+                line(text, 2 + open.len(), &[b"end"]);
+            }
+            ProcessLine::Step(step) => {
+                let action = step.object.action;
+                if closes(action, innermost) {
+                    open.pop();
+                }
+                let level = 2 + open.len();
+                attributes(text, level, &step.attributes);
+                line(text, level, &[&step_tokens(&step.object, wires)]);
+                if !matches!(action, Action::Assign | Action::Update) {
+                    open.push(action);
+                }
+            }
+        }
+    }
+    line(text, 1, &[b"end"]);
+}
+
+/// A case ends the one before it, and a sync the one before it.
+fn closes(action: Action, innermost: Option<Action>) -> bool {
+    match action {
+        Action::Case => innermost == Some(Action::Case),
+        Action::Sync(_) => matches!(innermost, Some(Action::Sync(_))),
+        Action::Assign | Action::Switch | Action::Update => false,
+    }
+}
+
+fn step_tokens(step: &Step, wires: &[Attributed<Wire>]) -> Vec<u8> {
+    let word = match step.action {
+        Action::Assign => "assign".to_string(),
+        Action::Switch => "switch".to_string(),
+        Action::Case => "case".to_string(),
+        Action::Sync(event) => format!("sync {}", event.word()),
+        Action::Update => "update".to_string(),
+    };
+    let between: &[u8] = match step.action {
+        Action::Case => b" , ",
+        _ => b" ",
+    };
+    let signals: Vec<_> = step
+        .signals
+        .iter()
+        .map(|bits| signal(bits, wires))
+        .collect();
+    match signals.is_empty() {
+        true => word.into_bytes(),
+        false => [word.into_bytes(), signals.join(between)].join(&b' '),
+    }
 }
 
 fn constant(constant: &Constant) -> Vec<u8> {

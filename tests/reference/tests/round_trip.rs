@@ -42,7 +42,7 @@ fn check(file: &[u8]) -> u32 {
 
 fn check_refusal(file: &[u8], refusal: Refusal) {
     let Refusal { number, place } = refusal;
-    assert!(number == 2 || (4..=11).contains(&number));
+    assert!(matches!(number, 2 | 4 | 5 | 7..=11));
     assert!(place <= file.len());
     assert_eq!(program(file), format!("{number} {place}\n").into_bytes());
     if number != 2 {
@@ -91,7 +91,7 @@ fn generated_files() {
         *numbers.entry(check(&file)).or_insert(0) += 1;
     }
     println!("files by number: {numbers:?}");
-    for number in [0, 4, 5, 6, 7, 8, 9, 10, 11] {
+    for number in [0, 4, 5, 7, 8, 9, 10, 11] {
         assert!(numbers.contains_key(&number), "no file gives {number}");
     }
 }

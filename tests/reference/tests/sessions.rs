@@ -43,9 +43,11 @@ impl Stack {
             let wires = module.wires.iter().map(|wire| &wire.object.name);
             let memories = module.memories.iter().map(|memory| &memory.object.name);
             let cells = module.cells.iter().map(|cell| &cell.object.name);
+            let processes = module.processes.iter().map(|process| &process.object.name);
             wires
                 .chain(memories)
                 .chain(cells)
+                .chain(processes)
                 .any(|taken| taken == name)
         })
     }
@@ -82,6 +84,12 @@ fn new_name(random: &mut Random, design: &Design) -> Vec<u8> {
                     .map(|memory| memory.object.name.clone()),
             );
             names.extend(module.cells.iter().map(|cell| cell.object.name.clone()));
+            names.extend(
+                module
+                    .processes
+                    .iter()
+                    .map(|process| process.object.name.clone()),
+            );
             names.push(b"\\none".to_vec());
             random.pick(&names).clone()
         }
@@ -194,6 +202,18 @@ fn rename_reaches_signals() {
     assert_eq!(session.rename(M, WireNumber(1), b"\\left"), 0);
     let expected = b"module \\m\n  wire width 4 \\a\n  wire \\left\n  cell $mux $1\n    connect \\Y \\left\n  end\n  connect \\left 1'x\nend\n";
     assert_eq!(text::text(&session.design_now()), expected);
+}
+
+#[test]
+fn rename_reaches_process_signals() {
+    let file = b"module \\m\n  wire \\a\n  process \\p\n    assign \\a \\a\n    switch \\a\n      case \\a , 1'0\n    end\n    sync low \\a\n      update \\a \\a\n  end\nend\n";
+    let mut session = session_of(file);
+    assert_eq!(session.rename(M, A, b"\\p"), 9);
+    assert_eq!(session.rename(M, A, b"\\left"), 0);
+    let expected = String::from_utf8_lossy(file).replace("\\a", "\\left");
+    assert_eq!(text::text(&session.design_now()), expected.as_bytes());
+    assert_eq!(session.undo(), 0);
+    assert_eq!(text::text(&session.design_now()), file);
 }
 
 #[test]

@@ -6,7 +6,7 @@ use reference::vectors::vectors;
 #[test]
 fn every_vector_agrees() {
     let vectors = vectors();
-    assert!(vectors.len() >= 480);
+    assert!(vectors.len() >= 720);
     let differs = vectors
         .iter()
         .filter(|one| program(&one.file) != one.written);

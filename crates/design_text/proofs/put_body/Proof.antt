@@ -10,6 +10,9 @@ use Rattle.design_text.proofs.put_body.Tie as tie
 abbrev at-entry : tie.After-put-objects2 → tie.Start
 at-entry c = c .before .before .before .before .before .before .before .before .before .before .before .before .before .before .before .before
 
+abbrev at-objects2 : tie.After-put-objects4 → tie.After-put-objects2
+at-objects2 c = c .before .before .before .before .before .before .before .before
+
 put-kind-requires : tie.Need-put-kind-requires
 put-kind-requires c κs = (c .before .before .before .before .before .before .before .pre .0, c .before .before .before .before .before .before .before .pre .1, omega arith)
 
@@ -20,25 +23,21 @@ put-objects-requires-2 : tie.Need-put-objects-requires-2
 put-objects-requires-2 c κs = (written-most (c .before .before .before .put-objects .ensures), c .before .before .before .before .before .before .before .before .before .before .before .before .before .before .before .pre .1)
 
 put-objects-requires-3 : tie.Need-put-objects-requires-3
-put-objects-requires-3 c κs =
-    let pre = c .before .before .before .before .before .before .before .before .before .before .before .before .before .before .before .before .before .before .before .pre in
-    let put-objects2 = c .before .before .before .put-objects2 in
-    (written-most (put-objects2 .ensures), pre .1)
+put-objects-requires-3 c κs = (written-most (c .before .before .before .put-objects2 .ensures), at-entry (c .before .before .before) .pre .1)
+
+put-objects-requires-4 : tie.Need-put-objects-requires-4
+put-objects-requires-4 c κs = (written-most (c .before .before .before .put-objects3 .ensures), at-entry (c .before .before .before .before .before .before .before) .pre .1)
 
 put-kind-requires-2 : tie.Need-put-kind-requires-2
-put-kind-requires-2 c κs =
-    let pre = at-entry (c .before .before .before .before .before .before .before) .pre in
-    let put-objects3 = c .before .before .before .put-objects3 in
-    (written-most (put-objects3 .ensures), pre .1, omega arith)
+put-kind-requires-2 c κs = (written-most (c .before .before .before .put-objects4 .ensures), at-entry (at-objects2 (c .before .before .before)) .pre .1, omega arith)
 
 returns : tie.Need-returns
 returns c =
-    let put-kind = c .before .before .before .before .before .before .before .before .before .before .before .before .before .before .before .before .before .before .put-kind in
-    let put-objects = c .before .before .before .before .before .before .before .before .before .before .before .before .before .before .put-objects in
-    let put-objects2 = c .before .before .before .before .before .before .before .before .before .before .put-objects2 in
-    let put-objects3 = c .before .before .before .before .before .before .put-objects3 in
+    let put-objects3 = c .before .before .before .before .before .before .before .before .before .before .put-objects3 in
+    let put-objects4 = c .before .before .before .before .before .before .put-objects4 in
     let put-kind2 = c .before .before .put-kind2 in
-    body-written _ _ _ _ (put-kind .ensures) (put-objects .ensures) (put-objects2 .ensures) (put-objects3 .ensures)
+    let after = at-objects2 (c .before .before .before .before .before .before) in
+    body-written _ _ _ _ (after .before .before .before .before .before .before .before .before .put-kind .ensures) (after .before .before .before .before .put-objects .ensures) (after .put-objects2 .ensures) (put-objects3 .ensures) (put-objects4 .ensures)
     (put-kind2 .ensures)
 
 same-length : tie.Need-same-length
@@ -52,6 +51,7 @@ put-body-spec =
     put-objects-requires
     put-objects-requires-2
     put-objects-requires-3
+    put-objects-requires-4
     put-kind-requires-2
     same-length
     returns)

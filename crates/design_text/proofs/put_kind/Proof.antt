@@ -5,7 +5,8 @@ use native.Mathlib.Omega.{arith}
 use Rattle.text.specs.Written.{written-most}
 use Rattle.netlist.specs.Tables.{tabled}
 use Rattle.design_text.specs.Rows.{kindRows}
-use Rattle.design_text.proofs.Loops.{Reaches, reaches-start, reaches-next, reaches-end, kind-next, kind-none}
+use Rattle.text.specs.Reaches.{Reaches, reaches-start, reaches-next, reaches-end}
+use Rattle.design_text.proofs.Loops.{kind-next, kind-none}
 use Rattle.design_text.proofs.put_kind.Statement.{statement}
 use Rattle.design_text.proofs.put_kind.Tie as tie
 

@@ -5,7 +5,8 @@ use native.Mathlib.Omega.{arith}
 use Rattle.text.specs.Written.{written-most}
 use Rattle.netlist.specs.Tables.{tabled}
 use Rattle.design_text.specs.Rows.{moduleRows}
-use Rattle.design_text.proofs.Loops.{Reaches, reaches-next, reaches-end, module-next, module-none, modules-start, one-at-most}
+use Rattle.text.specs.Reaches.{Reaches, reaches-next, reaches-end}
+use Rattle.design_text.proofs.Loops.{module-next, module-none, modules-start, one-at-most}
 use Rattle.design_text.proofs.put_modules.Statement.{statement}
 use Rattle.design_text.proofs.put_modules.Tie as tie
 

@@ -5,7 +5,8 @@ use native.Mathlib.Omega.{arith}
 use Rattle.text.specs.Written.{written-most}
 use Rattle.netlist.specs.Tables.{tabled}
 use Rattle.design_text.specs.Rows.{objectRows}
-use Rattle.design_text.proofs.Loops.{Reaches, reaches-start, reaches-next, reaches-end, object-next, object-none}
+use Rattle.text.specs.Reaches.{Reaches, reaches-start, reaches-next, reaches-end}
+use Rattle.design_text.proofs.Loops.{object-next, object-none}
 use Rattle.design_text.proofs.put_objects.Statement.{statement}
 use Rattle.design_text.proofs.put_objects.Tie as tie
 

@@ -67,6 +67,12 @@ enum-known-statement-9 c = search needs
 connecting-requires-2 : tie.Need-connecting-requires-2
 connecting-requires-2 c κs = search needs
 
+enum-known-statement-10 : tie.Need-enum-known-statement-10
+enum-known-statement-10 c = search needs
+
+stepping-requires : tie.Need-stepping-requires
+stepping-requires c κs = search needs
+
 enum-told-2 : tie.Need-enum-told-2
 enum-told-2 c = search needs
 
@@ -79,6 +85,12 @@ enum-told-3 c = search needs
 refusing-requires : tie.Need-refusing-requires
 refusing-requires c κs = search needs
 
+enum-known-statement-11 : tie.Need-enum-known-statement-11
+enum-known-statement-11 c = search needs
+
+named-requires-10 : tie.Need-named-requires-10
+named-requires-10 c κs = search needs
+
 enum-told-4 : tie.Need-enum-told-4
 enum-told-4 c = search needs
 
@@ -90,12 +102,6 @@ enum-told-5 c = search needs
 
 refusing-requires-3 : tie.Need-refusing-requires-3
 refusing-requires-3 c κs = search needs
-
-enum-told-6 : tie.Need-enum-told-6
-enum-told-6 c = search needs
-
-refusing-requires-4 : tie.Need-refusing-requires-4
-refusing-requires-4 c κs = search needs
 
 returns : tie.Need-returns
 unfolding partsOf
@@ -139,23 +145,27 @@ returns-10 c = rw (c .before .before .statement9 .given .1) (rw (c .before .befo
 
 returns-11 : tie.Need-returns-11
 unfolding partsOf
-returns-11 c = rw (c .before .enum-told2 .given .1) (rw (c .before .before .before .no-name .ensures) at (c .named9 .ensures))
+returns-11 c = rw (c .before .before .statement10 .given .1) (c .stepping .ensures)
 
 returns-12 : tie.Need-returns-12
 unfolding partsOf
-returns-12 c = rw (c .before .enum-told3 .given .1) (c .refusing .ensures)
+returns-12 c = rw (c .before .enum-told2 .given .1) (rw (c .before .before .before .no-name .ensures) at (c .named9 .ensures))
 
 returns-13 : tie.Need-returns-13
 unfolding partsOf
-returns-13 c = rw (c .before .enum-told4 .given .1) (c .refusing2 .ensures)
+returns-13 c = rw (c .before .enum-told3 .given .1) (c .refusing .ensures)
 
 returns-14 : tie.Need-returns-14
 unfolding partsOf
-returns-14 c = rw (c .before .enum-told5 .given .1) (c .refusing3 .ensures)
+returns-14 c = rw (c .before .before .statement11 .given .1) (rw (c .before .before .before .before .no-name .ensures) at (c .named10 .ensures))
 
 returns-15 : tie.Need-returns-15
 unfolding partsOf
-returns-15 c = rw (c .before .enum-told6 .given .1) (c .refusing4 .ensures)
+returns-15 c = rw (c .before .enum-told4 .given .1) (c .refusing2 .ensures)
+
+returns-16 : tie.Need-returns-16
+unfolding partsOf
+returns-16 c = rw (c .before .enum-told5 .given .1) (c .refusing3 .ensures)
 
 pub parts-of-spec : {M : Type 1} → statement M
 parts-of-spec =
@@ -182,16 +192,18 @@ parts-of-spec =
     connecting-requires
     enum-known-statement-9
     connecting-requires-2
+    enum-known-statement-10
+    stepping-requires
     enum-told-2
     named-requires-9
     enum-told-3
     refusing-requires
+    enum-known-statement-11
+    named-requires-10
     enum-told-4
     refusing-requires-2
     enum-told-5
     refusing-requires-3
-    enum-told-6
-    refusing-requires-4
     returns
     returns-2
     returns-3
@@ -206,4 +218,5 @@ parts-of-spec =
     returns-12
     returns-13
     returns-14
-    returns-15)
+    returns-15
+    returns-16)

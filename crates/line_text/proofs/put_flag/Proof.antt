@@ -2,7 +2,7 @@
 -- Assumes nothing.
 use Rattle.text.specs.Written.{written-none, written-as}
 use Rattle.rules.specs.Text.{unless, optionTokens, behind}
-use Rattle.line_text.specs.Pieces.{spread}
+use Rattle.signal_text.specs.Pieces.{spread}
 use Rattle.line_text.specs.LineLaws.{option-word}
 use borrow.Author.Needs.{needs}
 use denote.Ref.{now}

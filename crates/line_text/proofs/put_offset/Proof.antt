@@ -6,7 +6,7 @@ use Rattle.rules.specs.Text.{setting, unless, optionTokens, behind}
 use Rattle.rules.specs.Bytes.{bytes, within}
 use Rattle.rules.specs.Numbers.{inRange}
 use Rattle.numbers.specs.Signed.{signedOf}
-use Rattle.line_text.specs.Pieces.{spread}
+use Rattle.signal_text.specs.Pieces.{spread}
 use Rattle.line_text.specs.Options.{offset-there}
 use Rattle.line_text.specs.LineLaws.{option-number}
 use borrow.Author.Needs.{needs}

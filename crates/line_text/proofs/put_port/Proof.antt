@@ -8,7 +8,7 @@ use lib.IntN.{pos}
 use Rattle.rules.specs.Bytes.{bytes}
 use Rattle.rules.specs.Text.{setting, directionWord, optionTokens, integerText, behind}
 use Rattle.wires.specs.Rows.{portOf}
-use Rattle.line_text.specs.Pieces.{spread}
+use Rattle.signal_text.specs.Pieces.{spread}
 use Rattle.line_text.specs.LineLaws.{option-number}
 use borrow.Author.Needs.{needs}
 use denote.Ref.{now}

@@ -4,7 +4,7 @@ use Rattle.text.specs.Written.{written-none, written-most, written-then, writte
 use borrow.Author.Tests.{eq-eqb, ne-eqb}
 use Rattle.rules.specs.Text.{unless, optionTokens, integerText, behind}
 use lib.IntN.{pos}
-use Rattle.line_text.specs.Pieces.{spread}
+use Rattle.signal_text.specs.Pieces.{spread}
 use Rattle.line_text.specs.LineLaws.{option-number}
 use borrow.Author.Needs.{needs}
 use denote.Ref.{now}

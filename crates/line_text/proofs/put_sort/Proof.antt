@@ -6,7 +6,7 @@ use borrow.Author.Tests.{ne-eqb}
 use Rattle.rules.specs.Text.{sortTokens, wordToken, tokenText, tight, behind}
 use Rattle.numbers.specs.Kinds.{sortOf}
 use Rattle.netlist.specs.Statements.{sortAt}
-use Rattle.line_text.specs.Pieces.{spread}
+use Rattle.signal_text.specs.Pieces.{spread}
 use borrow.Author.Needs.{needs}
 use denote.Ref.{now}
 use Rattle.line_text.proofs.put_sort.Statement.{statement}

@@ -3,7 +3,7 @@
 use borrow.Author.Tests.{ne-eqb}
 use Rattle.text.specs.Written.{written-as}
 use Rattle.wire_names.specs.Now.{wiresIn}
-use Rattle.line_text.specs.LineLaws.{statement-wire, statement-cell-connection, statement-connection, statement-plain}
+use Rattle.line_text.specs.LineLaws.{statement-wire, statement-cell-connection, statement-connection, statement-step, statement-plain}
 use borrow.Author.Needs.{needs}
 use denote.Ref.{now}
 use Rattle.line_text.proofs.put_statement.Statement.{statement}
@@ -63,27 +63,41 @@ returns-3 c =
 same-length-3 : tie.Need-same-length-3
 same-length-3 c = returns-3 c .kept
 
-put-plain-requires : tie.Need-put-plain-requires
-put-plain-requires c κs = search needs
+put-step-requires : tie.Need-put-step-requires
+put-step-requires c κs = search needs
 
 returns-4 : tie.Need-returns-4
 returns-4 c =
-    let args = c .before .before .before .before .before .before .before .before .before .before .before .before .before .before .args in
-    let column = c .before .before .before .before .before .before .before .column in
-    let if1 = c .before .before .before .before .before .before .if1 in
-    let if2 = c .before .before .before .before .before .if2 in
-    let if3 = c .before .before .before .before .if3 in
+    let args = c .before .before .before .before .before .before .before .before .before .before .before .before .before .before .before .args in
+    written-as (c .before .before .put-step .ensures)
+    (statement-step (now (args .names)) (now (args .strings)) (now (args .bits)) (now (args .wires))
+    (now (args .rows)) (args .m) (wiresIn (now (args .names)) (now (args .wires)) (now (args .rows)) (args .m))
+    (args .row) _ (c .before .before .before .before .before .before .before .before .column .ensures) (c .before .before .before .before .if4 .taken))
+
+same-length-4 : tie.Need-same-length-4
+same-length-4 c = returns-4 c .kept
+
+put-plain-requires : tie.Need-put-plain-requires
+put-plain-requires c κs = search needs
+
+returns-5 : tie.Need-returns-5
+returns-5 c =
+    let args = c .before .before .before .before .before .before .before .before .before .before .before .before .before .before .before .args in
+    let column = c .before .before .before .before .before .before .before .before .column in
+    let if1 = c .before .before .before .before .before .before .before .if1 in
+    let if2 = c .before .before .before .before .before .before .if2 in
+    let if3 = c .before .before .before .before .before .if3 in
     let put-plain = c .before .before .put-plain in
     written-as
     (put-plain .ensures (now (args .wires))
     (wiresIn (now (args .names)) (now (args .wires)) (now (args .rows)) (args .m)) (ne-eqb _ _ (if1 .left))
-    (ne-eqb _ _ (if2 .left)) (ne-eqb _ _ (if3 .left)))
+    (ne-eqb _ _ (if2 .left)) (ne-eqb _ _ (if3 .left)) (ne-eqb _ _ (c .before .before .before .before .if4 .left)))
     (statement-plain (now (args .names)) (now (args .strings)) (now (args .bits)) (now (args .wires))
     (now (args .rows)) (args .m) (wiresIn (now (args .names)) (now (args .wires)) (now (args .rows)) (args .m))
     (args .row) _ (column .ensures) (ne-eqb _ _ (if1 .left)))
 
-same-length-4 : tie.Need-same-length-4
-same-length-4 c = returns-4 c .kept
+same-length-5 : tie.Need-same-length-5
+same-length-5 c = returns-5 c .kept
 
 pub put-statement-spec : {M : Type 1} → statement M
 put-statement-spec =
@@ -99,6 +113,9 @@ put-statement-spec =
     put-connection-requires
     same-length-3
     returns-3
-    put-plain-requires
+    put-step-requires
     same-length-4
-    returns-4)
+    returns-4
+    put-plain-requires
+    same-length-5
+    returns-5)

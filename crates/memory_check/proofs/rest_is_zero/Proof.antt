@@ -32,14 +32,8 @@ returns-2 : tie.Need-returns-2
 unfolding restZero zeroFrom
 returns-2 c = rw (← c .before .before .before .before .zero-bytes-from .ensures, not-false (c .before .before .before .before .zero-bytes-from .result) (c .before .before .before .if1 .left), ← c .before .zero-bytes-from2 .ensures, not-true (c .before .zero-bytes-from2 .result) (c .if2 .taken))
 
-cast-zero-from : tie.Need-cast-zero-from
-cast-zero-from c = search needs
-
-cast-zero-from-2 : tie.Need-cast-zero-from-2
-cast-zero-from-2 c = search needs
-
-add-zero-from : tie.Need-add-zero-from
-add-zero-from c = search needs
+bits-used-requires : tie.Need-bits-used-requires
+bits-used-requires c κs = search needs
 
 zero-from-requires : tie.Need-zero-from-requires
 zero-from-requires c κs = search needs
@@ -47,21 +41,22 @@ zero-from-requires c κs = search needs
 returns-3 : tie.Need-returns-3
 unfolding restZero zeroFrom
 returns-3 c =
-    let zero-bytes-from = c .before .before .before .before .before .before .before .before .zero-bytes-from in
-    let if1 = c .before .before .before .before .before .before .before .if1 in
-    let zero-bytes-from2 = c .before .before .before .before .before .zero-bytes-from2 in
-    let if2 = c .before .before .before .before .if2 in
+    let zero-bytes-from = c .before .before .before .before .before .before .before .zero-bytes-from in
+    let if1 = c .before .before .before .before .before .before .if1 in
+    let zero-bytes-from2 = c .before .before .before .before .zero-bytes-from2 in
+    let if2 = c .before .before .before .if2 in
     rw (
       ← zero-bytes-from .ensures,
       not-false (zero-bytes-from .result) (if1 .left),
       ← zero-bytes-from2 .ensures,
       not-false (zero-bytes-from2 .result) (if2 .left),
+      ← c .before .before .bits-used .ensures,
       ← c .before .zero-from .ensures,
       not-true (c .before .zero-from .result) (c .if3 .taken),
     )
 
-cast-zero-from-3 : tie.Need-cast-zero-from-3
-cast-zero-from-3 c = search needs
+cast-zero-from : tie.Need-cast-zero-from
+cast-zero-from c = search needs
 
 mul-zero-from : tie.Need-mul-zero-from
 mul-zero-from c = search needs
@@ -72,10 +67,10 @@ zero-from-requires-2 c κs = search needs
 returns-4 : tie.Need-returns-4
 unfolding restZero zeroFrom
 returns-4 c =
-    let zero-bytes-from = c .before .before .before .before .before .before .before .before .before .before .before .zero-bytes-from in
-    let if1 = c .before .before .before .before .before .before .before .before .before .before .if1 in
-    let zero-bytes-from2 = c .before .before .before .before .before .before .before .before .zero-bytes-from2 in
-    let if2 = c .before .before .before .before .before .before .before .if2 in
+    let zero-bytes-from = c .before .before .before .before .before .before .before .before .before .before .zero-bytes-from in
+    let if1 = c .before .before .before .before .before .before .before .before .before .if1 in
+    let zero-bytes-from2 = c .before .before .before .before .before .before .before .zero-bytes-from2 in
+    let if2 = c .before .before .before .before .before .before .if2 in
     let zero-from = c .before .before .before .before .zero-from in
     let if3 = c .before .before .before .if3 in
     rw (
@@ -83,6 +78,7 @@ returns-4 c =
       not-false (zero-bytes-from .result) (if1 .left),
       ← zero-bytes-from2 .ensures,
       not-false (zero-bytes-from2 .result) (if2 .left),
+      ← c .before .before .before .before .before .bits-used .ensures,
       ← zero-from .ensures,
       not-false (zero-from .result) (if3 .left),
       ← c .before .zero-from2 .ensures,
@@ -95,10 +91,10 @@ zero-from-requires-3 c κs = search needs
 returns-5 : tie.Need-returns-5
 unfolding restZero zeroFrom
 returns-5 c =
-    let zero-bytes-from = c .before .before .before .before .before .before .before .before .before .before .before .before .zero-bytes-from in
-    let if1 = c .before .before .before .before .before .before .before .before .before .before .before .if1 in
-    let zero-bytes-from2 = c .before .before .before .before .before .before .before .before .before .zero-bytes-from2 in
-    let if2 = c .before .before .before .before .before .before .before .before .if2 in
+    let zero-bytes-from = c .before .before .before .before .before .before .before .before .before .before .before .zero-bytes-from in
+    let if1 = c .before .before .before .before .before .before .before .before .before .before .if1 in
+    let zero-bytes-from2 = c .before .before .before .before .before .before .before .before .zero-bytes-from2 in
+    let if2 = c .before .before .before .before .before .before .before .if2 in
     let zero-from = c .before .before .before .before .before .zero-from in
     let if3 = c .before .before .before .before .if3 in
     let zero-from2 = c .before .before .zero-from2 in
@@ -107,6 +103,7 @@ returns-5 c =
       not-false (zero-bytes-from .result) (if1 .left),
       ← zero-bytes-from2 .ensures,
       not-false (zero-bytes-from2 .result) (if2 .left),
+      ← c .before .before .before .before .before .before .bits-used .ensures,
       ← zero-from .ensures,
       not-false (zero-from .result) (if3 .left),
       ← zero-from2 .ensures,
@@ -125,12 +122,10 @@ rest-is-zero-spec =
     cast-zero-bytes-from
     zero-bytes-from-requires-2
     returns-2
-    cast-zero-from
-    cast-zero-from-2
-    add-zero-from
+    bits-used-requires
     zero-from-requires
     returns-3
-    cast-zero-from-3
+    cast-zero-from
     mul-zero-from
     zero-from-requires-2
     returns-4

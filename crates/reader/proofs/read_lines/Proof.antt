@@ -13,7 +13,7 @@ use Rattle.reader.proofs.read_lines.Tie as tie
 abbrev Inv-loop : tie.InvT-loop
 Inv-loop f tokens₀ scratch₀ names₀ strings₀ bits₀ wires₀ rows₀ heads₀ chain₀ line₀ place₀ sums₀ tokens scratch names strings bits wires rows heads chain line place sums =
     Before f scratch place sums (tabled names strings bits wires rows) line × LinesIndexed heads chain names wires rows (place .rows) (place .wires) × (length heads₀ ≡ 1026)
-    × (length chain₀ ≡ 5219) × (length tokens ≡ length tokens₀)
+    × (length chain₀ ≡ 7395) × (length tokens ≡ length tokens₀)
 
 abbrev μ-loop : tie.MeasureT-loop
 μ-loop f tokens₀ scratch₀ names₀ strings₀ bits₀ wires₀ rows₀ heads₀ chain₀ line₀ place₀ sums₀ tokens scratch names strings bits wires rows heads chain line place sums = length f - line .start

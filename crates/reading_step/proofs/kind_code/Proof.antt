@@ -51,6 +51,9 @@ enum-told-14 c = search needs
 enum-told-15 : tie.Need-enum-told-15
 enum-told-15 c = search needs
 
+enum-told-16 : tie.Need-enum-told-16
+enum-told-16 c = search needs
+
 returns : tie.Need-returns
 unfolding code kindIn
 returns c = sym (ap (λ (x : Statement). code (kindIn x)) (c .enum-told .given .1))
@@ -111,6 +114,10 @@ returns-15 : tie.Need-returns-15
 unfolding code kindIn
 returns-15 c = sym (ap (λ (x : Statement). code (kindIn x)) (c .enum-told15 .given .1))
 
+returns-16 : tie.Need-returns-16
+unfolding code kindIn
+returns-16 c = sym (ap (λ (x : Statement). code (kindIn x)) (c .enum-told16 .given .1))
+
 pub kind-code-spec : {M : Type 1} → statement M
 kind-code-spec =
     tie.close
@@ -130,6 +137,7 @@ kind-code-spec =
     enum-told-13
     enum-told-14
     enum-told-15
+    enum-told-16
     returns
     returns-2
     returns-3
@@ -144,4 +152,5 @@ kind-code-spec =
     returns-12
     returns-13
     returns-14
-    returns-15)
+    returns-15
+    returns-16)

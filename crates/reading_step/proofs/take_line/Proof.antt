@@ -57,6 +57,9 @@ put-statement-requires c κs =
 kind-code-requires : tie.Need-kind-code-requires
 kind-code-requires c κs = tt
 
+step-code-requires : tie.Need-step-code-requires
+step-code-requires c κs = tt
+
 index-line-requires : tie.Need-index-line-requires
 index-line-requires c κs =
     let put = c .before .before .before .before .before .before .before .before .before .before .before .before .before .before .before .before .before .before in
@@ -75,7 +78,7 @@ index-line-requires c κs =
 
 after-requires : tie.Need-after-requires
 after-requires c κs =
-    let pre = at-entry (at-line-answer (at-put-statement (c .before .before .before .before))) .pre in
+    let pre = at-entry (at-line-answer (at-put-statement (c .before .before .before .before .before))) .pre in
     (done-rows (pre .1 .0 .done), done-fits (pre .1 .0 .done) .bounds)
 
 same-length : tie.Need-same-length
@@ -133,59 +136,59 @@ returns-2 c = (λ ss d. step-refused d _ _ _ _ _ _ (c .before .before .before .b
 
 same-length-15 : tie.Need-same-length-15
 same-length-15 c =
-    let line-answer = at-line-answer (at-put-statement (c .before .before .before .before .before)) .line-answer in
+    let line-answer = at-line-answer (at-put-statement (c .before .before .before .before .before .before)) .line-answer in
     line-answer .kept .1 .1 .1 .1 .1 .1 .1 .0
 
 same-length-16 : tie.Need-same-length-16
 same-length-16 c =
-    let line-answer = at-line-answer (at-put-statement (c .before .before .before .before .before)) .line-answer in
-    let put-statement = at-put-statement (c .before .before .before .before .before) .put-statement in
+    let line-answer = at-line-answer (at-put-statement (c .before .before .before .before .before .before)) .line-answer in
+    let put-statement = at-put-statement (c .before .before .before .before .before .before) .put-statement in
     put-statement .kept .1 .1 .1 .0 ∙ line-answer .kept .1 .1 .1 .1 .1 .1 .1 .1 .0
 
 same-length-17 : tie.Need-same-length-17
 same-length-17 c =
-    let put-statement = at-put-statement (c .before .before .before .before .before) .put-statement in
+    let put-statement = at-put-statement (c .before .before .before .before .before .before) .put-statement in
     put-statement .kept .1 .1 .1 .1 .0
 
 same-length-18 : tie.Need-same-length-18
 same-length-18 c =
-    let put-statement = at-put-statement (c .before .before .before .before .before) .put-statement in
+    let put-statement = at-put-statement (c .before .before .before .before .before .before) .put-statement in
     put-statement .kept .1 .1 .1 .1 .1 .0
 
 same-length-19 : tie.Need-same-length-19
 same-length-19 c =
-    let put-statement = at-put-statement (c .before .before .before .before .before) .put-statement in
+    let put-statement = at-put-statement (c .before .before .before .before .before .before) .put-statement in
     put-statement .kept .1 .1 .1 .1 .1 .1 .0
 
 same-length-20 : tie.Need-same-length-20
 same-length-20 c =
-    let put-statement = at-put-statement (c .before .before .before .before .before) .put-statement in
+    let put-statement = at-put-statement (c .before .before .before .before .before .before) .put-statement in
     put-statement .kept .1 .1 .1 .1 .1 .1 .1 .0
 
 same-length-21 : tie.Need-same-length-21
 same-length-21 c =
-    let put-statement = at-put-statement (c .before .before .before .before .before) .put-statement in
+    let put-statement = at-put-statement (c .before .before .before .before .before .before) .put-statement in
     put-statement .kept .1 .1 .1 .1 .1 .1 .1 .1 .0
 
 same-length-22 : tie.Need-same-length-22
-same-length-22 c = c .before .before .before .before .before .index-line .kept .1 .1 .1 .0
+same-length-22 c = c .before .before .before .before .before .before .index-line .kept .1 .1 .1 .0
 
 same-length-23 : tie.Need-same-length-23
-same-length-23 c = c .before .before .before .before .before .index-line .kept .1 .1 .1 .1 .0
+same-length-23 c = c .before .before .before .before .before .before .index-line .kept .1 .1 .1 .1 .0
 
 returns-3 : tie.Need-returns-3
 unfolding placeAfter
 returns-3 c =
-    let put = at-put-statement (c .before .before .before .before .before) in
+    let put = at-put-statement (c .before .before .before .before .before .before) in
     let line-answer = at-line-answer put .line-answer in
     let outcome = at-outcome put .outcome in
     let used-from = at-used-from put .used-from in
     let put-statement = put .put-statement in
-    let kind-code = c .before .before .before .before .before .before .before .before .before .before .before .kind-code in
-    let index-line = c .before .before .before .before .before .index-line in (
+    let kind-code = c .before .before .before .before .before .before .before .before .before .before .before .before .kind-code in
+    let index-line = c .before .before .before .before .before .before .index-line in (
       λ ss d. step-stated d _ _ _ _ _ _ (outcome .given .1) _ _ (line-answer .ensures .1 ss (done-stands d))
-          (line-answer .ensures .0) _ _ _ _ (used-from .ensures) (put-statement .ensures) (kind-code .ensures)
-          (after-is _ _ _ (c .after .ensures)),
+          (line-answer .ensures .0) _ _ _ _ _ (used-from .ensures) (put-statement .ensures) (kind-code .ensures)
+          (c .before .step-code .ensures) (after-is _ _ _ _ (c .after .ensures)),
       lines-upto (ap (λ (p : Place). p .rows) (c .after .ensures)) (ap (λ (p : Place). p .wires) (c .after .ensures))
           (index-line .ensures),
     )
@@ -217,6 +220,7 @@ take-line-spec =
     put-statement-requires
     kind-code-requires
     index-line-requires
+    step-code-requires
     after-requires
     same-length-15
     same-length-16

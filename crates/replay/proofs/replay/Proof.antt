@@ -19,10 +19,10 @@ use Rattle.replay.proofs.replay.Tie as tie
 abbrev Inv-loop : tie.InvT-loop
 Inv-loop names strings bits wires rows heads₀ chain₀ place₀ sums₀ heads chain place sums =
     Done (partTables names strings bits wires) rows place sums × Indexed heads chain (keyAt names rows) (place .rows) × (length heads ≡ length heads₀) × (length chain ≡ length chain₀)
-    × (4706 ≤ length chain)
+    × (6882 ≤ length chain)
 
 abbrev μ-loop : tie.MeasureT-loop
-μ-loop names strings bits wires rows heads₀ chain₀ place₀ sums₀ heads chain place sums = 4706 - place .rows
+μ-loop names strings bits wires rows heads₀ chain₀ place₀ sums₀ heads chain place sums = 6882 - place .rows
 
 start-requires : tie.Need-start-requires Inv-loop μ-loop
 start-requires c κs = tt

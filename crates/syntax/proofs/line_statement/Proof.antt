@@ -1,5 +1,5 @@
 -- By the scope.
-use borrow.Author.Tests.{ne-eqb}
+use native.Mathlib.Omega.{arith}
 use Rattle.context.specs.Place.{scopeOf, contextOf}
 use Rattle.syntax.proofs.ShapeLaws.{form-whole}
 use borrow.Author.Needs.{needs}
@@ -37,14 +37,28 @@ returns-2 c =
     rw (if2 .taken) (module-statement .ensures (args .place .first))
 
 cell-statement-requires : tie.Need-cell-statement-requires
-cell-statement-requires c κs = c .before .before .before .before .before .before .before .before .before .before .before .before .pre
+cell-statement-requires c κs = c .before .before .before .before .before .before .before .before .before .before .before .before .before .before .pre
 
 same-length-2 : tie.Need-same-length-2
 same-length-2 c = search needs
 
 returns-3 : tie.Need-returns-3
 unfolding scopeOf contextOf
-returns-3 c = rw (ne-eqb _ _ (c .before .before .before .before .before .before .if1 .left), ne-eqb _ _ (c .before .before .before .before .if2 .left)) (c .before .before .cell-statement .ensures _ _)
+returns-3 c = rw (c .before .before .before .before .if3 .taken) (c .before .before .cell-statement .ensures _ _)
+
+process-statement-requires : tie.Need-process-statement-requires
+process-statement-requires c κs =
+    let pre = c .before .before .before .before .before .before .before .before .before .before .before .before .before .before .pre in
+    let if1 = c .before .before .before .before .before .if1 in
+    let if2 = c .before .before .before .if2 in
+    let if3 = c .before .if3 in
+    (pre .0, (pre .1, omega (arith, if1 .left, if2 .left, if3 .left)))
+
+same-length-3 : tie.Need-same-length-3
+same-length-3 c = search needs
+
+returns-4 : tie.Need-returns-4
+returns-4 c = c .before .before .process-statement .ensures
 
 pub line-statement-spec : {M : Type 1} → statement M
 line-statement-spec =
@@ -58,4 +72,7 @@ line-statement-spec =
     returns-2
     cell-statement-requires
     same-length-2
-    returns-3)
+    returns-3
+    process-statement-requires
+    same-length-3
+    returns-4)

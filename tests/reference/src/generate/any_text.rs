@@ -17,10 +17,10 @@ pub fn bytes(random: &mut Random, budget: usize) -> Vec<u8> {
 
 /// Lines of tokens in no order.
 pub fn tokens(random: &mut Random, size: SizeClass, budget: usize) -> Vec<u8> {
-    let mut file = if random.one_in(2) {
-        b"module \\m\n".to_vec()
-    } else {
-        Vec::new()
+    let mut file = match random.below(6) {
+        0 | 1 => Vec::new(),
+        2 => b"module \\m\nprocess \\p\n".to_vec(),
+        _ => b"module \\m\n".to_vec(),
     };
     while file.len() < budget {
         let count = random.between(1, 5);

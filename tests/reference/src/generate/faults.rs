@@ -115,7 +115,7 @@ pub fn file(random: &mut Random, size: SizeClass) -> Vec<u8> {
     for _ in 0..builder.random.below(4) {
         builder.wire();
     }
-    match builder.random.below(14) {
+    match builder.random.below(19) {
         0 => bad_token(&mut builder),
         1 => bad_shape(&mut builder),
         2 => at_top(&mut builder),
@@ -123,6 +123,8 @@ pub fn file(random: &mut Random, size: SizeClass) -> Vec<u8> {
         5 => constant_line(&mut builder),
         6 => unfinished(&mut builder),
         7 => process_line(&mut builder),
+        8..=11 => line_in_process(&mut builder),
+        12 => nested(&mut builder),
         _ => connection_line(&mut builder),
     }
     builder.file
@@ -302,6 +304,104 @@ fn process_line(builder: &mut Builder) {
     builder.line(&tokens);
     builder.end();
     builder.end();
+}
+
+/// Lines up to a place in a process, and the `end`s from there to the process's.
+const PLACES: [(&[&str], usize); 8] = [
+    (&[], 0),
+    (&["assign { } 0'"], 0),
+    (&["switch 2'01"], 1),
+    (&["switch 2'01", "case 2'0 , 2'1x"], 1),
+    (&["switch 2'01", "case", "switch 3'1", "case 3'0"], 2),
+    (&["switch 2'01", "case", "switch 3'1", "end"], 1),
+    (&["switch 2'01", "end"], 0),
+    (&["sync posedge 1'1"], 0),
+];
+
+/// Lines that have a shape at some place of a process, their widths right or wrong; and some that have one nowhere.
+const LINES_IN_PROCESS: [&str; 41] = [
+    "assign 2'01 2'10",
+    "assign 2'01 1'1",
+    "assign { } { }",
+    "assign \\missing 1'1",
+    "assign 1'0 2'000",
+    "assign { 2048' 2048' } { 2048' 2048' }",
+    "assign 1'1 { 2048' 1' } [ 0 ]",
+    "assign 1'1",
+    "assign 1'1 , 1'1",
+    "switch 1'0",
+    "switch { }",
+    "switch",
+    "switch \\missing",
+    "switch 1'0 1'0",
+    "switch { 2048' 1' }",
+    "case",
+    "case 2'01",
+    "case 3'001 , 3'1",
+    "case 2'01 , 3'001",
+    "case 2'01 , \\missing",
+    "case 2'0 ,",
+    "case , 2'0",
+    "case 2'0 2'1",
+    "case 2'0 , , 2'1",
+    "case { 2048' 2048' }",
+    "case { 2'0 , 2'1 }",
+    "sync always",
+    "sync low 1'0",
+    "sync edge 2'01",
+    "sync negedge { }",
+    "sync posedge",
+    "sync init 1'0",
+    "sync update 1'0",
+    "sync",
+    "update 2'01 2'10",
+    "update 2'01 { }",
+    "update 2'01 \\missing",
+    "memwr \\m 1'0 1'0 1'0 0'",
+    "connect { } { }",
+    "process \\q",
+    "wire \\z",
+];
+
+/// One to three lines at a place in a process, perhaps after attributes.
+fn line_in_process(builder: &mut Builder) {
+    builder.open_process();
+    let (lines, ends) = *builder.random.pick(&PLACES);
+    for line in lines {
+        builder.line(&split(line));
+    }
+    for _ in 0..builder.random.between(1, 3) {
+        for _ in 0..builder.random.below(9).saturating_sub(6) {
+            builder.line(&split("attribute \\x 1"));
+        }
+        match builder.random.one_in(20) {
+            true => builder.end(),
+            false => {
+                let line = *builder.random.pick(&LINES_IN_PROCESS);
+                builder.line(&split(line));
+            }
+        }
+    }
+    for _ in 0..ends + builder.random.below(3) {
+        builder.end();
+    }
+    builder.end();
+}
+
+/// Switches 15 to 17 deep, with an attribute before the innermost or not.
+fn nested(builder: &mut Builder) {
+    builder.open_process();
+    let depth = builder.random.between(15, 17);
+    for level in 1..=depth {
+        if level == depth && builder.random.one_in(2) {
+            builder.line(&split("attribute \\x 1"));
+        }
+        builder.line(&split("switch 1'0"));
+        builder.line(&split("case 1'1"));
+    }
+    for _ in 0..depth + 2 {
+        builder.end();
+    }
 }
 
 /// A connection with a random set of faults, in a module or a cell.

@@ -11,7 +11,7 @@ use std::fmt::Write;
 pub fn file(random: &mut Random) -> Vec<u8> {
     let over = random.below(3);
     let at = |limit: usize| limit + over - 1;
-    match random.below(15) {
+    match random.below(19) {
         0 => modules(at(sizes::MODULES)),
         1 => objects(random, "wire", at(sizes::WIRES)),
         2 => objects(random, "memory", at(sizes::MEMORIES)),
@@ -26,6 +26,10 @@ pub fn file(random: &mut Random) -> Vec<u8> {
         11 => string_bytes(random, at(sizes::STRING_BYTES)),
         12 => name_bytes(random, at(sizes::NAME_BYTES)),
         13 => file_bytes(random, at(sizes::FILE_BYTES)),
+        14 => objects(random, "process", at(sizes::PROCESSES)),
+        15 => steps(random, at(sizes::STEPS)),
+        16 => step_signals(random, at(sizes::STEP_SIGNALS)),
+        17 => process_bits(random, at(sizes::SIGNAL_BITS)),
         _ => text_bytes(at(sizes::TEXT_BYTES)),
     }
 }
@@ -51,13 +55,12 @@ fn parts(random: &mut Random, mut count: usize, most: usize) -> Vec<usize> {
     parts
 }
 
-/// Wires, memories or cells over two modules.
+/// Wires, memories, cells or processes over two modules.
 fn objects(random: &mut Random, words: &str, count: usize) -> Vec<u8> {
     let first = random.between(0, count);
-    let end = if words.starts_with("cell") {
-        "end\n"
-    } else {
-        ""
+    let end = match words {
+        "wire" | "memory" => "",
+        _ => "end\n",
     };
     let mut file = String::from("module \\m\n");
     for number in 0..count {
@@ -82,16 +85,24 @@ fn parameters(random: &mut Random, count: usize) -> Vec<u8> {
     (file + "end\nend\n").into_bytes()
 }
 
+/// Attributes of wires or of cases.
 fn attributes(random: &mut Random, count: usize) -> Vec<u8> {
-    let mut file = String::from("module \\m\n");
+    let of_cases = random.one_in(2);
+    let mut file = String::from(match of_cases {
+        true => "module \\m\nprocess \\p\nswitch 1'0\n",
+        false => "module \\m\n",
+    });
     let parts = parts(random, count, 500);
-    for (wire, part) in parts.into_iter().enumerate() {
+    for (object, part) in parts.into_iter().enumerate() {
         for number in 0..part {
             let _ = writeln!(file, "attribute \\{number} 1");
         }
-        let _ = writeln!(file, "wire \\{wire}");
+        let _ = match of_cases {
+            true => writeln!(file, "case"),
+            false => writeln!(file, "wire \\{object}"),
+        };
     }
-    (file + "end\n").into_bytes()
+    (file + if of_cases { "end\nend\nend\n" } else { "end\n" }).into_bytes()
 }
 
 fn cell_connections(random: &mut Random, count: usize) -> Vec<u8> {
@@ -128,6 +139,66 @@ fn part_bits(random: &mut Random, count: usize) -> Vec<u8> {
     (file + "} [0]\nend\nend\n").into_bytes()
 }
 
+/// Lines inside processes: mostly of one kind in each.
+fn steps(random: &mut Random, count: usize) -> Vec<u8> {
+    let mut file = String::from("module \\m\n");
+    for (process, part) in parts(random, count, 400).into_iter().enumerate() {
+        let _ = writeln!(file, "process \\{process}");
+        let more = part - 1;
+        file += &match random.below(5) {
+            0 => "assign{}{}\n".repeat(part),
+            1 => format!("switch{{}}\n{}end\n", "case\n".repeat(more)),
+            2 => format!("sync init\n{}", "update{}{}\n".repeat(more)),
+            3 => "sync edge 1'0\n".repeat(part),
+            _ if more == 0 => "assign{}{}\n".to_string(),
+            _ => {
+                let side_by_side = "switch{}\nend\n".repeat(more - 1);
+                format!("switch{{}}\ncase\n{side_by_side}end\n")
+            }
+        };
+        file += "end\n";
+    }
+    (file + "end\n").into_bytes()
+}
+
+/// Signals of lines inside processes, most of them compare values.
+fn step_signals(random: &mut Random, count: usize) -> Vec<u8> {
+    let mut file = String::from("module \\m\nwire width 0 \\a\n");
+    for (process, part) in parts(random, count, 900).into_iter().enumerate() {
+        let _ = writeln!(file, "process \\{process}");
+        let switch = format!("switch{{}}\ncase{}\nend\n", vec!["{}"; part - 1].join(","));
+        file += &match random.below(4) {
+            0 if part % 2 == 0 => "assign{}\\a\n".repeat(part / 2),
+            1 if part % 2 == 1 => format!("sync low 1'0\n{}", "update{}\\a\n".repeat(part / 2)),
+            _ => switch,
+        };
+        file += "end\n";
+    }
+    (file + "end\n").into_bytes()
+}
+
+/// Signal bits of lines inside processes, and of a connection.
+fn process_bits(random: &mut Random, count: usize) -> Vec<u8> {
+    let connected = random.between(0, 2_048);
+    let mut file = format!("module \\m\nwire width 2048 \\a\nconnect {connected}' {connected}'\n");
+    let left = count - 2 * connected;
+    for (process, part) in parts(random, left, 2_048).into_iter().enumerate() {
+        let _ = writeln!(file, "process \\{process}");
+        let (half, third) = (part / 2, part / 3);
+        let _ = match random.below(3) {
+            0 if part % 2 == 0 => writeln!(file, "assign {half}' \\a [{}:0]", half - 1),
+            1 if part % 3 == 0 => {
+                let value = format!("\\a [{}:0]", third - 1);
+                writeln!(file, "switch {value}\ncase {value} , {third}'1\nend")
+            }
+            2 if part == 1 => writeln!(file, "sync high \\a [7]"),
+            _ => writeln!(file, "switch \\a [{}:0]\nend", part - 1),
+        };
+        file += "end\n";
+    }
+    (file + "end\n").into_bytes()
+}
+
 fn value_bits(random: &mut Random, count: usize) -> Vec<u8> {
     let mut file = String::from("module \\m\n");
     for (number, width) in parts(random, count, 2_048).into_iter().enumerate() {
@@ -158,7 +229,15 @@ fn name_bytes(random: &mut Random, count: usize) -> Vec<u8> {
             _ if random.one_in(8) => random.between(4, 250),
             _ => 255.min(left - 4),
         };
-        let _ = writeln!(file, "wire \\{number:0digits$}", digits = length - 1);
+        let (word, end) = match random.one_in(4) {
+            true => ("process", "end\n"),
+            false => ("wire", ""),
+        };
+        let _ = write!(
+            file,
+            "{word} \\{number:0digits$}\n{end}",
+            digits = length - 1
+        );
         left -= length;
         number += 1;
     }

@@ -5,6 +5,7 @@ mod faults;
 mod limits;
 mod mutations;
 mod pieces;
+mod processes;
 pub mod random;
 mod signals;
 mod well_formed;

@@ -4,6 +4,7 @@ use super::pieces::{self, split, token, Layout, Tokens};
 use super::random::Random;
 use super::signals;
 use super::SizeClass;
+use crate::sizes::SIGNAL_BITS;
 use std::collections::HashSet;
 
 pub struct Builder<'a> {
@@ -13,7 +14,7 @@ pub struct Builder<'a> {
     pub file: Vec<u8>,
     /// Wires of the module, each with its width.
     pub wires: Vec<(Vec<u8>, usize)>,
-    /// Names of the module's wires, memories and cells.
+    /// Names of the module's wires, memories, cells and processes.
     pub objects: HashSet<Vec<u8>>,
     modules: HashSet<Vec<u8>>,
     ports: usize,
@@ -72,7 +73,7 @@ impl<'a> Builder<'a> {
         }
     }
 
-    /// A name that no wire, memory or cell of the module has, now taken.
+    /// A name that no wire, memory, cell or process of the module has, now taken.
     pub fn new_object(&mut self) -> Vec<u8> {
         let taken = std::mem::take(&mut self.objects);
         let name = self.new_name(&taken);
@@ -101,18 +102,19 @@ impl<'a> Builder<'a> {
         self.open_module();
         let mut parameters = HashSet::new();
         while self.file.len() < end {
-            match self.random.below(9) {
+            match self.random.below(10) {
                 0 => self.module_parameter(&mut parameters),
                 1..=3 => self.wire(),
                 4 => self.memory(),
                 5 | 6 => self.cell(),
-                _ => self.connection(),
+                7 => self.process(),
+                _ => self.two_sides("connect"),
             }
         }
         self.end();
     }
 
-    fn attributes(&mut self) {
+    pub fn attributes(&mut self) {
         let mut names = HashSet::new();
         while self.random.one_in(5) {
             let hdlname = token("\\hdlname");
@@ -249,26 +251,32 @@ impl<'a> Builder<'a> {
     fn cell_connection(&mut self, ports: &mut HashSet<Vec<u8>>) {
         let port = self.new_name(ports);
         let (signal, width) = signals::signal(self.random, self.size, &self.wires, 1);
-        if self.signal_bits + width > 8_192 {
+        if !self.takes_bits(width) {
             return;
         }
-        self.signal_bits += width;
         ports.insert(port.clone());
         self.line(&[vec![token("connect"), port], signal].concat());
     }
 
-    fn connection(&mut self) {
+    /// Are there so many signal bits left? If so they are taken.
+    pub fn takes_bits(&mut self, count: usize) -> bool {
+        let left = self.signal_bits + count <= SIGNAL_BITS;
+        self.signal_bits += if left { count } else { 0 };
+        left
+    }
+
+    /// A line with two signals of equal width, none if the signal bits are spent.
+    pub fn two_sides(&mut self, word: &str) {
         let (left, width) = signals::signal(self.random, self.size, &self.wires, 1);
-        if self.signal_bits + 2 * width > 8_192 {
+        if !self.takes_bits(2 * width) {
             return;
         }
-        self.signal_bits += 2 * width;
         let right = signals::signal_of_width(self.random, &self.wires, width, 1);
         let sides = if self.random.one_in(2) {
             [left, right]
         } else {
             [right, left]
         };
-        self.line(&[vec![token("connect")], sides.concat()].concat());
+        self.line(&[vec![token(word)], sides.concat()].concat());
     }
 }

@@ -21,6 +21,9 @@ add-wires c = omega (arith, c .before .before .before .pre, c .before .pick .ens
 scope-after-requires : tie.Need-scope-after-requires
 scope-after-requires c κs = search needs
 
+depth-after-requires : tie.Need-depth-after-requires
+depth-after-requires c κs = search needs
+
 pick-requires-2 : tie.Need-pick-requires-2
 pick-requires-2 c κs = search needs
 
@@ -36,27 +39,29 @@ pick-requires-5 c κs = search needs
 pick-requires-6 : tie.Need-pick-requires-6
 pick-requires-6 c κs = search needs
 
-add-t17 : tie.Need-add-t17
-add-t17 c =
-    let pre = c .before .before .before .before .before .before .before .before .before .before .pre in
-    let args = c .before .before .before .before .before .before .before .before .before .before .args in
-    omega (arith, pre, c .before .pick6 .ensures, cond-le (eqb (args .kind) 3) 1)
+add-t19 : tie.Need-add-t19
+add-t19 c =
+    let entry = c .before .before .before .before .before .before .before .before .before .before .before in
+    omega (arith, entry .pre, c .before .pick6 .ensures, cond-le (eqb (entry .args .kind) 3) 1)
 
 returns : tie.Need-returns
 unfolding placeAfter
 returns c =
+    let args = c .before .before .before .before .before .before .before .before .before .before .before .args in
+    let pick = c .before .before .before .before .before .before .before .before .before .pick in
     λ i.
     record {
-      scope = (c .before .before .before .before .before .before .scope-after .ensures) i;
+      scope = (c .before .before .before .before .before .before .before .scope-after .ensures) i;
+      depth = (c .before .before .before .before .before .before .depth-after .ensures) i;
       first = false;
-      attributed = eqb (c .before .before .before .before .before .before .before .before .before .before .args .kind) 2;
-      rows = c .before .before .before .before .before .before .before .before .before .before .args .p .rows + 1;
+      attributed = eqb (args .kind) 2;
+      rows = args .p .rows + 1;
       «module_from» = (c .before .before .before .before .before .pick2 .ensures) i;
       «cell_from» = (c .before .before .before .before .pick3 .ensures) i;
       «object_from» = (c .before .before .before .pick4 .ensures) i;
-      wires = c .before .before .before .before .before .before .before .before .before .before .args .p .wires + (c .before .before .before .before .before .before .before .before .pick .ensures) i;
-      «wires_from» = (rw (c .before .before .before .before .before .before .before .before .pick .ensures) at (c .before .before .pick5 .ensures)) i;
-      modules = c .before .before .before .before .before .before .before .before .before .before .args .p .modules + (c .before .pick6 .ensures) i;
+      wires = args .p .wires + (pick .ensures) i;
+      «wires_from» = (rw (pick .ensures) at (c .before .before .pick5 .ensures)) i;
+      modules = args .p .modules + (c .before .pick6 .ensures) i;
     }
 
 pub after-spec : {M : Type 1} → statement M
@@ -67,10 +72,11 @@ after-spec =
     pick-requires
     add-wires
     scope-after-requires
+    depth-after-requires
     pick-requires-2
     pick-requires-3
     pick-requires-4
     pick-requires-5
     pick-requires-6
-    add-t17
+    add-t19
     returns)

@@ -45,6 +45,15 @@ add-t13 c = omega (arith, at-entry (c .before .before .before) .pre)
 add-t14 : tie.Need-add-t14
 add-t14 c = omega (arith, at-entry (c .before .before .before .before .before) .pre)
 
+add-t15 : tie.Need-add-t15
+add-t15 c = omega (arith, at-entry (c .before .before .before .before .before .before .before) .pre)
+
+add-t16 : tie.Need-add-t16
+add-t16 c = omega (arith, at-entry (c .before .before .before .before .before .before .before .before .before) .pre)
+
+add-t17 : tie.Need-add-t17
+add-t17 c = omega (arith, at-entry (c .before .before .before .before .before .before .before .before .before .before .before) .pre)
+
 returns : tie.Need-returns
 unfolding plusOf
 returns c = refl
@@ -65,4 +74,7 @@ plus-spec =
     add-t12
     add-t13
     add-t14
+    add-t15
+    add-t16
+    add-t17
     returns)

@@ -39,6 +39,9 @@ connection-at-requires c κs = search needs
 named-requires-2 : tie.Need-named-requires-2
 named-requires-2 c κs = search needs
 
+step-at-requires : tie.Need-step-at-requires
+step-at-requires c κs = search needs
+
 end-at-requires : tie.Need-end-at-requires
 end-at-requires c κs = search needs
 
@@ -87,7 +90,11 @@ unfolding statementBy
 returns-11 c = by-kind _ _ _ _ _ 11 (c .before .match .keys11) (process-told _ _ _ _ (c .named2 .ensures) _ _ _ _)
 
 returns-12 : tie.Need-returns-12
-returns-12 c = other-kind _ _ _ _ _ (c .before .match .rest .0 .0 .0 .0 .0 .0 .0 .0 .0 .0 .1) (c .before .match .rest .0 .0 .0 .0 .0 .0 .0 .0 .0 .1) (c .before .match .rest .0 .0 .0 .0 .0 .0 .0 .0 .1) (c .before .match .rest .0 .0 .0 .0 .0 .0 .0 .1) (c .before .match .rest .0 .0 .0 .0 .0 .0 .1) (c .before .match .rest .0 .0 .0 .0 .0 .1) (c .before .match .rest .0 .0 .0 .0 .1) (c .before .match .rest .0 .0 .0 .1) (c .before .match .rest .0 .0 .1) (c .before .match .rest .0 .1) (c .before .match .rest .1) (c .end-at .ensures _ _)
+unfolding statementBy
+returns-12 c = by-kind _ _ _ _ _ 13 (c .before .match .keys12) (c .step-at .ensures _ _)
+
+returns-13 : tie.Need-returns-13
+returns-13 c = other-kind _ _ _ _ _ (c .before .match .rest .0 .0 .0 .0 .0 .0 .0 .0 .0 .0 .0 .1) (c .before .match .rest .0 .0 .0 .0 .0 .0 .0 .0 .0 .0 .1) (c .before .match .rest .0 .0 .0 .0 .0 .0 .0 .0 .0 .1) (c .before .match .rest .0 .0 .0 .0 .0 .0 .0 .0 .1) (c .before .match .rest .0 .0 .0 .0 .0 .0 .0 .1) (c .before .match .rest .0 .0 .0 .0 .0 .0 .1) (c .before .match .rest .0 .0 .0 .0 .0 .1) (c .before .match .rest .0 .0 .0 .0 .1) (c .before .match .rest .0 .0 .0 .1) (c .before .match .rest .0 .0 .1) (c .before .match .rest .0 .1) (c .before .match .rest .1) (c .end-at .ensures _ _)
 
 pub statement-at-spec : {M : Type 1} → statement M
 statement-at-spec =
@@ -104,6 +111,7 @@ statement-at-spec =
     cell-connection-at-requires
     connection-at-requires
     named-requires-2
+    step-at-requires
     end-at-requires
     returns
     returns-2
@@ -116,4 +124,5 @@ statement-at-spec =
     returns-9
     returns-10
     returns-11
-    returns-12)
+    returns-12
+    returns-13)

@@ -18,13 +18,13 @@ indexed-found-requires : tie.Need-indexed-found-requires
 indexed-found-requires c κs = (c .before .before .before .before .before .pre .0 .bounds, c .before .before .before .before .before .pre .1 .1)
 
 returns : tie.Need-returns
-returns c = counted-taken _ _ _ _ _ _ _ _ _ _ (c .before .before .row-name .ensures) (c .before .indexed-found .ensures) (c .if1 .taken)
+returns c = counted-taken _ _ _ _ _ _ _ _ _ _ _ _ (c .before .before .row-name .ensures) (c .before .indexed-found .ensures) (c .if1 .taken)
 
 small-parts-requires : tie.Need-small-parts-requires
 small-parts-requires c κs = search needs
 
 returns-2 : tie.Need-returns-2
-returns-2 c = counted-large _ _ _ _ _ _ _ _ _ _ (c .before .before .before .before .row-name .ensures) (c .before .before .before .indexed-found .ensures) (sym (c .before .small-parts .ensures) ∙ not-true _ (c .if2 .taken))
+returns-2 c = counted-large _ _ _ _ _ _ _ _ _ _ _ _ (c .before .before .before .before .row-name .ensures) (c .before .before .before .indexed-found .ensures) (sym (c .before .small-parts .ensures) ∙ not-true _ (c .if2 .taken))
 
 kind-sizes-requires : tie.Need-kind-sizes-requires
 kind-sizes-requires c κs = search needs
@@ -34,7 +34,7 @@ plus-requires c κs =
     let pre = c .before .before .before .before .before .before .before .before .before .before .pre in
     let small-parts = c .before .before .small-parts in (
       within-small _ 2147483647 (omega arith) (pre .0 .within),
-      told-small _ _ _ _ _ _ (pre .1 .0) (kind-sizes-are _ _ _ _ _ _ (c .kind-sizes .ensures))
+      told-small _ _ _ _ _ _ _ (pre .1 .0) (kind-sizes-are _ _ _ _ _ _ _ (c .kind-sizes .ensures))
           (sym (small-parts .ensures) ∙ not-false _ (c .before .if2 .left)),
     )
 
@@ -47,8 +47,8 @@ returns-3 c =
     let indexed-found = c .before .before .before .before .before .before .before .indexed-found in
     let kind-sizes = c .before .before .before .kind-sizes in
     let plus = c .before .before .plus in
-    counted-exceeds _ _ _ _ _ _ _ _ _ _ (row-name .ensures) (indexed-found .ensures) _
-    (kind-sizes-are _ _ _ _ _ _ (kind-sizes .ensures)) _ (plus .ensures) (c .before .within .ensures)
+    counted-exceeds _ _ _ _ _ _ _ _ _ _ _ _ (row-name .ensures) (indexed-found .ensures) _
+    (kind-sizes-are _ _ _ _ _ _ _ (kind-sizes .ensures)) _ (plus .ensures) (c .before .within .ensures)
     (not-true _ (c .if3 .taken))
 
 after-requires : tie.Need-after-requires
@@ -64,9 +64,9 @@ returns-4 c =
     let kind-sizes = c .before .before .before .before .kind-sizes in
     let plus = c .before .before .before .plus in
     let within = c .before .before .within in
-    counted-next _ _ _ _ _ _ _ _ _ _ (row-name .ensures) (indexed-found .ensures) _
-    (kind-sizes-are _ _ _ _ _ _ (kind-sizes .ensures)) _ (plus .ensures) (within .ensures) (if1 .left)
-    (not-false _ (c .before .if3 .left)) _ (after-is _ _ _ (c .after .ensures))
+    counted-next _ _ _ _ _ _ _ _ _ _ _ _ (row-name .ensures) (indexed-found .ensures) _
+    (kind-sizes-are _ _ _ _ _ _ _ (kind-sizes .ensures)) _ (plus .ensures) (within .ensures) (if1 .left)
+    (not-false _ (c .before .if3 .left)) _ (after-is _ _ _ _ (c .after .ensures))
 
 pub counted-spec : {M : Type 1} → statement M
 counted-spec =

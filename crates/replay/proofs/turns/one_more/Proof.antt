@@ -1,9 +1,8 @@
 use Rattle.netlist.specs.Used.{usedOf}
 use denote.Ref.{now}
-use mathlib.Core.Path.{sym, _∙_}
 use borrow.Author.Tests.{not-true, not-false}
 use Rattle.replay.specs.Reads.{partTables}
-use Rattle.replay.proofs.TurnLaws.{small-used, wires-fit, turn-short, turn-kind, turn-not, turn-told, turn-counted}
+use Rattle.replay.proofs.TurnLaws.{small-used, wires-fit, turn-short, turn-line, turn-not, turn-told, turn-counted}
 use borrow.Author.Needs.{needs}
 use Rattle.replay.proofs.turns.one_more.Statement.{statement}
 use Rattle.replay.proofs.turns.one_more.Tie as tie
@@ -26,11 +25,11 @@ returns c = turn-short _ _ _ _ (c .if1 .taken)
 get-row-requires : tie.Need-get-row-requires
 get-row-requires c κs = search needs
 
-stands-at-requires : tie.Need-stands-at-requires
-stands-at-requires c κs = search needs
+line-stands-requires : tie.Need-line-stands-requires
+line-stands-requires c κs = search needs
 
 returns-2 : tie.Need-returns-2
-returns-2 c = turn-kind _ _ _ _ _ (c .before .before .get-row .ensures) (sym (c .before .stands-at .ensures) ∙ not-true _ (c .if2 .taken))
+returns-2 c = turn-line _ _ _ _ _ (c .before .before .get-row .ensures) (c .before .line-stands .ensures) (not-true _ (c .if2 .taken))
 
 used-from-requires : tie.Need-used-from-requires
 used-from-requires c κs = c .before .before .before .before .before .before .before .before .before .before .before .before .pre .0 .within
@@ -46,18 +45,21 @@ statement-at-requires c κs =
 enum-known-f : tie.Need-enum-known-f
 enum-known-f c = search needs
 
+step-of-requires : tie.Need-step-of-requires
+step-of-requires c κs = search needs
+
 counted-requires : tie.Need-counted-requires
 counted-requires c κs =
-    let pre = c .before .before .before .before .before .before .before .before .before .before .before .before .before .before .before .before .before .pre in
-    let args = c .before .before .before .before .before .before .before .before .before .before .before .before .before .before .before .before .before .args in
-    let get-row = c .before .before .before .before .before .before .before .get-row in
-    let used-from = c .before .before .before .before .used-from in
-    let statement-at = c .before .before .before .statement-at in (
+    let pre = c .before .before .before .before .before .before .before .before .before .before .before .before .before .before .before .before .before .before .pre in
+    let args = c .before .before .before .before .before .before .before .before .before .before .before .before .before .before .before .before .before .before .args in
+    let get-row = c .before .before .before .before .before .before .before .before .get-row in
+    let used-from = c .before .before .before .before .before .used-from in
+    let statement-at = c .before .before .before .before .statement-at in (
       pre .0,
       (
         turn-told (partTables (now (args .names)) (now (args .strings)) (now (args .bits)) (now (args .wires)))
             (now (args .rows)) (args .p) (args .u) (get-row .result) (get-row .ensures) (usedOf (used-from .result))
-            (used-from .ensures) (statement-at .result) (statement-at .ensures) _ _ _ _ (c .before .f .given .1),
+            (used-from .ensures) (statement-at .result) (statement-at .ensures) _ _ _ _ _ (c .before .before .f .given .1),
         pre .1,
       ),
     )
@@ -67,15 +69,16 @@ enum-told c = search needs
 
 returns-3 : tie.Need-returns-3
 returns-3 c =
-    let if1 = c .before .before .before .before .before .before .before .before .before .if1 in
-    let get-row = c .before .before .before .before .before .before .before .before .get-row in
-    let stands-at = c .before .before .before .before .before .before .before .stands-at in
-    let if2 = c .before .before .before .before .before .before .if2 in
-    let used-from = c .before .before .before .before .before .used-from in
-    let statement-at = c .before .before .before .before .statement-at in
-    let f = c .before .before .f in
-    turn-counted _ _ _ _ _ (get-row .ensures) _ (used-from .ensures) _ (statement-at .ensures) _ _ _ _ (f .given .1)
-    (if1 .left) (sym (stands-at .ensures) ∙ not-false _ (if2 .left)) _ (c .counted .ensures _ _ _)
+    let if1 = c .before .before .before .before .before .before .before .before .before .before .if1 in
+    let get-row = c .before .before .before .before .before .before .before .before .before .get-row in
+    let line-stands = c .before .before .before .before .before .before .before .before .line-stands in
+    let step-of = c .before .step-of in
+    let if2 = c .before .before .before .before .before .before .before .if2 in
+    let used-from = c .before .before .before .before .before .before .used-from in
+    let statement-at = c .before .before .before .before .before .statement-at in
+    let f = c .before .before .before .f in
+    turn-counted _ _ _ _ _ (get-row .ensures) _ (used-from .ensures) _ (statement-at .ensures) _ _ _ _ _ (f .given .1)
+    (if1 .left) (line-stands .ensures) (not-false _ (if2 .left)) _ (step-of .ensures) _ (c .counted .ensures _ _ _)
 
 returns-4 : tie.Need-returns-4
 returns-4 c = turn-not _ _ _ _ _ (c .before .before .before .before .before .before .get-row .ensures) _ (c .before .before .before .used-from .ensures) _ (c .before .before .statement-at .ensures) (c .enum-told .given .1)
@@ -89,11 +92,12 @@ one-more-spec =
     add-if1
     returns
     get-row-requires
-    stands-at-requires
+    line-stands-requires
     returns-2
     used-from-requires
     statement-at-requires
     enum-known-f
+    step-of-requires
     counted-requires
     enum-told
     returns-3

@@ -1,0 +1,4 @@
+mod Faults
+mod Pieces
+mod SumLaws
+mod ReadLaws
