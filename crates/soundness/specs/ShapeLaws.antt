@@ -1,5 +1,5 @@
 -- The shape of fine tokens has legal names, and strings without byte 0 in its attributes and parameters; and it is of a kind that stands
--- where it was found, or a process. A step is one that goes there, with its signals.
+-- where it was found. A step is one that goes there, with its signals.
 -- Assumes nothing.
 use Prim.Native.Nat.{ℕ, zero, suc, _+_}
 use Prim.Native.Char.{Char}
@@ -229,7 +229,7 @@ compare-finds =
 
 -- ---- statements
 
--- legal names, strings without byte 0; one of these kinds or a process, and one of these steps with the signals that it has
+-- legal names, strings without byte 0; one of these kinds, and one of these steps with the signals that it has
 pub record FineShape (ks : List Kind) (ps : List Step) (sh : Shape) : Type 0 where
   pub names : all legal (contents sh .names) ≡ true
   pub constants : all fineLiteral (contents sh .constants) ≡ true
