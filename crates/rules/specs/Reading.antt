@@ -79,6 +79,11 @@ readAny file = readLines (length file) (lines file) []
 unfoldable pub read : List ℕ → Answer
 read file = cond (ltb longestFile (length file)) (refused 2 0) (readAny file)
 
+-- Request 3: the check gives the number and place that reading gives, 0 and 0 of an accepted file
+unfoldable pub checked : Answer → ℕ × ℕ
+checked (accepted ss) = (0, 0)
+checked (refused n p) = (n, p)
+
 unfoldable pub readingOpen : Unit {0}
-unfolding shaped stated judged lexed outcome isTop finish next readLines readAny read
+unfolding shaped stated judged lexed outcome isTop finish next readLines readAny read checked
 readingOpen = tt

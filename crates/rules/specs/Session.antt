@@ -137,9 +137,11 @@ unfoldable pub orElse : List ℕ → List ℕ → List ℕ
 orElse [] t = t
 orElse (b ∷ bs) t = b ∷ bs
 
+abbrev pub shownName : Object Wire → List ℕ
+shownName o = orElse (hdlname (o .attributes)) (plainName (o .name))
+
 unfoldable pub show : Design → ℕ → ℕ → Verdict (List ℕ)
-show d m w =
-    Option·elim (wireAt d m w) (refused 8) (λ o. accepted (orElse (hdlname (o .attributes)) (plainName (o .name))))
+show d m w = Option·elim (wireAt d m w) (refused 8) (λ o. accepted (shownName o))
 
 -- The author's index of bit i is offset + i, or with `upto` offset + width - 1 - i; it may be negative
 unfoldable pub authorsIndex : Wire → ℕ → ℤ
