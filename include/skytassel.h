@@ -1,4 +1,4 @@
-/* Skytassel: reads, writes and reversibly renames RTLIL netlists. The calls of target/staticlib/libskytassel_c.a, which `rt staticlib skytassel_c` writes; link it statically.
+/* Skytassel: reads, writes and reversibly renames RTLIL netlists. The calls of target/staticlib/libskytassel.a, which include/library.sh writes; link it statically.
  *
  * Every call is proved to answer for any bytes and any lengths, and to end. It relies on C for what C alone can promise: no pointer is null, each length is
  * that of its part, and no two parts overlap where one of them is changed. Reading takes less than 900 KB of stack, the other calls far less; nothing is

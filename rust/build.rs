@@ -1,13 +1,13 @@
-//! Links the proved library, which `rt staticlib skytassel_c` writes.
+//! Links the proved library, which include/library.sh writes.
 
 use std::path::Path;
 
 fn main() {
     let folder = Path::new(env!("CARGO_MANIFEST_DIR")).join("../target/staticlib");
     println!("cargo:rustc-link-search=native={}", folder.display());
-    println!("cargo:rustc-link-lib=static=skytassel_c");
+    println!("cargo:rustc-link-lib=static=skytassel");
     println!(
         "cargo:rerun-if-changed={}",
-        folder.join("libskytassel_c.a").display()
+        folder.join("libskytassel.a").display()
     );
 }

@@ -5,7 +5,7 @@
 //! - [`sys`]: the exported calls themselves.
 //!
 //! What is proved is the library behind [`sys`]: the declarations there and everything above them are plain Rust, held to a reference by tests.
-//! Build the library first: `rt staticlib skytassel_c`.
+//! Build the library first: `bash include/library.sh`.
 
 mod design;
 pub mod lent;
