@@ -17,7 +17,7 @@ use tables::Row;
 use tables::put_bytes;
 use tables::put_row;
 use tables::word;
-use tables::zero_bytes;
+use zeros::zero_bytes;
 ghost use mathlib.Core.Path.{_≡_};
 ghost use Prim.Native.Nat.{_+_, _-_, _*_, _≤_};
 ghost use lib.ListN.{length, replicate};

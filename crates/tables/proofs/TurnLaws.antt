@@ -1,18 +1,12 @@
--- A turn of each kind of loop that stores into a table: one zero, one value from the end.
+-- A turn of the loop that stores values from the end.
 -- Assumes nothing.
 use mathlib.Core.Path.{_≡_, sym, ap, _∙_}
 use mathlib.Core.List.{List, [], _∷_, _++_, reverse, reverse-cons}
 use Prim.Native.Nat.{ℕ, suc, _+_, _-_, _≤_, _<_}
 use native.Mathlib.Omega.{arith}
-use lib.ListN.{length, getD, set, replicate, length-replicate, length-reverse, replicate-append-replicate}
+use lib.ListN.{length, getD, set, length-reverse}
 use lib.Seq.{slice, slice-cons, length-slice}
 use Rattle.tables.specs.Store.{store, store-more}
-
-pub zeroed : (d l : List ℕ) (from j k m : ℕ) → l ≡ store d from (replicate k 0) → j ≡ from + k → m ≡ k + 1 → set l j 0 ≡ store d from (replicate m 0)
-zeroed d l from j k m e ej em =
-    store-more d l from j 0 (replicate k 0) (replicate m 0) e
-    (ej ∙ ap (λ (n : ℕ). from + n) (sym (length-replicate k 0)))
-    (ap (λ (n : ℕ). replicate n 0) em ∙ sym (replicate-append-replicate k 1 0))
 
 pub reversed : (d s l : List ℕ) (at to j : ℕ) → l ≡ store d at (reverse (slice j to s)) → 0 < j → j ≤ to → to ≤ length s → set l (at + (to - j)) (getD s (j - 1) 0) ≡ store d at (reverse (slice (j - 1) to s))
 reversed d s l at to j e h k n =

@@ -9,8 +9,8 @@ use Rattle.rules.specs.Bytes.{all}
 use Rattle.lists.specs.Elements.{all-told}
 use borrow.Author.Tests.{not-true, not-false}
 use native.Mathlib.Omega.{arith}
-use Rattle.tables.proofs.zero_from.Statement.{statement}
-use Rattle.tables.proofs.zero_from.Tie as tie
+use Rattle.zeros.proofs.zero_from.Statement.{statement}
+use Rattle.zeros.proofs.zero_from.Tie as tie
 
 abbrev Inv-loop : tie.InvT-loop
 Inv-loop table at n i₀ i = (i ≤ length table) × (all (eqb 0) (drop i table) ≡ all (eqb 0) (drop at table))

@@ -8,8 +8,8 @@ use lib.ListN.{length, drop}
 use Rattle.rules.specs.Bytes.{all}
 use Rattle.lists.specs.Elements.{all-turn, all-told}
 use native.Mathlib.Omega.{arith}
-use Rattle.tables.proofs.zero_bytes_from.Statement.{statement}
-use Rattle.tables.proofs.zero_bytes_from.Tie as tie
+use Rattle.zeros.proofs.zero_bytes_from.Statement.{statement}
+use Rattle.zeros.proofs.zero_bytes_from.Tie as tie
 
 abbrev Inv-loop : tie.InvT-loop
 Inv-loop room at zero₀ i₀ zero i = (zero && all (eqb 0) (drop i room)) ≡ all (eqb 0) (drop at room)

@@ -5,10 +5,10 @@ use native.Mathlib.Omega.{arith}
 use denote.Ref.{now}
 use lib.ListN.{length, replicate, length-set}
 use native.Mathlib.Nat.{sub-self}
 use Rattle.tables.specs.Store.{store, store-none}
-use Rattle.tables.proofs.TurnLaws.{zeroed}
-use Rattle.tables.proofs.zero_bytes.Statement.{statement}
-use Rattle.tables.proofs.zero_bytes.Tie as tie
+use Rattle.zeros.proofs.TurnLaws.{zeroed}
+use Rattle.zeros.proofs.zero_bytes.Statement.{statement}
+use Rattle.zeros.proofs.zero_bytes.Tie as tie
 
 abbrev Inv-loop : tie.InvT-loop
 Inv-loop room₀ from to j₀ room j = (from ≤ j) × (j ≤ to) × (length room ≡ length room₀) × (room ≡ store room₀ from (replicate (j - from) 0))

@@ -4,10 +4,10 @@ use Prim.Native.Nat.{_≤_, _-_, _+_}
 use native.Mathlib.Omega.{arith}
 use denote.Ref.{now}
 use lib.ListN.{length, replicate, length-set, length-replicate}
 use Rattle.tables.specs.Store.{store, store-none, store-all}
-use Rattle.tables.proofs.TurnLaws.{zeroed}
-use Rattle.tables.proofs.clear_words.Statement.{statement}
-use Rattle.tables.proofs.clear_words.Tie as tie
+use Rattle.zeros.proofs.TurnLaws.{zeroed}
+use Rattle.zeros.proofs.clear_words.Statement.{statement}
+use Rattle.zeros.proofs.clear_words.Tie as tie
 
 abbrev Inv-loop : tie.InvT-loop
 Inv-loop table₀ j₀ table j = (j ≤ length table₀) × (length table ≡ length table₀) × (table ≡ store table₀ 0 (replicate j 0))

@@ -8,8 +8,8 @@ use lib.ListN.{drop}
 use Rattle.rules.specs.Bytes.{all}
 use Rattle.lists.specs.Elements.{all-turn}
 use native.Mathlib.Omega.{arith}
-use Rattle.tables.proofs.zero_between.Statement.{statement}
-use Rattle.tables.proofs.zero_between.Tie as tie
+use Rattle.zeros.proofs.zero_between.Statement.{statement}
+use Rattle.zeros.proofs.zero_between.Tie as tie
 
 abbrev Inv-loop : tie.InvT-loop
 Inv-loop table from to zero₀ i₀ zero i = (i ≤ to) × ((zero && all (eqb 0) (drop i table)) ≡ all (eqb 0) (drop from table))

@@ -4,10 +4,10 @@ use Prim.Native.Nat.{ℕ}
 use native.Mathlib.Nat.{sub-zero}
 use denote.Ref.{now}
 use lib.ListN.{length, replicate, length-replicate}
 use Rattle.tables.specs.Store.{store, store-all}
 use native.Mathlib.Omega.{arith}
-use Rattle.tables.proofs.clear_bytes.Statement.{statement}
-use Rattle.tables.proofs.clear_bytes.Tie as tie
+use Rattle.zeros.proofs.clear_bytes.Statement.{statement}
+use Rattle.zeros.proofs.clear_bytes.Tie as tie
 
 zero-bytes-requires : tie.Need-zero-bytes-requires
 zero-bytes-requires c κs = omega arith
