@@ -31,7 +31,7 @@ use Rattle.netlist.specs.Steps.{stepNamed, signalsAt}
 use Rattle.netlist.specs.Statements.{statementBy, statementAt}
 use Rattle.netlist.specs.Tables.{Tables}
 use Rattle.wire_names.specs.declared.Module.{Module}
-use Rattle.signal_text.specs.StepLaws.{by-code}
+use Rattle.step_text.specs.StepLaws.{by-code}
 use Rattle.line_text.specs.Lines.{statementNow}
 use Rattle.module_text.specs.Blocks.{lineOf}
 use Rattle.module_text.specs.Passes.{linesOf, kindLines, objectLines, printMemory, printToEnd, shutLines, stepLines, printProcess}

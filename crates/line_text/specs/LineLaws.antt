@@ -24,7 +24,7 @@ use Rattle.netlist.specs.Statements.{constantAt, optionalAt, signalAt, memoryAt
 use Rattle.wire_names.specs.declared.Module.{Module}
 use Rattle.wire_names.specs.Now.{nameNow, ownNow}
 use Rattle.signal_text.specs.Pieces.{spread, Piece, piece-none, piece-name, piece-word, piece-literal, piece-sig, spread-name, spread-literal, spread-digits, spread-append, spaced-word, spaced-two, spaced-three}
-use Rattle.signal_text.specs.Steps.{stepText}
+use Rattle.step_text.specs.Steps.{stepText}
 use Rattle.line_text.specs.Options.{piece-options, spread-options}
 use Rattle.line_text.specs.Lines.{statementNow, bodyText}
 use Rattle.lists.specs.Parts.{slice-le}

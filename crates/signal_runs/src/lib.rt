@@ -5,7 +5,19 @@ use numbers::kinds::decode;
 ghost use mathlib.Core.Path.{_≡_};
 ghost use Prim.Native.Nat.{_≤_, _<_};
 ghost use lib.ListN.{length};
+ghost use lib.Seq.{slice};
 ghost use Rattle.signal_runs.specs.Runs.{isDigit, isBit, joint, Apart, Lowest};
+
+// The words from start up to end, cut to those that are there.
+pub fn words<'a>(t: &'a [u32], start: usize, end: usize) -> &'a [u32]
+    ensures { λ r. ⌜ now r ≡ slice start end (now (t .entry)) ⌝ }
+{
+    let stop = if end < t.len() { end } else { t.len() };
+    if stop <= start {
+        return &t[0..0];
+    }
+    &t[start..stop]
+}
 
 fn is_digit(b: SignalBit) -> bool
     ensures { λ r. ⌜ r ≡ isDigit b ⌝ }

@@ -2,5 +2,3 @@ pub mod Pieces
 pub mod CutLaws
 pub mod Runs
 pub mod RunLaws
-pub mod Steps
-pub mod StepLaws

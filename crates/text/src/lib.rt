@@ -102,6 +102,15 @@ pub fn put_integer(out: &mut [u8], at: usize, word: u32) -> usize
     put_decimal(out, end, LAST_WORD - word + 1)
 }
 
+// A token behind a space.
+pub fn put_token(out: &mut [u8], at: usize, s: &[u8]) -> usize
+    requires { ⌜ at ≤ pastText ⌝ }
+    ensures { λ r. ⌜ Written at (32 ∷ now (s .entry)) (now (out .entry)) (now (out .exit)) r ⌝ }
+{
+    let space = put_byte(out, at, b' ');
+    put_bytes(out, space, s)
+}
+
 // The program's answer to a file that it refuses.
 pub fn put_refusal(out: &mut [u8], at: usize, number: u32, place: u32) -> usize
     requires { ⌜ at ≤ pastText ⌝ }

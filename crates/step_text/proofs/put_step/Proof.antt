@@ -2,12 +2,12 @@
 -- Assumes nothing.
 use mathlib.Core.Path.{sym, _∙_}
 use Rattle.text.specs.Written.{written-none, written-most, written-then, written-as}
-use Rattle.signal_text.specs.StepLaws.{row-none, row-step}
+use Rattle.step_text.specs.StepLaws.{row-none, row-step}
 use borrow.Author.Tests.{not-true, not-false}
 use borrow.Author.Needs.{needs}
 use denote.Ref.{now}
-use Rattle.signal_text.proofs.put_step.Statement.{statement}
-use Rattle.signal_text.proofs.put_step.Tie as tie
+use Rattle.step_text.proofs.put_step.Statement.{statement}
+use Rattle.step_text.proofs.put_step.Tie as tie
 
 column-requires : tie.Need-column-requires
 column-requires c κs = search needs

@@ -5,8 +5,8 @@ use Rattle.scanner.proofs.RunLaws.{cut-none, cut-part}
 use native.Mathlib.Omega.{arith}
 use borrow.Author.Needs.{needs}
 use denote.Ref.{now}
-use Rattle.signal_text.proofs.words.Statement.{statement}
-use Rattle.signal_text.proofs.words.Tie as tie
+use Rattle.signal_runs.proofs.words.Statement.{statement}
+use Rattle.signal_runs.proofs.words.Tie as tie
 
 sub-result : tie.Need-sub-result
 sub-result c = search needs

@@ -1,9 +1,9 @@
 -- One of twelve codes.
 -- Assumes nothing.
 use mathlib.Core.Path.{refl}
-use Rattle.signal_text.specs.Steps.{namesStep}
-use Rattle.signal_text.proofs.names_step.Statement.{statement}
-use Rattle.signal_text.proofs.names_step.Tie as tie
+use Rattle.step_text.specs.Steps.{namesStep}
+use Rattle.step_text.proofs.names_step.Statement.{statement}
+use Rattle.step_text.proofs.names_step.Tie as tie
 
 returns : tie.Need-returns
 unfolding namesStep

@@ -3,10 +3,10 @@
 use mathlib.Core.Path.{refl, sym}
 use mathlib.Core.List.{append-nil}
 use Rattle.text.specs.Written.{written-most, written-then, written-as}
-use Rattle.signal_text.specs.StepLaws.{gapText}
+use Rattle.step_text.specs.StepLaws.{gapText}
 use borrow.Author.Needs.{needs}
-use Rattle.signal_text.proofs.put_listed.Statement.{statement}
-use Rattle.signal_text.proofs.put_listed.Tie as tie
+use Rattle.step_text.proofs.put_listed.Statement.{statement}
+use Rattle.step_text.proofs.put_listed.Tie as tie
 
 put-signal-requires : tie.Need-put-signal-requires
 put-signal-requires c κs = search needs

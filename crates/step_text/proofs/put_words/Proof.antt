@@ -4,10 +4,10 @@ use mathlib.Core.Path.{refl}
 use borrow.Author.Tests.{ne-eqb}
 use Rattle.rules.specs.Text.{stepTokens, wordToken, spaced, behind, tight, tokenText}
 use Rattle.netlist.specs.Steps.{stepNamed}
-use Rattle.signal_text.specs.Steps.{stepWords}
+use Rattle.step_text.specs.Steps.{stepWords}
 use borrow.Author.Needs.{needs}
-use Rattle.signal_text.proofs.put_words.Statement.{statement}
-use Rattle.signal_text.proofs.put_words.Tie as tie
+use Rattle.step_text.proofs.put_words.Statement.{statement}
+use Rattle.step_text.proofs.put_words.Tie as tie
 
 slice-aggregate-put-bytes : tie.Need-slice-aggregate-put-bytes
 slice-aggregate-put-bytes c = refl

@@ -20,8 +20,8 @@ use Rattle.lists.specs.Parts.{slice-span, slice-le}
 use Rattle.numbers.specs.Kinds.{signalOf}
 use Rattle.wires.specs.Rows.{column}
 use Rattle.netlist.specs.Steps.{stepNamed, pieces, signalsAt}
 use Rattle.signal_text.specs.Pieces.{spread, Piece, piece-none, piece-word, piece-comma, piece-sig, piece-append, spread-append, spaced-word}
-use Rattle.signal_text.specs.Steps.{namesStep, stepWords, commaIf, signalsText, stepText}
+use Rattle.step_text.specs.Steps.{namesStep, stepWords, commaIf, signalsText, stepText}
 
 -- a code is that of a step, or of none
 pub by-code : (P : ℕ → Option Step → Type 0) → ((p : Step) → P (stepCode p) (some p)) → ((t : ℕ) → namesStep t ≡ false → P t none) → (t : ℕ) → P t (stepNamed t)

@@ -1,9 +1,9 @@
 -- One piece behind another.
 -- Assumes nothing.
 use Rattle.text.specs.Written.{written-most, written-then}
 use borrow.Author.Needs.{needs}
-use Rattle.signal_text.proofs.put_token.Statement.{statement}
-use Rattle.signal_text.proofs.put_token.Tie as tie
+use Rattle.text.proofs.put_token.Statement.{statement}
+use Rattle.text.proofs.put_token.Tie as tie
 
 put-byte-requires : tie.Need-put-byte-requires
 put-byte-requires c κs = search needs

@@ -8,9 +8,9 @@ use denote.Ref.{now}
 use Rattle.text.specs.Written.{written-most, written-as}
 use Rattle.text.specs.Reaches.{Reaches, reaches-start, reaches-next, reaches-end}
 use Rattle.wire_names.specs.Now.{wiresIn}
-use Rattle.signal_text.specs.StepLaws.{piecesText, words-le, pieces-next, pieces-end, row-signals}
-use Rattle.signal_text.proofs.put_signals.Statement.{statement}
-use Rattle.signal_text.proofs.put_signals.Tie as tie
+use Rattle.step_text.specs.StepLaws.{piecesText, words-le, pieces-next, pieces-end, row-signals}
+use Rattle.step_text.proofs.put_signals.Statement.{statement}
+use Rattle.step_text.proofs.put_signals.Tie as tie
 
 abbrev Inv-loop : tie.InvT-loop
 Inv-loop names bits wires rows m row comma out₀ at width start₀ left₀ end₀ out start left end =

@@ -6,10 +6,10 @@ use Rattle.rules.specs.Text.{stepTokens, wordToken, spaced, behind, tight, toke
 use Rattle.netlist.specs.Steps.{stepNamed}
 use Rattle.text.specs.Written.{written-none}
 use denote.Ref.{now}
-use Rattle.signal_text.specs.Steps.{stepWords}
+use Rattle.step_text.specs.Steps.{stepWords}
 use borrow.Author.Needs.{needs}
-use Rattle.signal_text.proofs.put_event.Statement.{statement}
-use Rattle.signal_text.proofs.put_event.Tie as tie
+use Rattle.step_text.proofs.put_event.Statement.{statement}
+use Rattle.step_text.proofs.put_event.Tie as tie
 
 slice-aggregate-put-bytes : tie.Need-slice-aggregate-put-bytes
 slice-aggregate-put-bytes c = refl
