@@ -38,8 +38,8 @@ use Rattle.syntax.specs.declared.Statement.the-variants.{Autoidx, Attribute, Mo
 use Rattle.context.specs.Sizes.{KindSizesAre, sizesOf, AtMost}
 use Rattle.context.specs.declared.sizes.Sizes.{Sizes}
 use Rattle.context.proofs.SizeLaws.{sizes-small}
-use Rattle.signals.specs.Faults.{merge}
-use Rattle.signals.proofs.FaultLaws.{merge-zero}
+use Rattle.faults.specs.Faults.{merge}
+use Rattle.faults.proofs.FaultLaws.{merge-zero}
 use Rattle.syntax.specs.SignalLaws.{signal-long}
 use Rattle.judgement.specs.Parts.{namedParts, refusalParts, connectionParts, stepParts, partsOf, bitsIn, constantsIn, digitsIn, bytesIn, SizesAre, Coded}
 use Rattle.judgement.specs.declared.Parts.{Parts}

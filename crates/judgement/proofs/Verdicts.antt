@@ -29,8 +29,8 @@ use Rattle.context.proofs.PlaceLaws.{context-is}
 use Rattle.context.proofs.SizeLaws.{sums-step, exceeds-sums}
 use Rattle.netlist.specs.Steps.{stepNamed}
 use Rattle.netlist.specs.Found.{foundIn}
-use Rattle.signals.specs.Faults.{merge}
-use Rattle.signals.proofs.FaultLaws.{merge-zero}
+use Rattle.faults.specs.Faults.{merge}
+use Rattle.faults.proofs.FaultLaws.{merge-zero}
 use Rattle.netlist.specs.FoundLaws.{takes-found}
 use Rattle.judgement.specs.Parts.{partsOf, takenIn, SizesAre, unevenIn, UnevenIs}
 use Rattle.judgement.specs.declared.Parts.{Parts}

@@ -15,8 +15,8 @@ use Rattle.rules.specs.Signals.{Wires, width, declaredWire, goodSlice, parts}
 use Rattle.rules.specs.Numbers.{goodNumbers}
 use Rattle.rules.specs.Judgement.{sum, equal, lowest}
 use Rattle.lists.specs.Tests.{by-test, and-true-left, and-true-right}
-use Rattle.signals.specs.Faults.{faults, merge, mild}
-use Rattle.signals.proofs.FaultLaws.{merge-zero, mild-merge, late-merge}
+use Rattle.faults.specs.Faults.{faults, merge, mild}
+use Rattle.faults.proofs.FaultLaws.{merge-zero, mild-merge, late-merge}
 use Rattle.signal_list.specs.Lists.{listFault}
 use Rattle.signal_list.specs.Sums.{unevenFault, totalFault}
 

@@ -19,10 +19,10 @@ use Rattle.lists.specs.Lists.{flatMap-snoc}
 use Rattle.lists.specs.Sums.{sum-append}
 use Rattle.lists.specs.Parts.{slice-span, take-kept}
 use Rattle.netlist.specs.Steps.{pieces}
-use Rattle.signals.specs.Faults.{faults, fault, merge, mild}
+use Rattle.faults.specs.Faults.{faults, fault, merge, mild}
 use Rattle.signals.specs.Held.{codes, Held, Kept}
 use Rattle.signals.specs.declared.Bits.{Bits}
-use Rattle.signals.proofs.FaultLaws.{merge-zero, mild-merge, faults-none, faults-append}
+use Rattle.faults.proofs.FaultLaws.{merge-zero, mild-merge, faults-none, faults-append}
 use Rattle.signal_list.specs.Sums.{placeOf, addedTo, unevenFault, totalFault, listedOf}
 use Rattle.signal_list.specs.Reads.{ListHeld}
 use Rattle.signal_list.specs.declared.Sum.{Sum}

@@ -10,7 +10,7 @@ use Rattle.rules.specs.Statements.{Sig}
 use Rattle.rules.specs.Signals.{Wires, width, bits}
 use Rattle.tokens.specs.Rows.{line}
 use Rattle.netlist.specs.Steps.{pieces}
-use Rattle.signals.specs.Faults.{mild}
+use Rattle.faults.specs.Faults.{mild}
 use Rattle.signals.specs.Held.{codes}
 use Rattle.signals.specs.Reads.{AnswerIs}
 use Rattle.signals.specs.declared.Answer.{Answer}

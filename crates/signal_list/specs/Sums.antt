@@ -3,7 +3,7 @@ use Prim.Native.Nat.{ℕ, _+_}
 use mathlib.Core.Bool.{Bool, true, cond, _&&_}
 use lib.Dec.{ltb, eqb}
 use Rattle.rules.specs.Limits.{mostSignalBits}
-use Rattle.signals.specs.Faults.{merge}
+use Rattle.faults.specs.Faults.{merge}
 use Rattle.signals.specs.declared.Bits.{Bits}
 use Rattle.signal_list.specs.declared.Sum.{Sum}
 use Rattle.signal_list.specs.declared.Listed.{Listed}

@@ -1,11 +1,11 @@
 // The signals of a line up to its end, one behind another or with a comma between. Their bits go to a scratch table, each signal's behind
 // those before it.
+use faults::merge;
 use netlist::results::BAD_WIDTH;
 use netlist::results::TOO_MANY;
 use signals::Answer;
 use signals::Bits;
 use signals::ModuleWires;
-use signals::merge;
 use signals::signal;
 use tokens::Token;
 ghost use mathlib.Core.Path.{_≡_};

@@ -16,12 +16,12 @@ use Rattle.lists.specs.Tests.{and-true-left, and-true-right}
 use Rattle.lists.specs.Parts.{slice-join, slice-kept, take-kept}
 use Rattle.tokens.specs.Rows.{line}
 use Rattle.tokens.proofs.TokenLaws.{line-long}
-use Rattle.signals.specs.Faults.{faults, fault, merge, tooWide, mild}
+use Rattle.faults.specs.Faults.{faults, fault, merge, tooWide, mild}
 use Rattle.signals.specs.Held.{codes, Held, Kept}
 use Rattle.signals.specs.Reads.{markAt, membersOn, SignalIs, BundleIs}
 use Rattle.signals.specs.declared.Bits.{Bits}
 use Rattle.signals.specs.declared.Answer.the-variants.{Read, NoShape}
-use Rattle.signals.proofs.FaultLaws.{merge-zero, mild-merge, late-merge, too-wide-late, wide-zero, faults-none, faults-append, faults-front, own-width}
+use Rattle.faults.proofs.FaultLaws.{merge-zero, mild-merge, late-merge, too-wide-late, wide-zero, faults-none, faults-append, faults-front, own-width}
 use Rattle.signals.proofs.Codes.{codes-append}
 use Rattle.signals.proofs.HeldLaws.{sized, kept-same}
 use Rattle.signals.proofs.SliceLaws.{kept-on}

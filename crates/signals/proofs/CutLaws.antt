@@ -21,10 +21,10 @@ use Rattle.lists.specs.Tests.{by-test}
 use Rattle.lists.specs.Parts.{slice-within}
 use Rattle.slices.specs.Slices.{taking, slice-slice}
 use Rattle.tables.specs.Store.{store, store-slice}
-use Rattle.signals.specs.Faults.{faults, fault, merge, tooWide}
+use Rattle.faults.specs.Faults.{faults, fault, merge, tooWide}
 use Rattle.signals.specs.Held.{PartOf, Inside, CutIs, MovedIs}
 use Rattle.signals.specs.declared.Part.{Part}
-use Rattle.signals.proofs.FaultLaws.{merge-zero, late-merge, too-wide-late, wide-zero, faults-front, own-slice, own-width}
+use Rattle.faults.proofs.FaultLaws.{merge-zero, late-merge, too-wide-late, wide-zero, faults-front, own-slice, own-width}
 use Rattle.signals.proofs.HeldLaws.{parted, part-not, kept-same, kept-store}
 
 -- ---- bounds

@@ -23,11 +23,11 @@ use Rattle.wires.specs.FoundLaws.{found-declared, found-width, found-bits}
 use Rattle.wires.specs.declared.Found.{Found}
 use Rattle.literals.specs.Codes as literal
 use Rattle.literals.proofs.CodeLaws.{codes-long}
-use Rattle.signals.specs.Faults.{fault, merge, tooWide, mild}
+use Rattle.faults.specs.Faults.{fault, merge, tooWide, mild}
 use Rattle.signals.specs.Held.{codes, Held, Kept, Put, PartOf}
 use Rattle.signals.specs.declared.Bits.{Bits}
 use Rattle.signals.specs.declared.Part.{Part}
-use Rattle.signals.proofs.FaultLaws.{merge-none, mild-not, mild-none, mild-merge, own-number, own-wire, own-width}
+use Rattle.faults.proofs.FaultLaws.{merge-none, mild-not, mild-none, mild-merge, own-number, own-wire, own-width}
 use Rattle.signals.proofs.Codes.{length-wire-codes}
 
 pub kept-same : (o : ℕ) (out : List ℕ) → Kept o out out

@@ -1,4 +1,3 @@
-pub mod FaultLaws
 pub mod Codes
 mod HeldLaws
 pub mod Parses

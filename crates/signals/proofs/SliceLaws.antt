@@ -20,14 +20,14 @@ use Rattle.tokens.specs.Rows.{line, integerIn}
 use Rattle.tokens.proofs.TokenLaws.{line-long}
 use Rattle.tokens.specs.declared.Integer.{Integer}
 use Rattle.tokens.specs.declared.Slot.{Slot}
-use Rattle.signals.specs.Faults.{fault, merge}
+use Rattle.faults.specs.Faults.{fault, merge}
 use Rattle.signals.specs.Held.{codes, Held, Kept, PartOf, Inside, CutIs, MovedIs}
 use Rattle.signals.specs.Reads.{markAt, slotIn, slicedOn, SliceIs, BoundsIs, SlicesIs}
 use Rattle.signals.specs.declared.Bits.{Bits}
 use Rattle.signals.specs.declared.Part.{Part}
 use Rattle.signals.specs.declared.Answer.the-variants as answer
 use Rattle.signals.specs.declared.Bounds.the-variants as bound
-use Rattle.signals.proofs.FaultLaws.{faults-front, own-number}
+use Rattle.faults.proofs.FaultLaws.{faults-front, own-number}
 use Rattle.signals.proofs.Codes.{length-codes, codes-part}
 use Rattle.signals.proofs.HeldLaws.{parted, part-not, kept-same}
 use Rattle.signals.proofs.CutLaws.{stays}

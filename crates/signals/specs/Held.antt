@@ -14,7 +14,7 @@ use Rattle.rules.specs.Statements.{Sig, Signal}
 use Rattle.rules.specs.Signals.{Wires, width, bits, lower}
 use Rattle.numbers.specs.Signed.{signedOf}
 use Rattle.rules.specs.Layout.{bitCode}
-use Rattle.signals.specs.Faults.{fault, mild}
+use Rattle.faults.specs.Faults.{fault, mild}
 use Rattle.signals.specs.declared.Bits.{Bits}
 use Rattle.signals.specs.declared.Part.{Part}
 

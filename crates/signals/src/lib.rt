@@ -1,5 +1,6 @@
 // Signals: the signal reader and the bundle reader call each other, the unread part of the line and the depth falling. Bits are put
 // into a scratch table from the top, the members of a bundle as they come; the part that slices leave is moved down to where the signal began.
+use faults::merge;
 use literal_rules::Number;
 use name_search::indexed_wire;
 use netlist::results::BAD_NUMBER;
@@ -25,7 +26,7 @@ ghost use Rattle.tokens.specs.Rows.{integerIn, literalIn};
 ghost use Rattle.literals.specs.Codes.{Whole};
 ghost use Rattle.wires.specs.Rows.{wiresFrom};
 ghost use Rattle.name_index.specs.Index.{WiresIndexed};
-ghost use Rattle.signals.specs.Faults.{merge, tooWide};
+ghost use Rattle.faults.specs.Faults.{tooWide};
 ghost use Rattle.signals.specs.Held.{codes, Put, PutAny, InWord, CutIs, MovedIs};
 ghost use Rattle.signals.specs.Reads.{markAt, slotIn, BoundsIs, SliceIs, SlicesIs, AtomIs, SignalIs, BundleIs, Readable};
 
@@ -78,19 +79,6 @@ enum Bounds {
         next: usize,
     },
     NoShape,
-}
-
-// The lower of two refusal numbers, of which 0 is none.
-pub fn merge(a: u32, b: u32) -> u32
-    ensures { λ r. ⌜ r ≡ merge a b ⌝ }
-{
-    if a == 0 {
-        return b;
-    }
-    if b == 0 {
-        return a;
-    }
-    if a < b { a } else { b }
 }
 
 // A part is at most 2,048 bits wide.

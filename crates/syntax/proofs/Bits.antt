@@ -23,7 +23,7 @@ use Rattle.lists.specs.Parts.{slice-kept}
 use Rattle.numbers.specs.Kinds.{bitOf, bitAt, signalOf}
 use Rattle.numbers.specs.KindLaws as kinds
 use Rattle.numbers.specs.KindLaws.{Within, bit-back}
-use Rattle.signals.specs.Faults.{faults, fault}
+use Rattle.faults.specs.Faults.{faults, fault}
 use Rattle.signals.specs.Held.{codes, Held}
 use Rattle.signals.specs.declared.Bits.{Bits}
 use Rattle.syntax.specs.Statements.{signalIn}

@@ -17,10 +17,10 @@ use Rattle.lists.specs.Tests.{by-cond, and-true-left, and-true-right}
 use Rattle.lists.specs.Elements.{Each, all-left, all-right}
 use Rattle.line_forms.specs.Forms.{nameIn}
 use Rattle.line_forms.specs.declared.Span.{Span}
-use Rattle.signals.specs.Faults.{faults, fault, merge, mild}
+use Rattle.faults.specs.Faults.{faults, fault, merge, mild}
 use Rattle.signals.specs.Held.{Held}
 use Rattle.signals.specs.declared.Bits.{Bits}
-use Rattle.signals.proofs.FaultLaws.{faults-none, faults-append, merge-none, merge-zero, mild-merge, late-merge}
+use Rattle.faults.proofs.FaultLaws.{faults-none, faults-append, merge-none, merge-zero, mild-merge, late-merge}
 use Rattle.syntax.specs.Statements.{numberOf, faultOf, early, overfull, widthFault, statementIn, kindIn, namesIn, stepsOf, widthsIn, Judged, Says, judged, faulted}
 use Rattle.syntax.specs.declared.Statement.{Statement}
 use Rattle.syntax.specs.declared.Statement.the-variants as statement

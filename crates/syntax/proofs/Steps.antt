@@ -23,7 +23,7 @@ use Rattle.netlist.specs.StepLaws.{step-back}
 use Rattle.line_forms.specs.Processes.{processKindOf, stepParse}
 use Rattle.line_forms.specs.declared.ProcessKind.the-variants as processKind
 use Rattle.line_forms.proofs.ProcessLaws.{step-kind}
-use Rattle.signals.specs.Faults.{mild}
+use Rattle.faults.specs.Faults.{mild}
 use Rattle.signal_list.specs.Lists.{listed, stepWith, listFault}
 use Rattle.signal_list.specs.ListLaws.{none-taken, one-taken, two-taken, case-taken}
 use Rattle.signal_list.specs.Reads.{ListHeld, ListRead}

@@ -21,7 +21,7 @@ use Rattle.signals.proofs.signal.Kinds as signal-kinds
 use Rattle.signals.proofs.+bundle+signal.Lts-signal as signal-lts
 use Rattle.signals.proofs.atom.Reads as atom-reads
 use Rattle.signals.proofs.is_mark.Reads as is-mark-reads
-use Rattle.signals.proofs.merge.Reads as merge-reads
+use Rattle.faults.proofs.merge.Reads as merge-reads
 use Rattle.signals.proofs.slices.Reads as slices-reads
 use Rattle.signals.proofs.too_wide.Reads as too-wide-reads
 use Rattle.signals.proofs.+bundle+signal.{statement}

@@ -1,7 +1,7 @@
 -- `too_wide` meets its contract.
 -- Assumes nothing.
 use borrow.Author.Tests.{lt-ltb, le-ltb}
-use Rattle.signals.specs.Faults.{tooWide}
+use Rattle.faults.specs.Faults.{tooWide}
 use Rattle.signals.proofs.too_wide.Statement.{statement}
 use Rattle.signals.proofs.too_wide.Tie as tie
 

@@ -1,9 +1,9 @@
 -- `merge` meets its contract, test by test.
 -- Assumes nothing.
 use borrow.Author.Tests.{lt-ltb, le-ltb, eq-eqb, ne-eqb}
-use Rattle.signals.specs.Faults.{merge}
-use Rattle.signals.proofs.merge.Statement.{statement}
-use Rattle.signals.proofs.merge.Tie as tie
+use Rattle.faults.specs.Faults.{merge}
+use Rattle.faults.proofs.merge.Statement.{statement}
+use Rattle.faults.proofs.merge.Tie as tie
 
 returns : tie.Need-returns
 unfolding merge

@@ -15,7 +15,7 @@ use Rattle.rules.specs.Numbers.{goodNumbers}
 use Rattle.rules.specs.Judgement.{lowest}
 use Rattle.lists.specs.Tests.{by-cond, by-test, never, by-order}
 use Rattle.lists.specs.Elements.{all-split}
-use Rattle.signals.specs.Faults.{faults, merge, tooWide, mild}
+use Rattle.faults.specs.Faults.{faults, merge, tooWide, mild}
 
 -- ---- merge
 
