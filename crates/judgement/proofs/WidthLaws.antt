@@ -12,37 +12,20 @@ use lib.ListN.{length, take, replicate}
 use Rattle.rules.specs.Bytes.{all}
 use Rattle.rules.specs.Statements.{Signal, Step, assign, update, switch, case, low, high, posedge, negedge, edge, global, init, always, stepCode}
 use Rattle.rules.specs.Judgement.{Past, equal, stepWidths, switches}
-use Rattle.lists.specs.Tests.{by-cond, by-test, or-false-left, or-false-right, never}
+use Rattle.lists.specs.Tests.{by-test, or-false-left, or-false-right, never}
 use Rattle.context.specs.declared.place.Place.{Place}
 use Rattle.netlist.specs.Steps.{stepNamed}
+use Rattle.netlist.specs.StepLaws.{by-named}
 use Rattle.steps.specs.Steps.{widths, AskedIs}
 use Rattle.steps.specs.declared.Asked.{Asked}
 use Rattle.judgement.specs.Parts.{Coded, unevenIn, UnevenIs}
 
 -- ---- the code of a step by its name
 
-unfoldable codeIn : Option Step → ℕ
-codeIn none = 0
-codeIn (some p) = stepCode p
-
 named-code : (t : ℕ) (q : Step) → stepNamed t ≡ some q → stepCode q ≡ t
-unfolding stepNamed stepCode codeIn
 named-code t q =
-    let P : Option Step → Type 0 = λ o. o ≡ some q → stepCode q ≡ t in
-    let is : (p : Step) → eqb t (stepCode p) ≡ true → P (some p) = λ p e h. sym (ap codeIn h) ∙ sym (eqb-true t (stepCode p) e) in
-    by-cond P (eqb t 19) (is assign)
-    (λ e. by-cond P (eqb t 31) (is update)
-    (λ e. by-cond P (eqb t 20) (is switch)
-    (λ e. by-cond P (eqb t 21) (is case)
-    (λ e. by-cond P (eqb t 26) (is low)
-    (λ e. by-cond P (eqb t 27) (is high)
-    (λ e. by-cond P (eqb t 28) (is posedge)
-    (λ e. by-cond P (eqb t 29) (is negedge)
-    (λ e. by-cond P (eqb t 30) (is edge)
-    (λ e. by-cond P (eqb t 23) (is global)
-    (λ e. by-cond P (eqb t 24) (is init)
-    (λ e. by-cond P (eqb t 25) (is always)
-    (λ e h. let z : _≡_ {A = ℕ} 0 1 = cc in absurd (omega arith)))))))))))))
+    by-named t (λ o. o ≡ some q → stepCode q ≡ t) (λ h. let z : _≡_ {A = ℕ} 0 1 = cc in absurd (omega arith))
+    (λ p e h. let same : p ≡ q = cc in ap stepCode (sym same) ∙ e)
 
 -- ---- equal widths
 

@@ -11,15 +11,14 @@ use native.Mathlib.Omega.{arith}
 use lib.Dec.{eqb}
 use lib.ListN.{length}
 use lib.Seq.{slice}
-use borrow.Author.Tests.{eqb-true}
 use Rattle.rules.specs.Limits.{mostWidth, mostSignalBits, longestFile}
 use Rattle.rules.specs.Statements as rules
-use Rattle.rules.specs.Statements.{Step, assign, update, switch, case, low, high, posedge, negedge, edge, global, init, always, assignStep, updateStep, switchStep, caseStep, lowStep, highStep, posedgeStep, negedgeStep, edgeStep, globalStep, initStep, alwaysStep, stepCode, step-stmt, code, holds, contents}
+use Rattle.rules.specs.Statements.{Step, stepCode, step-stmt, code, holds, contents}
 use Rattle.rules.specs.Layout as rooms
 use Rattle.rules.specs.Layout.{padded, row, bitCodes, columns, statementRow}
-use Rattle.lists.specs.Tests.{by-test}
 use Rattle.tables.specs.Store.{store, store-then}
 use Rattle.netlist.specs.Steps.{stepNamed, pieces}
+use Rattle.netlist.specs.StepLaws.{by-named}
 use Rattle.netlist.specs.Tables.{Tables, tabled}
 use Rattle.netlist.specs.declared.used.Used.{Used}
 use Rattle.netlist.specs.Used.{usedOf}
@@ -49,30 +48,10 @@ turn-put s d l l′ w n k at i h g e el el′ =
 -- ---- the code of the step that a code names
 
 module _ (p : ℕ) (q : Step) where
-  told : (c : ℕ) (x : Step) (rest : Option Step) → stepCode x ≡ c → (rest ≡ some q → stepCode q ≡ p) → cond (eqb p c) (some x) rest ≡ some q → stepCode q ≡ p
-  told c x rest e k h =
-      by-test (eqb p c)
-      (λ t. let is : some x ≡ some q = rw t at h in let at : p ≡ c = eqb-true p c t in let same : x ≡ q = cc in ap stepCode (sym same) ∙ e ∙ sym at)
-      (λ t. k (rw t at h))
-
-  never : none ≡ some q → stepCode q ≡ p
-  never h = let z : _≡_ {A = ℕ} 0 1 = cc in absurd (omega arith)
-
   pub step-code : stepNamed p ≡ some q → stepCode q ≡ p
-  unfolding stepNamed stepCode
   step-code =
-      told assignStep assign _ refl
-      (told updateStep update _ refl
-      (told switchStep switch _ refl
-      (told caseStep case _ refl
-      (told lowStep low _ refl
-      (told highStep high _ refl
-      (told posedgeStep posedge _ refl
-      (told negedgeStep negedge _ refl
-      (told edgeStep edge _ refl
-      (told globalStep global _ refl
-      (told initStep init _ refl
-      (told alwaysStep always _ refl never)))))))))))
+      by-named p (λ o. o ≡ some q → stepCode q ≡ p) (λ h. let z : _≡_ {A = ℕ} 0 1 = cc in absurd (omega arith))
+      (λ x e h. let same : x ≡ q = cc in ap stepCode (sym same) ∙ e)
 
 -- ---- what a step puts
 

@@ -8,13 +8,14 @@ use native.Mathlib.Omega.{arith}
 use borrow.Author.Tests.{ne-eqb}
 use lib.Dec.{eqb}
 use lib.ListN.{length, take, drop, length-append, length-map, length-drop, length-reverse}
-use lib.Seq.{slice, drop-drop, length-take-le}
+use lib.Seq.{slice, length-take-le}
 use Rattle.rules.specs.Layout.{bitCode, eachLength}
 use Rattle.lists.specs.Lists.{flatMap-map, flatMap-same, flatMap-snoc}
 use Rattle.lists.specs.Parts.{slice-span}
 use Rattle.numbers.specs.Kinds.{signalOf}
 use Rattle.numbers.specs.KindLaws.{codes-back, length-signal}
 use Rattle.netlist.specs.Steps.{pieces}
+use Rattle.signal_list.proofs.Pieces.{pieces-more}
 use Rattle.syntax.specs.Statements.{signalIn, signalsIn}
 
 -- the codes of a signal in scratch are those that stand there
@@ -29,14 +30,6 @@ length-pieces : (w n : ℕ) (s : List ℕ) → length (pieces w n s) ≡ n
 unfolding pieces
 length-pieces w zero s = refl
 length-pieces w (suc n) s = ap suc (length-pieces w n (drop w s))
-
-pieces-more : (w n : ℕ) (s : List ℕ) → pieces w (suc n) s ≡ pieces w n s ++ take w (drop (n * w) s) ∷ []
-unfolding pieces
-pieces-more w zero s = ap (λ (k : ℕ). take w (drop k s) ∷ []) (let q : 0 ≡ 0 * w = omega arith in q)
-pieces-more w (suc n) s =
-    ap (λ (r : List (List ℕ)). take w s ∷ r)
-    (pieces-more w n (drop w s)
-    ∙ ap (λ (r : List ℕ). pieces w n (drop w s) ++ take w r ∷ []) (drop-drop (n * w) w s ∙ ap (λ (k : ℕ). drop k s) (let q : w + n * w ≡ suc n * w = omega arith in q)))
 
 -- their words, each piece from its last on: how many, and those of one more
 pub pieces-long : (w n : ℕ) (s : List ℕ) → n * w ≤ length s → length (flatMap reverse (pieces w n s)) ≡ n * w

@@ -1,4 +1,4 @@
 mod Faults
-mod Pieces
+pub mod Pieces
 mod SumLaws
 mod ReadLaws

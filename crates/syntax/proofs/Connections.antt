@@ -35,7 +35,7 @@ earlyOf n = cond (eqb n 7) (some 7) (cond (eqb n 8) (some 8) none)
 abbrev pub first : (a b c d : Bool) → ℕ
 first a b c d = Option·getD (lowest ((7, a) ∷ (8, b) ∷ (10, c) ∷ (11, d) ∷ [])) 0
 
-early-first : (a b c d : Bool) → lowest ((7, a) ∷ (8, b) ∷ []) ≡ earlyOf (first a b c d)
+pub early-first : (a b c d : Bool) → lowest ((7, a) ∷ (8, b) ∷ []) ≡ earlyOf (first a b c d)
 unfolding lowest earlyOf
 early-first true b c d = refl
 early-first false true c d = refl

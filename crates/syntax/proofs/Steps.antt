@@ -31,7 +31,7 @@ use Rattle.signal_list.specs.declared.Listed.the-variants as list
 use Rattle.syntax.specs.Statements.{numberOf, faultOf, early, overfull, widthFault, signalsIn, statementIn, kindIn, namesIn, stepsOf, widthsIn, Says, no-shape, faulted}
 use Rattle.syntax.specs.declared.Statement.the-variants as statement
 use Rattle.syntax.proofs.Bits.{signals-back}
-use Rattle.syntax.proofs.Connections.{earlyOf, first, mild-late, by-fault}
+use Rattle.syntax.proofs.Connections.{earlyOf, first, early-first, mild-late, by-fault}
 
 -- ---- the shape: the signals up to the line's end, of which there are as many as the step has
 
@@ -51,14 +51,6 @@ step-listed init ts = none-taken init ts
 step-listed always ts = none-taken always ts
 
 -- ---- the number of the list
-
-early-first : (a b c d : Bool) → lowest ((7, a) ∷ (8, b) ∷ []) ≡ earlyOf (first a b c d)
-unfolding lowest earlyOf
-early-first true b c d = refl
-early-first false true c d = refl
-early-first false false true d = refl
-early-first false false false true = refl
-early-first false false false false = refl
 
 late-first : (a b c d : Bool) → earlyOf (first a b c d) ≡ none → Option·getD (lowest ((10, c) ∷ (11, d) ∷ [])) 0 ≡ first a b c d
 unfolding lowest earlyOf
