@@ -5,14 +5,11 @@ use mathlib.Core.Path.{_≡_, refl, sym, ap, _∙_}
 use mathlib.Core.List.{List, [], _∷_}
 use mathlib.Core.Bool.{Bool, true, false, cond}
 use native.Mathlib.Omega.{arith}
-use lib.Dec.{ltb}
-use lib.ListN.{length}
 use borrow.Author.Tests.{leb-true}
-use Rattle.rules.specs.Limits.{longestFile}
 use Rattle.rules.specs.Statements.{Statement}
 use Rattle.rules.specs.Judgement as judgement
 use Rattle.rules.specs.Judgement.{Verdict}
-use Rattle.rules.specs.Reading.{Answer, accepted, refused, read, readAny}
+use Rattle.rules.specs.Reading.{Answer, accepted, refused, read}
 use Rattle.rules.specs.Design.{design}
 use Rattle.rules.specs.Session.{Rename, Call, call, numberOf, answerOf, standing, plainSession}
 use Rattle.rules.specs.Layout.{Memory, layout}
@@ -25,6 +22,7 @@ use Rattle.memory_check.specs.HeldLaws.{holds-sizes}
 use Rattle.session.specs.Called.{holding, after, CalledAs}
 use Rattle.session.specs.CalledLaws.{called-one}
 use Rattle.theorems.specs.StandingLaws.{allowed-session}
+use Rattle.theorems.specs.ReadingBack.{read-any}
 
 -- what a call answers
 abbrev pub answerIn : Result → ℕ × ℕ
@@ -65,14 +63,6 @@ module _ {m : Memory} {ss : List Statement} {rs : List Rename} (h : Holds m ss r
       }
 
 -- A FILE THAT IS READ
-any-accepted : (b : Bool) (a : Answer) (ss : List Statement) → cond b (refused 2 0) a ≡ accepted ss → a ≡ accepted ss
-any-accepted true a ss e = cc
-any-accepted false a ss e = e
-
-read-any : (file : List ℕ) (ss : List Statement) → read file ≡ accepted ss → readAny file ≡ accepted ss
-unfolding read
-read-any file ss e = any-accepted (ltb longestFile (length file)) (readAny file) ss e
-
 module _ (file : List ℕ) {x : Result} {ss : List Statement} (a : read file ≡ accepted ss) where
   -- into tables of the right lengths
   pub read-leaves : (m : Memory) → rightLengths m ≡ true → x ≡ readInto file m → x ≡ result 0 0 (layout ss [])

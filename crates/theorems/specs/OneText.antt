@@ -15,7 +15,7 @@ use Rattle.admitted.specs.Holds.{Holds}
 use Rattle.admitted.specs.JudgeLaws.{no-tests}
 use Rattle.theorems.specs.ReadingBack.{text-back, same-design, write-read}
 
-written-text : (room : ℕ) (d : Design) (t : List ℕ) → write room d ≡ Verdict.accepted t → text d ≡ t
+pub written-text : (room : ℕ) (d : Design) (t : List ℕ) → write room d ≡ Verdict.accepted t → text d ≡ t
 unfolding write writeText
 written-text room d t e = no-tests (text d) t _ e .0
 

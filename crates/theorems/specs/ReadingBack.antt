@@ -3,7 +3,7 @@
 -- Assumes nothing.
 use Prim.Native.Nat.{ℕ, _≤_}
 use mathlib.Core.Path.{_≡_}
-use mathlib.Core.Bool.{true}
+use mathlib.Core.Bool.{Bool, true, false, cond}
 use mathlib.Core.List.{List, [], reverse}
 use lib.Dec.{ltb}
 use lib.ListN.{length}
@@ -11,7 +11,7 @@ use borrow.Author.Tests.{ltb-false}
 use Rattle.rules.specs.Limits.{longestFile}
 use Rattle.rules.specs.Statements.{Statement}
 use Rattle.rules.specs.Judgement.{Verdict}
-use Rattle.rules.specs.Reading.{accepted, readAny, read}
+use Rattle.rules.specs.Reading.{Answer, accepted, refused, readAny, read}
 use Rattle.rules.specs.Design.{Design, design, flatten}
 use Rattle.rules.specs.Session.{Rename, now}
 use Rattle.rules.specs.Layout.{Memory}
@@ -27,6 +27,15 @@ use Rattle.written.specs.TextLaws.{any-read, text-read}
 -- a list of statements, in any order that is admitted, and of any length
 pub lines-back : (ss : List Statement) → admitted (reverse ss) ≡ true → closes (reverse ss) ≡ true → readAny (textFrom [] ss) ≡ accepted ss
 lines-back = any-read
+
+-- a file that is read has no more than 32,768 bytes
+any-accepted : (b : Bool) (a : Answer) (ss : List Statement) → cond b (refused 2 0) a ≡ accepted ss → a ≡ accepted ss
+any-accepted true a ss e = cc
+any-accepted false a ss e = e
+
+pub read-any : (file : List ℕ) (ss : List Statement) → read file ≡ accepted ss → readAny file ≡ accepted ss
+unfolding read
+read-any file ss e = any-accepted (ltb longestFile (length file)) (readAny file) ss e
 
 -- a file that reading accepts as this design
 pub record ReadsAs (file : List ℕ) (d : Design) : Type 0 where

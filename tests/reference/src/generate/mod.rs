@@ -1,15 +1,18 @@
 //! Seeded files: well-formed, aimed at refusals, at the limits, mutated and random.
 
 mod any_text;
+mod changed;
 mod faults;
 mod limits;
 mod mutations;
 mod pieces;
 mod processes;
 pub mod random;
+mod respelled;
 mod signals;
 mod well_formed;
 
+use crate::design::Design;
 use crate::reading::read;
 use crate::vectors::Vector;
 use random::Random;
@@ -97,6 +100,30 @@ fn accepted(seed: u64) -> Vec<u8> {
     let files = (seed..).map(|one| well_formed_file(one, SizeClass::of(one)));
     let mut accepted = files.filter(|file| read(file).is_ok());
     accepted.next().expect("some file is accepted")
+}
+
+/// Another file of this design; it may still be too long.
+pub fn respelled(seed: u64, design: &Design) -> Vec<u8> {
+    respelled::file(&mut Random::new(seed), design)
+}
+
+/// An accepted file, and a second one: the first respelled, its design respelled after one change, or the first after some changes of its bytes.
+pub fn pair(seed: u64) -> (Vec<u8>, Vec<u8>) {
+    let file = accepted(seed);
+    let mut random = Random::new(seed);
+    let design = read(&file).map(|netlist| netlist.design());
+    let design = design.expect("an accepted file");
+    let other = match seed % 3 {
+        0 => respelled::file(&mut random, &design),
+        1 => {
+            let mut changes = (0..20).map(|_| changed::changed(&mut random, &design));
+            let changed = changes.find(|changed| *changed != design);
+            let changed = changed.unwrap_or_else(|| design.clone());
+            respelled::file(&mut random, &changed)
+        }
+        _ => mutated(seed, file.clone()),
+    };
+    (file, other)
 }
 
 /// A file with one size at its limit, one under or one over.
