@@ -20,7 +20,7 @@ extern "C" {
 
 enum { SKYTASSEL_NAMES = 16384, SKYTASSEL_STRINGS = 8192, SKYTASSEL_BITS = 16384, SKYTASSEL_WIRES = 8 * 512, SKYTASSEL_ROWS = 8 * 6945, SKYTASSEL_TEXT = 32768 };
 
-/* The session card: renames standing, name room used. A refusal's place is 0, but from number 4 on in reading: for 4 the first byte of the line's leftmost bad
+/* The session card: renames standing, name room used. A refusal's place is 0, but from number 4 on in the check and the fill: for 4 the first byte of the line's leftmost bad
  * token, else the refused line's first byte that is neither space nor tab, or the file's length. Look-up, index, show, measure and write give no place, since it
  * would always be 0; refused, they give 0 beside their number. */
 struct skytassel_card { uint32_t renames, room; };
@@ -36,8 +36,10 @@ struct skytassel_part_answer { uint32_t number, table; size_t start, length; };
     const uint8_t *names, size_t names_length, const uint8_t *strings, size_t strings_length, const uint32_t *bits, size_t bits_length, \
     const uint32_t *wires, size_t wires_length, const uint32_t *rows, size_t rows_length, uint32_t renames, uint32_t room
 
-/* Reads a file, whatever the tables and the card held. On 1 nothing is touched; on any other refusal tables and card are zero. */
-struct skytassel_answer skytassel_read(const uint8_t *file, size_t file_length,
+/* Reading, in two halves. The check is lent only the file and gives the number and place of the fill, 1 apart. The fill judges the file itself, whatever was
+ * checked before and whatever the tables and the card held. On 1, which goes first, nothing is touched; on any other refusal tables and card are zero. */
+struct skytassel_answer skytassel_check(const uint8_t *file, size_t file_length);
+struct skytassel_answer skytassel_fill(const uint8_t *file, size_t file_length,
     uint8_t *names, size_t names_length, uint8_t *strings, size_t strings_length, uint32_t *bits, size_t bits_length,
     uint32_t *wires, size_t wires_length, uint32_t *rows, size_t rows_length, struct skytassel_card *card);
 

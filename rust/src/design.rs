@@ -1,7 +1,7 @@
 //! A design in memory of its own.
 
 use crate::lent::{Lent, View, BITS, NAMES, ROWS, STRINGS, WIRES};
-use crate::refusal::{Refusal, Refused};
+use crate::refusal::{answer, placed, Refusal, Refused};
 use crate::sys::Card;
 
 /// The number of a module of the design, from 0 in file order.
@@ -37,16 +37,8 @@ pub struct Design {
     card: Card,
 }
 
-/// A call's answer, or the refusal of its number.
-fn answer<T>(number: u32, given: T) -> Result<T, Refusal> {
-    if number == 0 {
-        return Ok(given);
-    }
-    Err(Refusal::of(number).expect("a number of the table of refusals"))
-}
-
 impl Design {
-    /// The design that a file defines.
+    /// The design that a file defines. Whether it defines one, [`crate::check`] says without memory for it.
     ///
     /// ```
     /// use skytassel::{Design, Refusal};
@@ -63,12 +55,8 @@ impl Design {
             rows: vec![0; ROWS].into(),
             card: Card::default(),
         };
-        let given = design.lent().read(file);
-        let refused = |refusal| Refused {
-            refusal,
-            place: given.place as usize,
-        };
-        answer(given.number, ()).map_err(refused)?;
+        let given = design.lent().fill(file);
+        placed(given.number, given.place, ())?;
         Ok(design)
     }
 

@@ -125,10 +125,10 @@ impl<'a> Lent<'a> {
         }
     }
 
-    /// Reads a file: number and place. On 1 nothing is touched, on any other refusal all memory is zero.
-    pub fn read(&mut self, file: &[u8]) -> Answer {
+    /// Reads a file into the memory: number and place. On 1 nothing is touched, on any other refusal all memory is zero.
+    pub fn fill(&mut self, file: &[u8]) -> Answer {
         call!(
-            skytassel_read,
+            skytassel_fill,
             [file.as_ptr(), file.len()],
             self,
             as_mut_ptr,

@@ -1,6 +1,7 @@
 //! Reads, writes and reversibly renames RTLIL netlists, over Skytassel's proved library.
 //!
 //! - [`Design`]: a design in memory of its own, with the calls as methods and refusals as [`Refusal`].
+//! - [`check`]: what is asked of a file alone, without memory for a design.
 //! - [`lent`]: the calls on memory that somebody lends, in any state.
 //! - [`sys`]: the exported calls themselves.
 //!
@@ -8,9 +9,11 @@
 //! Build the library first: `bash include/library.sh`.
 
 mod design;
+mod file;
 pub mod lent;
 mod refusal;
 pub mod sys;
 
 pub use design::{Design, ModuleNumber, WireNumber};
+pub use file::check;
 pub use refusal::{Refusal, Refused};

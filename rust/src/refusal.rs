@@ -100,6 +100,20 @@ pub struct Refused {
     pub place: usize,
 }
 
+/// A call's answer, or the refusal of its number.
+pub(crate) fn answer<T>(number: u32, given: T) -> Result<T, Refusal> {
+    if number == 0 {
+        return Ok(given);
+    }
+    Err(Refusal::of(number).expect("a number of the table of refusals"))
+}
+
+/// The answer of a call that gives a place too.
+pub(crate) fn placed<T>(number: u32, place: u32, given: T) -> Result<T, Refused> {
+    let place = place as usize;
+    answer(number, given).map_err(|refusal| Refused { refusal, place })
+}
+
 impl fmt::Display for Refused {
     fn fmt(&self, to: &mut fmt::Formatter<'_>) -> fmt::Result {
         write!(to, "{} (at byte {})", self.refusal, self.place)

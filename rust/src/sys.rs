@@ -48,7 +48,9 @@ pub struct PartAnswer {
 }
 
 extern "C" {
-    pub fn skytassel_read(
+    pub fn skytassel_check(file: *const u8, file_length: usize) -> Answer;
+
+    pub fn skytassel_fill(
         file: *const u8,
         file_length: usize,
         names: *mut u8,

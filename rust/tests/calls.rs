@@ -2,7 +2,7 @@
 
 use skytassel::lent::{self, Lent, BITS, NAMES, ROWS, STRINGS, WIRES};
 use skytassel::sys::{Answer, Card};
-use skytassel::{Design, ModuleNumber, Refusal, WireNumber};
+use skytassel::{check, Design, ModuleNumber, Refusal, WireNumber};
 
 const FILE: &[u8] = b"module \\ear
   attribute \\hdlname \"left gain\"
@@ -63,6 +63,7 @@ fn refused_files() {
     for (file, refusal, place) in files {
         let refused = Design::read(file).expect_err("a refused file");
         assert_eq!((refused.refusal, refused.place), (refusal, place));
+        assert_eq!(check(file), Err(refused));
     }
 }
 
@@ -94,6 +95,7 @@ fn refused_calls_change_nothing() {
 
 #[test]
 fn a_session() {
+    assert_eq!(check(FILE), Ok(()));
     let read = design();
     let mut design = read.clone();
     assert_eq!(design.show(EAR, GAIN), Ok(&b"left gain"[..]));
@@ -167,7 +169,7 @@ fn wrong_lengths_are_refused_and_nothing_is_touched() {
                     number: 1,
                     place: 0,
                 };
-                assert_eq!(memory.read(FILE), refused);
+                assert_eq!(memory.fill(FILE), refused);
                 assert_eq!(memory.rename(0, 0, b"\\a"), refused);
                 assert_eq!(memory.undo(), refused);
                 let (view, mut room) = (memory.view(), [7; 100]);
@@ -191,8 +193,8 @@ fn memory_that_holds_no_design_is_refused() {
     with_lengths([NAMES, STRINGS, BITS, WIRES, ROWS], |memory| {
         assert_eq!(memory.undo().number, Refusal::DamagedMemory.number());
         assert_eq!(memory.view().measure().number, 3);
-        // a read takes any memory
-        assert_eq!(memory.read(FILE).number, 0);
+        // a fill takes any memory
+        assert_eq!(memory.fill(FILE).number, 0);
         assert_eq!(memory.view().show(0, 0).length, 9);
     });
 }
@@ -200,7 +202,7 @@ fn memory_that_holds_no_design_is_refused() {
 #[test]
 fn room_too_short_is_left_as_it_was() {
     with_lengths([NAMES, STRINGS, BITS, WIRES, ROWS], |memory| {
-        assert_eq!(memory.read(FILE).number, 0);
+        assert_eq!(memory.fill(FILE).number, 0);
         let view = memory.view();
         let length = view.measure().length as usize;
         let mut room = vec![7; length - 1];
@@ -256,7 +258,7 @@ fn memory_from_pointers() {
                 pointer(&mut card, null == 5),
             )
         };
-        memory.map(|mut memory| memory.read(FILE).number)
+        memory.map(|mut memory| memory.fill(FILE).number)
     };
     assert_eq!(lent(right, 6), Some(0));
     for table in 0..5 {

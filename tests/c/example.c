@@ -1,4 +1,4 @@
-/* Reads a netlist, renames a wire, shows it, writes the text, and takes the rename back. */
+/* Checks two netlists, reads the one that is sound, renames a wire, shows it, writes the text, and takes the rename back. */
 #include "skytassel.h"
 
 #include <stdio.h>
@@ -10,9 +10,15 @@ static struct skytassel_card card;
 
 #define VIEW names, sizeof names, strings, sizeof strings, bits, SKYTASSEL_BITS, wires, SKYTASSEL_WIRES, rows, SKYTASSEL_ROWS
 
-static struct skytassel_answer read_text(const char *file)
+/* A clinic checks a file long before it has memory for it. */
+static struct skytassel_answer check(const char *file)
 {
-    return skytassel_read((const uint8_t *)file, strlen(file), VIEW, &card);
+    return skytassel_check((const uint8_t *)file, strlen(file));
+}
+
+static struct skytassel_answer fill(const char *file)
+{
+    return skytassel_fill((const uint8_t *)file, strlen(file), VIEW, &card);
 }
 
 static int print_text(void)
@@ -26,11 +32,15 @@ static int print_text(void)
 
 int main(void)
 {
-    struct skytassel_answer refused = read_text("module \\ear\n  wire width 4096 \\gain\nend\n");
+    const char *too_wide = "module \\ear\n  wire width 4096 \\gain\nend\n";
+    struct skytassel_answer refused = check(too_wide);
     printf("refused: %u at %u\n", (unsigned)refused.number, (unsigned)refused.place);
+    if (fill(too_wide).number != refused.number)
+        return 1;
 
-    if (read_text("module \\ear\n  wire width 8 offset -4 \\gain\n  attribute \\hdlname \"left ear\"\n  wire \\y\n"
-                  "  process \\p\n    switch \\gain [7]\n      case 1'1 , 1'x\n        assign \\y \\gain [0]\n    end\n  end\nend\n").number != 0)
+    const char *ear = "module \\ear\n  wire width 8 offset -4 \\gain\n  attribute \\hdlname \"left ear\"\n  wire \\y\n"
+                      "  process \\p\n    switch \\gain [7]\n      case 1'1 , 1'x\n        assign \\y \\gain [0]\n    end\n  end\nend\n";
+    if (check(ear).number != 0 || fill(ear).number != 0)
         return 1;
     const uint8_t old_name[] = {'\\', 'g', 'a', 'i', 'n'}, new_name[] = {'\\', 'g'};
     struct skytassel_wire_answer gain = skytassel_look_up(VIEW, card.renames, card.room, 0, old_name, sizeof old_name);

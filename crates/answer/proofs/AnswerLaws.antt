@@ -1,7 +1,7 @@
 -- A refusal's text is short; what is printed of the memory that a file leaves is the program's answer to the file.
 -- Assumes nothing.
 use Prim.Native.Nat.{ℕ, zero, suc, _+_, _*_, _/_, _%_, _≤_, _<_}
-use mathlib.Core.Path.{_≡_, refl, ap, ap₂, _∙_}
+use mathlib.Core.Path.{_≡_, refl, sym, ap, ap₂, _∙_}
 use mathlib.Core.List.{List, [], _∷_}
 use mathlib.Core.Bool.{Bool, true, false, _||_}
 use native.Mathlib.Omega.{arith}
@@ -10,7 +10,7 @@ use lib.ListN.{length, length-append}
 use borrow.Author.Tests.{lt-ltb, ltb-false}
 use Rattle.rules.specs.Statements.{Statement}
 use Rattle.rules.specs.Judgement.{Verdict, verdict, lowest}
-use Rattle.rules.specs.Reading.{Answer, accepted, refused, read}
+use Rattle.rules.specs.Reading.{Answer, accepted, refused, read, checked}
 use Rattle.rules.specs.Design.{design}
 use Rattle.rules.specs.Session.{Rename, now}
 use Rattle.rules.specs.Text.{decimalOnto, decimalText, text, writeText, write, refusal, printed, programBy, program}
@@ -19,7 +19,7 @@ use Rattle.lists.specs.Tests.{by-cond}
 use Rattle.netlist.specs.Lengths.{rightSizes, rightLengths}
 use Rattle.text.specs.Written.{Written, written-end, written-whole}
 use Rattle.netlist.specs.Results.{Result}
-use Rattle.reader.specs.Read.{leaves, readInto}
+use Rattle.reader.specs.Fill.{fillInto, fill-checked}
 use Rattle.memory_check.specs.HeldLaws.{holds-sizes}
 use Rattle.session.specs.Called.{Called, wrong-lengths, damaged, holding}
 use Rattle.writer.specs.Write.{wrote}
@@ -118,18 +118,22 @@ pub right-lengths :
 unfolding rightLengths rightSizes
 right-lengths m n s b w r = rw (n, s, b, w, r)
 
--- WHAT THE FILE GIVES, x being what reading it left
-module _ (file : List ℕ) (m : Memory) (x : Result) (e : x ≡ readInto file m) where
-  refused-by-answer : (a : Answer) → x ≡ leaves a → (x .number ≡ 0 → ⊥) → refusal (x .number) (x .place) ≡ programBy a
-  unfolding leaves programBy
-  refused-by-answer (accepted ss) q z = absurd (z (ap (λ (y : Result). y .number) q))
-  refused-by-answer (refused n p) q z = ap (λ (y : Result). refusal (y .number) (y .place)) q
+-- WHAT THE FILE GIVES, n and p being what the check says of it
+module _ (file : List ℕ) (n p : ℕ) (c : _≡_ {A = ℕ × ℕ} (n, p) (checked (read file))) where
+  refused-by-answer : (a : Answer) → _≡_ {A = ℕ × ℕ} (n, p) (checked a) → (n ≡ 0 → ⊥) → refusal n p ≡ programBy a
+  unfolding checked programBy
+  refused-by-answer (accepted ss) e z = absurd (z (ap (λ (y : ℕ × ℕ). y .0) e))
+  refused-by-answer (refused k q) e z = ap (λ (y : ℕ × ℕ). refusal (y .0) (y .1)) e
 
-  pub answer-refused : rightLengths m ≡ true → (x .number ≡ 0 → ⊥) → refusal (x .number) (x .place) ≡ program file
-  unfolding readInto program
-  answer-refused l z = refused-by-answer (read file) (rw l at e) z
+  pub answer-refused : (n ≡ 0 → ⊥) → refusal n p ≡ program file
+  unfolding program
+  answer-refused z = refused-by-answer (read file) c z
 
-  module _ (z : x .number ≡ 0) (old : List ℕ) (size : length old ≡ 32768) where
+  -- and x what the fill then left
+  module _ (z : n ≡ 0) (m : Memory) (l : rightLengths m ≡ true) (x : Result) (e : x ≡ fillInto file m) (old : List ℕ) (size : length old ≡ 32768) where
+    fill-taken : x .number ≡ 0
+    fill-taken = ap (λ (y : Result). y .number) e ∙ ap (λ (y : ℕ × ℕ). y .0) (fill-checked file m l ∙ sym c) ∙ z
+
     abbrev says : List Statement → List Rename → ℕ × List ℕ
     says ss rs = putting old (printed (write (length old) (now (design ss) rs)))
 
@@ -139,6 +143,6 @@ module _ (file : List ℕ) (m : Memory) (x : Result) (e : x ≡ readInto file m)
 
     pub answer-held : (new : List ℕ) (r : ℕ) → PrintedAs (x .memory) old new r → _≡_ {A = ℕ × List ℕ} (r, new) (putting old (program file))
     answer-held new r h =
-        let a = number-read file m x e z in
+        let a = number-read file m x e fill-taken in
         let held = read-holds file (a .reads) (a .is) in
         called-one h (holding (a .statements) [] (holds-sizes held) held refl) ∙ says-program a

@@ -4,7 +4,8 @@ use netlist::lengths::NAMES_LENGTH;
 use netlist::lengths::ROWS_LENGTH;
 use netlist::lengths::STRINGS_LENGTH;
 use netlist::lengths::WIRES_LENGTH;
-use reader::read;
+use reader::check;
+use reader::fill;
 use text::TEXT_LENGTH;
 use text::put_refusal;
 use writer::write;
@@ -54,10 +55,11 @@ fn answer_in(
     ensures { λ r. ⌜ (r, now (out .exit)) ≡ putting (now (out .entry)) (program (now (f .entry))) ⌝ }
     ensures { λ r. ⌜ r ≤ longestFile ⌝ }
 {
-    let left = read(f, names, strings, bits, wires, rows, 0, 0);
-    if left.number != 0 {
-        return put_refusal(out, 0, left.number, left.place);
+    let found = check(f);
+    if found.number != 0 {
+        return put_refusal(out, 0, found.number, found.place);
     }
+    let left = fill(f, names, strings, bits, wires, rows, 0, 0);
     put_held(
         names,
         strings,

@@ -9,20 +9,20 @@ use Rattle.rules.specs.Session.{Call}
 use Rattle.rules.specs.Layout.{Memory}
 use Rattle.netlist.specs.Results.{Result, result}
 use Rattle.netlist.specs.Lengths.{rightLengths}
-use Rattle.reader.specs.Read.{leaves, readInto}
+use Rattle.reader.specs.Fill.{leaves, fillInto}
 use Rattle.theorems.specs.DamagedMemory.{Held}
 use Rattle.calls.specs.Calls.{sessionOn, session}
 use Rattle.calls.specs.Steps.{MadeAs}
 use Rattle.calls.specs.StepLaws.{read-holds, number-read}
 
 module _ (file : List ℕ) (m : Memory) (x : Result) where
-  pub run-open : x ≡ readInto file m → x .number ≡ 0 → Held (x .memory)
+  pub run-open : x ≡ fillInto file m → x .number ≡ 0 → Held (x .memory)
   run-open e z =
       let a = number-read file m x e z in
       record { statements = a .statements; renames = []; holds = read-holds file (a .reads) (a .is) }
 
   module _ (cs : List Call) (old : List ℕ) where
-    pub run-done : x ≡ readInto file m → x .number ≡ 0 → (r : Result) (answers : List ℕ) → MadeAs (x .memory) old cs r answers → _≡_ {A = Result × List ℕ} (r, answers) (session file cs m old)
+    pub run-done : x ≡ fillInto file m → x .number ≡ 0 → (r : Result) (answers : List ℕ) → MadeAs (x .memory) old cs r answers → _≡_ {A = Result × List ℕ} (r, answers) (session file cs m old)
     unfolding session sessionOn
     run-done e z r answers k =
         let a = number-read file m x e z in
@@ -35,6 +35,6 @@ module _ (file : List ℕ) (m : Memory) (x : Result) where
     refused-by true (refused n p) e h = λ i. (e i, old)
     refused-by false a e h = λ i. (e i, old)
 
-    pub run-refused : x ≡ readInto file m → (x .number ≡ 0 → ⊥) → _≡_ {A = Result × List ℕ} (x, old) (session file cs m old)
-    unfolding readInto session
+    pub run-refused : x ≡ fillInto file m → (x .number ≡ 0 → ⊥) → _≡_ {A = Result × List ℕ} (x, old) (session file cs m old)
+    unfolding fillInto session
     run-refused e h = refused-by (rightLengths m) (read file) e h

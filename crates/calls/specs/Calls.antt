@@ -12,7 +12,7 @@ use Rattle.rules.specs.Layout.{Memory, layout}
 use Rattle.tables.specs.Store.{store}
 use Rattle.netlist.specs.Results.{Result, result}
 use Rattle.netlist.specs.Lengths.{rightLengths}
-use Rattle.reader.specs.Read.{leaves}
+use Rattle.reader.specs.Fill.{leaves}
 
 -- five words a call: 1 a rename with module, wire, and where its new name starts in the texts and its length; anything else an undo
 module _ (calls texts : List ℕ) where

@@ -1,5 +1,5 @@
 -- DEMAND 3 OF CALLS MADE BY ANYBODY: a file is read, then any renames and undos are made, each on the memory that the last one left. The answers in order, the memory
--- and the two counts of the card are those of the plain session. The contract of `read` says that its result is `readInto`'s; those of `rename` and `undo`, of
+-- and the two counts of the card are those of the plain session. The contract of `fill` says that its result is `fillInto`'s; those of `rename` and `undo`, of
 -- `session` and of the exported crate, give `CalledAs` of each call, with the counts behind the card at entry and at exit.
 -- Assumes nothing.
 use Prim.Native.Nat.{ℕ}
@@ -15,7 +15,7 @@ use Rattle.rules.specs.Layout.{Memory, rooms, memory, layout}
 use Rattle.admitted.specs.Holds.{Holds, no-renames}
 use Rattle.netlist.specs.Results.{Result}
 use Rattle.netlist.specs.Lengths.{rightLengths}
-use Rattle.reader.specs.Read.{readInto}
+use Rattle.reader.specs.Fill.{fillInto}
 use Rattle.rename_rules.specs.RoomLaws.{room-used}
 use Rattle.session.specs.Called.{CalledAs}
 use Rattle.theorems.specs.StandingLaws.{allowed-session, session-allowed}
@@ -68,7 +68,7 @@ made-plain cs xs h k =
     let r = chain cs xs h k in
     record { answers-are = r .0; memory-is = sym (r .1 .is); renames-are = renames-held (r .1); room-is = room-held (r .1) }
 
-module _ (file : List ℕ) (m : Memory) (x : Result) (e : x ≡ readInto file m) where
+module _ (file : List ℕ) (m : Memory) (x : Result) (e : x ≡ fillInto file m) where
   -- a file that the rules accept, read into tables of the right lengths
   pub read-and-made :
       rightLengths m ≡ true → (ss : List Statement) → read file ≡ accepted ss → (cs : List Call) (xs : List Result) → Made (x .memory) cs xs →
@@ -88,7 +88,7 @@ module _ (file : List ℕ) (m : Memory) (x : Result) (e : x ≡ readInto file m)
 -- only the standing renames count: made alone, oldest first, on another read of the file, they leave the same memory
 pub standing-made :
     (file : List ℕ) (ss : List Statement) → read file ≡ accepted ss → (m n : Memory) → rightLengths m ≡ true → rightLengths n ≡ true →
-    (x y : Result) → x ≡ readInto file m → y ≡ readInto file n → (cs : List Call) (xs ys : List Result) → Made (x .memory) cs xs →
+    (x y : Result) → x ≡ fillInto file m → y ≡ fillInto file n → (cs : List Call) (xs ys : List Result) → Made (x .memory) cs xs →
     Made (y .memory) (map rename (plainSession (design ss) [] cs .1)) ys → lastMemory (x .memory) xs ≡ lastMemory (y .memory) ys
 standing-made file ss a m n lm ln x y ex ey cs xs ys kx ky =
     let d = design ss in

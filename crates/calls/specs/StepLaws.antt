@@ -16,7 +16,7 @@ use Rattle.rules.specs.Layout.{Memory, layout}
 use Rattle.admitted.specs.Holds.{Allowed, Holds, no-renames}
 use Rattle.netlist.specs.Results.{Result, result}
 use Rattle.netlist.specs.Lengths.{rightLengths}
-use Rattle.reader.specs.Read.{leaves, readInto}
+use Rattle.reader.specs.Fill.{leaves, fillInto}
 use Rattle.soundness.specs.ReadLaws.{read-admitted, numbered, read-numbered}
 use Rattle.memory_check.specs.HeldLaws.{holds-sizes}
 use Rattle.session.specs.Called.{holding, after, CalledAs}
@@ -65,8 +65,8 @@ module _ {m : Memory} {ss : List Statement} {rs : List Rename} (h : Holds m ss r
 -- A FILE THAT IS READ
 module _ (file : List ℕ) {x : Result} {ss : List Statement} (a : read file ≡ accepted ss) where
   -- into tables of the right lengths
-  pub read-leaves : (m : Memory) → rightLengths m ≡ true → x ≡ readInto file m → x ≡ result 0 0 (layout ss [])
-  unfolding readInto leaves
+  pub read-leaves : (m : Memory) → rightLengths m ≡ true → x ≡ fillInto file m → x ≡ result 0 0 (layout ss [])
+  unfolding fillInto leaves
   read-leaves m l e = rw (l, a) at e
 
   pub read-holds : x ≡ result 0 0 (layout ss []) → Holds (x .memory) ss []
@@ -92,6 +92,6 @@ module _ (file : List ℕ) (m : Memory) (x : Result) where
       let q : x .number ≡ 1 = ap (λ (y : Result). y .number) e in
       absurd (omega arith)
 
-  pub number-read : x ≡ readInto file m → x .number ≡ 0 → Accepted file m x
-  unfolding readInto
+  pub number-read : x ≡ fillInto file m → x .number ≡ 0 → Accepted file m x
+  unfolding fillInto
   number-read e z = by-answer (rightLengths m) (read file) refl refl (read-numbered file) e z

@@ -2,7 +2,7 @@
 use netlist::results::CallResult;
 use numbers::kinds::ModuleNumber;
 use numbers::kinds::WireNumber;
-use reader::read;
+use reader::fill;
 use scanner::parts::part;
 use session::rename;
 use session::undo;
@@ -158,7 +158,7 @@ pub fn run_calls(
 ) -> CallResult
     ensures { λ r. ⌜ (result (r .number) (r .place) (lent (now (names .exit)) (now (strings .exit)) (now (bits .exit)) (now (wires .exit)) (now (rows .exit)) (r .renames) (r .room)), now (answers .exit)) ≡ session (now (f .entry)) (callsIn (now (calls .entry)) (now (texts .entry))) (lent (now (names .entry)) (now (strings .entry)) (now (bits .entry)) (now (wires .entry)) (now (rows .entry)) renames room) (now (answers .entry)) ⌝ }
 {
-    let left = read(f, names, strings, bits, wires, rows, renames, room);
+    let left = fill(f, names, strings, bits, wires, rows, renames, room);
     if left.number != 0 {
         return left;
     }

@@ -1,1 +1,1 @@
-mod FileLaws
+mod HalfLaws

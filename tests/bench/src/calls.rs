@@ -1,7 +1,7 @@
 //! Times of the calls on design memory with 64 renames at most, beside the plain session.
 
 use crate::{files, micros, shortest, RUNS};
-use library::{look_up, measure, read, rename, undo, valid, write, Card, Tables};
+use library::{fill, look_up, measure, rename, undo, valid, write, Card, Tables};
 use reference::session::Session;
 use reference::statements::{ModuleNumber, WireNumber};
 use std::hint::black_box;
@@ -32,7 +32,7 @@ impl Both {
             module,
             wire,
         };
-        assert_eq!(read(file, &mut both.tables, &mut both.card).number, 0);
+        assert_eq!(fill(file, &mut both.tables, &mut both.card).number, 0);
         for number in 0..63 {
             assert_eq!(
                 both.rename(format!("\\renamed_{number}").as_bytes()),

@@ -1,7 +1,7 @@
 //! Times of comparing names of 255 bytes: the comparison alone beside one from the front, and in a read and a look-up.
 
 use crate::{files, micros, shortest, times};
-use library::{look_up, read, Card, Tables};
+use library::{fill, look_up, Card, Tables};
 use std::hint::black_box;
 
 extern "C" {
@@ -55,7 +55,7 @@ fn nanos(pairs: &[Pair], same: fn(&[u8], &[u8]) -> bool) -> f64 {
 fn look_ups(file: &[u8], name: &[u8]) -> [f64; 2] {
     let mut tables = Tables::zeroed();
     let mut card = Card::default();
-    assert_eq!(read(file, &mut tables, &mut card).number, 0);
+    assert_eq!(fill(file, &mut tables, &mut card).number, 0);
     assert_eq!(
         look_up(&tables, card, 0, name),
         Ok(files::LONG_NAMES as u32 - 1)

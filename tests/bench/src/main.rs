@@ -7,7 +7,7 @@ mod files;
 mod one_call;
 
 use library::expected::reading;
-use library::{read, Card, Tables};
+use library::{fill, Card, Tables};
 use std::fs;
 use std::hint::black_box;
 use std::time::{Duration, Instant};
@@ -31,14 +31,14 @@ struct Times {
 fn times(file: &[u8]) -> Times {
     let mut tables = Tables::zeroed();
     let mut card = Card::default();
-    let answer = read(file, &mut tables, &mut card);
+    let answer = fill(file, &mut tables, &mut card);
     let expected = reading(file, &tables, card);
     assert_eq!(answer, expected.answer);
     assert_eq!(answer.number, 0, "an accepted file");
     assert!(tables == expected.tables && card == expected.card);
     Times {
         library: shortest(|| {
-            black_box(read(black_box(file), &mut tables, &mut card));
+            black_box(fill(black_box(file), &mut tables, &mut card));
         }),
         reference: shortest(|| {
             black_box(reference::read(black_box(file)).is_ok());

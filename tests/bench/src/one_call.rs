@@ -1,6 +1,6 @@
 //! One call on one file, as often as wanted, for tools outside: count.sh counts its instructions, tests/yosys/race.sh its time.
 
-use library::{look_up, read, rename, undo, write, Card, Tables};
+use library::{fill, look_up, rename, undo, write, Card, Tables};
 use std::hint::black_box;
 
 /// Callgrind collects inside this function alone, by its name. Gives the call's number.
@@ -36,7 +36,7 @@ impl Memory {
     }
 
     fn read(&mut self, file: &[u8]) -> u32 {
-        read(file, &mut self.tables, &mut self.card).number
+        fill(file, &mut self.tables, &mut self.card).number
     }
 
     fn rename(&mut self, name: &[u8]) -> u32 {

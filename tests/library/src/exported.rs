@@ -1,7 +1,9 @@
 //! The exported calls on tables of any lengths, by number: 0 is none. A refused call gives 0 beside its number.
 
 use crate::tables::{Card, Tables};
+use reference::Refusal;
 pub use skytassel::sys::Answer;
+use skytassel::Refused;
 
 /// What an asking call gives, or its number.
 fn given<T: PartialEq + std::fmt::Debug>(number: u32, given: T, none: T) -> Result<T, u32> {
@@ -12,9 +14,22 @@ fn given<T: PartialEq + std::fmt::Debug>(number: u32, given: T, none: T) -> Resu
     Err(number)
 }
 
+/// The number and place of a refused file.
+fn refusal(refused: Refused) -> Refusal {
+    Refusal {
+        number: refused.refusal.number(),
+        place: refused.place,
+    }
+}
+
+/// Whether a file is taken, with no memory lent.
+pub fn check(file: &[u8]) -> Result<(), Refusal> {
+    skytassel::check(file).map_err(refusal)
+}
+
 /// Reads a file into the tables and the card.
-pub fn read(file: &[u8], tables: &mut Tables, card: &mut Card) -> Answer {
-    tables.lent(card).read(file)
+pub fn fill(file: &[u8], tables: &mut Tables, card: &mut Card) -> Answer {
+    tables.lent(card).fill(file)
 }
 
 /// Renames a wire.

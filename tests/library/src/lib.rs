@@ -10,6 +10,6 @@ pub mod tables;
 pub mod undoing;
 
 pub use decoding::valid;
-pub use exported::{index, look_up, measure, read, rename, show, undo, write, Answer};
+pub use exported::{check, fill, index, look_up, measure, rename, show, undo, write, Answer};
 pub use layout::layout;
 pub use tables::{Card, Tables};

@@ -3,7 +3,7 @@
 
 use library::expected::{reading, text_is_of, Outcome};
 use library::tables::any_card;
-use library::{layout, look_up, read, rename, undo, Answer, Card, Tables};
+use library::{fill, layout, look_up, rename, undo, Answer, Card, Tables};
 use reference::generate::random::Random;
 use reference::session::Session;
 use reference::statements::{ModuleNumber, Statement, WireNumber};
@@ -51,7 +51,7 @@ fn read_both(file: &str) -> Outcome {
     let (mut tables, mut card) = (Tables::zeroed(), any_card(&mut random));
     tables.fill(&mut random);
     let expected = reading(file.as_bytes(), &tables, card);
-    let answer = read(file.as_bytes(), &mut tables, &mut card);
+    let answer = fill(file.as_bytes(), &mut tables, &mut card);
     assert_eq!((answer, card), (expected.answer, expected.card), "{file}");
     assert!(tables == expected.tables, "{file}");
     expected

@@ -1,10 +1,11 @@
-//! Reading into memory filled with anything answers and leaves what the reference says, and the text written from there is the reference's.
+//! Filling memory that held anything answers and leaves what the reference says, the check answers the same but for 1, and the text written from there is the
+//! reference's.
 //! GENERATED_FILES=1000000 asks for more files than the default; `--nocapture` shows what they gave.
 
 use library::expected::{reading, text_is_of};
 use library::files::{count, generated};
 use library::tables::any_card;
-use library::{read, Card, Tables};
+use library::{check, fill, Card, Tables};
 use reference::generate::generated_or_mutated;
 use reference::generate::random::Random;
 use reference::vectors::vectors;
@@ -14,8 +15,9 @@ use std::collections::BTreeMap;
 /// The first thing that differs, if any does.
 fn difference(file: &[u8], tables: &mut Tables, card: &mut Card) -> Option<&'static str> {
     let expected = reading(file, tables, *card);
-    let answer = read(file, tables, card);
+    let answer = fill(file, tables, card);
     let same = [
+        ("check", check(file) == reference::check(file)),
         ("number", answer.number == expected.answer.number),
         ("place", answer.place == expected.answer.place),
         ("names", tables.names == expected.tables.names),

@@ -1,6 +1,6 @@
 //! Two sessions, each on its own file: the texts written are the same bytes exactly where the plain sessions' designs, with the names now, are the same.
 
-use library::{read, rename, undo, write, Card, Tables};
+use library::{fill, rename, undo, write, Card, Tables};
 use reference::generate::pair;
 use reference::generate::random::Random;
 use reference::sizes::TEXT_BYTES;
@@ -18,7 +18,7 @@ impl Both {
     fn of(file: &[u8]) -> Option<Both> {
         let plain = Session::new(reference::read(file).ok()?.design());
         let (mut tables, mut card) = (Tables::zeroed(), Card::default());
-        assert_eq!(read(file, &mut tables, &mut card).number, 0);
+        assert_eq!(fill(file, &mut tables, &mut card).number, 0);
         Some(Both {
             tables,
             card,

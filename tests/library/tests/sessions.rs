@@ -3,7 +3,7 @@
 
 use library::expected::{right_lengths, text_is_of};
 use library::tables::any_card;
-use library::{index, layout, look_up, read, rename, show, undo, Answer, Card, Tables};
+use library::{fill, index, layout, look_up, rename, show, undo, Answer, Card, Tables};
 use reference::generate::random::Random;
 use reference::generate::{self, SizeClass};
 use reference::session::Session;
@@ -62,7 +62,7 @@ impl Both {
         let mut random = Random::new(file.len() as u64);
         let (mut tables, mut card) = (Tables::zeroed(), any_card(&mut random));
         tables.fill(&mut random);
-        assert_eq!(read(file, &mut tables, &mut card), answer(0));
+        assert_eq!(fill(file, &mut tables, &mut card), answer(0));
         let plain = Session::new(Design::of(&statements));
         Some(Both {
             tables,

@@ -23,7 +23,7 @@ pub mod vectors;
 
 pub use design::Design;
 pub use program::program;
-pub use reading::{read, read_any_length, Netlist, Refusal};
+pub use reading::{check, read, read_any_length, Netlist, Refusal};
 pub use session::Session;
 pub use statements::Statement;
 pub use text::{measure, write};

@@ -27,6 +27,11 @@ impl Netlist {
     }
 }
 
+/// Whether a file is taken: the check, which is lent only the file.
+pub fn check(file: &[u8]) -> Result<(), Refusal> {
+    read(file).map(|_| ())
+}
+
 pub fn read(file: &[u8]) -> Result<Netlist, Refusal> {
     if file.len() > sizes::FILE_BYTES {
         return Err(Refusal {

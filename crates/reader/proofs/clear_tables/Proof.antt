@@ -1,5 +1,5 @@
 use denote.Ref.{now}
-use Rattle.reader.proofs.FileLaws.{cleared}
+use Rattle.reader.proofs.HalfLaws.{cleared}
 use Rattle.reader.proofs.clear_tables.Statement.{statement}
 use Rattle.reader.proofs.clear_tables.Tie as tie
 
@@ -34,7 +34,14 @@ same-length-5 : tie.Need-same-length-5
 same-length-5 c = c .before .before .clear-words3 .kept .0
 
 returns : tie.Need-returns
-returns c = cleared (now (c .before .before .before .before .before .before .before .before .before .before .before .before .before .before .before .before .before .before .before .before .before .before .before .before .before .args .names)) (now (c .before .before .before .before .before .before .before .before .before .before .before .before .before .before .before .before .before .before .before .before .before .before .before .before .before .args .strings)) (now (c .before .before .before .before .before .before .before .before .before .before .before .before .before .before .before .before .before .before .before .before .before .before .before .before .before .args .bits)) (now (c .before .before .before .before .before .before .before .before .before .before .before .before .before .before .before .before .before .before .before .before .before .before .before .before .before .args .wires)) (now (c .before .before .before .before .before .before .before .before .before .before .before .before .before .before .before .before .before .before .before .before .before .before .before .before .before .args .rows)) (c .before .before .before .before .before .before .before .before .before .before .before .before .before .before .before .before .before .before .before .before .before .before .before .before .before .pre) (c .before .before .before .before .before .before .before .before .before .before .before .before .before .before .before .before .before .before .clear-bytes .ensures) (c .before .before .before .before .before .before .before .before .before .before .before .before .before .before .clear-bytes2 .ensures) (c .before .before .before .before .before .before .before .before .before .before .clear-words .ensures) (c .before .before .before .before .before .before .clear-words2 .ensures) (c .before .before .clear-words3 .ensures)
+returns c =
+    let after-clear-words3 = c .before .before in
+    let after-clear-words2 = after-clear-words3 .before .before .before .before in
+    let after-clear-words = after-clear-words2 .before .before .before .before in
+    let after-clear-bytes2 = after-clear-words .before .before .before .before in
+    let after-clear-bytes = after-clear-bytes2 .before .before .before .before in
+    let entry = after-clear-bytes .before .before .before .before .before .before .before in
+    cleared (now (entry .args .names)) (now (entry .args .strings)) (now (entry .args .bits)) (now (entry .args .wires)) (now (entry .args .rows)) (entry .pre) (after-clear-bytes .clear-bytes .ensures) (after-clear-bytes2 .clear-bytes2 .ensures) (after-clear-words .clear-words .ensures) (after-clear-words2 .clear-words2 .ensures) (after-clear-words3 .clear-words3 .ensures)
 
 pub clear-tables-spec : {M : Type 1} → statement M
 clear-tables-spec =
