@@ -1,7 +1,7 @@
-use Rattle.file_reader.specs.Lines.{finishOf}
+use Rattle.file_lines.specs.Lines.{finishOf}
 use borrow.Author.Needs.{needs}
-use Rattle.file_reader.proofs.finish.Statement.{statement}
-use Rattle.file_reader.proofs.finish.Tie as tie
+use Rattle.file_lines.proofs.finish.Statement.{statement}
+use Rattle.file_lines.proofs.finish.Tie as tie
 
 is-closed-requires : tie.Need-is-closed-requires
 is-closed-requires c κs = search needs
