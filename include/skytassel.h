@@ -20,7 +20,7 @@ extern "C" {
 
 enum { SKYTASSEL_NAMES = 16384, SKYTASSEL_STRINGS = 8192, SKYTASSEL_BITS = 16384, SKYTASSEL_WIRES = 8 * 512, SKYTASSEL_ROWS = 8 * 6945, SKYTASSEL_TEXT = 32768 };
 
-/* The session card: renames standing, name room used. A refusal's place is 0, but from number 4 on in the check and the fill: for 4 the first byte of the line's leftmost bad
+/* The session card: renames standing, name room used. A refusal's place is 0, but from number 4 on where a file is read: for 4 the first byte of the line's leftmost bad
  * token, else the refused line's first byte that is neither space nor tab, or the file's length. Look-up, index, show, measure and write give no place, since it
  * would always be 0; refused, they give 0 beside their number. */
 struct skytassel_card { uint32_t renames, room; };
@@ -28,6 +28,9 @@ struct skytassel_answer { uint32_t number, place; };
 struct skytassel_wire_answer { uint32_t number, wire; };
 struct skytassel_index_answer { uint32_t number; int64_t index; };
 struct skytassel_length_answer { uint32_t number, length; };
+/* Asked of a file alone, which may be refused at a place. */
+struct skytassel_width_of_answer { uint32_t number, place, width; };
+struct skytassel_index_of_answer { uint32_t number, place; int64_t index; };
 /* A part of table 1, the names, or 2, the strings; a refusal has table 0. */
 struct skytassel_part_answer { uint32_t number, table; size_t start, length; };
 
@@ -42,6 +45,12 @@ struct skytassel_answer skytassel_check(const uint8_t *file, size_t file_length)
 struct skytassel_answer skytassel_fill(const uint8_t *file, size_t file_length,
     uint8_t *names, size_t names_length, uint8_t *strings, size_t strings_length, uint32_t *bits, size_t bits_length,
     uint32_t *wires, size_t wires_length, uint32_t *rows, size_t rows_length, struct skytassel_card *card);
+
+/* How wide the wire with these bytes as its name in this module is, and the author's index of a bit of it, from the file alone: it is read as far as the line that
+ * declares the wire. Refused as the check is up to that line, with 8 where the module ends without the wire or the file has no such module, and last, for the index
+ * only, with 10 for a bit past the wire; 8 and 10 have place 0. */
+struct skytassel_width_of_answer skytassel_width_of(const uint8_t *file, size_t file_length, uint32_t module, const uint8_t *name, size_t name_length);
+struct skytassel_index_of_answer skytassel_index_of(const uint8_t *file, size_t file_length, uint32_t module, const uint8_t *name, size_t name_length, uint32_t bit);
 
 /* Gives a wire a new name, any bytes: 1, 3, 4, 6, 8, 9, 11. Undo takes the youngest rename off: 1, 3, 13. A refusal changes nothing. */
 struct skytassel_answer skytassel_rename(uint8_t *names, size_t names_length, const uint8_t *strings, size_t strings_length, const uint32_t *bits, size_t bits_length,

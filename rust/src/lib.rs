@@ -1,7 +1,7 @@
 //! Reads, writes and reversibly renames RTLIL netlists, over Skytassel's proved library.
 //!
 //! - [`Design`]: a design in memory of its own, with the calls as methods and refusals as [`Refusal`].
-//! - [`check`]: what is asked of a file alone, without memory for a design.
+//! - [`check`], [`width_of`] and [`index_of`]: what is asked of a file alone, without memory for a design.
 //! - [`lent`]: the calls on memory that somebody lends, in any state.
 //! - [`sys`]: the exported calls themselves.
 //!
@@ -15,5 +15,5 @@ mod refusal;
 pub mod sys;
 
 pub use design::{Design, ModuleNumber, WireNumber};
-pub use file::check;
+pub use file::{check, index_of, width_of};
 pub use refusal::{Refusal, Refused};

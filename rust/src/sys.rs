@@ -47,8 +47,43 @@ pub struct PartAnswer {
     pub length: usize,
 }
 
+/// The width of a wire that is asked from a file, which may be refused at a place; a refusal has width 0.
+#[repr(C)]
+#[derive(Debug, Clone, Copy, PartialEq, Eq)]
+pub struct WidthOfAnswer {
+    pub number: u32,
+    pub place: u32,
+    pub width: u32,
+}
+
+/// The author's index of a bit that is asked from a file; a refusal has index 0.
+#[repr(C)]
+#[derive(Debug, Clone, Copy, PartialEq, Eq)]
+pub struct IndexOfAnswer {
+    pub number: u32,
+    pub place: u32,
+    pub index: i64,
+}
+
 extern "C" {
     pub fn skytassel_check(file: *const u8, file_length: usize) -> Answer;
+
+    pub fn skytassel_width_of(
+        file: *const u8,
+        file_length: usize,
+        module: u32,
+        name: *const u8,
+        name_length: usize,
+    ) -> WidthOfAnswer;
+
+    pub fn skytassel_index_of(
+        file: *const u8,
+        file_length: usize,
+        module: u32,
+        name: *const u8,
+        name_length: usize,
+        bit: u32,
+    ) -> IndexOfAnswer;
 
     pub fn skytassel_fill(
         file: *const u8,

@@ -40,9 +40,12 @@ int main(void)
 
     const char *ear = "module \\ear\n  wire width 8 offset -4 \\gain\n  attribute \\hdlname \"left ear\"\n  wire \\y\n"
                       "  process \\p\n    switch \\gain [7]\n      case 1'1 , 1'x\n        assign \\y \\gain [0]\n    end\n  end\nend\n";
+    const uint8_t old_name[] = {'\\', 'g', 'a', 'i', 'n'}, new_name[] = {'\\', 'g'};
+    struct skytassel_width_of_answer width = skytassel_width_of((const uint8_t *)ear, strlen(ear), 0, old_name, sizeof old_name);
+    struct skytassel_index_of_answer top = skytassel_index_of((const uint8_t *)ear, strlen(ear), 0, old_name, sizeof old_name, width.width - 1);
+    printf("width: %u, top bit: %lld\n", (unsigned)width.width, (long long)top.index);
     if (check(ear).number != 0 || fill(ear).number != 0)
         return 1;
-    const uint8_t old_name[] = {'\\', 'g', 'a', 'i', 'n'}, new_name[] = {'\\', 'g'};
     struct skytassel_wire_answer gain = skytassel_look_up(VIEW, card.renames, card.room, 0, old_name, sizeof old_name);
     if (gain.number != 0 || skytassel_rename(VIEW, &card, 0, gain.wire, new_name, sizeof new_name).number != 0)
         return 1;

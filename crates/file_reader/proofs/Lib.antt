@@ -1,1 +1,1 @@
-mod FileLaws
+pub mod ZeroLaws

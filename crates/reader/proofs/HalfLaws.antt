@@ -3,7 +3,7 @@
 use Prim.Native.Nat.{ℕ, _≤_, _<_}
 use mathlib.Core.Path.{_≡_, refl, sym, ap, _∙_, subst}
 use mathlib.Core.Bool.{Bool, true, false}
-use mathlib.Core.List.{List, reverse, reverse-reverse, flatMap}
+use mathlib.Core.List.{List, reverse, reverse-reverse}
 use lib.ListN.{length, replicate}
 use borrow.Author.Tests.{lt-ltb, le-ltb}
 use Rattle.rules.specs.Statements.{Statement}
@@ -11,7 +11,6 @@ use Rattle.rules.specs.Reading as reading
 use Rattle.rules.specs.Reading.{readAny, read, checked}
 use Rattle.rules.specs.Layout.{Rooms, empty, putAll, putRenames, rooms, used, memory, layout}
 use Rattle.rules.specs.Layout as layouts
-use Rattle.tables.specs.Padded.{padded-nil}
 use Rattle.context.specs.declared.place.Place.{Place}
 use Rattle.context.specs.declared.sizes.Sizes.{Sizes}
 use Rattle.netlist.specs.Laid.{roomsOf}
@@ -23,25 +22,13 @@ use Rattle.netlist.specs.Results.{Result, result, lent}
 use Rattle.layout.specs.Put.{tablesOf}
 use Rattle.layout.specs.Stored.{Sized}
 use Rattle.reading_step.specs.Steps.{Done}
-use Rattle.file_reader.specs.Lines.{Landed}
-use Rattle.file_reader.specs.declared.Answer.{Answer}
-use Rattle.file_reader.specs.declared.Answer.the-variants.{Accepted, Refused}
+use Rattle.file_lines.specs.Lines.{Landed}
+use Rattle.file_reader.proofs.ZeroLaws.{zero-tables}
+use Rattle.file_lines.specs.declared.Answer.{Answer}
+use Rattle.file_lines.specs.declared.Answer.the-variants.{Accepted, Refused}
 use Rattle.reader.specs.Fill.{leaves, fillInto}
 
--- ---- zero tables
-
-pub zero-tables :
-    {n s b w r : List ℕ} → n ≡ replicate 16384 0 → s ≡ replicate 8192 0 → b ≡ replicate 16384 0 → w ≡ replicate 4096 0 → r ≡ replicate 55560 0 →
-    tabled n s b w r ≡ tablesOf (memory empty 0)
-unfolding tablesOf memory flatMap
-zero-tables en es eb ew er =
-    λ i. record {
-      names = (en ∙ sym (padded-nil 16384)) i;
-      strings = (es ∙ sym (padded-nil 8192)) i;
-      bits = (eb ∙ sym (padded-nil 16384)) i;
-      wires = (ew ∙ sym (padded-nil 4096)) i;
-      rows = (er ∙ sym (padded-nil 55560)) i;
-    }
+-- ---- cleared tables
 
 zeros : {k m : ℕ} → k ≡ m → replicate {A = ℕ} k 0 ≡ replicate m 0
 zeros e = ap (λ (i : ℕ). replicate {A = ℕ} i 0) e

@@ -1,5 +1,5 @@
 // The two halves of reading: a check that is lent only the file, and a fill of lent tables.
-use file_reader::Answer;
+use file_lines::Answer;
 use file_reader::MOST_FILE_BYTES;
 use file_reader::read_file;
 use netlist::lengths::BITS_LENGTH;

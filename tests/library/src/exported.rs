@@ -3,7 +3,7 @@
 use crate::tables::{Card, Tables};
 use reference::Refusal;
 pub use skytassel::sys::Answer;
-use skytassel::Refused;
+use skytassel::{ModuleNumber, Refused};
 
 /// What an asking call gives, or its number.
 fn given<T: PartialEq + std::fmt::Debug>(number: u32, given: T, none: T) -> Result<T, u32> {
@@ -25,6 +25,16 @@ fn refusal(refused: Refused) -> Refusal {
 /// Whether a file is taken, with no memory lent.
 pub fn check(file: &[u8]) -> Result<(), Refusal> {
     skytassel::check(file).map_err(refusal)
+}
+
+/// The width of a wire, from the file alone.
+pub fn width_of(file: &[u8], module: u32, name: &[u8]) -> Result<u32, Refusal> {
+    skytassel::width_of(file, ModuleNumber(module), name).map_err(refusal)
+}
+
+/// The author's index of a bit, from the file alone.
+pub fn index_of(file: &[u8], module: u32, name: &[u8], bit: u32) -> Result<i64, Refusal> {
+    skytassel::index_of(file, ModuleNumber(module), name, bit).map_err(refusal)
 }
 
 /// Reads a file into the tables and the card.

@@ -1,5 +1,6 @@
 //! The exported calls of Skytassel as Rust sees them, and what the reference says that they answer and leave.
 
+pub mod answers;
 pub mod decoding;
 pub mod expected;
 pub mod exported;
@@ -10,6 +11,8 @@ pub mod tables;
 pub mod undoing;
 
 pub use decoding::valid;
-pub use exported::{check, fill, index, look_up, measure, rename, show, undo, write, Answer};
+pub use exported::{
+    check, fill, index, index_of, look_up, measure, rename, show, undo, width_of, write, Answer,
+};
 pub use layout::layout;
 pub use tables::{Card, Tables};

@@ -4,11 +4,13 @@
 //! 4 `tokens`, 5 `shapes`, 7 to 11 `judgement`.
 
 pub mod bytes;
+pub mod call_vectors;
 pub mod counts;
 pub mod design;
 pub mod generate;
 pub mod judgement;
 pub mod lines;
+pub mod one_wire;
 pub mod program;
 pub mod reading;
 pub mod session;
@@ -22,6 +24,7 @@ pub mod tokens;
 pub mod vectors;
 
 pub use design::Design;
+pub use one_wire::{index_of, width_of};
 pub use program::program;
 pub use reading::{check, read, read_any_length, Netlist, Refusal};
 pub use session::Session;

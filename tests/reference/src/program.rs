@@ -11,5 +11,5 @@ pub fn program(file: &[u8]) -> Vec<u8> {
 
 fn answer(file: &[u8]) -> Result<Vec<u8>, Refusal> {
     let design = read(file)?.design();
-    write(&design, sizes::TEXT_BYTES).map_err(|number| Refusal { number, place: 0 })
+    write(&design, sizes::TEXT_BYTES).map_err(Refusal::of_call)
 }

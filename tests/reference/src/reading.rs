@@ -15,6 +15,13 @@ pub struct Refusal {
     pub place: usize,
 }
 
+impl Refusal {
+    /// One that has no place: of a whole file or of a call.
+    pub fn of_call(number: u32) -> Refusal {
+        Refusal { number, place: 0 }
+    }
+}
+
 /// The accepted statements in file order.
 #[derive(Debug, Clone, PartialEq, Eq)]
 pub struct Netlist {
@@ -33,13 +40,16 @@ pub fn check(file: &[u8]) -> Result<(), Refusal> {
 }
 
 pub fn read(file: &[u8]) -> Result<Netlist, Refusal> {
-    if file.len() > sizes::FILE_BYTES {
-        return Err(Refusal {
-            number: 2,
-            place: 0,
-        });
-    }
+    short_enough(file)?;
     read_any_length(file)
+}
+
+/// 2 for a file that is too long.
+pub(crate) fn short_enough(file: &[u8]) -> Result<(), Refusal> {
+    match file.len() > sizes::FILE_BYTES {
+        true => Err(Refusal::of_call(2)),
+        false => Ok(()),
+    }
 }
 
 /// Reads without the bound on the file's length.
@@ -49,17 +59,23 @@ pub fn read_any_length(file: &[u8]) -> Result<Netlist, Refusal> {
     for line in lines(file) {
         statements.push(read_line(line, &mut surroundings)?);
     }
-    if !surroundings.may_end() {
-        return Err(Refusal {
-            number: 5,
-            place: file.len(),
-        });
-    }
+    may_end(file, &surroundings)?;
     Ok(Netlist { statements })
 }
 
+/// 5 for a file that ends inside a module or after attributes.
+pub(crate) fn may_end(file: &[u8], surroundings: &Surroundings) -> Result<(), Refusal> {
+    match surroundings.may_end() {
+        true => Ok(()),
+        false => Err(Refusal {
+            number: 5,
+            place: file.len(),
+        }),
+    }
+}
+
 /// The line's statement, taken into the surroundings. Its leftmost bad token is the place of 4; all other refusals are at the line.
-fn read_line(line: Line, surroundings: &mut Surroundings) -> Result<Statement, Refusal> {
+pub(crate) fn read_line(line: Line, surroundings: &mut Surroundings) -> Result<Statement, Refusal> {
     let tokens = tokens(line.bytes).map_err(|bad| Refusal {
         number: 4,
         place: line.place + bad,

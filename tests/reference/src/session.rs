@@ -157,10 +157,6 @@ impl Session {
     /// The author's index of a bit.
     pub fn index(&self, module: ModuleNumber, wire: WireNumber, bit: usize) -> Result<i64, u32> {
         let wire = &self.design.wire(module, wire).ok_or(8u32)?.object;
-        if bit >= wire.width {
-            return Err(10);
-        }
-        let step = if wire.upto { wire.width - 1 - bit } else { bit };
-        Ok(i64::from(wire.offset) + step as i64)
+        wire.authors_index(bit).ok_or(10)
     }
 }

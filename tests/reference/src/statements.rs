@@ -97,6 +97,17 @@ pub struct Wire {
     pub port: Option<Port>,
 }
 
+impl Wire {
+    /// The index that the author gave a bit, none past the width.
+    pub fn authors_index(&self, bit: usize) -> Option<i64> {
+        if bit >= self.width {
+            return None;
+        }
+        let step = if self.upto { self.width - 1 - bit } else { bit };
+        Some(i64::from(self.offset) + step as i64)
+    }
+}
+
 #[derive(Debug, Clone, PartialEq, Eq)]
 pub struct Memory {
     pub name: Name,

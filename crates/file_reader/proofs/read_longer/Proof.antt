@@ -1,5 +1,5 @@
 use mathlib.Core.Path.{refl, _∙_}
-use Rattle.file_reader.proofs.FileLaws.{ended, longer}
+use Rattle.file_lines.proofs.FileLaws.{ended, longer}
 use Rattle.file_reader.proofs.read_longer.Statement.{statement}
 use Rattle.file_reader.proofs.read_longer.Tie as tie
 
@@ -8,7 +8,7 @@ slice-aggregate-read-lines c = refl
 
 read-lines-requires : tie.Need-read-lines-requires
 read-lines-requires c κs =
-    let entry = c .before .before .before .before .before .before .before .before .before .before .before .before .before .before .before .before .before .before in
+    let entry = c .before .before .before .before .before .before .before .before .before .before .before .before .before .before .before .before .before .before .before in
     (entry .pre .0, entry .pre .1)
 
 enum-known-a : tie.Need-enum-known-a
@@ -21,7 +21,7 @@ read-longest-requires : tie.Need-read-longest-requires
 read-longest-requires c κs =
     let after-l = c .before .before .before .before .before .before .before .before .before in
     let after-read-lines = after-l .before .before .before .before .before .before .before .before .before .before .before .before .before .before .before .before .before .before .before in
-    (let x = longer _ _ _ _ _ _ _ (after-read-lines .read-lines .ensures) _ _ _ (after-l .l .given .1) in (x .0, x .1))
+    (let x = longer _ _ _ _ _ _ _ _ (after-read-lines .read-lines .ensures) _ _ _ (after-l .l .given .1) in (x .0, x .1))
 
 same-length : tie.Need-same-length
 same-length c =
@@ -75,7 +75,7 @@ returns : tie.Need-returns
 returns c =
     let after-a = c .before in
     let after-read-lines = after-a .before .before .before .before .before .before .before .before .before .before .before .before .before .before .before .before .before .before .before in
-    ended _ _ _ _ _ _ _ (after-read-lines .read-lines .ensures) _ (after-a .a .given .1)
+    ended _ _ _ _ _ _ _ _ (after-read-lines .read-lines .ensures) _ (after-a .a .given .1)
 
 same-length-9 : tie.Need-same-length-9
 same-length-9 c =

@@ -1,5 +1,5 @@
 use mathlib.Core.Path.{refl}
-use Rattle.file_reader.proofs.FileLaws.{ended, no-longer}
+use Rattle.file_lines.proofs.FileLaws.{ended, no-longer}
 use Rattle.file_reader.proofs.read_longest.Statement.{statement}
 use Rattle.file_reader.proofs.read_longest.Tie as tie
 
@@ -19,7 +19,7 @@ slice-aggregate-read-lines c = refl
 
 read-lines-requires : tie.Need-read-lines-requires
 read-lines-requires c κs =
-    let entry = c .before .before .before .before .before .before .before .before .before .before .before .before .before .before .before .before .before .before in
+    let entry = c .before .before .before .before .before .before .before .before .before .before .before .before .before .before .before .before .before .before .before in
     (entry .pre .0, entry .pre .1)
 
 enum-known-a : tie.Need-enum-known-a
@@ -56,7 +56,7 @@ returns : tie.Need-returns
 returns c =
     let after-a = c .before in
     let after-read-lines = after-a .before .before .before .before .before .before .before .before .before .before .before .before .before .before .before .before .before .before .before in
-    ended _ _ _ _ _ _ _ (after-read-lines .read-lines .ensures) _ (after-a .a .given .1)
+    ended _ _ _ _ _ _ _ _ (after-read-lines .read-lines .ensures) _ (after-a .a .given .1)
 
 same-length-9 : tie.Need-same-length-9
 same-length-9 c = at-lines2 c .read-lines .kept .1 .1 .1 .1 .1 .0
@@ -86,7 +86,7 @@ returns-2 : tie.Need-returns-2
 returns-2 c =
     let after-p = c .before in
     let after-read-lines = after-p .before .before .before .before .before .before .before .before .before .before .before .before .before .before .before .before .before .before .before in
-    absurd (no-longer _ _ _ _ _ _ _ (after-read-lines .read-lines .ensures) _ _ _ (after-p .p .given .1) refl)
+    absurd (no-longer _ _ _ _ _ _ _ _ (after-read-lines .read-lines .ensures) _ _ _ (after-p .p .given .1) refl)
 
 pub read-longest-spec : {M : Type 1} → statement M
 read-longest-spec =

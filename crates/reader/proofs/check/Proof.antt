@@ -1,7 +1,8 @@
 use mathlib.Core.Path.{refl}
 use native.Mathlib.Omega.{arith}
 use borrow.Author.Needs.{needs}
-use Rattle.reader.proofs.HalfLaws.{zero-tables, checked-long, checked-accepted, checked-refused}
+use Rattle.file_reader.proofs.ZeroLaws.{zero-tables}
+use Rattle.reader.proofs.HalfLaws.{checked-long, checked-accepted, checked-refused}
 use Rattle.reader.proofs.check.Statement.{statement}
 use Rattle.reader.proofs.check.Tie as tie
 

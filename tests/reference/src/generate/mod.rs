@@ -7,6 +7,7 @@ mod limits;
 mod mutations;
 mod pieces;
 mod processes;
+mod questions;
 pub mod random;
 mod respelled;
 mod signals;
@@ -15,6 +16,7 @@ mod well_formed;
 use crate::design::Design;
 use crate::reading::read;
 use crate::vectors::Vector;
+pub use questions::Question;
 use random::Random;
 
 #[derive(Debug, Clone, Copy, PartialEq, Eq)]
@@ -124,6 +126,21 @@ pub fn pair(seed: u64) -> (Vec<u8>, Vec<u8>) {
         _ => mutated(seed, file.clone()),
     };
     (file, other)
+}
+
+/// What a front desk asks of a file.
+pub fn questions(seed: u64, file: &[u8]) -> Vec<Question> {
+    questions::questions(&mut Random::new(seed), file)
+}
+
+/// A file to ask of: any file, an accepted one, or in half of the cases one that is broken behind one of its lines.
+pub fn perhaps_broken(seed: u64, vectors: &[Vector]) -> Vec<u8> {
+    let of_kind = seed / 4;
+    match seed % 4 {
+        0 => generated_or_mutated(of_kind, vectors),
+        1 => accepted(of_kind),
+        _ => questions::broken(&mut Random::new(seed), &accepted(of_kind)),
+    }
 }
 
 /// A file with one size at its limit, one under or one over.

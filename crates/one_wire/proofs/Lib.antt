@@ -1,0 +1,2 @@
+mod SeekLaws
+mod RowLaws
