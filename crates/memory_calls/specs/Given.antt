@@ -2,6 +2,7 @@
 use Prim.Native.Nat.{ℕ, _-_, _≤_}
 use mathlib.Core.Path.{_≡_}
 use Rattle.rules.specs.Layout.{Memory}
+use Rattle.card.specs.declared.LengthAnswer.{LengthAnswer}
 use Rattle.look_up.specs.declared.Found.{Found}
 use Rattle.look_up.specs.declared.Indexed.{Indexed}
 use Rattle.show.specs.Parts.{numberOf, bytesIn, InRange, ShownAs, ShownAt}
@@ -9,7 +10,6 @@ use Rattle.show.specs.declared.Shown.{Shown}
 use Rattle.writer.specs.declared.Written.{Written}
 use Rattle.memory_calls.specs.declared.WireAnswer.{WireAnswer}
 use Rattle.memory_calls.specs.declared.IndexAnswer.{IndexAnswer}
-use Rattle.memory_calls.specs.declared.LengthAnswer.{LengthAnswer}
 use Rattle.memory_calls.specs.declared.PartAnswer.{PartAnswer}
 
 -- an exported answer as the call's own

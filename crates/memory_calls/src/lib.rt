@@ -1,4 +1,5 @@
 // The calls for other languages that only ask of a design's memory: a struct is laid out as C's. Number 0 is none.
+use card::LengthAnswer;
 use look_up::index;
 use look_up::look_up;
 use numbers::kinds::ModuleNumber;
@@ -23,12 +24,6 @@ pub struct WireAnswer {
 pub struct IndexAnswer {
     pub number: u32,
     pub index: i64,
-}
-
-#[repr(C)]
-pub struct LengthAnswer {
-    pub number: u32,
-    pub length: u32,
 }
 
 // A part of table 1, the names, or of table 2, the strings; a refusal has table 0.
