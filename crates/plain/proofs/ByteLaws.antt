@@ -5,8 +5,6 @@ use mathlib.Core.Bool.{true, false}
 use mathlib.Core.List.{List, [], _∷_}
 use Prim.Native.Nat.{ℕ, _+_, _/_, _%_, _≤_, _<_}
 use native.Mathlib.Omega.{arith}
-use lib.Dec.{eqb, ltb}
-use lib.ListN.{length}
 use borrow.Author.Tests.{eq-eqb, ne-eqb, lt-ltb, le-ltb}
 use Rattle.rules.specs.Bytes.{isDigit, within}
 use Rattle.rules.specs.Text.{escaped}
@@ -45,12 +43,3 @@ pub low-octal : (b : ℕ) → b < 32 → (b ≡ 10 → ⊥) → (b ≡ 9 → ⊥
 unfolding low escaped
 low-octal b h n t =
     rw (lt-ltb b 32 h, ne-eqb b 34 (λ e. omega arith), ne-eqb b 92 (λ e. omega arith), ne-eqb b 10 n, ne-eqb b 9 t)
-
-pub low-most : (b : ℕ) → length (low b) ≤ 4
-unfolding low escaped
-low-most b =
-    let P : List ℕ → Type 0 = λ l. length l ≤ 4 in
-    by-cond P (ltb b 32)
-    (λ e. by-cond P (eqb b 34) (λ e. omega arith) (λ e. by-cond P (eqb b 92) (λ e. omega arith)
-    (λ e. by-cond P (eqb b 10) (λ e. omega arith) (λ e. by-cond P (eqb b 9) (λ e. omega arith) (λ e. by-cond P (ltb b 32) (λ e. omega arith) (λ e. omega arith))))))
-    (λ e. omega arith)

@@ -5,11 +5,12 @@ use mathlib.Core.Bool.{Bool, true, false, cond, not, _&&_, _||_, or-false}
 use mathlib.Core.List.{List, [], _∷_, _++_, flatMap}
 use Prim.Native.Nat.{ℕ, zero, suc, _+_, _-_, _*_, _/_, _%_, _≤_, _<_}
 use native.Mathlib.Omega.{arith}
-use lib.Dec.{eqb}
+use lib.Dec.{eqb, ltb}
 use lib.ListN.{length}
 use borrow.Author.Tests.{eqb-true, not-true}
 use Rattle.rules.specs.Bytes.{byte, same, all, any, oneOf, within, isLower, isDigit, isNameStart, isNameByte, legal}
-use Rattle.rules.specs.Plain.{isPlain, hexDigit, plainByte, plainForm, hexValue, formBytes, escapedByte, nameOf, isForm}
+use Rattle.rules.specs.Text.{escaped}
+use Rattle.rules.specs.Plain.{isPlain, hexDigit, plainByte, plainForm, hexValue, formBytes, escapedByte, nameOf, isForm, low}
 use Rattle.lists.specs.Tests.{by-cond, by-test, by-order, and-true-left, and-true-right}
 use Rattle.lists.specs.Elements.{all-first, all-later, all-append}
 use Rattle.lists.specs.Bytes.{same-refl, same-eq, legal-short, within-high}
@@ -154,3 +155,13 @@ pub name-short : (t : List ℕ) → length (nameOf t) ≤ length t
 unfolding nameOf
 name-short [] = omega arith
 name-short (b ∷ bs) = omega (arith, bytes-short bs)
+
+-- a byte of a shown name becomes at most four
+pub low-most : (b : ℕ) → length (low b) ≤ 4
+unfolding low escaped
+low-most b =
+    let P : List ℕ → Type 0 = λ l. length l ≤ 4 in
+    by-cond P (ltb b 32)
+    (λ e. by-cond P (eqb b 34) (λ e. omega arith) (λ e. by-cond P (eqb b 92) (λ e. omega arith)
+    (λ e. by-cond P (eqb b 10) (λ e. omega arith) (λ e. by-cond P (eqb b 9) (λ e. omega arith) (λ e. by-cond P (ltb b 32) (λ e. omega arith) (λ e. omega arith))))))
+    (λ e. omega arith)

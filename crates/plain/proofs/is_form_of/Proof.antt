@@ -34,7 +34,13 @@ same-bytes-requires : tie.Need-same-bytes-requires
 same-bytes-requires c κs = search needs
 
 returns-2 : tie.Need-returns-2
-returns-2 c = rw (sym (c .before .before .before .before .before .before .before .legal .ensures) ∙ not-false _ (c .before .before .before .before .before .before .if1 .left), ← put-part (c .before .before .before .before .put-form .ensures) (omega (arith, form-length (now (c .before .before .before .before .before .before .before .before .before .before .args .name)) (sym (c .before .before .before .before .before .before .before .legal .ensures) ∙ not-false _ (c .before .before .before .before .before .before .if1 .left))))) (c .same-bytes .ensures)
+returns-2 c =
+    let args = c .before .before .before .before .before .before .before .before .before .before .args in
+    let legal = c .before .before .before .before .before .before .before .legal in
+    let if1 = c .before .before .before .before .before .before .if1 in
+    let put-form = c .before .before .before .before .put-form in
+    let same-bytes = c .same-bytes in
+    rw (sym (legal .ensures) ∙ not-false _ (if1 .left), ← put-part (put-form .ensures) (omega (arith, form-length (now (args .name)) (sym (legal .ensures) ∙ not-false _ (if1 .left))))) (same-bytes .ensures)
 
 pub is-form-of-spec : {M : Type 1} → statement M
 is-form-of-spec =

@@ -30,7 +30,12 @@ plain-size-requires : tie.Need-plain-size-requires Inv-loop μ-loop
 plain-size-requires c κs = search needs
 
 add-size : tie.Need-add-size Inv-loop μ-loop
-add-size c = omega (arith, size-more plainByte (now (c .before .before .before .before .before .args .s)) (c .before .before .before .loop .i) (c .before .before .before .loop .size) (c .plain-size .result) (c .before .before .loop-test .taken) (c .before .before .before .loop .inv .1) (c .plain-size .ensures), flatMap-most plainByte 3 byte-most (take (c .before .before .before .loop .i + 1) (now (c .before .before .before .before .before .args .s))), length-take-le (c .before .before .before .loop .i + 1) (now (c .before .before .before .before .before .args .s)) (omega arith))
+add-size c =
+    let args = c .before .before .before .before .before .args in
+    let loop = c .before .before .before .loop in
+    let loop-test = c .before .before .loop-test in
+    let plain-size = c .plain-size in
+    omega (arith, size-more plainByte (now (args .s)) (loop .i) (loop .size) (plain-size .result) (loop-test .taken) (loop .inv .1) (plain-size .ensures), flatMap-most plainByte 3 byte-most (take (loop .i + 1) (now (args .s))), length-take-le (loop .i + 1) (now (args .s)) (omega arith))
 
 add-i : tie.Need-add-i Inv-loop μ-loop
 add-i c = omega arith

@@ -29,10 +29,23 @@ is-form-of-requires : tie.Need-is-form-of-requires
 is-form-of-requires c κs = search needs
 
 returns-2 : tie.Need-returns-2
-returns-2 c = back-none (now (c .before .before .before .before .before .before .before .before .before .before .args .form)) (c .before .before .before .before .before .put-name .ensures) (c .before .before .before .before .before .before .before .if1 .left) (search needs) _ (c .before .is-form-of .ensures) (now (c .before .before .before .before .before .before .before .before .before .before .args .out)) (not-true _ (c .if2 .taken))
+returns-2 c =
+    let args = c .before .before .before .before .before .before .before .before .before .before .args in
+    let if1 = c .before .before .before .before .before .before .before .if1 in
+    let put-name = c .before .before .before .before .before .put-name in
+    let is-form-of = c .before .is-form-of in
+    let if2 = c .if2 in
+    back-none (now (args .form)) (put-name .ensures) (if1 .left) (search needs) _ (is-form-of .ensures) (now (args .out)) (not-true _ (if2 .taken))
 
 returns-3 : tie.Need-returns-3
-returns-3 c = back-short (now (c .before .before .before .before .before .before .before .before .before .before .before .args .form)) (c .before .before .before .before .before .before .put-name .ensures) (c .before .before .before .before .before .before .before .before .if1 .left) (search needs) _ (c .before .before .is-form-of .ensures) (now (c .before .before .before .before .before .before .before .before .before .before .before .args .out)) (not-false _ (c .before .if2 .left)) (c .if3 .taken)
+returns-3 c =
+    let args = c .before .before .before .before .before .before .before .before .before .before .before .args in
+    let if1 = c .before .before .before .before .before .before .before .before .if1 in
+    let put-name = c .before .before .before .before .before .before .put-name in
+    let is-form-of = c .before .before .is-form-of in
+    let if2 = c .before .if2 in
+    let if3 = c .if3 in
+    back-short (now (args .form)) (put-name .ensures) (if1 .left) (search needs) _ (is-form-of .ensures) (now (args .out)) (not-false _ (if2 .left)) (if3 .taken)
 
 sub-put-bytes : tie.Need-sub-put-bytes
 sub-put-bytes c = omega arith
@@ -41,19 +54,35 @@ part-put-bytes-start : tie.Need-part-put-bytes-start
 part-put-bytes-start c = search needs
 
 part-put-bytes-end : tie.Need-part-put-bytes-end
-part-put-bytes-end c = omega (arith, name-end (now (c .before .before .before .before .before .before .before .before .before .before .before .before .before .args .form)) (c .before .before .before .before .before .before .before .before .put-name .ensures) (c .before .before .before .before .before .before .before .before .before .before .if1 .left) (search needs))
+part-put-bytes-end c =
+    let args = c .before .before .before .before .before .before .before .before .before .before .before .before .before .args in
+    let if1 = c .before .before .before .before .before .before .before .before .before .before .if1 in
+    let put-name = c .before .before .before .before .before .before .before .before .put-name in
+    omega (arith, name-end (now (args .form)) (put-name .ensures) (if1 .left) (search needs))
 
 put-bytes-requires : tie.Need-put-bytes-requires
 put-bytes-requires c κs = omega arith
 
 cast-t21 : tie.Need-cast-t21
-cast-t21 c = omega (arith, name-end (now (c .before .before .before .before .before .before .before .before .before .before .before .before .before .before .before .before .before .args .form)) (c .before .before .before .before .before .before .before .before .before .before .before .before .put-name .ensures) (c .before .before .before .before .before .before .before .before .before .before .before .before .before .before .if1 .left) (search needs))
+cast-t21 c =
+    let args = c .before .before .before .before .before .before .before .before .before .before .before .before .before .before .before .before .before .args in
+    let if1 = c .before .before .before .before .before .before .before .before .before .before .before .before .before .before .if1 in
+    let put-name = c .before .before .before .before .before .before .before .before .before .before .before .before .put-name in
+    omega (arith, name-end (now (args .form)) (put-name .ensures) (if1 .left) (search needs))
 
 same-length : tie.Need-same-length
 same-length c = search needs
 
 returns-4 : tie.Need-returns-4
-returns-4 c = back-there (now (c .before .before .before .before .before .before .before .before .before .before .before .before .before .before .before .before .before .args .form)) (c .before .before .before .before .before .before .before .before .before .before .before .before .put-name .ensures) (c .before .before .before .before .before .before .before .before .before .before .before .before .before .before .if1 .left) (search needs) _ (c .before .before .before .before .before .before .before .before .is-form-of .ensures) (now (c .before .before .before .before .before .before .before .before .before .before .before .before .before .before .before .before .before .args .out)) (not-false _ (c .before .before .before .before .before .before .before .if2 .left)) (c .before .before .before .before .before .before .if3 .left) (c .before .before .put-bytes .ensures)
+returns-4 c =
+    let args = c .before .before .before .before .before .before .before .before .before .before .before .before .before .before .before .before .before .args in
+    let if1 = c .before .before .before .before .before .before .before .before .before .before .before .before .before .before .if1 in
+    let put-name = c .before .before .before .before .before .before .before .before .before .before .before .before .put-name in
+    let is-form-of = c .before .before .before .before .before .before .before .before .is-form-of in
+    let if2 = c .before .before .before .before .before .before .before .if2 in
+    let if3 = c .before .before .before .before .before .before .if3 in
+    let put-bytes = c .before .before .put-bytes in
+    back-there (now (args .form)) (put-name .ensures) (if1 .left) (search needs) _ (is-form-of .ensures) (now (args .out)) (not-false _ (if2 .left)) (if3 .left) (put-bytes .ensures)
 
 pub name-of-spec : {M : Type 1} → statement M
 name-of-spec =

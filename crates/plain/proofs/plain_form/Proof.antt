@@ -26,13 +26,25 @@ put-form-requires : tie.Need-put-form-requires
 put-form-requires c κs = omega (arith, c .before .before .form-size .ensures)
 
 cast-t9 : tie.Need-cast-t9
-cast-t9 c = omega (arith, c .before .before .before .before .before .form-size .ensures, form-length (now (c .before .before .before .before .before .before .before .before .before .before .args .name)) (sym (c .before .before .before .before .before .before .before .legal .ensures) ∙ not-false _ (c .before .before .before .before .before .before .if1 .left)))
+cast-t9 c =
+    let args = c .before .before .before .before .before .before .before .before .before .before .args in
+    let legal = c .before .before .before .before .before .before .before .legal in
+    let if1 = c .before .before .before .before .before .before .if1 in
+    let form-size = c .before .before .before .before .before .form-size in
+    omega (arith, form-size .ensures, form-length (now (args .name)) (sym (legal .ensures) ∙ not-false _ (if1 .left)))
 
 same-length : tie.Need-same-length
 same-length c = search needs
 
 returns-3 : tie.Need-returns-3
-returns-3 c = turned-there (now (c .before .before .before .before .before .before .before .before .before .before .args .name)) (now (c .before .before .before .before .before .before .before .before .before .before .args .out)) (sym (c .before .before .before .before .before .before .before .legal .ensures) ∙ not-false _ (c .before .before .before .before .before .before .if1 .left)) _ (c .before .before .before .before .before .form-size .ensures) (c .before .before .before .before .if2 .left) (c .before .before .put-form .ensures)
+returns-3 c =
+    let args = c .before .before .before .before .before .before .before .before .before .before .args in
+    let legal = c .before .before .before .before .before .before .before .legal in
+    let if1 = c .before .before .before .before .before .before .if1 in
+    let form-size = c .before .before .before .before .before .form-size in
+    let if2 = c .before .before .before .before .if2 in
+    let put-form = c .before .before .put-form in
+    turned-there (now (args .name)) (now (args .out)) (sym (legal .ensures) ∙ not-false _ (if1 .left)) _ (form-size .ensures) (if2 .left) (put-form .ensures)
 
 pub plain-form-spec : {M : Type 1} → statement M
 plain-form-spec =

@@ -33,10 +33,20 @@ part-put-later-end : tie.Need-part-put-later-end
 part-put-later-end c = search needs
 
 put-later-requires : tie.Need-put-later-requires
-put-later-requires c κs = omega (arith, c .before .before .before .before .before .before .before .pre, length-set (now (c .before .before .before .before .before .before .before .args .out)) (c .before .before .before .before .before .before .before .args .at) (c .before .before .if2 .first), ap length (form-some (now (c .before .before .before .before .before .before .before .args .name)) (c .before .before .before .before .if1 .left)))
+put-later-requires c κs =
+    let args = c .before .before .before .before .before .before .before .args in
+    let pre = c .before .before .before .before .before .before .before .pre in
+    let if1 = c .before .before .before .before .if1 in
+    let if2 = c .before .before .if2 in
+    omega (arith, pre, length-set (now (args .out)) (args .at) (if2 .first), ap length (form-some (now (args .name)) (if1 .left)))
 
 returns-2 : tie.Need-returns-2
-returns-2 c = first-then (form-some (now (c .before .before .before .before .before .before .before .before .before .before .args .name)) (c .before .before .before .before .before .before .before .if1 .left)) (⊎-elim (λ w. rw (eq-eqb _ _ (w .0 .taken)) (w .1)) (λ w. rw (ne-eqb _ _ (w .0 .left)) (w .1)) (c .before .before .before .before .before .if2 .came)) (c .before .before .put-later .ensures)
+returns-2 c =
+    let args = c .before .before .before .before .before .before .before .before .before .before .args in
+    let if1 = c .before .before .before .before .before .before .before .if1 in
+    let if2 = c .before .before .before .before .before .if2 in
+    let put-later = c .before .before .put-later in
+    first-then (form-some (now (args .name)) (if1 .left)) (⊎-elim (λ w. rw (eq-eqb _ _ (w .0 .taken)) (w .1)) (λ w. rw (ne-eqb _ _ (w .0 .left)) (w .1)) (if2 .came)) (put-later .ensures)
 
 same-length : tie.Need-same-length
 same-length c = put-kept (returns-2 c)

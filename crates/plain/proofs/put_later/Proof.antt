@@ -26,7 +26,12 @@ shared-slice-read-put-plain : tie.Need-shared-slice-read-put-plain Inv-loop μ-l
 shared-slice-read-put-plain c = omega arith
 
 put-plain-requires : tie.Need-put-plain-requires Inv-loop μ-loop
-put-plain-requires c κs = omega (arith, c .before .before .before .before .before .before .pre, c .before .before .before .loop .inv .1 .place, put-kept (c .before .before .before .loop .inv .1), part-fits plainByte (now (c .before .before .before .before .before .before .args .s)) (c .before .before .before .loop .i) (c .before .before .loop-test .taken))
+put-plain-requires c κs =
+    let args = c .before .before .before .before .before .before .args in
+    let pre = c .before .before .before .before .before .before .pre in
+    let loop = c .before .before .before .loop in
+    let loop-test = c .before .before .loop-test in
+    omega (arith, pre, loop .inv .1 .place, put-kept (loop .inv .1), part-fits plainByte (now (args .s)) (loop .i) (loop-test .taken))
 
 add-i : tie.Need-add-i Inv-loop μ-loop
 add-i c = omega arith
@@ -35,7 +40,11 @@ loop-less : tie.Need-loop-less Inv-loop μ-loop
 loop-less c = omega arith
 
 loop-again : tie.Need-loop-again Inv-loop μ-loop
-loop-again c = (omega arith, put-as (put-then (c .before .before .before .before .before .before .loop .inv .1) (c .before .before .put-plain .ensures)) (flatMap-more plainByte (now (c .before .before .before .before .before .before .before .before .before .args .s)) (c .before .before .before .before .before .before .loop .i) 0 (omega arith)))
+loop-again c =
+    let args = c .before .before .before .before .before .before .before .before .before .args in
+    let loop = c .before .before .before .before .before .before .loop in
+    let put-plain = c .before .before .put-plain in
+    (omega arith, put-as (put-then (loop .inv .1) (put-plain .ensures)) (flatMap-more plainByte (now (args .s)) (loop .i) 0 (omega arith)))
 
 same-length : tie.Need-same-length Inv-loop μ-loop
 same-length c = put-kept (c .before .loop .inv .1)

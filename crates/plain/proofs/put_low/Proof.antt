@@ -70,7 +70,12 @@ same-length-4 : tie.Need-same-length-4
 same-length-4 c = search needs
 
 returns-4 : tie.Need-returns-4
-returns-4 c = put-by (low-octal _ (c .before .before .before .before .before .before .before .if1 .left) (c .before .before .before .before .before .before .if2 .left) (c .before .before .before .before .before .if3 .left)) (c .before .before .put-bytes4 .ensures) refl
+returns-4 c =
+    let if1 = c .before .before .before .before .before .before .before .if1 in
+    let if2 = c .before .before .before .before .before .before .if2 in
+    let if3 = c .before .before .before .before .before .if3 in
+    let put-bytes4 = c .before .before .put-bytes4 in
+    put-by (low-octal _ (if1 .left) (if2 .left) (if3 .left)) (put-bytes4 .ensures) refl
 
 pub put-low-spec : {M : Type 1} → statement M
 put-low-spec =

@@ -32,10 +32,19 @@ part-put-taken-end : tie.Need-part-put-taken-end
 part-put-taken-end c = search needs
 
 put-taken-requires : tie.Need-put-taken-requires
-put-taken-requires c κs = omega (arith, c .before .before .before .before .before .before .before .pre, length-set (now (c .before .before .before .before .before .before .before .args .out)) 0 (c .before .before .if2 .first), length-part (now (c .before .before .before .before .before .before .before .args .form)) 1 (length (now (c .before .before .before .before .before .before .before .args .form)) - 1) (omega arith))
+put-taken-requires c κs =
+    let args = c .before .before .before .before .before .before .before .args in
+    let pre = c .before .before .before .before .before .before .before .pre in
+    let if2 = c .before .before .if2 in
+    omega (arith, pre, length-set (now (args .out)) 0 (if2 .first), length-part (now (args .form)) 1 (length (now (args .form)) - 1) (omega arith))
 
 returns-2 : tie.Need-returns-2
-returns-2 c = first-then (name-some (now (c .before .before .before .before .before .before .before .before .before .before .args .form)) (c .before .before .before .before .before .before .before .if1 .left)) (⊎-elim (λ w. rw (eq-eqb _ _ (w .0 .taken)) (w .1)) (λ w. rw (ne-eqb _ _ (w .0 .left)) (w .1)) (c .before .before .before .before .before .if2 .came)) (c .before .before .put-taken .ensures)
+returns-2 c =
+    let args = c .before .before .before .before .before .before .before .before .before .before .args in
+    let if1 = c .before .before .before .before .before .before .before .if1 in
+    let if2 = c .before .before .before .before .before .if2 in
+    let put-taken = c .before .before .put-taken in
+    first-then (name-some (now (args .form)) (if1 .left)) (⊎-elim (λ w. rw (eq-eqb _ _ (w .0 .taken)) (w .1)) (λ w. rw (ne-eqb _ _ (w .0 .left)) (w .1)) (if2 .came)) (put-taken .ensures)
 
 same-length : tie.Need-same-length
 same-length c = put-kept (returns-2 c)

@@ -26,7 +26,12 @@ shared-slice-read-put-low : tie.Need-shared-slice-read-put-low Inv-loop μ-loop
 shared-slice-read-put-low c = omega arith
 
 put-low-requires : tie.Need-put-low-requires Inv-loop μ-loop
-put-low-requires c κs = omega (arith, c .before .before .before .before .before .before .pre, c .before .before .before .loop .inv .1 .place, put-kept (c .before .before .before .loop .inv .1), part-fits low (now (c .before .before .before .before .before .before .args .s)) (c .before .before .before .loop .i) (c .before .before .loop-test .taken))
+put-low-requires c κs =
+    let args = c .before .before .before .before .before .before .args in
+    let pre = c .before .before .before .before .before .before .pre in
+    let loop = c .before .before .before .loop in
+    let loop-test = c .before .before .loop-test in
+    omega (arith, pre, loop .inv .1 .place, put-kept (loop .inv .1), part-fits low (now (args .s)) (loop .i) (loop-test .taken))
 
 add-i : tie.Need-add-i Inv-loop μ-loop
 add-i c = omega arith
@@ -35,7 +40,11 @@ loop-less : tie.Need-loop-less Inv-loop μ-loop
 loop-less c = omega arith
 
 loop-again : tie.Need-loop-again Inv-loop μ-loop
-loop-again c = (omega arith, put-as (put-then (c .before .before .before .before .before .before .loop .inv .1) (c .before .before .put-low .ensures)) (flatMap-more low (now (c .before .before .before .before .before .before .before .before .before .args .s)) (c .before .before .before .before .before .before .loop .i) 0 (omega arith)))
+loop-again c =
+    let args = c .before .before .before .before .before .before .before .before .before .args in
+    let loop = c .before .before .before .before .before .before .loop in
+    let put-low = c .before .before .put-low in
+    (omega arith, put-as (put-then (loop .inv .1) (put-low .ensures)) (flatMap-more low (now (args .s)) (loop .i) 0 (omega arith)))
 
 same-length : tie.Need-same-length Inv-loop μ-loop
 same-length c = put-kept (c .before .loop .inv .1)

@@ -25,7 +25,11 @@ enum-known-value : tie.Need-enum-known-value Inv-loop μ-loop
 enum-known-value c = search needs
 
 slice-write-out : tie.Need-slice-write-out Inv-loop μ-loop
-slice-write-out c = omega (arith, put-kept (c .before .before .before .before .before .loop .inv .put), taken-room (c .before .before .before .before .before .loop .inv) (c .before .before .before .before .loop-test .taken) (c .before .before .before .before .before .before .before .before .pre))
+slice-write-out c =
+    let pre = c .before .before .before .before .before .before .before .before .pre in
+    let loop = c .before .before .before .before .before .loop in
+    let loop-test = c .before .before .before .before .loop-test in
+    omega (arith, put-kept (loop .inv .put), taken-room (loop .inv) (loop-test .taken) (pre))
 
 add-end : tie.Need-add-end Inv-loop μ-loop
 add-end c = omega (arith, taken-room (c .before .before .before .before .before .loop .inv) (c .before .before .before .before .loop-test .taken) (c .before .before .before .before .before .before .before .before .pre))

@@ -8,7 +8,7 @@ use lib.ListN.{length, take}
 use lib.Seq.{take-all, length-take-le}
 use Rattle.rules.specs.Plain.{low}
 use Rattle.plain.specs.Put.{flatMap-most, size-more}
-use Rattle.plain.proofs.ByteLaws.{low-most}
+use Rattle.plain.specs.FormLaws.{low-most}
 use borrow.Author.Needs.{needs}
 use Rattle.plain.proofs.shown_size.Statement.{statement}
 use Rattle.plain.proofs.shown_size.Tie as tie
@@ -30,7 +30,12 @@ low-size-requires : tie.Need-low-size-requires Inv-loop μ-loop
 low-size-requires c κs = search needs
 
 add-size : tie.Need-add-size Inv-loop μ-loop
-add-size c = omega (arith, size-more low (now (c .before .before .before .before .before .args .s)) (c .before .before .before .loop .i) (c .before .before .before .loop .size) (c .low-size .result) (c .before .before .loop-test .taken) (c .before .before .before .loop .inv .1) (c .low-size .ensures), flatMap-most low 4 low-most (take (c .before .before .before .loop .i + 1) (now (c .before .before .before .before .before .args .s))), length-take-le (c .before .before .before .loop .i + 1) (now (c .before .before .before .before .before .args .s)) (omega arith))
+add-size c =
+    let args = c .before .before .before .before .before .args in
+    let loop = c .before .before .before .loop in
+    let loop-test = c .before .before .loop-test in
+    let low-size = c .low-size in
+    omega (arith, size-more low (now (args .s)) (loop .i) (loop .size) (low-size .result) (loop-test .taken) (loop .inv .1) (low-size .ensures), flatMap-most low 4 low-most (take (loop .i + 1) (now (args .s))), length-take-le (loop .i + 1) (now (args .s)) (omega arith))
 
 add-i : tie.Need-add-i Inv-loop μ-loop
 add-i c = omega arith

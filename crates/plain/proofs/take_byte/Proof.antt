@@ -46,7 +46,11 @@ hex-value-requires-2 : tie.Need-hex-value-requires-2
 hex-value-requires-2 c κs = search needs
 
 add-value : tie.Need-add-value
-add-value c = omega (arith, c .before .before .hex-value .ensures, c .hex-value2 .ensures, hex-most (getD (now (c .before .before .before .before .before .before .before .before .args .form)) (c .before .before .before .before .before .before .before .before .args .i + 1) 0), hex-most (getD (now (c .before .before .before .before .before .before .before .before .args .form)) (c .before .before .before .before .before .before .before .before .args .i + 2) 0))
+add-value c =
+    let args = c .before .before .before .before .before .before .before .before .args in
+    let hex-value = c .before .before .hex-value in
+    let hex-value2 = c .hex-value2 in
+    omega (arith, hex-value .ensures, hex-value2 .ensures, hex-most (getD (now (args .form)) (args .i + 1) 0), hex-most (getD (now (args .form)) (args .i + 2) 0))
 
 cast-t6 : tie.Need-cast-t6
 cast-t6 c = search needs
@@ -55,7 +59,14 @@ add-t9 : tie.Need-add-t9
 add-t9 c = search needs
 
 returns-3 : tie.Need-returns-3
-returns-3 c = taken-digits (now (c .before .before .before .before .before .before .before .before .args .form)) (c .before .before .before .before .before .before .before .before .args .i) (c .before .before .before .before .before .before .before .before .pre) (c .before .before .before .before .before .if1 .left) (c .before .before .before .before .if2 .left) _ (rw (c .before .before .hex-value .ensures, c .hex-value2 .ensures))
+returns-3 c =
+    let args = c .before .before .before .before .before .before .before .before .args in
+    let pre = c .before .before .before .before .before .before .before .before .pre in
+    let if1 = c .before .before .before .before .before .if1 in
+    let if2 = c .before .before .before .before .if2 in
+    let hex-value = c .before .before .hex-value in
+    let hex-value2 = c .hex-value2 in
+    taken-digits (now (args .form)) (args .i) (pre) (if1 .left) (if2 .left) _ (rw (hex-value .ensures, hex-value2 .ensures))
 
 pub take-byte-spec : {M : Type 1} → statement M
 take-byte-spec =
