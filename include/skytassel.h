@@ -6,7 +6,8 @@
  *
  * Numbers: 0 none. 1 a table hasn't its exact length. 2 file over 32,768 bytes. 3 memory that holds no design. 4 bad token, ill-formed new name. 5 no permitted
  * shape, a missing line end or end. 6 rename of a port wire. 7 number or option rule broken. 8 module or wire not there. 9 name taken. 10 slice or
- * width rule broken, index past the wire. 11 a size exceeded. 12 text over 32,768 bytes or over the room lent. 13 nothing to undo.
+ * width rule broken, index past the wire. 11 a size exceeded. 12 text over 32,768 bytes or over the room lent. 13 nothing to undo. 14 no
+ * legal name's plain form.
  */
 #ifndef SKYTASSEL_H
 #define SKYTASSEL_H
@@ -18,7 +19,8 @@
 extern "C" {
 #endif
 
-enum { SKYTASSEL_NAMES = 16384, SKYTASSEL_STRINGS = 8192, SKYTASSEL_BITS = 16384, SKYTASSEL_WIRES = 8 * 512, SKYTASSEL_ROWS = 8 * 6945, SKYTASSEL_TEXT = 32768 };
+enum { SKYTASSEL_NAMES = 16384, SKYTASSEL_STRINGS = 8192, SKYTASSEL_BITS = 16384, SKYTASSEL_WIRES = 8 * 512, SKYTASSEL_ROWS = 8 * 6945, SKYTASSEL_TEXT = 32768,
+    SKYTASSEL_NAME = 255, SKYTASSEL_PLAIN_FORM = 763, SKYTASSEL_LISTING = 4 * 16384 + 4 * 8192 + 2 * 512 };
 
 /* The session card: renames standing, name room used. A refusal's place is 0, but from number 4 on where a file is read: for 4 the first byte of the line's leftmost bad
  * token, else the refused line's first byte that is neither space nor tab, or the file's length. Look-up, index, show, measure and write give no place, since it
@@ -67,6 +69,13 @@ struct skytassel_part_answer skytassel_show(SKYTASSEL_VIEW, uint32_t module, uin
 /* The one written text, at the start of `out`, and its length: 1, 3, 12. A refusal leaves `out` as it was. */
 struct skytassel_length_answer skytassel_measure(SKYTASSEL_VIEW);
 struct skytassel_length_answer skytassel_write(SKYTASSEL_VIEW, uint8_t *out, size_t out_length);
+
+/* The plain form of a name, at most SKYTASSEL_PLAIN_FORM bytes: 4, 12. The name that has a plain form: 14, 12. The wires of a module in order, one line each, line
+ * end 10: the plain form of the name now, a space, the name to show, its bytes below 32 escaped as in a written string: 1, 3, 8, 12; no listing is longer than
+ * SKYTASSEL_LISTING. Each stands at the start of `out`, and its length is given; 12 is for the room alone. A refusal leaves `out` as it was. */
+struct skytassel_length_answer skytassel_plain_form(const uint8_t *name, size_t name_length, uint8_t *out, size_t out_length);
+struct skytassel_length_answer skytassel_name_of(const uint8_t *form, size_t form_length, uint8_t *out, size_t out_length);
+struct skytassel_length_answer skytassel_listing(SKYTASSEL_VIEW, uint32_t module, uint8_t *out, size_t out_length);
 
 #ifdef __cplusplus
 }

@@ -1,6 +1,6 @@
 //! A design in memory of its own.
 
-use crate::lent::{Lent, View, BITS, NAMES, ROWS, STRINGS, WIRES};
+use crate::lent::{Lent, View, BITS, LISTING, NAMES, ROWS, STRINGS, WIRES};
 use crate::refusal::{answer, placed, Refusal, Refused};
 use crate::sys::Card;
 
@@ -150,6 +150,24 @@ impl Design {
             },
         )?;
         Ok(&table[shown.start..][..shown.length])
+    }
+
+    /// The wires of a module in order, one line each: the plain form of the name now, a space, the name to show, its bytes below 32 escaped. Refused:
+    /// [`Refusal::NotThere`].
+    ///
+    /// ```
+    /// use skytassel::{Design, ModuleNumber};
+    ///
+    /// let file = b"module \\ear\n  attribute \\hdlname \"left gain\"\n  wire \\g_0\n  wire \\y\nend\n";
+    /// let design = Design::read(file)?;
+    /// assert_eq!(design.listing(ModuleNumber(0))?, b"pg_5f0 left gain\npy y\n");
+    /// # Ok::<(), Box<dyn std::error::Error>>(())
+    /// ```
+    pub fn listing(&self, module: ModuleNumber) -> Result<Vec<u8>, Refusal> {
+        let mut lines = vec![0; LISTING];
+        let listed = self.view().listing(module.0, &mut lines);
+        lines.truncate(listed.length as usize);
+        answer(listed.number, lines)
     }
 
     /// The author's index of a bit, which may be negative. Refused: [`Refusal::NotThere`], [`Refusal::BadWidth`] (past the wire).

@@ -11,6 +11,12 @@ pub const ROW: usize = 8;
 pub const WIRES: usize = ROW * 512;
 pub const ROWS: usize = ROW * 6_945;
 
+/// The longest plain form of a name, and the longest name.
+pub const PLAIN_FORM: usize = 763;
+pub const NAME: usize = 255;
+/// No listing is longer: three bytes of plain form and one shown for each byte of the names, four for each of the strings, and two more a wire.
+pub const LISTING: usize = 4 * NAMES + 4 * STRINGS + 2 * (WIRES / ROW);
+
 /// Design memory lent to a call that may change it. Reading takes less than 900 KB of stack.
 #[derive(Debug)]
 pub struct Lent<'a> {
@@ -176,8 +182,33 @@ impl View<'_> {
         ask!(skytassel_measure, self)
     }
 
+    /// Lists a module's wires at the start of the room lent. A refusal leaves the room as it was.
+    pub fn listing(&self, module: u32, room: &mut [u8]) -> LengthAnswer {
+        ask!(
+            skytassel_listing,
+            self,
+            module,
+            room.as_mut_ptr(),
+            room.len()
+        )
+    }
+
     /// Writes the text at the start of the room lent. A refusal leaves the room as it was.
     pub fn write(&self, room: &mut [u8]) -> LengthAnswer {
         ask!(skytassel_write, self, room.as_mut_ptr(), room.len())
     }
+}
+
+/// Writes the plain form of a name at the start of the room lent. A refusal leaves the room as it was.
+pub fn plain_form(name: &[u8], room: &mut [u8]) -> LengthAnswer {
+    let (start, length) = (room.as_mut_ptr(), room.len());
+    // SAFETY: each pointer comes with its length, the parts don't overlap, and the call asks nothing of its caller.
+    unsafe { sys::skytassel_plain_form(name.as_ptr(), name.len(), start, length) }
+}
+
+/// Writes the name that has this plain form at the start of the room lent. A refusal leaves the room as it was.
+pub fn name_of(form: &[u8], room: &mut [u8]) -> LengthAnswer {
+    let (start, length) = (room.as_mut_ptr(), room.len());
+    // SAFETY: as in `plain_form`.
+    unsafe { sys::skytassel_name_of(form.as_ptr(), form.len(), start, length) }
 }

@@ -2,6 +2,7 @@
 //!
 //! - [`Design`]: a design in memory of its own, with the calls as methods and refusals as [`Refusal`].
 //! - [`check`], [`width_of`] and [`index_of`]: what is asked of a file alone, without memory for a design.
+//! - [`plain_form`] and [`name_of`]: a name in plain letters, and back.
 //! - [`lent`]: the calls on memory that somebody lends, in any state.
 //! - [`sys`]: the exported calls themselves.
 //!
@@ -11,9 +12,11 @@
 mod design;
 mod file;
 pub mod lent;
+mod plain;
 mod refusal;
 pub mod sys;
 
 pub use design::{Design, ModuleNumber, WireNumber};
 pub use file::{check, index_of, width_of};
+pub use plain::{name_of, plain_form};
 pub use refusal::{Refusal, Refused};

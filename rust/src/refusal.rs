@@ -29,15 +29,17 @@ pub enum Refusal {
     BadWidth = 10,
     /// A size is exceeded.
     SizeExceeded = 11,
-    /// The text is over 32,768 bytes or over the room lent.
+    /// The text is over 32,768 bytes, or the answer is over the room lent.
     TextTooLong = 12,
     /// There is nothing to undo.
     NothingToUndo = 13,
+    /// The bytes are no legal name's plain form.
+    NoPlainForm = 14,
 }
 
 impl Refusal {
     /// All of them, in order of their numbers.
-    pub const ALL: [Refusal; 13] = [
+    pub const ALL: [Refusal; 14] = [
         Refusal::WrongLength,
         Refusal::FileTooLong,
         Refusal::DamagedMemory,
@@ -51,6 +53,7 @@ impl Refusal {
         Refusal::SizeExceeded,
         Refusal::TextTooLong,
         Refusal::NothingToUndo,
+        Refusal::NoPlainForm,
     ];
 
     pub fn number(self) -> u32 {
@@ -85,6 +88,7 @@ impl fmt::Display for Refusal {
             Refusal::SizeExceeded => "a size is exceeded",
             Refusal::TextTooLong => "the text is too long",
             Refusal::NothingToUndo => "nothing to undo",
+            Refusal::NoPlainForm => "no name's plain form",
         };
         write!(to, "{}: {words}", self.number())
     }

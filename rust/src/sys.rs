@@ -201,6 +201,38 @@ extern "C" {
         room: u32,
     ) -> LengthAnswer;
 
+    pub fn skytassel_plain_form(
+        name: *const u8,
+        name_length: usize,
+        out: *mut u8,
+        out_length: usize,
+    ) -> LengthAnswer;
+
+    pub fn skytassel_name_of(
+        form: *const u8,
+        form_length: usize,
+        out: *mut u8,
+        out_length: usize,
+    ) -> LengthAnswer;
+
+    pub fn skytassel_listing(
+        names: *const u8,
+        names_length: usize,
+        strings: *const u8,
+        strings_length: usize,
+        bits: *const u32,
+        bits_length: usize,
+        wires: *const u32,
+        wires_length: usize,
+        rows: *const u32,
+        rows_length: usize,
+        renames: u32,
+        room: u32,
+        module: u32,
+        out: *mut u8,
+        out_length: usize,
+    ) -> LengthAnswer;
+
     pub fn skytassel_write(
         names: *const u8,
         names_length: usize,

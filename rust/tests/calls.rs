@@ -2,7 +2,7 @@
 
 use skytassel::lent::{self, Lent, BITS, NAMES, ROWS, STRINGS, WIRES};
 use skytassel::sys::{Answer, Card};
-use skytassel::{check, Design, ModuleNumber, Refusal, WireNumber};
+use skytassel::{check, name_of, plain_form, Design, ModuleNumber, Refusal, WireNumber};
 
 const FILE: &[u8] = b"module \\ear
   attribute \\hdlname \"left gain\"
@@ -33,7 +33,7 @@ fn numbers_are_those_of_the_table() {
         assert!(refusal.to_string().starts_with(&(at + 1).to_string()));
     }
     assert_eq!(Refusal::of(0), None);
-    assert_eq!(Refusal::of(14), None);
+    assert_eq!(Refusal::of(15), None);
 }
 
 #[test]
@@ -158,6 +158,32 @@ fn with_lengths(lengths: [usize; 5], call: impl FnOnce(&mut Lent)) {
 }
 
 #[test]
+fn plain_letters() {
+    let longest = [b"$".to_vec(), vec![b'_'; 254]].concat();
+    let form = plain_form(&longest).expect("a name");
+    assert_eq!(form.len(), lent::PLAIN_FORM);
+    assert_eq!(name_of(&form), Ok(longest));
+    assert_eq!(plain_form(b"gain"), Err(Refusal::BadToken));
+    for no_form in [&b""[..], b"p", b"gain", b"p_41", b"p_5C", b"p_20", b"p_5"] {
+        assert_eq!(name_of(no_form), Err(Refusal::NoPlainForm));
+    }
+    let mut room = [7; 6];
+    assert_eq!(lent::plain_form("\\é".as_bytes(), &mut room).number, 12);
+    assert_eq!(lent::name_of(b"p_c3_a9", &mut room[..2]).number, 12);
+    assert_eq!(room, [7; 6]);
+    assert_eq!(lent::name_of(b"p_c3_a9", &mut room).length, 3);
+    assert_eq!(room, [b'\\', 0xc3, 0xa9, 7, 7, 7]);
+}
+
+#[test]
+fn listing() {
+    let design = design();
+    let lines = b"pgain left gain\npi i\npy y\n";
+    assert_eq!(design.listing(EAR), Ok(lines.to_vec()));
+    assert_eq!(design.listing(ModuleNumber(1)), Err(Refusal::NotThere));
+}
+
+#[test]
 fn wrong_lengths_are_refused_and_nothing_is_touched() {
     let right = [NAMES, STRINGS, BITS, WIRES, ROWS];
     for table in 0..5 {
@@ -178,6 +204,7 @@ fn wrong_lengths_are_refused_and_nothing_is_touched() {
                 assert_eq!(view.show(0, 0).number, 1);
                 assert_eq!(view.measure().number, 1);
                 assert_eq!(view.write(&mut room).number, 1);
+                assert_eq!(view.listing(0, &mut room).number, 1);
                 assert!(room == [7; 100]);
                 assert!(view.names.iter().chain(view.strings).all(|&byte| byte == 7));
                 let words = view.bits.iter().chain(view.wires).chain(view.rows);
@@ -193,6 +220,7 @@ fn memory_that_holds_no_design_is_refused() {
     with_lengths([NAMES, STRINGS, BITS, WIRES, ROWS], |memory| {
         assert_eq!(memory.undo().number, Refusal::DamagedMemory.number());
         assert_eq!(memory.view().measure().number, 3);
+        assert_eq!(memory.view().listing(0, &mut []).number, 3);
         // a fill takes any memory
         assert_eq!(memory.fill(FILE).number, 0);
         assert_eq!(memory.view().show(0, 0).length, 9);

@@ -56,6 +56,15 @@ int main(void)
     if (!print_text())
         return 1;
 
+    uint8_t plain[SKYTASSEL_PLAIN_FORM], name[SKYTASSEL_NAME], listing[64];
+    const uint8_t acute[] = {'\\', 0xc3, 0xa9};
+    struct skytassel_length_answer form = skytassel_plain_form(acute, sizeof acute, plain, sizeof plain);
+    struct skytassel_length_answer back = skytassel_name_of(plain, form.length, name, sizeof name);
+    if (back.length != sizeof acute || memcmp(name, acute, sizeof acute) != 0)
+        return 1;
+    struct skytassel_length_answer listed = skytassel_listing(VIEW, card.renames, card.room, 0, listing, sizeof listing);
+    printf("plain: %.*s\n%.*s", (int)form.length, (const char *)plain, (int)listed.length, (const char *)listing);
+
     if (skytassel_undo(VIEW, &card).number != 0)
         return 1;
     printf("undo again: %u\n", (unsigned)skytassel_undo(VIEW, &card).number);

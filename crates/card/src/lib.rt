@@ -1,4 +1,4 @@
-// The session card and the answer of a call that changes it, laid out as C's. Each such call is proved by a walk of its MIR: proofs/ has what the walks share.
+// The session card and what several calls answer, laid out as C's. Each call that changes the card is proved by a walk of its MIR: proofs/ has what the walks share.
 
 // The session card: renames standing, name room used.
 #[repr(C)]
@@ -12,4 +12,11 @@ pub struct Card {
 pub struct Answer {
     pub number: u32,
     pub place: u32,
+}
+
+// A refusal's length is 0.
+#[repr(C)]
+pub struct LengthAnswer {
+    pub number: u32,
+    pub length: u32,
 }

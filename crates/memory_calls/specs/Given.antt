@@ -2,6 +2,8 @@
 use Prim.Native.Nat.{ℕ, _-_, _≤_}
 use mathlib.Core.Path.{_≡_}
 use Rattle.rules.specs.Layout.{Memory}
+use Rattle.card.specs.declared.LengthAnswer.{LengthAnswer}
+use Rattle.listing.specs.declared.Listed.{Listed}
 use Rattle.look_up.specs.declared.Found.{Found}
 use Rattle.look_up.specs.declared.Indexed.{Indexed}
 use Rattle.show.specs.Parts.{numberOf, bytesIn, InRange, ShownAs, ShownAt}
@@ -9,7 +11,6 @@ use Rattle.show.specs.declared.Shown.{Shown}
 use Rattle.writer.specs.declared.Written.{Written}
 use Rattle.memory_calls.specs.declared.WireAnswer.{WireAnswer}
 use Rattle.memory_calls.specs.declared.IndexAnswer.{IndexAnswer}
-use Rattle.memory_calls.specs.declared.LengthAnswer.{LengthAnswer}
 use Rattle.memory_calls.specs.declared.PartAnswer.{PartAnswer}
 
 -- an exported answer as the call's own
@@ -21,6 +22,9 @@ indexedBy a = record { number = a .number; index = a .index }
 
 abbrev pub writtenBy : LengthAnswer → Written
 writtenBy a = record { number = a .number; length = a .length }
+
+abbrev pub listedBy : LengthAnswer → Listed
+listedBy a = record { number = a .number; length = a .length }
 
 -- a part by its table, 1 the names and 2 the strings, its start and its length; a refusal is zero but for its number
 unfoldable pub partOf : Shown → PartAnswer

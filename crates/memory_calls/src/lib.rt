@@ -1,4 +1,6 @@
 // The calls for other languages that only ask of a design's memory: a struct is laid out as C's. Number 0 is none.
+use card::LengthAnswer;
+use listing::listing;
 use look_up::index;
 use look_up::look_up;
 use numbers::kinds::ModuleNumber;
@@ -9,9 +11,10 @@ use writer::measure;
 use writer::write;
 ghost use mathlib.Core.Path.{_≡_};
 ghost use Rattle.netlist.specs.Results.{lent};
+ghost use Rattle.listing.specs.Listed.{ListedAs};
 ghost use Rattle.look_up.specs.Asked.{LookedUp, IndexGiven};
 ghost use Rattle.writer.specs.Write.{MeasuredAs, WrittenAs};
-ghost use Rattle.memory_calls.specs.Given.{foundBy, indexedBy, writtenBy, partOf, Ordered, PartGiven};
+ghost use Rattle.memory_calls.specs.Given.{foundBy, indexedBy, writtenBy, listedBy, partOf, Ordered, PartGiven};
 
 #[repr(C)]
 pub struct WireAnswer {
@@ -23,12 +26,6 @@ pub struct WireAnswer {
 pub struct IndexAnswer {
     pub number: u32,
     pub index: i64,
-}
-
-#[repr(C)]
-pub struct LengthAnswer {
-    pub number: u32,
-    pub length: u32,
 }
 
 // A part of table 1, the names, or of table 2, the strings; a refusal has table 0.
@@ -140,6 +137,37 @@ pub extern "C" fn skytassel_write(
     LengthAnswer {
         number: written.number,
         length: written.length,
+    }
+}
+
+#[no_mangle]
+pub extern "C" fn skytassel_listing(
+    names: &[u8],
+    strings: &[u8],
+    bits: &[u32],
+    wires: &[u32],
+    rows: &[u32],
+    renames: u32,
+    room: u32,
+    m: u32,
+    out: &mut [u8],
+) -> LengthAnswer
+    ensures { λ r. ⌜ ListedAs (lent (now (names .entry)) (now (strings .entry)) (now (bits .entry)) (now (wires .entry)) (now (rows .entry)) renames room) m (now (out .entry)) (now (out .exit)) (listedBy r) ⌝ }
+{
+    let listed = listing(
+        names,
+        strings,
+        bits,
+        wires,
+        rows,
+        renames,
+        room,
+        ModuleNumber(m),
+        out,
+    );
+    LengthAnswer {
+        number: listed.number,
+        length: listed.length,
     }
 }
 

@@ -1,4 +1,4 @@
 mod StepLaws
-mod PartLaws
+pub mod PartLaws
 mod FoundLaws
-mod ShowLaws
+pub mod ShowLaws

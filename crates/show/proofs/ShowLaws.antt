@@ -129,12 +129,25 @@ module _ {names strings bits wires rows : List ℕ} {renames room : ℕ} {p : Pl
         fronts-before s (declared .before) (fronts-behind (declared .behind) (s ∷ declared .before) all-fronts) in
         rw line-is (hdlname-found parts (declared .before) f [] 0 refl ∙ ap hdlname (append-nil (settingsBefore (declared .before))))
 
+    -- so the wire as it is now has the name now and the name to show that the tables tell
+    pub wire-shown :
+        (o : Object Wire)
+        × (wireAt (now (design (h .statements)) (h .renames)) m w ≡ some o)
+        × (o .name ≡ table.nameNow names wires rows (p .rows) renames m w (own .first + w))
+        × (orElse (hdlname (o .attributes)) (plainName (o .name)) ≡ shownName names strings wires rows (p .rows) renames m w (own .first + w))
+    unfolding shownName wireNow
+    wire-shown = (
+      wireNow (h .renames) m w (object (settingsBefore (declared .before)) (declared .name) (declared .body)),
+      wire-now (design (h .statements)) (h .renames) m w ∙ ap (Option·map (wireNow (h .renames) m w)) wire-is,
+      sym name-now,
+      rw (text-is, name-now),
+    )
+
     show-is : show (now (design (h .statements)) (h .renames)) m w ≡ accepted (shownName names strings wires rows (p .rows) renames m w (own .first + w))
-    unfolding show shownName wireNow Option·elim
+    unfolding show Option·elim
     show-is =
-        ap (λ (o : Option (Object Wire)). Option·elim o (refused 8) (λ x. accepted (orElse (hdlname (x .attributes)) (plainName (x .name)))))
-        (wire-now (design (h .statements)) (h .renames) m w ∙ ap (Option·map (wireNow (h .renames) m w)) wire-is)
-        ∙ rw (text-is, name-now)
+        let q = wire-shown in
+        ap (λ (o : Option (Object Wire)). Option·elim o (refused 8) (λ x. accepted (orElse (hdlname (x .attributes)) (plainName (x .name))))) (q .1) ∙ ap accepted (q .3)
 
     part-in : shownIn (lent names strings bits wires rows renames room) p m w ≡ shownPart names strings wires rows (p .rows) renames m w (own .first + w)
     unfolding shownIn

@@ -181,8 +181,8 @@ fn plain_part(names: &[u8], p: Part) -> Part
     p
 }
 
-// The name to show of the wire in row k of the table of wires.
-fn shown_wire(
+// The name to show of the wire in row k of the table of wires, in memory that is judged already.
+pub fn shown_wire(
     names: &[u8],
     strings: &[u8],
     wires: &[u32],

@@ -1,6 +1,7 @@
 //! The exported calls answer the vectors with calls.
 
 use crate::exported::{self, Answer};
+use crate::rooms::in_room;
 use crate::tables::{Card, Tables};
 use reference::call_vectors::Answers;
 use reference::sizes::TEXT_BYTES;
@@ -76,6 +77,19 @@ impl Answers for Exported {
 
     fn index_of(&self, module: u32, name: &[u8], bit: u32) -> Result<i64, Refusal> {
         exported::index_of(&self.file, module, name, bit)
+    }
+
+    fn plain_form(&self, room: usize, name: &[u8]) -> Result<Vec<u8>, Refusal> {
+        in_room(room, |out| exported::plain_form(name, out)).map_err(Refusal::of_call)
+    }
+
+    fn name_of(&self, room: usize, form: &[u8]) -> Result<Vec<u8>, Refusal> {
+        in_room(room, |out| exported::name_of(form, out)).map_err(Refusal::of_call)
+    }
+
+    fn listing(&self, room: usize, module: u32) -> Result<Vec<u8>, Refusal> {
+        let listing = |out: &mut [u8]| exported::listing(&self.tables, self.card, module, out);
+        in_room(room, listing).map_err(Refusal::of_call)
     }
 
     fn written(&self) -> Vec<u8> {

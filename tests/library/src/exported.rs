@@ -2,6 +2,7 @@
 
 use crate::tables::{Card, Tables};
 use reference::Refusal;
+use skytassel::lent;
 pub use skytassel::sys::Answer;
 use skytassel::{ModuleNumber, Refused};
 
@@ -80,6 +81,24 @@ pub fn show(tables: &Tables, card: Card, module: u32, wire: u32) -> Result<&[u8]
 /// The length of the text.
 pub fn measure(tables: &Tables, card: Card) -> Result<usize, u32> {
     let answer = tables.view(card).measure();
+    given(answer.number, answer.length as usize, 0)
+}
+
+/// The plain form of a name at the start of the room lent, and its length.
+pub fn plain_form(name: &[u8], room: &mut [u8]) -> Result<usize, u32> {
+    let answer = lent::plain_form(name, room);
+    given(answer.number, answer.length as usize, 0)
+}
+
+/// The name that has a plain form at the start of the room lent, and its length.
+pub fn name_of(form: &[u8], room: &mut [u8]) -> Result<usize, u32> {
+    let answer = lent::name_of(form, room);
+    given(answer.number, answer.length as usize, 0)
+}
+
+/// The wires of a module, listed at the start of the room lent, and the listing's length.
+pub fn listing(tables: &Tables, card: Card, module: u32, room: &mut [u8]) -> Result<usize, u32> {
+    let answer = tables.view(card).listing(module, room);
     given(answer.number, answer.length as usize, 0)
 }
 

@@ -7,12 +7,14 @@ pub mod exported;
 pub mod files;
 pub mod layout;
 pub mod lines;
+pub mod rooms;
 pub mod tables;
 pub mod undoing;
 
 pub use decoding::valid;
 pub use exported::{
-    check, fill, index, index_of, look_up, measure, rename, show, undo, width_of, write, Answer,
+    check, fill, index, index_of, listing, look_up, measure, name_of, plain_form, rename, show,
+    undo, width_of, write, Answer,
 };
 pub use layout::layout;
 pub use tables::{Card, Tables};

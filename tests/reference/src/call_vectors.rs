@@ -1,6 +1,7 @@
 //! Vectors with calls: a file, calls made in order, each on the memory that the last left, what each answers, and what is written then.
 
 use crate::one_wire::{index_of, width_of};
+use crate::plain::{listing, name_of, plain_form};
 use crate::reading::{read, Refusal};
 use crate::session::Session;
 use crate::sizes;
@@ -58,6 +59,9 @@ pub trait Answers {
     fn card(&self) -> (usize, usize);
     fn width_of(&self, module: u32, name: &[u8]) -> Result<u32, Refusal>;
     fn index_of(&self, module: u32, name: &[u8], bit: u32) -> Result<i64, Refusal>;
+    fn plain_form(&self, room: usize, name: &[u8]) -> Result<Vec<u8>, Refusal>;
+    fn name_of(&self, room: usize, form: &[u8]) -> Result<Vec<u8>, Refusal>;
+    fn listing(&self, room: usize, module: u32) -> Result<Vec<u8>, Refusal>;
     /// The text with the names now, or number and place of the refused reading or writing.
     fn written(&self) -> Vec<u8>;
 }
@@ -85,6 +89,9 @@ fn answer(by: &mut impl Answers, call: &str) -> String {
         ["index_of", module, name, bit] => {
             counted(by.index_of(number(module), &bytes(name), number(bit)))
         }
+        ["plain", room, name] => measured(by.plain_form(size(room), &bytes(name))),
+        ["unplain", room, form] => measured(by.name_of(size(room), &bytes(form))),
+        ["listing", room, module] => measured(by.listing(size(room), number(module))),
         _ => panic!("no call: {call}"),
     }
 }
@@ -114,8 +121,19 @@ fn counted<T: Display + Default + Copy>(given: Result<T, Refusal>) -> String {
     format!("{} {answer}", bare(given.map(|_| ())))
 }
 
+/// Number, place, and the bytes with their length.
+fn measured(given: Result<Vec<u8>, Refusal>) -> String {
+    let bytes = given.as_deref().unwrap_or_default();
+    let answer = format!("{} {}", bytes.len(), hex(bytes));
+    format!("{} {answer}", bare(given.map(|_| ())))
+}
+
 fn number(word: &str) -> u32 {
     word.parse().expect("a number")
+}
+
+fn size(word: &str) -> usize {
+    word.parse().expect("a size")
 }
 
 /// Bytes in lowercase hex, `-` for none.
@@ -213,6 +231,19 @@ impl Answers for Plain {
             name,
             bit as usize,
         )
+    }
+
+    fn plain_form(&self, room: usize, name: &[u8]) -> Result<Vec<u8>, Refusal> {
+        plain_form(name, room).map_err(Refusal::of_call)
+    }
+
+    fn name_of(&self, room: usize, form: &[u8]) -> Result<Vec<u8>, Refusal> {
+        name_of(form, room).map_err(Refusal::of_call)
+    }
+
+    fn listing(&self, room: usize, module: u32) -> Result<Vec<u8>, Refusal> {
+        let listed = listing(self.session(), ModuleNumber(module as usize), room);
+        listed.map_err(Refusal::of_call)
     }
 
     fn written(&self) -> Vec<u8> {

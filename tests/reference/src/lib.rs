@@ -11,6 +11,7 @@ pub mod generate;
 pub mod judgement;
 pub mod lines;
 pub mod one_wire;
+pub mod plain;
 pub mod program;
 pub mod reading;
 pub mod session;
@@ -25,6 +26,7 @@ pub mod vectors;
 
 pub use design::Design;
 pub use one_wire::{index_of, width_of};
+pub use plain::{listing, name_of, plain_form};
 pub use program::program;
 pub use reading::{check, read, read_any_length, Netlist, Refusal};
 pub use session::Session;

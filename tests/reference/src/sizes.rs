@@ -3,6 +3,8 @@
 pub const FILE_BYTES: usize = 32_768;
 pub const TEXT_BYTES: usize = 32_768;
 pub const NAME_LENGTH: usize = 255;
+/// The longest plain form: that of a name of 255 bytes, none of them kept.
+pub const PLAIN_FORM: usize = 1 + 3 * (NAME_LENGTH - 1);
 pub const BUNDLE_DEPTH: usize = 16;
 /// Switches inside one another, the root's counted.
 pub const SWITCH_DEPTH: usize = 16;

@@ -6,6 +6,7 @@ mod faults;
 mod limits;
 mod mutations;
 mod pieces;
+mod plain;
 mod processes;
 mod questions;
 pub mod random;
@@ -126,6 +127,17 @@ pub fn pair(seed: u64) -> (Vec<u8>, Vec<u8>) {
         _ => mutated(seed, file.clone()),
     };
     (file, other)
+}
+
+/// Any bytes as a name, and bytes that are a plain form or nearly one.
+pub fn name_and_form(seed: u64) -> (Vec<u8>, Vec<u8>) {
+    let mut random = Random::new(seed);
+    (plain::name(&mut random), plain::form(&mut random))
+}
+
+/// A file whose wires are to be listed, most with names to show of their own.
+pub fn listed_file(seed: u64) -> Vec<u8> {
+    plain::listed_file(&mut Random::new(seed))
 }
 
 /// What a front desk asks of a file.
