@@ -17,7 +17,7 @@ use Rattle.context.specs.declared.place.Place.{Place}
 use Rattle.context.specs.declared.sizes.Sizes.{Sizes}
 use Rattle.admitted.specs.AdmitLaws.{admitted-within}
 use Rattle.admitted.specs.Holds.{Holds}
-use Rattle.replay.specs.Reads.{PartTables}
+use Rattle.row_statements.specs.Reads.{PartTables}
 use Rattle.replay.specs.Begins.{Stored, Replays, IndexLeft}
 use Rattle.name_index.specs.Index.{keyAt, Indexed}
 use Rattle.replay.specs.OneLaws.{stored-one}

@@ -35,7 +35,7 @@ use Rattle.netlist.specs.Laid.{roomsOf, Laid, Wired}
 use Rattle.netlist.specs.LaidLaws.{laid-renames, eights-rows}
 use Rattle.netlist.specs.WireLaws.{eights-wires}
 use Rattle.netlist.specs.Used.{usedBy}
-use Rattle.replay.specs.Reads as tables
+use Rattle.row_statements.specs.Reads as tables
 use Rattle.netlist.specs.Tables.{tablesIn}
 use Rattle.netlist.specs.Fronts.{Fronts}
 use Rattle.netlist.specs.FrontLaws.{fronts-laid, fronts-wired, fronts-renames, fronts-layout}

@@ -13,7 +13,7 @@ use Rattle.tables.specs.Row.{rowAt}
 use Rattle.netlist.specs.RowLaws.{length-statement-row}
 use Rattle.netlist.specs.Spans.{row-has, has-row, has-long}
 use Rattle.netlist.specs.Fronts.{Stands}
-use Rattle.replay.specs.Reads.{PartTables, evenSignals, Reads}
+use Rattle.row_statements.specs.Reads.{PartTables, evenSignals, Reads}
 use Rattle.replay.specs.Begins.{withRows}
 
 module _ (t : PartTables) (rows : List ℕ) (u : Used) (ws : Wires) (s : Statement) where

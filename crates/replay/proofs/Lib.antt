@@ -1,14 +1,4 @@
-pub mod Spans
-pub mod PartLaws
-pub mod SignalLaws
-pub mod CodeLaws
-pub mod ReadLaws
-pub mod KindLaws
-pub mod WireLaws
-pub mod PieceLaws
-pub mod StepRowLaws
 pub mod LineLaws
-pub mod UniqueLaws
 pub mod BeginLaws
 pub mod TurnLaws
 pub mod PlaceLaws

@@ -24,9 +24,9 @@ use Rattle.lists.specs.Lists.{same-at}
 use Rattle.netlist.specs.Kinds.{ofKinds}
 use Rattle.steps.specs.Steps.{ofSteps, stepStands, widths, AskedIs}
 use Rattle.steps.specs.declared.Asked.{Asked}
-use Rattle.replay.specs.Reads.{evenSignals}
+use Rattle.row_statements.specs.Reads.{evenSignals}
 use Rattle.replay.specs.Turns.{standsAt, AskedFits, LineStands}
-use Rattle.replay.proofs.PieceLaws.{even-asked}
+use Rattle.row_statements.proofs.PieceLaws.{even-asked}
 
 -- a statement has no step, or is a line of a process
 by-stepped :

@@ -21,7 +21,7 @@ use Rattle.context.specs.Sizes.{sumsOf, Within}
 use Rattle.context.specs.declared.place.Place.{Place}
 use Rattle.context.specs.declared.sizes.Sizes.{Sizes}
 use Rattle.context.proofs.PlaceLaws.{bounds, closes-place, place-rows}
-use Rattle.replay.specs.Reads.{PartTables}
+use Rattle.row_statements.specs.Reads.{PartTables}
 use Rattle.replay.specs.OneLaws.{next-kind, stored-next}
 use Rattle.replay.specs.Begins.{isStatement, Replays}
 use Rattle.replay.specs.Turns.{Ready, Reached, TurnIs}

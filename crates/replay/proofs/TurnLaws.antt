@@ -37,18 +37,18 @@ use Rattle.context.proofs.PlaceLaws.{place-rows}
 use Rattle.context.proofs.SizeLaws.{sums-step, exceeds-sums, within-past, sizes-small}
 use Rattle.netlist.specs.Used.{usedBy}
 use Rattle.netlist.specs.Spans.{Has}
-use Rattle.replay.specs.Reads.{PartTables, partTables, evenSignals, Reads, Counts, Tells, statementOf, Small}
+use Rattle.row_statements.specs.Reads.{PartTables, partTables, evenSignals, Reads, Counts, Tells, statementOf, Small}
 use Rattle.netlist.specs.Fronts.{Fronts, Stands}
 use Rattle.netlist.specs.FrontLaws.{fronts-laid, fronts-wired, fronts-stand, stand-fronts, stand-row}
 use Rattle.replay.specs.Begins.{withRows}
 use Rattle.replay.specs.Turns.{LineStands, Reached, TurnIs, Told, Rowed, CountsAs, Counted, smallParts}
-use Rattle.replay.specs.declared.statements.Found.{Found}
+use Rattle.row_statements.specs.declared.statements.Found.{Found}
 use Rattle.replay.specs.declared.turns.Turn.{Turn}
 use Rattle.modules.specs.CodeLaws.{narrow, narrow-past}
 use Rattle.netlist.specs.StepLaws.{equal-last}
 use Rattle.steps.specs.SearchLaws.{admitted-single}
 use Rattle.replay.proofs.LineLaws.{kind-told, step-is, signals-few}
-use Rattle.replay.proofs.UniqueLaws.{read-only}
+use Rattle.row_statements.proofs.UniqueLaws.{read-only}
 use Rattle.netlist.specs.UsedLaws.{used-past}
 use Rattle.replay.proofs.BeginLaws.{stand-long, stand-reads, reads-stand}
 

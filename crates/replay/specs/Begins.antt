@@ -16,7 +16,7 @@ use Rattle.context.specs.Sizes.{sumsOf}
 use Rattle.netlist.specs.Tables as netlist
 use Rattle.netlist.specs.Fronts.{Fronts}
 use Rattle.name_index.specs.Index.{keyAt, Indexed}
-use Rattle.replay.specs.Reads.{PartTables}
+use Rattle.row_statements.specs.Reads.{PartTables}
 use Rattle.replay.specs.declared.Replayed.{Replayed}
 
 -- the tables of parts and the table of rows

@@ -1,5 +1,3 @@
-pub mod Parts
-pub mod Reads
 pub mod Objects
 pub mod Begins
 pub mod OneLaws

@@ -21,7 +21,7 @@ use Rattle.netlist.specs.LaidLaws.{length-rows}
 use Rattle.netlist.specs.Fronts.{Fronts}
 use Rattle.netlist.specs.FrontLaws.{fronts-before, fronts-behind, fronts-kind}
 use Rattle.modules.specs.DecodeLaws.{decodes-last}
-use Rattle.replay.specs.Reads.{PartTables}
+use Rattle.row_statements.specs.Reads.{PartTables}
 use Rattle.replay.specs.Begins.{withRows, isStatement, Stored}
 
 statement-kind : (k : Kind) → isStatement (code k) ≡ true

@@ -21,7 +21,7 @@ use Rattle.netlist.specs.Spans.{Has}
 use Rattle.tables.specs.Row.{words}
 use Rattle.tables.specs.declared.Row.{Row}
 use Rattle.steps.specs.Steps.{Single}
-use Rattle.replay.specs.Reads.{PartTables, evenSignals, Counts}
+use Rattle.row_statements.specs.Reads.{PartTables, evenSignals, Counts}
 use Rattle.netlist.specs.Fronts.{Fronts}
 use Rattle.replay.specs.Begins.{withRows}
 use Rattle.replay.specs.declared.turns.Turn.{Turn}

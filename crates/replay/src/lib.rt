@@ -10,11 +10,7 @@ use name_index::index_row;
 use tables::ROW_WORDS;
 use tables::word;
 
-mod parts;
-mod statements;
-mod step_rows;
 mod turns;
-mod wiring;
 
 use turns::Turn;
 use turns::one_more;
@@ -22,7 +18,7 @@ ghost use mathlib.Core.Path.{_≡_};
 ghost use Prim.Native.Nat.{_≤_};
 ghost use lib.ListN.{length};
 ghost use Rattle.name_index.specs.Index.{keyAt, rowRoom, Indexed};
-ghost use Rattle.replay.specs.Reads.{partTables};
+ghost use Rattle.row_statements.specs.Reads.{partTables};
 ghost use Rattle.replay.specs.Begins.{isStatement, Replays, IndexLeft};
 
 // The place and the sums behind the statements that the tables hold.

@@ -1,6 +1,4 @@
 // One statement more behind those that stand.
-use crate::statements::Found;
-use crate::statements::statement_at;
 use context::kinds::ATTRIBUTE_KIND;
 use context::kinds::AUTOIDX_KIND;
 use context::kinds::CELL_CONNECTION_KIND;
@@ -33,6 +31,8 @@ use context::steps::NO_STEP;
 use name_search::indexed_found;
 use netlist::rows::row_name;
 use netlist::used::used_from;
+use row_statements::statements::Found;
+use row_statements::statements::statement_at;
 use steps::Asked;
 use steps::asked_width;
 use steps::step_stands;
@@ -48,7 +48,7 @@ ghost use Rattle.context.specs.Place.{scopeOf};
 ghost use Rattle.admitted.specs.Admitted.{kinds};
 ghost use Rattle.netlist.specs.Kinds.{ofKinds};
 ghost use Rattle.name_index.specs.Index.{keyAt, Indexed};
-ghost use Rattle.replay.specs.Reads.{partTables};
+ghost use Rattle.row_statements.specs.Reads.{partTables};
 ghost use Rattle.replay.specs.Turns.{standsAt, AskedFits, LineStands, Ready, Told, TurnIs, Counted, smallParts};
 ghost use Rattle.replay.specs.Objects.{objectKinds};
 

@@ -3,7 +3,7 @@
 use borrow.Author.Tests.{le-leb}
 use Rattle.rules.specs.Bytes.{within}
 use Rattle.replay.specs.Begins.{isStatement}
-use Rattle.replay.proofs.PartLaws.{positive}
+use Rattle.row_statements.proofs.PartLaws.{positive}
 use Rattle.replay.proofs.is_statement.Statement.{statement}
 use Rattle.replay.proofs.is_statement.Tie as tie
 

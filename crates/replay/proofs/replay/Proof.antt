@@ -10,7 +10,7 @@ use Rattle.name_index.specs.IndexLaws.{indexed-upto}
 use Rattle.context.specs.Place.{placeOf}
 use Rattle.context.specs.declared.place.Place.{Place}
 use Rattle.replay.specs.Begins.{IndexLeft}
-use Rattle.replay.specs.Reads.{partTables}
+use Rattle.row_statements.specs.Reads.{partTables}
 use Rattle.replay.proofs.LoopLaws.{Done, done-start, done-ready, done-closed, done-open, done-stuck, done-next, next-rows}
 use borrow.Author.Needs.{needs}
 use Rattle.replay.proofs.replay.Statement.{statement}

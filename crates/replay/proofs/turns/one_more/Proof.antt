@@ -1,7 +1,7 @@
 use Rattle.netlist.specs.Used.{usedOf}
 use denote.Ref.{now}
 use borrow.Author.Tests.{not-true, not-false}
-use Rattle.replay.specs.Reads.{partTables}
+use Rattle.row_statements.specs.Reads.{partTables}
 use Rattle.replay.proofs.TurnLaws.{small-used, wires-fit, turn-short, turn-line, turn-not, turn-told, turn-counted}
 use borrow.Author.Needs.{needs}
 use Rattle.replay.proofs.turns.one_more.Statement.{statement}

@@ -1,0 +1,10 @@
+pub mod Spans
+pub mod PartLaws
+pub mod SignalLaws
+pub mod CodeLaws
+pub mod ReadLaws
+pub mod KindLaws
+pub mod WireLaws
+pub mod PieceLaws
+pub mod StepRowLaws
+pub mod UniqueLaws
