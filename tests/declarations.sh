@@ -1,6 +1,7 @@
 #!/usr/bin/env bash
 # include/skytassel.h and rust/src/sys.rs declare what the crates export: the same calls, their parameters by name, order and type, and the fields of the structs
-# that calls take and give. All three are brought to one form, a line each, and compared; nothing else checks them, since a linker knows names alone.
+# that calls take and give. All three are brought to one form, a line each, and compared; nothing else checks them, since a linker knows names alone. Refusals have
+# the same names, numbers and words in C and Rust.
 set -euo pipefail
 cd "$(dirname "$0")/.."
 built=target/declarations
@@ -42,6 +43,15 @@ declared_in_c() {
       s/\buint([0-9]+)_t/u\1/g; s/\bint([0-9]+)_t/i\1/g; s/\bsize_t/usize/g' | sorted
 }
 
+# NAME = NUMBER and NAME = "WORDS", a line each.
+refusals_in_c() {
+  sed -nE '/^enum skytassel_number/,/^\}/s/^    SKYTASSEL_([A-Z_]+ = [0-9]+).*/\1/p; s/^    case SKYTASSEL_([A-Z_]+): return (".*");/\1 = \2/p' include/skytassel.h | grep -v '^NONE'
+}
+refusals_in_rust() {
+  sed -nE 's/^    ([A-Za-z]+ = [0-9]+),/\1/p; s/^ *Refusal::([A-Za-z]+) => (".*"),/\1 = \2/p' rust/src/refusal.rs |
+    sed -E ':word; s/^([A-Za-z_]*[a-z])([A-Z])/\1_\2/; t word; s/^[A-Za-z_]+/\U&/'
+}
+
 mapfile -t sources < <(find crates -path '*/src/*.rt' -not -path 'crates/compare_bench/*') # no part of the product
 exported > "$built/exported"
 if [ "$(cat "${sources[@]}" | grep -c '^#\[no_mangle\]')" != "$(grep -c '^fn ' "$built/exported")" ]; then
@@ -52,3 +62,4 @@ declared_in_rust > "$built/rust"
 declared_in_c > "$built/c"
 diff -u --label crates/ --label include/skytassel.h "$built/exported" "$built/c"
 diff -u --label crates/ --label rust/src/sys.rs "$built/exported" "$built/rust"
+diff -u --label include/skytassel.h --label rust/src/refusal.rs <(refusals_in_c) <(refusals_in_rust)

@@ -1,72 +1,86 @@
-/* Checks two netlists, reads the one that is sound, renames a wire, shows it, writes the text, and takes the rename back. */
-#include "skytassel.h"
+/* Each call once, as C99 and as C++11: checks two netlists, reads the one that is sound, renames a wire, shows it, writes the text, and takes the rename back. */
+#include <skytassel.h>
 
 #include <stdio.h>
-#include <string.h>
 
-static uint8_t names[SKYTASSEL_NAMES], strings[SKYTASSEL_STRINGS], text[SKYTASSEL_TEXT];
-static uint32_t bits[SKYTASSEL_BITS], wires[SKYTASSEL_WIRES], rows[SKYTASSEL_ROWS];
-static struct skytassel_card card;
+static struct skytassel_design design;
+static uint8_t text[SKYTASSEL_TEXT];
 
-#define VIEW names, sizeof names, strings, sizeof strings, bits, SKYTASSEL_BITS, wires, SKYTASSEL_WIRES, rows, SKYTASSEL_ROWS
-
-/* A clinic checks a file long before it has memory for it. */
-static struct skytassel_answer check(const char *file)
+static void print(const uint8_t *start, size_t length)
 {
-    return skytassel_check((const uint8_t *)file, strlen(file));
-}
-
-static struct skytassel_answer fill(const char *file)
-{
-    return skytassel_fill((const uint8_t *)file, strlen(file), VIEW, &card);
+    fwrite(start, 1, length, stdout);
 }
 
 static int print_text(void)
 {
-    struct skytassel_length_answer written = skytassel_write(VIEW, card.renames, card.room, text, sizeof text);
-    if (written.number != 0)
+    struct skytassel_length_answer written = skytassel_design_write(&design, text, sizeof text);
+    if (written.number != SKYTASSEL_NONE || written.length != skytassel_design_measure(&design).length)
         return 0;
-    fwrite(text, 1, written.length, stdout);
+    print(text, written.length);
     return 1;
+}
+
+/* A clinic checks a file long before it has memory for it. */
+static int refused_twice(struct skytassel_bytes file)
+{
+    struct skytassel_answer checked = skytassel_bytes_check(file), filled = skytassel_design_fill(&design, file);
+    printf("refused: %u at %u, %s\n", (unsigned)checked.number, (unsigned)checked.place, skytassel_words(checked.number));
+    return checked.number == SKYTASSEL_BAD_NUMBER && filled.number == checked.number && filled.place == checked.place;
+}
+
+/* A front desk has the file alone. */
+static void ask_file(struct skytassel_bytes file, struct skytassel_bytes name)
+{
+    struct skytassel_width_of_answer width = skytassel_bytes_width_of(file, 0, name);
+    struct skytassel_index_of_answer top = skytassel_bytes_index_of(file, 0, name, width.width - 1);
+    printf("width: %u, top bit: %lld\n", (unsigned)width.width, (long long)top.index);
+}
+
+/* A printer has letters, digits and underlines alone. */
+static int there_and_back(struct skytassel_bytes name)
+{
+    uint8_t form[SKYTASSEL_PLAIN_FORM], back[SKYTASSEL_NAME];
+    struct skytassel_length_answer formed = skytassel_bytes_plain_form(name, form, sizeof form);
+    struct skytassel_length_answer named = skytassel_bytes_name_of(skytassel_bytes_at(form, formed.length), back, sizeof back);
+    printf("plain: ");
+    print(form, formed.length);
+    printf("\n");
+    return named.length == name.length && memcmp(back, name.start, name.length) == 0;
+}
+
+static void list(void)
+{
+    uint8_t lines[64];
+    struct skytassel_length_answer listed = skytassel_design_listing(&design, 0, lines, sizeof lines);
+    print(lines, listed.length);
 }
 
 int main(void)
 {
-    const char *too_wide = "module \\ear\n  wire width 4096 \\gain\nend\n";
-    struct skytassel_answer refused = check(too_wide);
-    printf("refused: %u at %u\n", (unsigned)refused.number, (unsigned)refused.place);
-    if (fill(too_wide).number != refused.number)
+    struct skytassel_bytes too_wide = skytassel_bytes_of("module \\ear\n  wire width 4096 \\gain\nend\n"), name = skytassel_bytes_of("\\gain"),
+        ear = skytassel_bytes_of("module \\ear\n  wire \\y\n  attribute \\hdlname \"left ear\"\n  wire width 8 offset -4 \\gain\n"
+            "  process \\p\n    switch \\gain [7]\n      case 1'1 , 1'x\n        assign \\y \\gain [0]\n    end\n  end\nend\n");
+    if (!refused_twice(too_wide))
+        return 1;
+    ask_file(ear, name);
+    if (skytassel_bytes_check(ear).number != SKYTASSEL_NONE || skytassel_design_fill(&design, ear).number != SKYTASSEL_NONE)
         return 1;
 
-    const char *ear = "module \\ear\n  wire width 8 offset -4 \\gain\n  attribute \\hdlname \"left ear\"\n  wire \\y\n"
-                      "  process \\p\n    switch \\gain [7]\n      case 1'1 , 1'x\n        assign \\y \\gain [0]\n    end\n  end\nend\n";
-    const uint8_t old_name[] = {'\\', 'g', 'a', 'i', 'n'}, new_name[] = {'\\', 'g'};
-    struct skytassel_width_of_answer width = skytassel_width_of((const uint8_t *)ear, strlen(ear), 0, old_name, sizeof old_name);
-    struct skytassel_index_of_answer top = skytassel_index_of((const uint8_t *)ear, strlen(ear), 0, old_name, sizeof old_name, width.width - 1);
-    printf("width: %u, top bit: %lld\n", (unsigned)width.width, (long long)top.index);
-    if (check(ear).number != 0 || fill(ear).number != 0)
+    struct skytassel_wire_answer gain = skytassel_design_look_up(&design, 0, name);
+    if (gain.number != SKYTASSEL_NONE || skytassel_design_rename(&design, 0, gain.wire, skytassel_bytes_of("\\g")).number != SKYTASSEL_NONE)
         return 1;
-    struct skytassel_wire_answer gain = skytassel_look_up(VIEW, card.renames, card.room, 0, old_name, sizeof old_name);
-    if (gain.number != 0 || skytassel_rename(VIEW, &card, 0, gain.wire, new_name, sizeof new_name).number != 0)
+    struct skytassel_shown shown = skytassel_design_show(&design, 0, gain.wire), none = skytassel_design_show(&design, 0, 2);
+    if (none.number != SKYTASSEL_NOT_THERE || none.name.length != 0)
         return 1;
-    struct skytassel_part_answer shown = skytassel_show(VIEW, card.renames, card.room, 0, 1);
-    printf("shown: %.*s\n", (int)shown.length, (const char *)(shown.table == 1 ? names : strings) + shown.start);
-    struct skytassel_index_answer first = skytassel_index(VIEW, card.renames, card.room, 0, gain.wire, 0);
-    printf("bit 0: %lld\n", (long long)first.index);
-    if (!print_text())
+    printf("shown: ");
+    print(shown.name.start, shown.name.length);
+    printf("\nbit 0: %lld\n", (long long)skytassel_design_index(&design, 0, gain.wire, 0).index);
+    if (!print_text() || !there_and_back(skytassel_bytes_of("\\\xc3\xa9")))
         return 1;
+    list();
 
-    uint8_t plain[SKYTASSEL_PLAIN_FORM], name[SKYTASSEL_NAME], listing[64];
-    const uint8_t acute[] = {'\\', 0xc3, 0xa9};
-    struct skytassel_length_answer form = skytassel_plain_form(acute, sizeof acute, plain, sizeof plain);
-    struct skytassel_length_answer back = skytassel_name_of(plain, form.length, name, sizeof name);
-    if (back.length != sizeof acute || memcmp(name, acute, sizeof acute) != 0)
+    if (skytassel_design_undo(&design).number != SKYTASSEL_NONE)
         return 1;
-    struct skytassel_length_answer listed = skytassel_listing(VIEW, card.renames, card.room, 0, listing, sizeof listing);
-    printf("plain: %.*s\n%.*s", (int)form.length, (const char *)plain, (int)listed.length, (const char *)listing);
-
-    if (skytassel_undo(VIEW, &card).number != 0)
-        return 1;
-    printf("undo again: %u\n", (unsigned)skytassel_undo(VIEW, &card).number);
+    printf("undo again: %s\n", skytassel_words(skytassel_design_undo(&design).number));
     return print_text() ? 0 : 1;
 }
