@@ -3,14 +3,27 @@
 use crate::lent::{Lent, View, BITS, LISTING, NAMES, ROWS, STRINGS, WIRES};
 use crate::refusal::{answer, placed, Refusal, Refused};
 use crate::sys::Card;
+use std::fmt;
 
 /// The number of a module of the design, from 0 in file order.
-#[derive(Debug, Clone, Copy, PartialEq, Eq, Hash)]
+#[derive(Debug, Clone, Copy, PartialEq, Eq, PartialOrd, Ord, Hash)]
 pub struct ModuleNumber(pub u32);
 
 /// The number of a wire of its module, from 0 in file order.
-#[derive(Debug, Clone, Copy, PartialEq, Eq, Hash)]
+#[derive(Debug, Clone, Copy, PartialEq, Eq, PartialOrd, Ord, Hash)]
 pub struct WireNumber(pub u32);
+
+impl fmt::Display for ModuleNumber {
+    fn fmt(&self, to: &mut fmt::Formatter<'_>) -> fmt::Result {
+        self.0.fmt(to)
+    }
+}
+
+impl fmt::Display for WireNumber {
+    fn fmt(&self, to: &mut fmt::Formatter<'_>) -> fmt::Result {
+        self.0.fmt(to)
+    }
+}
 
 /// What a file means, with the renames that stand. The tables have their exact lengths, and only the proved calls change them, so that no call answers 1 or 3.
 ///
@@ -27,7 +40,7 @@ pub struct WireNumber(pub u32);
 /// assert_eq!(design.undo(), Err(Refusal::NothingToUndo));
 /// # Ok::<(), Box<dyn std::error::Error>>(())
 /// ```
-#[derive(Debug, Clone, PartialEq, Eq)]
+#[derive(Clone, PartialEq, Eq)]
 pub struct Design {
     names: Box<[u8]>,
     strings: Box<[u8]>,
@@ -35,6 +48,16 @@ pub struct Design {
     wires: Box<[u32]>,
     rows: Box<[u32]>,
     card: Card,
+}
+
+/// The two counts alone: the tables have 100,616 elements.
+impl fmt::Debug for Design {
+    fn fmt(&self, to: &mut fmt::Formatter<'_>) -> fmt::Result {
+        to.debug_struct("Design")
+            .field("renames", &self.renames())
+            .field("room_used", &self.room_used())
+            .finish_non_exhaustive()
+    }
 }
 
 impl Design {

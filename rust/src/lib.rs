@@ -7,7 +7,7 @@
 //! - [`sys`]: the exported calls themselves.
 //!
 //! What is proved is the library behind [`sys`]: the declarations there and everything above them are plain Rust, held to a reference by tests.
-//! Build the library first: `bash include/library.sh`.
+//! Build the library first: `bash include/library.sh`. If its archive lies elsewhere, SKYTASSEL_LIB_DIR names the folder.
 
 mod design;
 mod file;
@@ -19,4 +19,4 @@ pub mod sys;
 pub use design::{Design, ModuleNumber, WireNumber};
 pub use file::{check, index_of, width_of};
 pub use plain::{name_of, plain_form};
-pub use refusal::{Refusal, Refused};
+pub use refusal::{NoRefusal, Refusal, Refused};

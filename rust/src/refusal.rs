@@ -3,8 +3,9 @@
 use std::error::Error;
 use std::fmt;
 
-/// Why a call is refused. The discriminants are the numbers.
-#[derive(Debug, Clone, Copy, PartialEq, Eq, Hash)]
+/// Why a call is refused. The discriminants are the numbers, and refusals are ordered by them.
+#[derive(Debug, Clone, Copy, PartialEq, Eq, PartialOrd, Ord, Hash)]
+#[non_exhaustive]
 #[repr(u32)]
 pub enum Refusal {
     /// A lent table hasn't its exact stated length.
@@ -39,7 +40,7 @@ pub enum Refusal {
 
 impl Refusal {
     /// All of them, in order of their numbers.
-    pub const ALL: [Refusal; 14] = [
+    pub const ALL: &'static [Refusal] = &[
         Refusal::WrongLength,
         Refusal::FileTooLong,
         Refusal::DamagedMemory,
@@ -56,21 +57,40 @@ impl Refusal {
         Refusal::NoPlainForm,
     ];
 
+    /// The number, as [`crate::lent`] and [`crate::sys`] give it.
     pub fn number(self) -> u32 {
         self as u32
     }
+}
 
-    /// The refusal of a number, none for 0 and for a number that no call gives.
-    ///
-    /// ```
-    /// use skytassel::Refusal;
-    /// assert_eq!(Refusal::of(9), Some(Refusal::NameTaken));
-    /// assert_eq!(Refusal::of(0), None);
-    /// ```
-    pub fn of(number: u32) -> Option<Refusal> {
-        Refusal::ALL.into_iter().find(|one| one.number() == number)
+/// The refusal of a number.
+///
+/// ```
+/// use skytassel::{NoRefusal, Refusal};
+/// assert_eq!(Refusal::try_from(9), Ok(Refusal::NameTaken));
+/// assert_eq!(Refusal::try_from(0), Err(NoRefusal(0)));
+/// ```
+impl TryFrom<u32> for Refusal {
+    type Error = NoRefusal;
+
+    fn try_from(number: u32) -> Result<Refusal, NoRefusal> {
+        let mut all = Refusal::ALL.iter().copied();
+        all.find(|refusal| refusal.number() == number)
+            .ok_or(NoRefusal(number))
     }
 }
+
+/// A number that is no refusal's: 0, and those that no call gives.
+#[derive(Debug, Clone, Copy, PartialEq, Eq, Hash)]
+pub struct NoRefusal(pub u32);
+
+impl fmt::Display for NoRefusal {
+    fn fmt(&self, to: &mut fmt::Formatter<'_>) -> fmt::Result {
+        write!(to, "{} is no refusal's number", self.0)
+    }
+}
+
+impl Error for NoRefusal {}
 
 impl fmt::Display for Refusal {
     fn fmt(&self, to: &mut fmt::Formatter<'_>) -> fmt::Result {
@@ -98,7 +118,8 @@ impl Error for Refusal {}
 
 /// A refused file: why, and where. The place is the first byte of the line's leftmost bad token for [`Refusal::BadToken`], 0 for [`Refusal::FileTooLong`], else
 /// the line's first byte that is neither space nor tab, or the file's length for its end.
-#[derive(Debug, Clone, Copy, PartialEq, Eq)]
+#[derive(Debug, Clone, Copy, PartialEq, Eq, Hash)]
+#[non_exhaustive]
 pub struct Refused {
     pub refusal: Refusal,
     pub place: usize,
@@ -109,7 +130,7 @@ pub(crate) fn answer<T>(number: u32, given: T) -> Result<T, Refusal> {
     if number == 0 {
         return Ok(given);
     }
-    Err(Refusal::of(number).expect("a number of the table of refusals"))
+    Err(Refusal::try_from(number).expect("a number of the table of refusals"))
 }
 
 /// The answer of a call that gives a place too.

@@ -2,7 +2,7 @@
 
 use skytassel::lent::{self, Lent, BITS, NAMES, ROWS, STRINGS, WIRES};
 use skytassel::sys::{Answer, Card};
-use skytassel::{check, name_of, plain_form, Design, ModuleNumber, Refusal, WireNumber};
+use skytassel::{check, name_of, plain_form, Design, ModuleNumber, NoRefusal, Refusal, WireNumber};
 
 const FILE: &[u8] = b"module \\ear
   attribute \\hdlname \"left gain\"
@@ -27,13 +27,32 @@ fn design() -> Design {
 
 #[test]
 fn numbers_are_those_of_the_table() {
-    for (at, refusal) in Refusal::ALL.into_iter().enumerate() {
+    for (at, &refusal) in Refusal::ALL.iter().enumerate() {
         assert_eq!(refusal.number() as usize, at + 1);
-        assert_eq!(Refusal::of(refusal.number()), Some(refusal));
+        assert_eq!(Refusal::try_from(refusal.number()), Ok(refusal));
         assert!(refusal.to_string().starts_with(&(at + 1).to_string()));
     }
-    assert_eq!(Refusal::of(0), None);
-    assert_eq!(Refusal::of(15), None);
+    assert!(Refusal::ALL.windows(2).all(|two| two[0] < two[1]));
+    for number in [0, 15, u32::MAX] {
+        assert_eq!(Refusal::try_from(number), Err(NoRefusal(number)));
+    }
+}
+
+#[test]
+fn printed() {
+    let mut design = design();
+    let used = design.room_used();
+    assert_eq!(design.rename(EAR, GAIN, b"\\g"), Ok(()));
+    let shown = format!("Design {{ renames: 1, room_used: {}, .. }}", used + 2);
+    assert_eq!(format!("{design:?}"), shown);
+    assert_eq!(
+        format!("{} {:>3}", ModuleNumber(7), WireNumber(12)),
+        "7  12"
+    );
+    assert!(WireNumber(2) < WireNumber(12) && ModuleNumber(2) < ModuleNumber(12));
+    let refused = Design::read(b"module\n").expect_err("no name");
+    assert_eq!(refused.to_string(), "5: no permitted shape (at byte 0)");
+    assert_eq!(NoRefusal(0).to_string(), "0 is no refusal's number");
 }
 
 #[test]
