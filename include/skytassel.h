@@ -2,8 +2,8 @@
  * For C99 and C++11 or later. Below the calls stand inline functions of at most four arguments over each, with all memory of a design in one struct.
  *
  * Every call is proved to answer for any bytes and any lengths, and to end. It relies on C for what C alone can promise: no pointer is null, each length is
- * that of its part, and no two parts overlap where one of them is changed. Reading takes less than 900 KB of stack, the other calls far less; nothing is
- * kept between calls.
+ * that of its part, and no two parts overlap where one of them is changed. As measured, the fill takes less than 900 KB of stack, the check and the calls on one
+ * wire of a file, which have tables of their own, less than 1,250 KB, the others less than 100. Nothing is kept between calls.
  */
 #ifndef SKYTASSEL_H
 #define SKYTASSEL_H

@@ -17,7 +17,7 @@ pub const NAME: usize = 255;
 /// No listing is longer: three bytes of plain form and one shown for each byte of the names, four for each of the strings, and two more a wire.
 pub const LISTING: usize = 4 * NAMES + 4 * STRINGS + 2 * (WIRES / ROW);
 
-/// Design memory lent to a call that may change it. Reading takes less than 900 KB of stack.
+/// Design memory lent to a call that may change it. The fill takes less than 900 KB of stack.
 #[derive(Debug)]
 pub struct Lent<'a> {
     pub names: &'a mut [u8],

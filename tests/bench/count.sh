@@ -1,7 +1,7 @@
 #!/usr/bin/env bash
 # Instructions of one call on one file, counted by callgrind, so that figures of two machines compare: a Markdown table over the files of
 # src/files.rs, or over the files given, and how they grow. After include/library.sh and `rt staticlib compare_bench`; not part of the gate, since valgrind need not be installed.
-# `count.sh --parts CALL FILE [RENAMES]` says what a call's instructions go into: read, judge, write or rename. A call on a file without a wire
+# `count.sh --parts CALL FILE [RENAMES]` says what a call's instructions go into: check, read, judge, write, rename, first_wire, last_wire or listing. A call on a file without a wire
 # that takes renames has none to count, and a number in brackets is that of a refusal.
 set -euo pipefail
 export LC_ALL=C
@@ -86,6 +86,14 @@ fi
   done
 } | tee "$room/table"
 if [ $# = 0 ]; then
+  echo
+  echo "| File | check | fill | width of the first wire | width of the last wire | listing of the first module |"
+  echo "|---|---|---|---|---|---|"
+  for name in k01 k32 wires512 procs64; do
+    file=$room/$name.il
+    echo "| $name | $(count check "$file" 0) | $(count read "$file" 0) | $(count first_wire "$file" 0) | $(count last_wire "$file" 0) |" \
+      "$(count listing "$file" 0) |"
+  done
   echo
   echo "| Exponent of growth | whole | without what an empty file takes |"
   echo "|---|---|---|"

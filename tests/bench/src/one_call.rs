@@ -1,6 +1,6 @@
 //! One call on one file, as often as wanted, for tools outside: count.sh counts its instructions, tests/yosys/race.sh its time.
 
-use library::{fill, look_up, rename, undo, write, Card, Tables};
+use library::{check, fill, listing, look_up, rename, undo, width_of, write, Card, Tables};
 use std::hint::black_box;
 
 /// Callgrind collects inside this function alone, by its name. Gives the call's number.
@@ -23,6 +23,8 @@ const PORT: u32 = 6;
 const NEW: &[u8] = b"\\the_last_rename";
 /// The longest text.
 const TEXT: usize = 32_768;
+/// Room for any listing.
+const LISTING: usize = 99_328;
 
 impl Memory {
     fn of(file: &[u8]) -> Memory {
@@ -66,10 +68,40 @@ impl Memory {
     fn write(&self, room: &mut [u8]) -> u32 {
         number(write(&self.tables, self.card, room))
     }
+
+    /// The wires of the first module.
+    fn list(&self, room: &mut [u8]) -> u32 {
+        number(listing(&self.tables, self.card, 0, room))
+    }
 }
 
 fn number<T>(given: Result<T, u32>) -> u32 {
     given.err().unwrap_or(0)
+}
+
+/// Module number and name of each wire that a file declares, by the first and the last word of its lines.
+fn wires(file: &[u8]) -> Vec<(u32, &[u8])> {
+    let mut modules = 0;
+    let mut wires = Vec::new();
+    for line in file.split(|byte| *byte == b'\n') {
+        let mut words = line.split(|byte| *byte == b' ').filter(|word| !word.is_empty());
+        match words.next() {
+            Some(b"module") => modules += 1,
+            Some(b"wire") => wires.extend(words.last().map(|name| (modules - 1, name))),
+            _ => {}
+        }
+    }
+    wires
+}
+
+/// The number that the width of a wire is asked for with; 0 if there is no wire to ask for.
+fn width(file: &[u8], wire: Option<&(u32, &[u8])>) -> u32 {
+    wire.map_or(0, |(module, name)| {
+        counted_call(&mut || {
+            let width = width_of(black_box(file), *module, name);
+            width.err().map_or(0, |refusal| refusal.number)
+        })
+    })
 }
 
 /// The number that the last of so many calls gives, so many renames standing before each.
@@ -78,12 +110,17 @@ pub fn run(call: &str, file: &[u8], renames: usize, times: usize) -> Option<u32>
     if renames > 0 || call == "rename" {
         memory.rename_often(renames);
     }
-    let mut room = vec![0; TEXT];
+    let declared = wires(file);
+    let mut room = vec![0; TEXT.max(LISTING)];
     let mut once = || {
         Some(match call {
             "read" => counted_call(&mut || memory.read(black_box(file))),
+            "check" => counted_call(&mut || check(black_box(file)).err().map_or(0, |r| r.number)),
+            "first_wire" => width(file, declared.first()),
+            "last_wire" => width(file, declared.last()),
             "judge" => counted_call(&mut || memory.judge()),
-            "write" => counted_call(&mut || memory.write(black_box(&mut room))),
+            "write" => counted_call(&mut || memory.write(black_box(&mut room[..TEXT]))),
+            "listing" => counted_call(&mut || memory.list(black_box(&mut room))),
             "rename" => {
                 let number = counted_call(&mut || memory.rename(black_box(NEW)));
                 assert_eq!(memory.undo(), 0);
@@ -105,6 +142,9 @@ mod tests {
         for (name, file) in files::named().into_iter().skip(1) {
             let numbers = ["read", "judge", "write", "rename"].map(|call| run(call, &file, 63, 2));
             assert_eq!(numbers, [Some(0), Some(8), Some(0), Some(0)], "{name}");
+            let numbers =
+                ["check", "first_wire", "last_wire", "listing"].map(|call| run(call, &file, 0, 2));
+            assert_eq!(numbers, [Some(0); 4], "{name}");
         }
         assert_eq!(run("read", b"", 0, 1), Some(0));
         assert_eq!(run("no call", b"", 0, 1), None);
