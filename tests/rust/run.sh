@@ -49,5 +49,6 @@ write
 rename \gain \left_gain
 front_desk 0 \gain
 listing 0
+label 0 pgain
 END
 target/cargo/release/examples/undo > "$built/said"
