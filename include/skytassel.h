@@ -62,8 +62,8 @@ static inline const char *skytassel_words(uint32_t number)
 }
 
 /* The session card: renames standing, name room used. A refusal's place is 0, but from number 4 on where a file is read: for 4 the first byte of the line's leftmost bad
- * token, else the refused line's first byte that is neither space nor tab, or the file's length. Look-up, index, show, measure and write give no place, since it
- * would always be 0; refused, they give 0 beside their number. */
+ * token, else the refused line's first byte that is neither space nor tab, or the file's length. Look-up, index, show, measure, write, listing, plain form and the
+ * way back give no place, since it would always be 0; refused, they give 0 beside their number. */
 struct skytassel_card { uint32_t renames, room; };
 struct skytassel_answer { uint32_t number, place; };
 struct skytassel_wire_answer { uint32_t number, wire; };
