@@ -1,4 +1,6 @@
 // The program's whole answer to a file: its one text, or the number and place of its refusal.
+#![tactic(auto)]
+
 ghost use Rattle.std.specs.Prelude.{◌≡◌, true, ◌≤◌, length};
 ghost use Rattle.rules.specs.Limits.{longest_file};
 ghost use Rattle.rules.specs.Text.{program};

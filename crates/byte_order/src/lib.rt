@@ -1,4 +1,6 @@
 // Byte order of names.
+#![tactic(auto)]
+
 ghost use Rattle.std.specs.Prelude.{◌≡◌};
 ghost use Rattle.rules.specs.Sorted.{before};
 

@@ -1,4 +1,6 @@
 // A file and a list of calls on it: the file is read, then each call is made on the memory and the counts that the last one left.
+#![tactic(auto)]
+
 ghost use Rattle.std.specs.Prelude.{◌≡◌, ◌+◌, ◌*◌, ◌^◌, ◌≤◌, ◌<◌, length, set};
 ghost use Rattle.tables.specs.Store.{store};
 ghost use Rattle.netlist.specs.Results.{result, lent};

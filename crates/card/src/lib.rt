@@ -1,8 +1,9 @@
 // The session card and what several calls answer, laid out as C's. Each call that changes the card is proved by a walk of its MIR: proofs/ has what the walks share.
+#![tactic(auto)]
 
 // The session card: renames standing, name room used.
 #[repr(C)]
-#[derive(Drop)]
+#[derive(Clone, Copy)]
 pub struct Card {
     pub renames: u32,
     pub room: u32,
@@ -10,7 +11,7 @@ pub struct Card {
 
 // Number 0 is none.
 #[repr(C)]
-#[derive(Drop)]
+#[derive(Clone, Copy)]
 pub struct Answer {
     pub number: u32,
     pub place: u32,
@@ -18,7 +19,7 @@ pub struct Answer {
 
 // A refusal's length is 0.
 #[repr(C)]
-#[derive(Drop)]
+#[derive(Clone, Copy)]
 pub struct LengthAnswer {
     pub number: u32,
     pub length: u32,

@@ -1,4 +1,6 @@
 // The calls for other languages that change a design: the session card is lent and changed in place.
+#![tactic(auto)]
+
 ghost use Rattle.rules.specs.Session.{Call};
 ghost use Rattle.netlist.specs.Results.{result, lent};
 ghost use Rattle.session.specs.Called.{CalledAs};

@@ -1,4 +1,6 @@
 // Two comparisons of names with one contract, for tests/bench to time side by side: the product's, and one from the front.
+#![tactic(auto)]
+
 ghost use Rattle.std.specs.Prelude.{◌≡◌};
 ghost use Rattle.rules.specs.Bytes.{same};
 

@@ -1,4 +1,6 @@
 // Constants written as text: a string and a value. Each is written like the pieces of `text`, of which it is made.
+#![tactic(auto)]
+
 ghost use Rattle.std.specs.Prelude.{◌≡◌, ◌≤◌, length};
 ghost use mathlib.Core.List.{map, flat_map, reverse};
 ghost use Rattle.rules.specs.Limits.{bits_length, past_text};

@@ -23,7 +23,7 @@ pub const IN_SWITCH: u32 = 6;
 
 pub const IN_CASE: u32 = 7;
 
-#[derive(Drop)]
+#[derive(Clone, Copy)]
 pub struct Place {
     pub scope: u32,
     // Switches that are open around the innermost one.

@@ -41,7 +41,7 @@ pub const NAME_ROOM: u32 = 16384;
 pub const MOST_RENAMES: u32 = 64;
 
 // Statements of each kind, and what they hold: bits of signals and of values, bytes of strings and of names.
-#[derive(Drop)]
+#[derive(Clone, Copy)]
 pub struct Sizes {
     pub modules: u32,
     pub wires: u32,

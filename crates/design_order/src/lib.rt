@@ -1,4 +1,6 @@
 // The sorted indexes of a design's modules, one behind the other: built, and told. Module m's stands from the row of its first wire on.
+#![tactic(auto)]
+
 ghost use Rattle.std.specs.Prelude.{◌≡◌, ◌≤◌, length, take};
 ghost use Rattle.rules.specs.Bytes.{same};
 ghost use Rattle.tables.specs.Store.{store};

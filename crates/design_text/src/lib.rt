@@ -1,5 +1,7 @@
 // The written text of design memory: passes over the rows of its statements, one for each kind of line.
 // All of it is total: a word past a table's end counts as 0, and a row that holds no statement is not written.
+#![tactic(auto)]
+
 ghost use Rattle.std.specs.Prelude.{◌≡◌, cond, ◌+◌, ◌-◌, ◌≤◌, ◌<◌, eqb, length};
 ghost use Rattle.rules.specs.Statements.{module_kind};
 ghost use Rattle.rules.specs.Limits.{bits_length, past_text};
@@ -20,7 +22,7 @@ use text::put_bytes;
 use wire_names::Module;
 
 // How many rows of each: statements, wires, standing renames.
-#[derive(Drop)]
+#[derive(Clone, Copy)]
 pub struct Counts {
     pub statements: u32,
     pub wires: u32,
@@ -28,14 +30,14 @@ pub struct Counts {
 }
 
 // The rows from one up to another.
-#[derive(Drop)]
+#[derive(Clone, Copy)]
 struct Span {
     from: u32,
     to: u32,
 }
 
 // A row of an object: its attributes' first row, its own, and where the module's rows end.
-#[derive(Drop)]
+#[derive(Clone, Copy)]
 struct Object {
     first: u32,
     row: u32,

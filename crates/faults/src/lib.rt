@@ -1,4 +1,6 @@
 // The refusal numbers of the parts of signals: the lowest counts.
+#![tactic(auto)]
+
 ghost use Rattle.std.specs.Prelude.{◌≡◌};
 ghost use Rattle.faults.specs.Faults.{merge};
 

@@ -1,4 +1,6 @@
 // The calls for other languages that are lent a file and no design memory. Number 0 is none.
+#![tactic(auto)]
+
 ghost use Rattle.std.specs.Prelude.{◌≡◌, pos};
 ghost use Rattle.rules.specs.Reading.{read, checked};
 ghost use Rattle.rules.specs.Quick.{quick_width, quick_index};
@@ -10,7 +12,7 @@ use one_wire::{index_of, width_of};
 use reader::check;
 
 #[repr(C)]
-#[derive(Drop)]
+#[derive(Clone, Copy)]
 pub struct WidthOfAnswer {
     pub number: u32,
     pub place: u32,
@@ -18,7 +20,7 @@ pub struct WidthOfAnswer {
 }
 
 #[repr(C)]
-#[derive(Drop)]
+#[derive(Clone, Copy)]
 pub struct IndexOfAnswer {
     pub number: u32,
     pub place: u32,

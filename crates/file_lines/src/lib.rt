@@ -1,4 +1,6 @@
 // The loop over a file's lines: each is judged after the statements so far and stored behind them.
+#![tactic(auto)]
+
 ghost use Rattle.std.specs.Prelude.{◌≡◌, ◌-◌, ◌*◌, ◌≤◌, length};
 ghost use Rattle.rules.specs.Limits.{longest_file};
 ghost use Rattle.name_index.specs.Index.{LinesIndexed};
@@ -18,14 +20,14 @@ use scanner::lines::Line;
 const TOKEN_SIZE: usize = 4;
 
 // What the lines of a file give: the place and the sums behind its statements; or a refusal.
-#[derive(Drop)]
+#[derive(Clone, Copy)]
 pub enum Answer {
     Accepted { place: Place, sums: Sizes },
     Refused { number: u32, place: u32 },
 }
 
 // How far a table of tokens reaches: to the file's end or a refusal; or to a line that is too long for it.
-#[derive(Drop)]
+#[derive(Clone, Copy)]
 pub enum Reach {
     Ended(Answer),
     Longer {

@@ -1,4 +1,6 @@
 // Reading a file into zero tables, with tables of tokens that its lines ask for: all of it, or up to the line that settles a goal.
+#![tactic(auto)]
+
 ghost use Rattle.std.specs.Prelude.{◌≡◌, ◌≤◌, length};
 ghost use Rattle.rules.specs.Limits.{longest_file};
 ghost use Rattle.rules.specs.Reading.{read_any};

@@ -1,4 +1,6 @@
 // The call for other languages that fills the design memory from a file: the session card is lent and changed in place.
+#![tactic(auto)]
+
 ghost use Rattle.std.specs.Prelude.{◌≡◌};
 ghost use Rattle.card.specs.Lent.{lent_with, answered};
 ghost use Rattle.reader.specs.Fill.{fill_into};

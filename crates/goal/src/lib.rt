@@ -1,4 +1,6 @@
 // A wire that reading may end at: whether the statements so far settle it.
+#![tactic(auto)]
+
 ghost use Rattle.std.specs.Prelude.{◌≡◌};
 ghost use Rattle.goal.specs.Settled.{SettledAs};
 
@@ -8,7 +10,7 @@ use names::same_bytes;
 use netlist::rows::{row_kind, row_name};
 
 // A wire of this module, whose name is lent beside; or none.
-#[derive(Drop)]
+#[derive(Clone, Copy)]
 pub struct Goal {
     pub some: bool,
     pub module: u32,

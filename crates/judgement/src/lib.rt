@@ -1,4 +1,6 @@
 // The verdict on one line after the statements so far: its statement with the sums of each size, or the lowest number that it is refused with.
+#![tactic(auto)]
+
 ghost use Rattle.std.specs.Prelude.{◌≡◌, ◌-◌, ◌≤◌, length};
 ghost use Rattle.std.proofs.Math.Option.{none};
 ghost use Rattle.rules.specs.Limits.{longest_file, most_signal_bits};
@@ -33,7 +35,7 @@ use tokens::{ConstantSlot, ConstantSpan};
 // What the tests of a statement go by: the number of its refusal, or 0; its kind by its code; a cell's type, and the own name, empty where there is
 // none; its constant; its step by its code; how many signals it has, the widths of the first two (those of a step are all as wide as its first), and
 // the number that they leave, or 0.
-#[derive(Drop)]
+#[derive(Clone, Copy)]
 struct Parts {
     number: u32,
     kind: u32,
@@ -48,7 +50,7 @@ struct Parts {
 }
 
 // A line's statement, with the sums over it and all before it; or the number of its refusal.
-#[derive(Drop)]
+#[derive(Clone, Copy)]
 pub enum Judged {
     Stated { statement: Statement, sums: Sizes },
     Refused(u32),

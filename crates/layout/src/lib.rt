@@ -1,4 +1,6 @@
 // Statements in design memory: each is stored behind those before it.
+#![tactic(auto)]
+
 mod put;
 mod step;
 

@@ -34,7 +34,7 @@ use tables::{ROW_WORDS, Row, put_bytes, put_row, reverse_words};
 use tokens::{ConstantSlot, ConstantSpan, Integer};
 
 // The columns of a constant: its kind, where it starts and its length; or its kind and the integer.
-#[derive(Drop)]
+#[derive(Clone, Copy)]
 pub struct Columns {
     pub kind: u32,
     pub a: u32,
@@ -43,7 +43,7 @@ pub struct Columns {
 
 // A statement of a name and, if it has one, a constant: its kind, these, and a cell parameter's sort. A step: its code, the width of its signals
 // and how many they are.
-#[derive(Drop)]
+#[derive(Clone, Copy)]
 pub enum Valued {
     Named {
         kind: u32,

@@ -1,4 +1,6 @@
 // The lexer: what stands where a token could start, and the tokens of a line, put into a table. Positions are the file's.
+#![tactic(auto)]
+
 ghost use Rattle.std.specs.Prelude.{◌≡◌, ◌+◌, ◌-◌, ◌*◌, ◌≤◌, ◌<◌, length, drop};
 ghost use Rattle.std.proofs.Math.Seq.{slice};
 ghost use Rattle.rules.specs.Limits.{longest_file};
@@ -20,7 +22,7 @@ use strings::{Close, string_end};
 use tokens::{ConstantSpan, Integer, Token, put_token};
 
 // What stands where a token could start: a token and the place behind it; nothing more; or a bad token, by its place.
-#[derive(Drop)]
+#[derive(Clone, Copy)]
 pub enum Lexeme {
     Token { token: Token, next: usize },
     Done,
@@ -28,7 +30,7 @@ pub enum Lexeme {
 }
 
 // The number of a line's tokens, or the place of its leftmost bad token.
-#[derive(Drop)]
+#[derive(Clone, Copy)]
 pub enum Lexed {
     Tokens(usize),
     Bad(usize),

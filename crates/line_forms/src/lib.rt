@@ -1,4 +1,6 @@
 // Lines of fixed shape, and which shape a line's first word announces, from the rows of the line's tokens.
+#![tactic(auto)]
+
 ghost use Rattle.std.specs.Prelude.{◌≡◌, Bool, true, cond, eqb};
 ghost use Rattle.rules.specs.Bytes.{any};
 ghost use Rattle.rules.specs.Statements.{autoidx-stmt, attr-stmt, module-stmt, param-stmt, cell-stmt, cell-param-stmt, proc-stmt};
@@ -30,14 +32,14 @@ const REAL_SORT: u32 = 2;
 const MOST_AROUND: u32 = 15;
 
 // A name's place in the file.
-#[derive(Drop)]
+#[derive(Clone, Copy)]
 pub struct Span {
     pub start: usize,
     pub end: usize,
 }
 
 // A line of fixed shape. A module parameter without a constant has Nothing for its value. Sort: 0 plain, 1 signed, 2 real.
-#[derive(Drop)]
+#[derive(Clone, Copy)]
 pub enum Form {
     Autoidx(Integer),
     Attribute {
@@ -64,7 +66,7 @@ pub enum Form {
 }
 
 // A line in a module: of fixed shape, or one of the others by its first word.
-#[derive(Drop)]
+#[derive(Clone, Copy)]
 pub enum Kind {
     Form(Form),
     Wire,
@@ -73,14 +75,14 @@ pub enum Kind {
 }
 
 // A line in a cell.
-#[derive(Drop)]
+#[derive(Clone, Copy)]
 pub enum CellKind {
     Form(Form),
     Connect,
 }
 
 // A line in a process: of fixed shape, or a step by the number of its word (of a sync the word behind it) whose signals stand from a row on.
-#[derive(Drop)]
+#[derive(Clone, Copy)]
 pub enum ProcessKind {
     Form(Form),
     Step { step: u32, from: usize },

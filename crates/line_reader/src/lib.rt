@@ -1,11 +1,13 @@
 // The line reader: it holds the caller's bytes by reference, with the place reached. The splitter `line_from` does the work.
+#![tactic(auto)]
+
 ghost use Rattle.std.specs.Prelude.{◌≡◌};
 ghost use Rattle.scanner.specs.Lines.{line_from};
 ghost use Rattle.line_reader.specs.Reader.{opened, moved_to, line_read};
 
 use scanner::lines::{Line, line_from};
 
-#[derive(Drop)]
+#[derive(Clone, Copy)]
 pub struct LineReader<'a> {
     pub file: &'a [u8],
     pub at: usize,

@@ -1,5 +1,7 @@
 // The written line of the statement in a row, with the wires' names as they are now.
 // All of it is total: a word past a table's end counts as 0, and a span past its end is cut.
+#![tactic(auto)]
+
 ghost use Rattle.std.specs.Prelude.{◌≡◌, not, [], ◌∷◌, ◌≤◌, ◌<◌, eqb, pos, length};
 ghost use Rattle.std.proofs.Math.Option.{none, some, map};
 ghost use Rattle.rules.specs.Limits.{bits_length, past_text, many_rows};

@@ -1,4 +1,6 @@
 // The listing of a module's wires, one line each: the plain form of the name now, a space, the name to show. It has no bound but the room lent.
+#![tactic(auto)]
+
 ghost use Rattle.std.specs.Prelude.{◌≡◌, ◌+◌, ◌≤◌, length};
 ghost use mathlib.Core.List.{flat_map};
 ghost use Rattle.rules.specs.Limits.{names_length, strings_length, most_statements};
@@ -17,7 +19,7 @@ use show::{Shown, shown_wire};
 use wire_names::{Module, name_now};
 
 // Number 0 is none; a refusal's length is 0.
-#[derive(Drop)]
+#[derive(Clone, Copy)]
 pub struct Listed {
     pub number: u32,
     pub length: u32,

@@ -1,4 +1,6 @@
 // The number rules of the constants of a line: whether they keep them, how wide they are, and the words of integers.
+#![tactic(auto)]
+
 ghost use Rattle.std.specs.Prelude.{◌≡◌, ◌+◌, ◌*◌, ◌≤◌, length, drop};
 ghost use Rattle.std.proofs.Math.Seq.{slice};
 ghost use Rattle.rules.specs.Numbers.{good_literal};
@@ -28,7 +30,7 @@ const CAP: usize = 2147483649;
 const MOST_BYTES: usize = 268435456;
 
 // An integer's word of 32 bits in two's complement; or it lies outside of them.
-#[derive(Drop)]
+#[derive(Clone, Copy)]
 pub enum Number {
     Fits(u32),
     Outside,

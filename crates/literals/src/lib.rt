@@ -1,4 +1,6 @@
 // The codes of the bits of a line's constants, highest first.
+#![tactic(auto)]
+
 ghost use Rattle.std.specs.Prelude.{◌≡◌, true, map, reverse, ◌+◌, ◌*◌, ◌≤◌, ◌<◌, length, drop, get_or};
 ghost use Rattle.rules.specs.Limits.{most_width};
 ghost use Rattle.rules.specs.Tokens.{digit, value, integer, string};

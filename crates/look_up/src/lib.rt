@@ -1,5 +1,7 @@
 // The calls that ask of design memory: look-up and the index of a bit. They take the lent tables, and the counts of the session card by value, in any
 // state.
+#![tactic(auto)]
+
 ghost use Rattle.std.specs.Prelude.{◌≡◌, pos};
 ghost use Rattle.rules.specs.Session.{index_in};
 ghost use Rattle.wires.specs.Rows.{wire_of};
@@ -17,13 +19,13 @@ use wire_names::Module;
 use wires::wire_index;
 
 // Number 0 is none.
-#[derive(Drop)]
+#[derive(Clone, Copy)]
 pub struct Found {
     pub number: u32,
     pub wire: WireNumber,
 }
 
-#[derive(Drop)]
+#[derive(Clone, Copy)]
 pub struct Indexed {
     pub number: u32,
     pub index: i64,

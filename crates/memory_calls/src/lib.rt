@@ -1,4 +1,6 @@
 // The calls for other languages that only ask of a design's memory: a struct is laid out as C's. Number 0 is none.
+#![tactic(auto)]
+
 ghost use Rattle.std.specs.Prelude.{◌≡◌};
 ghost use Rattle.netlist.specs.Results.{lent};
 ghost use Rattle.listing.specs.Listed.{ListedAs};
@@ -14,14 +16,14 @@ use show::{Shown, find_shown};
 use writer::{measure, write};
 
 #[repr(C)]
-#[derive(Drop)]
+#[derive(Clone, Copy)]
 pub struct WireAnswer {
     pub number: u32,
     pub wire: u32,
 }
 
 #[repr(C)]
-#[derive(Drop)]
+#[derive(Clone, Copy)]
 pub struct IndexAnswer {
     pub number: u32,
     pub index: i64,
@@ -29,7 +31,7 @@ pub struct IndexAnswer {
 
 // A part of table 1, the names, or of table 2, the strings; a refusal has table 0.
 #[repr(C)]
-#[derive(Drop)]
+#[derive(Clone, Copy)]
 pub struct PartAnswer {
     pub number: u32,
     pub table: u32,

@@ -1,4 +1,6 @@
 // Whether design memory, whatever it contains, holds a design with its standing renames: refusal 3 otherwise.
+#![tactic(auto)]
+
 ghost use Rattle.std.specs.Prelude.{◌≡◌, ◌+◌, ◌≤◌, length};
 ghost use Rattle.rules.specs.Limits.{most_wires, names_length};
 ghost use Rattle.netlist.specs.Lengths.{right_sizes};
@@ -22,14 +24,14 @@ use zeros::{zero_bytes_from, zero_from};
 const WIRE_CHAIN: usize = 512;
 
 // The place and the sums behind the statements that the memory holds.
-#[derive(Drop)]
+#[derive(Clone, Copy)]
 pub enum Held {
     Holding { place: Place, sums: Sizes },
     Damaged,
 }
 
 // The bytes of names that are used behind the renames.
-#[derive(Drop)]
+#[derive(Clone, Copy)]
 enum Renamed {
     Used(u32),
     Nothing,

@@ -1,5 +1,7 @@
 // A module of the design by its number: its wires in the table of wires, and its statements in the table of rows.
 // All of it is total: a word past a table's end counts as 0.
+#![tactic(auto)]
+
 ghost use Rattle.std.specs.Prelude.{◌≡◌, cond, eqb, ltb};
 ghost use Rattle.wires.specs.Rows.{column};
 ghost use Rattle.modules.specs.Ranges.{wire_range, line_of, row_range};
@@ -9,7 +11,7 @@ use numbers::kinds::ModuleNumber;
 use wires::column;
 
 // Consecutive rows of a table.
-#[derive(Drop)]
+#[derive(Clone, Copy)]
 pub struct Range {
     pub first: u32,
     pub count: u32,

@@ -1,4 +1,6 @@
 // The calls for other languages that take a name or its plain form, and no design.
+#![tactic(auto)]
+
 ghost use Rattle.std.specs.Prelude.{◌≡◌, length};
 ghost use Rattle.rules.specs.Plain.{turned, turned_back};
 ghost use Rattle.plain.specs.Put.{wrote};

@@ -2,6 +2,8 @@
 // heads: for each key one more than the youngest row of that key, or 0; chain: for each row one more than the next older row of its key, or 0.
 // The hash of a name goes byte by byte: hash × 31 + byte, modulo 512. A row's key is its name's hash, or 512 where its kind has no name.
 // Behind these, in the same two tables, stand the heads and the chain of the rows of wires.
+#![tactic(auto)]
+
 ghost use Rattle.std.specs.Prelude.{◌≡◌, ◌+◌, ◌<◌, ◌≤◌, cond, eqb, length, get_or, set};
 ghost use Rattle.netlist.specs.Kinds.{has_name};
 ghost use Rattle.name_index.specs.Index.{hash_of, key_at, wire_key, row_room, wire_room, Indexed, LinesIndexed};

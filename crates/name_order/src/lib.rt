@@ -1,5 +1,7 @@
 // The sorted index of a module's wires, by their names now: told by one pass, searched by halving, and built.
 // A table of the index holds wire numbers of the module, one for each of its wires.
+#![tactic(auto)]
+
 ghost use Rattle.std.specs.Prelude.{◌≡◌, [], ◌∷◌, ◌++◌, map, ◌+◌, ◌≤◌, ◌<◌, length, take, drop};
 ghost use Rattle.rules.specs.Bytes.{same};
 ghost use Rattle.rules.specs.Sorted.{before};
@@ -14,14 +16,14 @@ use numbers::kinds::WireNumber;
 use wire_names::{Module, name_now};
 
 // The wire that a search finds.
-#[derive(Drop)]
+#[derive(Clone, Copy)]
 pub enum Sought {
     At(WireNumber),
     Nothing,
 }
 
 // What is left of an index while it is halved.
-#[derive(Drop)]
+#[derive(Clone, Copy)]
 struct Halves {
     low: usize,
     high: usize,

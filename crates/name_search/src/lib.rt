@@ -1,4 +1,6 @@
 // The search of names in an index of them (name_index): of the rows with the name's hash only, the youngest first.
+#![tactic(auto)]
+
 ghost use Rattle.std.specs.Prelude.{◌≡◌, ◌+◌};
 ghost use Rattle.rules.specs.Bytes.{same, any};
 ghost use Rattle.netlist.specs.Rows.{names_between};

@@ -1,4 +1,6 @@
 // Names: whether bytes are one, and whether two are the same.
+#![tactic(auto)]
+
 ghost use Rattle.std.specs.Prelude.{◌≡◌};
 ghost use Rattle.rules.specs.Bytes.{legal, same, is_name_start};
 

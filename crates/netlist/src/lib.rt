@@ -1,4 +1,6 @@
 // The statements of a design in the table of rows.
+#![tactic(auto)]
+
 pub mod lengths;
 pub mod results;
 pub mod rows;

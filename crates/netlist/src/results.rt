@@ -1,5 +1,5 @@
 // What a call that may change design memory gives back. Number 0 is none; the counts of the session card go in and out by value.
-#[derive(Drop)]
+#[derive(Clone, Copy)]
 pub struct CallResult {
     pub number: u32,
     pub place: u32,

@@ -25,7 +25,7 @@ pub const INTEGER_CONSTANT: u32 = 2;
 pub const STRING_CONSTANT: u32 = 3;
 
 // One to four kinds of statement by their codes: of fewer than four, one is repeated.
-#[derive(Drop)]
+#[derive(Clone, Copy)]
 pub struct Kinds {
     pub a: u32,
     pub b: u32,

@@ -7,7 +7,7 @@ use context::place::Place;
 use context::sizes::Sizes;
 
 // Bytes, bytes, bits, rows, rows; and how many modules the rows open.
-#[derive(Drop)]
+#[derive(Clone, Copy)]
 pub struct Used {
     pub names: u32,
     pub strings: u32,

@@ -9,20 +9,20 @@ pub const DIGIT_CODES: u32 = 6;
 // The codes of each wire: one for each bit that a wire may have.
 pub const WIRE_CODES: u32 = 2048;
 
-#[derive(Drop)]
+#[derive(Clone, Copy)]
 pub struct ModuleNumber(pub u32);
 
-#[derive(Drop)]
+#[derive(Clone, Copy)]
 pub struct WireNumber(pub u32);
 
-#[derive(Drop)]
+#[derive(Clone, Copy)]
 pub struct MemoryNumber(pub u32);
 
-#[derive(Drop)]
+#[derive(Clone, Copy)]
 pub struct CellNumber(pub u32);
 
 // A constant bit by its code, 0 to 5; or a wire of the module and a bit of it.
-#[derive(Drop)]
+#[derive(Clone, Copy)]
 pub enum SignalBit {
     Digit(u8),
     Wire(WireNumber, u32),

@@ -17,7 +17,7 @@ const ALL_WORDS: i64 = 4294967296;
 const PAST_WORDS: i64 = 2147483648;
 
 // An author's index, which may be negative; or the bit is past the wire.
-#[derive(Drop)]
+#[derive(Clone, Copy)]
 pub enum Index {
     At(i64),
     Past,

@@ -1,5 +1,7 @@
 // One wire of a file, asked by its module's number and its name: how wide it is, and the index that its author gave a bit. The file is read no
 // further than the line that declares the wire, into tables of the call's own.
+#![tactic(auto)]
+
 ghost use Rattle.std.specs.Prelude.{◌≡◌, ◌<◌, pos};
 ghost use Rattle.rules.specs.Limits.{many_rows};
 ghost use Rattle.rules.specs.Quick.{gives, quick_width, quick_index};
@@ -19,14 +21,14 @@ use numbers::signed::{Index, author_index};
 use wires::{WIRE_FLAGS, WIRE_NAME, WIRE_OFFSET, WIRE_WIDTH, bytes_at, column};
 
 // Number 0 is none.
-#[derive(Drop)]
+#[derive(Clone, Copy)]
 pub struct Width {
     pub number: u32,
     pub place: u32,
     pub width: u32,
 }
 
-#[derive(Drop)]
+#[derive(Clone, Copy)]
 pub struct BitIndex {
     pub number: u32,
     pub place: u32,
@@ -34,7 +36,7 @@ pub struct BitIndex {
 }
 
 // What is asked of a declared wire; or a refusal.
-#[derive(Drop)]
+#[derive(Clone, Copy)]
 enum Declared {
     Wire { width: u32, offset: u32, upto: bool },
     Refused { number: u32, place: u32 },

@@ -1,4 +1,6 @@
 // What the options of a wire and of a memory mean, where the number and option rules allow them.
+#![tactic(auto)]
+
 ghost use Rattle.std.specs.Prelude.{◌≡◌, ◌&&◌};
 ghost use Rattle.rules.specs.Bytes.{within};
 ghost use Rattle.option_rules.specs.Numbers.{WordIs, slot_fits, options_good};
@@ -31,7 +33,7 @@ const SIGNED_FLAG: u32 = 2;
 const BOTH_FLAGS: u32 = 3;
 
 // A wire's columns in the table of wires, where its options are good.
-#[derive(Drop)]
+#[derive(Clone, Copy)]
 pub enum WireRules {
     Good {
         width: u32,
@@ -43,14 +45,14 @@ pub enum WireRules {
 }
 
 // A memory's columns, where its options are good.
-#[derive(Drop)]
+#[derive(Clone, Copy)]
 pub enum MemoryRules {
     Good { width: u32, size: u32, offset: u32 },
     Bad,
 }
 
 // The code of a port's direction and its number, both 0 for no port.
-#[derive(Drop)]
+#[derive(Clone, Copy)]
 enum Port {
     Good { code: u32, number: u32 },
     Bad,

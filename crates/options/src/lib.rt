@@ -1,4 +1,6 @@
 // The options of a `wire` line and of a `memory` line, as they were written.
+#![tactic(auto)]
+
 ghost use Rattle.std.specs.Prelude.{◌≡◌, true, false, cond, ◌||◌, eqb};
 ghost use Rattle.rules.specs.Statements.{wire-stmt, memory-stmt};
 ghost use Rattle.rules.specs.Shapes.{wire_option_forms, memory_option_forms};
@@ -11,7 +13,7 @@ use scanner::words::{INOUT, INPUT, MEMORY, OFFSET, OUTPUT, SIGNED, SIZE, UPTO, W
 use tokens::{Integer, ROW_WORDS, Slot, Token, integer_at, token_at};
 
 // The last number given of each option that takes one, the flags, and whether an option stands twice.
-#[derive(Drop)]
+#[derive(Clone, Copy)]
 pub struct Options {
     pub width: Slot,
     pub offset: Slot,
@@ -25,7 +27,7 @@ pub struct Options {
 }
 
 // The options of a line and the span of its name; or the line has no shape.
-#[derive(Drop)]
+#[derive(Clone, Copy)]
 pub enum Line {
     Read {
         options: Options,
@@ -36,7 +38,7 @@ pub enum Line {
 }
 
 // An option by its keyword's number, with its integer if it takes one; or the name, which ends the line.
-#[derive(Drop)]
+#[derive(Clone, Copy)]
 enum Turn {
     Flag(usize),
     Number(usize, Integer),

@@ -1,5 +1,7 @@
 // Names in plain letters, and back, for a device that prints only letters, digits and underline. The functions that write one line of a
 // listing know the room only: a listing has no longest text.
+#![tactic(auto)]
+
 ghost use Rattle.std.specs.Prelude.{◌≡◌, ◌&&◌, ◌+◌, ◌≤◌, ◌<◌, length};
 ghost use mathlib.Core.List.{flat_map};
 ghost use Rattle.rules.specs.Limits.{names_length};
@@ -32,14 +34,14 @@ const OCTAL_ESCAPE: usize = 4;
 const NO_DIGIT: u32 = 16;
 
 // Number 0 is none; a refusal's length is 0.
-#[derive(Drop)]
+#[derive(Clone, Copy)]
 pub struct Turned {
     pub number: u32,
     pub length: u32,
 }
 
 // The byte that the bytes of a form from a place on stand for first, and where those behind it start.
-#[derive(Drop)]
+#[derive(Clone, Copy)]
 enum Taken {
     Byte { value: u8, next: usize },
     Nothing,

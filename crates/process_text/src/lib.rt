@@ -1,5 +1,7 @@
 // The written text of a process in design memory: its line and the rows behind it up to its own `end`, each at its level.
 // All of it is total: a word past a table's end counts as 0, and a row that holds no statement is written as an empty line.
+#![tactic(auto)]
+
 ghost use Rattle.std.specs.Prelude.{◌≡◌, ◌+◌, ◌-◌, ◌≤◌, ◌<◌, length};
 ghost use Rattle.rules.specs.Limits.{bits_length, past_text};
 ghost use Rattle.context.specs.Place.{is_sync};
@@ -25,7 +27,7 @@ const PROCESS_LEVEL: usize = 1;
 const BODY_LEVEL: usize = 2;
 
 // Where a line of a process stands: how many switches are open, and the level that the last line leads to.
-#[derive(Drop)]
+#[derive(Clone, Copy)]
 pub struct Inside {
     pub opened: u32,
     pub level: usize,

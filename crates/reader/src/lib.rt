@@ -1,4 +1,6 @@
 // The two halves of reading: a check that is lent only the file, and a fill of lent tables.
+#![tactic(auto)]
+
 ghost use Rattle.std.specs.Prelude.{◌≡◌};
 ghost use Rattle.rules.specs.Reading.{read, checked};
 ghost use Rattle.rules.specs.Layout.{empty, memory};
@@ -17,7 +19,7 @@ use netlist::results::{CallResult, FILE_TOO_LONG, WRONG_LENGTH};
 use zeros::{clear_bytes, clear_words};
 
 // Number 0 is none.
-#[derive(Drop)]
+#[derive(Clone, Copy)]
 pub struct Checked {
     pub number: u32,
     pub place: u32,

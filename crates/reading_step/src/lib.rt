@@ -1,4 +1,6 @@
 // One step of reading: a line's tokens, its verdict after the statements so far, and its statement stored behind them.
+#![tactic(auto)]
+
 ghost use Rattle.std.specs.Prelude.{◌≡◌, ◌-◌, ◌*◌, ◌≤◌, length};
 ghost use Rattle.rules.specs.Limits.{longest_file};
 ghost use Rattle.rules.specs.Statements.{code};
@@ -29,7 +31,7 @@ use syntax::Statement;
 const TOKEN_SIZE: usize = 4;
 
 // What a line gives: nothing, since it has no token; a statement, with the sums of each size over it and all before it; or a refusal.
-#[derive(Drop)]
+#[derive(Clone, Copy)]
 enum Outcome {
     Skipped,
     Stated { statement: Statement, more: Sizes },
@@ -37,7 +39,7 @@ enum Outcome {
 }
 
 // A line's answer: what it gives, and of a refused line the number and the place.
-#[derive(Drop)]
+#[derive(Clone, Copy)]
 struct LineAnswer {
     outcome: Outcome,
     number: u32,
@@ -45,7 +47,7 @@ struct LineAnswer {
 }
 
 // Where the next line stands; or a refusal.
-#[derive(Drop)]
+#[derive(Clone, Copy)]
 pub enum Step {
     Next { place: Place, sums: Sizes },
     Stop { number: u32, place: u32 },

@@ -1,5 +1,7 @@
 // Whether a rename may stand behind the renames that stand already, by the tables that hold the design with them.
 // All of it is total: a word past a table's end counts as 0, and a span past its end is cut.
+#![tactic(auto)]
+
 ghost use Rattle.std.specs.Prelude.{◌≡◌, ◌+◌, ◌<◌, ◌≤◌};
 ghost use Rattle.rules.specs.Limits.{longest_name, many_rows};
 ghost use Rattle.rules.specs.Bytes.{same, any};
@@ -36,7 +38,7 @@ const DIRECTION_FLAG: u32 = 4;
 // The last direction of a port, `inout`.
 const LAST_DIRECTION: u32 = 3;
 
-#[derive(Drop)]
+#[derive(Clone, Copy)]
 pub enum Named {
     At(WireNumber),
     Nothing,

@@ -1,5 +1,7 @@
 // Whether tables hold statements that may stand one after another. The statements are replayed from the first row on, whatever the tables hold:
 // each row says where its parts are, and has to be the row of the statement that they make.
+#![tactic(auto)]
+
 use context::kinds::STEP_KIND;
 use context::place::{Place, is_closed, start};
 use context::sizes::{Sizes, none};
@@ -16,7 +18,7 @@ ghost use Rattle.replay.specs.Begins.{is_statement, Replays, IndexLeft};
 use turns::{Turn, one_more};
 
 // The place and the sums behind the statements that the tables hold.
-#[derive(Drop)]
+#[derive(Clone, Copy)]
 pub enum Replayed {
     Holding { place: Place, sums: Sizes },
     Damaged,

@@ -28,7 +28,7 @@ use steps::{Asked, asked_width, step_stands};
 use tables::{ROW_WORDS, Row, get_row};
 
 // The place and the sums behind the statement.
-#[derive(Drop)]
+#[derive(Clone, Copy)]
 pub enum Turn {
     Next { place: Place, sums: Sizes },
     Nothing,

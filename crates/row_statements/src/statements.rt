@@ -29,7 +29,7 @@ const PORT_FLAG: u32 = 4;
 const MOST_FLAGS: u32 = 15;
 
 // What a statement holds: signals, bits of them and of values, bytes of strings and of names.
-#[derive(Drop)]
+#[derive(Clone, Copy)]
 pub enum Found {
     Statement {
         count: u32,
@@ -42,7 +42,7 @@ pub enum Found {
 }
 
 // What a constant holds: bits of a value, bytes of a string.
-#[derive(Drop)]
+#[derive(Clone, Copy)]
 pub enum Held {
     Constant { values: u32, strings: u32 },
     Nothing,

@@ -1,4 +1,6 @@
 // Scanning of RTLIL text: the class of a byte, runs and parts of bytes, lines, keywords and decimal numbers.
+#![tactic(auto)]
+
 pub mod class;
 pub mod decimals;
 pub mod lines;

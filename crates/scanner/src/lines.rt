@@ -6,7 +6,7 @@ ghost use Rattle.scanner.specs.Lines.{line_from};
 ghost use Rattle.scanner.specs.Runs.{end_of};
 
 // The line's bytes are start to end; ended tells whether a line end follows, and next is where the next line starts.
-#[derive(Drop)]
+#[derive(Clone, Copy)]
 pub struct Line {
     pub start: usize,
     pub end: usize,

@@ -1,5 +1,7 @@
 // Design memory opened, and the calls that change it: rename and undo. They take the lent tables, and the counts of the session card by value, in any
 // state.
+#![tactic(auto)]
+
 ghost use Rattle.std.specs.Prelude.{◌≡◌, ◌+◌, ◌-◌, ◌*◌, ◌≤◌, length, replicate};
 ghost use Rattle.rules.specs.Limits.{longest_name};
 ghost use Rattle.rules.specs.Session.{Call};
@@ -24,7 +26,7 @@ use zeros::zero_bytes;
 const RENAME_NAME: usize = 1;
 
 // Memory that holds a design, whose statements end at a place; or the refusal's number.
-#[derive(Drop)]
+#[derive(Clone, Copy)]
 pub enum Opened {
     Open(Place),
     Refused(u32),

@@ -1,5 +1,7 @@
 // The name to show of a wire: its attribute `\hdlname` if that is a string that isn't empty, else its name now, without the `\` if public. It is a part of
 // the strings or of the names, not a copy.
+#![tactic(auto)]
+
 ghost use Rattle.std.specs.Prelude.{◌≡◌, ◌≤◌, ◌<◌, length};
 ghost use Rattle.rules.specs.Limits.{many_rows};
 ghost use Rattle.netlist.specs.Results.{lent};
@@ -30,7 +32,7 @@ const RENAME_NAME: usize = 1;
 const CONSTANT_STRING: u32 = 3;
 
 // Where a shown name lies: a part of the names, a part of the strings, or neither, with the refusal's number.
-#[derive(Drop)]
+#[derive(Clone, Copy)]
 pub enum Shown {
     Name { start: usize, end: usize },
     Text { start: usize, end: usize },
@@ -38,7 +40,7 @@ pub enum Shown {
 }
 
 // A part of a table by its ends.
-#[derive(Drop)]
+#[derive(Clone, Copy)]
 struct Part {
     start: usize,
     end: usize,

@@ -1,5 +1,7 @@
 // The signals of a line up to its end, one behind another or with a comma between. Their bits go to a scratch table, each signal's behind
 // those before it.
+#![tactic(auto)]
+
 ghost use Rattle.std.specs.Prelude.{◌≡◌, ◌+◌, ◌/◌, ◌≤◌, ◌<◌, length};
 ghost use Rattle.rules.specs.Limits.{most_wires, scratch_length};
 ghost use Rattle.wires.specs.Rows.{wires_from};
@@ -27,7 +29,7 @@ const MOST_SIGNAL_BITS: usize = 8192;
 
 // Signals that were read: the width of the first, how many they are, their bits in all, whether they are equally wide, and the lowest number
 // that one of them is refused with, or 0.
-#[derive(Drop)]
+#[derive(Clone, Copy)]
 struct Sum {
     width: usize,
     count: usize,
@@ -37,7 +39,7 @@ struct Sum {
 }
 
 // The signals of a line: the width of the first, 0 if there is none, how many they are, and the lowest number that they are refused with, or 0.
-#[derive(Drop)]
+#[derive(Clone, Copy)]
 pub enum Listed {
     Read {
         width: usize,

@@ -1,4 +1,6 @@
 // The runs of a signal, by the codes of its bits: constant bits, or falling bits of one wire.
+#![tactic(auto)]
+
 ghost use Rattle.std.specs.Prelude.{◌≡◌, ◌≤◌, ◌<◌, length};
 ghost use Rattle.std.proofs.Math.Seq.{slice};
 ghost use Rattle.signal_runs.specs.Runs.{is_digit, is_bit, joint, Apart, Lowest};

@@ -1,5 +1,7 @@
 // The written text of a signal, with the wires' names as they are now.
 // All of it is total: a word past a table's end counts as 0, and a span past its end is cut.
+#![tactic(auto)]
+
 ghost use Rattle.std.specs.Prelude.{◌≡◌, cond, [], ◌∷◌, ◌++◌, ◌+◌, ◌-◌, ◌≤◌, ◌<◌, eqb, pos, length, drop};
 ghost use Rattle.std.proofs.Math.Option.{none, some};
 ghost use Rattle.rules.specs.Limits.{most_width, bits_length, past_text};

@@ -1,5 +1,7 @@
 // Signals: the signal reader and the bundle reader call each other, the unread part of the line and the depth falling. Bits are put
 // into a scratch table from the top, the members of a bundle as they come; the part that slices leave is moved down to where the signal began.
+#![tactic(auto)]
+
 ghost use Rattle.std.specs.Prelude.{◌≡◌, ◌+◌, ◌*◌, ◌/◌, ◌≤◌, ◌<◌, length};
 ghost use Rattle.std.proofs.Math.Seq.{slice};
 ghost use Rattle.rules.specs.Limits.{most_wires, longest_file, most_width, tokens_length};
@@ -40,35 +42,35 @@ const BUNDLE_OPENS: usize = 123;
 const BUNDLE_CLOSES: usize = 125;
 
 // The wires of a module: their first row, and how many there are.
-#[derive(Drop)]
+#[derive(Clone, Copy)]
 pub struct ModuleWires {
     pub first: u32,
     pub count: u32,
 }
 
 // A signal's width, and the lowest number that it is refused with, or 0.
-#[derive(Drop)]
+#[derive(Clone, Copy)]
 pub struct Bits {
     pub width: usize,
     pub fault: u32,
 }
 
 // A slice of slices of a signal: its bits, and the bit of the signal that is its lowest.
-#[derive(Drop)]
+#[derive(Clone, Copy)]
 struct Part {
     bits: Bits,
     low: usize,
 }
 
 // A signal with the row behind it.
-#[derive(Drop)]
+#[derive(Clone, Copy)]
 pub enum Answer {
     Read { next: usize, bits: Bits },
     NoShape,
 }
 
 // The bounds of a slice with the row behind them; a low bound that is not given is the high one.
-#[derive(Drop)]
+#[derive(Clone, Copy)]
 enum Bounds {
     Read {
         high: Integer,

@@ -1,5 +1,7 @@
 // Reads a block from standard input and writes its one text, or the number and place of its refusal. Where files are named, each of them instead, under a
 // line with its name.
+#![tactic(auto)]
+
 use answer::answer;
 use libc::{STDIN_FILENO, STDOUT_FILENO};
 use text::TEXT_LENGTH;

@@ -1,4 +1,6 @@
 // The written text of a step with its signals, with the wires' names as they are now. All of it is total: a word past a table's end counts as 0.
+#![tactic(auto)]
+
 ghost use Rattle.std.specs.Prelude.{◌≡◌, ◌++◌, ◌≤◌, ◌<◌, length};
 ghost use Rattle.rules.specs.Limits.{bits_length, past_text, many_rows};
 ghost use Rattle.rules.specs.Text.{sig, sig_tokens};

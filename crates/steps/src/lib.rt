@@ -1,4 +1,6 @@
 // The lines inside a process: how many signals a step has, where it may stand, and how wide its signals have to be.
+#![tactic(auto)]
+
 ghost use Rattle.std.specs.Prelude.{◌≡◌, cond, ◌+◌, ◌-◌, ◌<◌};
 ghost use Rattle.rules.specs.Limits.{many_rows};
 ghost use Rattle.rules.specs.Bytes.{within};
@@ -25,7 +27,7 @@ const EACH_WIDTH: usize = 3;
 const MOST_SWITCHES: u32 = 16;
 
 // The width that the signals of a step have to have.
-#[derive(Drop)]
+#[derive(Clone, Copy)]
 pub enum Asked {
     Nothing,
     Width(u32),

@@ -1,5 +1,7 @@
 // The strings of RTLIL: between double quotes, with escapes. The machine that reads them, byte by byte, where a string ends, how many
 // bytes it stands for, and those bytes.
+#![tactic(auto)]
+
 ghost use Rattle.std.specs.Prelude.{◌≡◌, true, [], ◌+◌, ◌≤◌, length, drop};
 ghost use Rattle.rules.specs.Bytes.{is_octal, is_string_byte};
 ghost use Rattle.rules.specs.Tokens.{plain_turn, escape_turn, octal_byte, octal_turn, goes, plain, turn};
@@ -12,7 +14,7 @@ use scanner::parts::part;
 use tables::put_bytes;
 
 // Where the reader stands: in plain text, behind `\`, or behind `\` and one or two octal digits, with their number.
-#[derive(Drop)]
+#[derive(Clone, Copy)]
 pub enum Inside {
     Plain,
     Escape,
@@ -21,7 +23,7 @@ pub enum Inside {
 }
 
 // The bytes that a turn gives.
-#[derive(Drop)]
+#[derive(Clone, Copy)]
 pub enum Given {
     Nothing,
     One(u8),
@@ -29,7 +31,7 @@ pub enum Given {
 }
 
 // What a byte does: it gives bytes and the string goes on, or gives bytes and ends the string, or may not stand there.
-#[derive(Drop)]
+#[derive(Clone, Copy)]
 pub enum Turn {
     Goes(Given, Inside),
     Ends(Given),
@@ -37,7 +39,7 @@ pub enum Turn {
 }
 
 // The place behind a string's closing quote.
-#[derive(Drop)]
+#[derive(Clone, Copy)]
 pub enum Close {
     At(usize),
     Broken,

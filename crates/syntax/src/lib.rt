@@ -1,5 +1,7 @@
 // The statement of a line in its context, from the rows of its tokens, and the first refusal of its shape, its numbers and its wires. What comes
 // behind a taken name, the widths, is told with the statement.
+#![tactic(auto)]
+
 ghost use Rattle.std.specs.Prelude.{◌≡◌, ◌+◌};
 ghost use Rattle.wires.specs.Rows.{wires_from};
 ghost use Rattle.name_index.specs.Index.{WiresIndexed};
@@ -41,7 +43,7 @@ const SIGNAL_DEPTH: usize = 16;
 pub const RIGHT_SIGNAL: usize = 2048;
 
 // A line's statement, or its first refusal of 5, 7 and 8. Offsets and the number of `autoidx` are words in two's complement.
-#[derive(Drop)]
+#[derive(Clone, Copy)]
 pub enum Statement {
     Autoidx(u32),
     Attribute {

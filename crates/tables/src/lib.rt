@@ -1,4 +1,6 @@
 // The leaves over one lent table of design memory: bytes or words stored from a place on, a row put or got.
+#![tactic(auto)]
+
 ghost use Rattle.std.specs.Prelude.{◌≡◌, reverse, ◌+◌, ◌-◌, ◌≤◌, length, get_or};
 ghost use Rattle.std.proofs.Math.Seq.{slice};
 ghost use Rattle.tables.specs.Store.{store};
@@ -8,7 +10,7 @@ ghost use Rattle.tables.specs.Row.{words, row_at};
 pub const ROW_WORDS: usize = 8;
 
 // A row of eight columns; what the seven behind the kind hold depends on it.
-#[derive(Drop)]
+#[derive(Clone, Copy)]
 pub struct Row {
     pub kind: u32,
     pub a: u32,

@@ -1,6 +1,8 @@
 // The leaves of the writer. Each writes a piece of text into lent room from a place on and answers the place behind it: a byte is stored
 // only where the room has a place for it, and the place moves on all the same, so that writing into any room measures. Past 32,768 bytes
 // nothing is stored and the place stays at 32,769: such a text is refused, so where it would end does not matter.
+#![tactic(auto)]
+
 ghost use Rattle.std.specs.Prelude.{◌≡◌, [], ◌∷◌, ◌≤◌, replicate};
 ghost use Rattle.rules.specs.Limits.{past_text};
 ghost use Rattle.rules.specs.Text.{decimal_text, integer_text, refusal};

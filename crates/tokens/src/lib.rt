@@ -1,4 +1,6 @@
 // The tokens of a line, in a table of words that the caller lends: a row of four words for each, with its places in the file.
+#![tactic(auto)]
+
 ghost use Rattle.std.specs.Prelude.{◌≡◌, [], ◌∷◌, ◌+◌, ◌*◌, ◌≤◌, ◌<◌, length};
 ghost use Rattle.tables.specs.Store.{store};
 ghost use Rattle.tokens.specs.Rows.{token_at, row_words, constant_words, Small, SmallConstant};
@@ -37,7 +39,7 @@ const TEXT_READ: usize = 4;
 const NEGATIVE: usize = 1;
 
 // An integer's sign and the span of its digits.
-#[derive(Drop)]
+#[derive(Clone, Copy)]
 pub struct Integer {
     pub negative: bool,
     pub start: usize,
@@ -46,7 +48,7 @@ pub struct Integer {
 
 // A constant: an integer; a value, by the span of its width, its quote mark and the end of its digits; a string, by the place behind its
 // opening quote.
-#[derive(Drop)]
+#[derive(Clone, Copy)]
 pub enum ConstantSpan {
     Integer(Integer),
     Value {
@@ -58,7 +60,7 @@ pub enum ConstantSpan {
 }
 
 // The token of a row: a name by its span, a word by its keyword's number, a constant, a mark by its byte; or no row is left.
-#[derive(Drop)]
+#[derive(Clone, Copy)]
 pub enum Token {
     Name { start: usize, end: usize },
     Word(usize),
@@ -68,21 +70,21 @@ pub enum Token {
 }
 
 // A name, by its span.
-#[derive(Drop)]
+#[derive(Clone, Copy)]
 pub enum Id {
     Span { start: usize, end: usize },
     Nothing,
 }
 
 // An integer, where one stands.
-#[derive(Drop)]
+#[derive(Clone, Copy)]
 pub enum Slot {
     Given(Integer),
     Absent,
 }
 
 // A constant, where one stands.
-#[derive(Drop)]
+#[derive(Clone, Copy)]
 pub enum ConstantSlot {
     Read(ConstantSpan),
     Nothing,

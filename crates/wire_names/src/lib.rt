@@ -1,5 +1,7 @@
 // The name now of a wire: that of its last standing rename, else its own.
 // All of it is total: a word past a table's end counts as 0, and a span past its end is cut.
+#![tactic(auto)]
+
 ghost use Rattle.std.specs.Prelude.{◌≡◌, ◌<◌};
 ghost use Rattle.rules.specs.Limits.{many_rows};
 ghost use Rattle.wire_names.specs.Now.{renames, last_rename, name_now};
@@ -15,7 +17,7 @@ const RENAME_MODULE: usize = 3;
 const RENAME_WIRE: usize = 4;
 
 // A module: its number, the rows of its wires, and the rows of the renames that stand.
-#[derive(Drop)]
+#[derive(Clone, Copy)]
 pub struct Module {
     pub number: ModuleNumber,
     pub first: u32,

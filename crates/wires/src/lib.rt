@@ -1,5 +1,7 @@
 // The wires of a module in the table of wires: a row of eight words for each, in consecutive rows, with its name's span in the table of names.
 // All of it is total: a word past the table's end counts as 0, and a span past the names' end is cut.
+#![tactic(auto)]
+
 ghost use Rattle.std.specs.Prelude.{◌≡◌, ◌<◌};
 ghost use Rattle.rules.specs.Limits.{many_rows};
 ghost use Rattle.rules.specs.Session.{index_in};
@@ -24,7 +26,7 @@ pub const WIRE_FLAGS: usize = 5;
 pub const WIRE_PORT: usize = 6;
 
 // What the search for a wire by its name answers: its number in its module and its width.
-#[derive(Drop)]
+#[derive(Clone, Copy)]
 pub enum Found {
     At(WireNumber, u32),
     Nothing,

@@ -1,4 +1,6 @@
 // Writing a design as its one text, from lent design memory in any state, and measuring that text.
+#![tactic(auto)]
+
 ghost use Rattle.std.specs.Prelude.{◌≡◌, ◌≤◌, length};
 ghost use Rattle.rules.specs.Limits.{bits_length};
 ghost use Rattle.netlist.specs.Results.{lent};
@@ -17,7 +19,7 @@ use tables::put_bytes;
 use text::TEXT_LENGTH;
 
 // Number 0 is none; a refusal's length is 0.
-#[derive(Drop)]
+#[derive(Clone, Copy)]
 pub struct Written {
     pub number: u32,
     pub length: u32,

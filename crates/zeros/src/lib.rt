@@ -1,4 +1,6 @@
 // The leaves over one lent table of design memory that put zeros or look for them.
+#![tactic(auto)]
+
 ghost use Rattle.std.specs.Prelude.{◌≡◌, ◌&&◌, ◌-◌, ◌≤◌, eqb, length, drop, replicate};
 ghost use Rattle.rules.specs.Bytes.{all};
 ghost use Rattle.tables.specs.Store.{store};
