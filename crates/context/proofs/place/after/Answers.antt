@@ -1,0 +1,35 @@
+-- `place::after` meets its contract.
+use Prim.Native.Nat.{◌+◌}
+use mathlib.Core.Bool.{false}
+use native.Mathlib.Omega.{arith}
+use lib.Dec.{eqb}
+use Rattle.context.specs.Place.{place_after}
+use Rattle.lists.specs.Tests.{cond-le}
+use Rattle.context.proofs.place.after.Goals as goal
+
+pub overflow_add-wires : goal.overflow_add-wires
+overflow_add-wires c = omega (arith, c.requires, c.pick.ensures, cond-le (eqb c.args.kind 5) 1)
+
+pub overflow_add-result : goal.overflow_add-result
+overflow_add-result c =
+    omega (arith, c.requires, c.pick-6.ensures, cond-le (eqb c.args.kind 3) 1)
+
+pub returns : goal.returns
+unfolding place_after
+returns c =
+    let args = c.args in
+    let pick = c.pick in
+    λ i.
+    record {
+      scope = c.scope_after.ensures i;
+      depth = c.depth_after.ensures i;
+      first = false;
+      attributed = eqb args.kind 2;
+      rows = args.p.rows + 1;
+      module_from = c.pick-2.ensures i;
+      cell_from = c.pick-3.ensures i;
+      object_from = c.pick-4.ensures i;
+      wires = args.p.wires + pick.ensures i;
+      wires_from = (rw pick.ensures at c.pick-5.ensures) i;
+      modules = args.p.modules + c.pick-6.ensures i;
+    }

@@ -1,0 +1,59 @@
+-- The invariant: the table begins with the indexes of the first m modules.
+-- Assumes nothing.
+use Prim.Native.Nat.{◌-◌}
+use mathlib.Core.Path.{refl}
+use native.Mathlib.Omega.{arith}
+use borrow.Author.Tests.{not-true, not-false}
+use Rattle.byte_order.specs.Order.{indexes_up}
+use Rattle.design_order.specs.IndexesLaws.{module-apart, module-fits, part-long, module-told, module-not, told-all}
+use Rattle.design_order.proofs.are_sorted.Goals as goal
+
+pub loop-m-init : goal.loop-m-init
+unfolding indexes_up
+loop-m-init c = (omega arith, refl)
+
+pub offset_bounds-index-first : goal.offset_bounds-index-first
+offset_bounds-index-first c =
+    let args = c.args in
+    let pre = c.requires in
+    let loop = c.loop-m in
+    let module-at = c.module_at-module in
+    omega (arith, module-fits args.names.now args.wires.now args.rows.now args.place args.renames loop.m module-at.result module-at.ensures args.index.now pre.wires_in_bounds)
+
+pub is_sorted-requires : goal.is_sorted-requires
+is_sorted-requires c =
+    let args = c.args in
+    let pre = c.requires in
+    let loop = c.loop-m in
+    let if1 = c.loop-m-test in
+    let module-at = c.module_at-module in
+    record {
+  index_len = part-long args.names.now args.wires.now args.rows.now args.place args.renames loop.m module-at.result module-at.ensures args.index.now pre.wires_in_bounds;
+  apart = module-apart args.names.now args.wires.now args.rows.now args.place args.renames loop.m module-at.result module-at.ensures pre.names_apart if1.true;
+}
+
+pub returns-then-not-is_sorted : goal.returns-then-not-is_sorted
+returns-then-not-is_sorted c =
+    let args = c.args in
+    let loop = c.loop-m in
+    let if1 = c.loop-m-test in
+    let module-at = c.module_at-module in
+    let is_sorted = c.is_sorted in
+    module-not args.names.now args.wires.now args.rows.now args.place args.renames loop.m module-at.result module-at.ensures args.index.now _ is_sorted.ensures if1.true (not-true _ c.if-not-is_sorted.true-raw)
+
+pub overflow_add-m : goal.overflow_add-m
+overflow_add-m c = omega (arith, c.struct_known-1.given)
+
+pub loop-m-preserved : goal.loop-m-preserved
+loop-m-preserved c =
+    let args = c.args in
+    let loop = c.loop-m in
+    let module-at = c.module_at-module in
+    let is_sorted = c.is_sorted in
+    (omega arith, module-told args.names.now args.wires.now args.rows.now args.place args.renames loop.m module-at.result module-at.ensures args.index.now _ is_sorted.ensures (not-false _ c.if-not-is_sorted.false-raw) loop.invariant.1)
+
+pub returns : goal.returns
+returns c =
+    let args = c.args in
+    let loop = c.loop-m in
+    told-all _ _ _ args.index.now loop.m args.place.modules loop.invariant.0 c.loop-m-test.false loop.invariant.1

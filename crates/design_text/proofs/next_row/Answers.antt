@@ -1,0 +1,31 @@
+-- The loop's invariant: the first row of the kind is the first one from k on.
+-- Assumes nothing.
+use mathlib.Core.Path.{refl, sym, ◌∙◌}
+use Prim.Native.Nat.{◌-◌}
+use native.Mathlib.Omega.{arith}
+use Rattle.design_text.proofs.Loops.{row-found, row-later, row-none}
+use Rattle.design_text.proofs.next_row.Goals as goal
+
+pub loop-k-init : goal.loop-k-init
+loop-k-init c = refl
+
+pub row_kind-requires : goal.row_kind-requires
+row_kind-requires c = tt
+
+pub returns-then-row_kind-kind : goal.returns-then-row_kind-kind
+returns-then-row_kind-kind c =
+    let args = c.args in
+    let loop = c.loop-k in
+    sym
+    (loop.invariant ∙ row-found args.rows.now args.kind loop.k args.to _ c.row_kind.ensures (omega arith) c.if-row_kind-kind.true)
+
+pub loop-k-preserved : goal.loop-k-preserved
+loop-k-preserved c =
+    let args = c.args in
+    let loop = c.loop-k in
+    loop.invariant
+    ∙ row-later args.rows.now args.kind loop.k args.to _ c.row_kind.ensures
+    (omega arith) c.if-row_kind-kind.false
+
+pub returns : goal.returns
+returns c = sym (c.loop-k.invariant ∙ row-none c.args.rows.now c.args.kind c.loop-k.k c.args.to (omega arith))

@@ -1,0 +1,13 @@
+-- The loop's invariant: the modules whose lines stand before row k are written, and there are as many as their lines.
+-- Assumes nothing.
+use Prim.Native.Nat.{◌-◌, ◌≤◌}
+use Rattle.netlist.specs.Tables.{tabled}
+use Rattle.design_text.specs.Rows.{module_rows}
+use Rattle.text.specs.Reaches.{Reaches}
+use Rattle.design_text.proofs.put_modules.Given as goal
+
+abbrev pub invariant-loop-k : goal.invariant-loop-k
+invariant-loop-k l = (l.number ≤ l.k) × Reaches l.at (module_rows (tabled l.names l.strings l.bits l.wires l.rows) l.counts 0 0 0 l.counts.statements) (module_rows (tabled l.names l.strings l.bits l.wires l.rows) l.counts l.number l.first l.k (l.counts.statements - l.k)) l.initial.out l.out l.end
+
+abbrev pub decreases-loop-k : goal.decreases-loop-k
+decreases-loop-k l = l.counts.statements - l.k

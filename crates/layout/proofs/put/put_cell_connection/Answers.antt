@@ -1,0 +1,43 @@
+
+use mathlib.Core.Path.{refl}
+use native.Mathlib.Omega.{arith}
+use Rattle.rules.specs.Statements.{code, holds, contents}
+use Rattle.rules.specs.Layout.{padded, row, columns, statement_row}
+use Rattle.syntax.specs.SignalLaws.{signal-long}
+use Rattle.layout.proofs.PutLaws.{name-put, signal-put}
+use Rattle.layout.proofs.put.put_cell_connection.Goals as goal
+
+pub reverse_words-requires : goal.reverse_words-requires
+reverse_words-requires c = omega (arith, c.requires.width_in_bounds, c.requires.fits_2)
+
+pub overflow_cast-width : goal.overflow_cast-width
+overflow_cast-width c = omega (arith, c.requires.fits_2)
+
+pub put_named-requires : goal.put_named-requires
+put_named-requires c =
+    let pre = c.requires in
+    record {
+  fits = pre.fits;
+  rows_in_bounds = pre.rows_in_bounds;
+}
+
+pub shape_of-names : goal.shape_of-names
+shape_of-names c = c.put_named.auto.1.1.1.0
+
+pub shape_of-bits : goal.shape_of-bits
+shape_of-bits c = c.reverse_words.auto.1.1.1.0
+
+pub shape_of-rows : goal.shape_of-rows
+shape_of-rows c = c.put_named.auto.1.1.1.1.0
+
+pub returns : goal.returns
+unfolding statement_row columns code holds contents row padded
+returns c =
+    let args = c.args in
+    let pre = c.requires in
+    let reverse-words = c.reverse_words in
+    let put-named = c.put_named in record {
+  names_after = name-put _ _ _ _ _ refl put-named.ensures.names_after;
+  bits_after = signal-put _ _ _ _ _ _ refl reverse-words.ensures refl;
+  rows_after = rw (signal-long args.scratch.now 0 args.width (omega (arith, pre.width_in_bounds))) put-named.ensures.rows_after;
+}

@@ -1,0 +1,39 @@
+
+use mathlib.Core.Path.{refl}
+use Rattle.rules.specs.Statements.{code, holds, contents}
+use Rattle.rules.specs.Layout.{padded, row, columns, statement_row}
+use Rattle.layout.proofs.PutLaws.{name-put, wire-put}
+use Rattle.netlist.specs.Used.{used_of}
+use Rattle.layout.proofs.put.put_wire.Goals as goal
+
+pub put_named-size-requires : goal.put_named-size-requires
+put_named-size-requires c = record {
+  fits = c.requires.fits;
+  rows_in_bounds = c.requires.rows_in_bounds;
+}
+
+pub put_columns-requires : goal.put_columns-requires
+put_columns-requires c = c.requires.wires_in_bounds
+
+pub shape_of-names : goal.shape_of-names
+shape_of-names c = c.put_named-size.auto.1.1.1.0
+
+pub shape_of-wires : goal.shape_of-wires
+shape_of-wires c = c.put_columns.auto.0
+
+pub shape_of-rows : goal.shape_of-rows
+shape_of-rows c = c.put_named-size.auto.1.1.1.1.0
+
+pub returns : goal.returns
+unfolding statement_row columns code holds contents row padded
+returns c =
+    let args = c.args in
+    let put-named = c.put_named-size in
+    let last-module = c.last_module-module in
+    let put-columns = c.put_columns in
+    λ w h. (
+      name-put _ _ _ _ _ refl put-named.ensures.names_after,
+      wire-put (used_of args.u) _ w _ _ _ _ _ _ _ _ h put-named.ensures.value
+          (rw last-module.ensures at put-columns.ensures),
+      put-named.ensures.rows_after,
+    )

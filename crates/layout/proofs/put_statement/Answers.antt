@@ -1,0 +1,79 @@
+
+use Rattle.netlist.specs.Tables.{tabled}
+use Rattle.layout.proofs.Stored.{valued-room, plain-room, valued-put}
+use Rattle.layout.proofs.StepLaws.{step_room, step-put}
+use Rattle.layout.proofs.put_statement.Statement.{statement}
+use Rattle.layout.proofs.put_statement.Goals as goal
+
+pub put_valued-requires : goal.put_valued-requires
+put_valued-requires c = CLAUSES fits optional_fits most_width_in_bounds rows_in_bounds 
+    let args = c.args in
+    let pre = c.requires in
+    let as-valued = c.as_valued in
+    let kind = c.kind-1 in
+    valued-room args.f.now args.scratch.now args.statement args.u
+    (tabled args.names.now args.strings.now args.bits.now args.wires.now args.rows.now)
+    pre _ _ _ _ ((rw c.in-Named.is at as-valued.ensures) args.f.now args.scratch.now pre.sound)
+
+pub put_step-requires : goal.put_step-requires
+put_step-requires c =
+    let args = c.args in
+    let pre = c.requires in
+    let as-valued = c.as_valued in
+    let step = c.step-1 in
+    let is = rw c.in-Step.is at as-valued.ensures in
+    step_room args.f.now args.scratch.now args.statement args.u _ _ _ is.0 is.1
+    (tabled args.names.now args.strings.now args.bits.now args.wires.now args.rows.now) pre
+
+pub put_plain-requires : goal.put_plain-requires
+put_plain-requires c =
+    let args = c.args in
+    let pre = c.requires in
+    plain-room args.f.now args.scratch.now args.statement args.u
+    (tabled args.names.now args.strings.now args.bits.now args.wires.now args.rows.now)
+    pre
+
+pub shape_of-scratch-in-Named : goal.shape_of-scratch-in-Named
+shape_of-scratch-in-Named c = c.put_valued.auto.1.1.1.1.1.1.0
+
+pub shape_of-names-in-Named : goal.shape_of-names-in-Named
+shape_of-names-in-Named c = c.put_valued.auto.1.1.1.1.1.1.1.0
+
+pub shape_of-strings : goal.shape_of-strings
+shape_of-strings c = c.put_valued.auto.1.1.1.1.1.1.1.1.0
+
+pub shape_of-bits-in-Named : goal.shape_of-bits-in-Named
+shape_of-bits-in-Named c = c.put_valued.auto.1.1.1.1.1.1.1.1.1.0
+
+pub shape_of-rows-in-Named : goal.shape_of-rows-in-Named
+shape_of-rows-in-Named c = c.put_valued.auto.1.1.1.1.1.1.1.1.1.1.0
+
+pub returns-in-Named : goal.returns-in-Named
+returns-in-Named c =
+    let args = c.args in
+    let pre = c.requires in
+    let as-valued = c.as_valued in
+    let kind = c.kind-1 in
+    let put-valued = c.put_valued in
+    valued-put args.f.now args.scratch.now args.statement args.u _ _ _ _ _ _ _ _ _ _ _ _ _
+    ((rw c.in-Named.is at as-valued.ensures) args.f.now args.scratch.now pre.sound)
+    put-valued.ensures.names_after put-valued.ensures.strings_after put-valued.ensures.bits_after
+    put-valued.ensures.rows_after
+
+pub returns-in-Step : goal.returns-in-Step
+returns-in-Step c =
+    let args = c.args in
+    let pre = c.requires in
+    let as-valued = c.as_valued in
+    let step = c.step-1 in
+    let put_step = c.put_step in
+    let is = rw c.in-Step.is at as-valued.ensures in
+    step-put args.f.now args.scratch.now args.statement args.u _ _ _ is.0 is.1 _ _ _ _ _ _ _ pre.sound
+    put_step.ensures
+
+pub returns-in-Nothing : goal.returns-in-Nothing
+returns-in-Nothing c =
+    let as-valued = c.as_valued in
+    let enum_told = c.enum_told-1 in
+    let put-plain = c.put_plain in
+    put-plain.ensures (rw c.in-Nothing.is at as-valued.ensures) _

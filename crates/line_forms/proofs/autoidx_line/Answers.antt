@@ -1,0 +1,18 @@
+-- The integer, then the end.
+use native.Mathlib.Omega.{arith}
+use Rattle.rules.specs.Shapes as shapes
+use Rattle.tokens.specs.Parts.{integer_gives}
+use Rattle.line_forms.specs.Forms.{form_of, ended}
+use Rattle.line_forms.proofs.LineLaws.{integer-below}
+use Rattle.line_forms.proofs.autoidx_line.Goals as goal
+
+pub returns-in_default : goal.returns-in_default
+unfolding shapes.of₁ shapes.after shapes.give shapes.whole integer_gives form_of
+returns-in_default c = (λ f. rw (c.integer_at.ensures f, c.in_default.is), tt)
+
+pub overflow_add-i : goal.overflow_add-i
+overflow_add-i c = omega (arith, integer-below _ _ _ _ c.integer_at.ensures c.in-Given.is)
+
+pub returns : goal.returns
+unfolding shapes.of₁ shapes.after shapes.give shapes.whole integer_gives ended form_of
+returns c = (λ f. rw (c.integer_at.ensures f, c.in-Given.is) (c.finished.ensures.0 f), c.finished.ensures.1 tt)

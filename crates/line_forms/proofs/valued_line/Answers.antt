@@ -1,0 +1,42 @@
+-- The name, the constant, then the end, whichever of the two it is.
+use mathlib.Core.Logic.{⊎_elim}
+use native.Mathlib.Omega.{arith}
+use Rattle.rules.specs.Shapes as shapes
+use Rattle.tokens.specs.Parts.{id_gives, literal_gives}
+use Rattle.line_forms.specs.Forms.{form_of, name_in, ended}
+use Rattle.line_forms.proofs.LineLaws.{id_below}
+use Rattle.line_forms.proofs.valued_line.Goals as goal
+
+pub returns-in_default : goal.returns-in_default
+unfolding shapes.of₂ shapes.of₁ shapes.after shapes.give shapes.whole id_gives form_of
+returns-in_default c = (λ f. rw (c.id_at.ensures f, c.in_default.is), λ _. tt)
+
+pub overflow_add-j : goal.overflow_add-j
+overflow_add-j c = omega (arith, id_below _ _ _ _ _ c.id_at.ensures c.in-Span.is)
+
+pub returns-in_default-literal_at : goal.returns-in_default-literal_at
+unfolding shapes.of₂ shapes.of₁ shapes.after shapes.give shapes.whole id_gives literal_gives form_of
+returns-in_default-literal_at c = (λ f. rw (c.id_at.ensures f, c.in-Span.is, c.literal_at.ensures.0 f, c.in_default-literal_at.is), λ _. tt)
+
+pub overflow_add-j-2 : goal.overflow_add-j-2
+overflow_add-j-2 c = omega (arith, id_below _ _ _ _ _ c.id_at.ensures c.in-Span.is)
+
+pub returns : goal.returns
+unfolding shapes.of₂ shapes.of₁ shapes.after shapes.give shapes.whole id_gives literal_gives ended form_of name_in
+returns c =
+    let id-at = c.id_at in
+    let start = c.start-1 in
+    let literal-at = c.literal_at in
+    let value = c.value-1 in
+    ⊎_elim
+    (λ w. (
+      λ f. rw (id-at.ensures f, c.in-Span.is, literal-at.ensures.0 f, c.in-Read.is, w.0.taken)
+          (rw w.1 at (c.finished.ensures.0 f)),
+      λ h. rw w.1 at c.finished.ensures.1 (_, rw c.in-Read.is at literal-at.ensures.1),
+    ))
+    (λ w. (
+      λ f. rw (id-at.ensures f, c.in-Span.is, literal-at.ensures.0 f, c.in-Read.is, w.0.left)
+          (rw w.1 at (c.finished.ensures.0 f)),
+      λ h. rw w.1 at c.finished.ensures.1 (h, (_, rw c.in-Read.is at literal-at.ensures.1)),
+    ))
+    c.if-attribute.branch

@@ -1,0 +1,12 @@
+-- What the callees ensure.
+-- Assumes nothing.
+use mathlib.Core.Path.{ap, ◌∙◌}
+use Rattle.rules.specs.Tokens.{Name}
+use Rattle.rules.specs.Sorted.{before}
+use Rattle.name_order.proofs.wire_before.Goals as goal
+
+pub returns : goal.returns
+returns c =
+    let args = c.args in
+    let name_in = c.name_in in
+    c.comes_before.ensures ∙ ap (λ (n : Name). before n args.name.now) name_in.ensures

@@ -1,0 +1,185 @@
+
+use mathlib.Core.Path.{refl, ap, ◌∙◌}
+use native.Mathlib.Omega.{arith}
+use Rattle.context.proofs.PlaceLaws.{after_is}
+use Rattle.context.specs.Place.{place_after}
+use Rattle.context.specs.declared.place.Place.{Place}
+use Rattle.name_index.specs.LineLaws.{lines-upto}
+use Rattle.reading_step.specs.Steps.{line_of}
+use Rattle.reading_step.proofs.StepLaws.{done-fits, done-stands, done-rows, put-storable, step-stated, step-skipped, step-refused, refused-left, step-indexed, done-few, done-wires}
+use Rattle.reading_step.proofs.take_line.Goals as goal
+
+pub line_answer-answer-requires : goal.line_answer-answer-requires
+line_answer-answer-requires c =
+    let pre = c.requires in
+    record {
+  line_fits = pre.line_fits;
+  place_fits = done-fits pre.some_done.done;
+  lines_indexed = pre.lines_indexed;
+}
+
+pub enum_told-1 : goal.enum_told-1
+enum_told-1 c = c.in-Skipped.keys1
+
+pub enum_known-outcome : goal.enum_known-outcome
+enum_known-outcome c = c.in-Stated.keys1
+
+pub used_from-u-requires : goal.used_from-u-requires
+used_from-u-requires c =
+    let pre = c.requires in
+    (done-fits pre.some_done.done).within
+
+pub put_statement-requires : goal.put_statement-requires
+put_statement-requires c =
+    let pre = c.requires in
+    let args = c.args in
+    let line-answer = c.line_answer-answer in
+    let outcome = c.outcome-1 in
+    let used-from = c.used_from-u in
+    put-storable pre.1.0.done (line_of args.f.now args.line) _ _ _ _ _ c.in-Stated.is _ _
+    (line-answer.ensures.answer_as _ (done-stands pre.1.0.done)) line-answer.ensures.storable _ used-from.ensures
+    (line-answer.auto.1.1.1.1.1.1.1.1.0 ∙ pre.0.0.scratch-long)
+
+pub kind_code-kind-requires : goal.kind_code-kind-requires
+kind_code-kind-requires c = tt
+
+pub step_code-requires : goal.step_code-requires
+step_code-requires c = tt
+
+pub index_line-requires : goal.index_line-requires
+index_line-requires c =
+    let entry = at_entry (at-line-answer put) in
+    let pre = entry.pre in
+    let args = entry.args in
+    let line-answer = (at-line-answer put).line-answer in
+    let outcome = (at-outcome put).outcome in
+    let used-from = (at-used-from put).used-from in
+    let put-statement = c.put_statement in record {
+  lines_indexed = step-indexed pre.1.0.done (line_of args.f.now args.line) _ _ _ _ _ outcome.given.1 _ _
+          (line-answer.ensures.1 _ (done-stands pre.1.0.done)) line-answer.ensures.0 _ _ used-from.ensures
+          put-statement.ensures _ _ pre.1.1;
+  row_lt_row_room = (omega (arith, done-few pre.1.0.done), done-wires pre.1.0.done);
+}
+
+pub after-requires : goal.after-requires
+after-requires c =
+    let pre = (at_entry (at-line-answer (at-put-statement c.before.before.before.before.before))).requires in
+    record {
+  rows_bound = done-rows pre.1.0.done;
+  bounds = (done-fits pre.1.0.done).bounds;
+}
+
+pub shape_of-tokens-in-Skipped : goal.shape_of-tokens-in-Skipped
+shape_of-tokens-in-Skipped c = c.line_answer-answer.auto.1.1.1.1.1.1.1.0
+
+pub shape_of-scratch-in-Skipped : goal.shape_of-scratch-in-Skipped
+shape_of-scratch-in-Skipped c = c.line_answer-answer.auto.1.1.1.1.1.1.1.1.0
+
+pub shape_of-names-in-Skipped : goal.shape_of-names-in-Skipped
+shape_of-names-in-Skipped c = refl
+
+pub shape_of-wires-in-Skipped : goal.shape_of-wires-in-Skipped
+shape_of-wires-in-Skipped c = refl
+
+pub shape_of-rows-in-Skipped : goal.shape_of-rows-in-Skipped
+shape_of-rows-in-Skipped c = refl
+
+pub shape_of-heads-in-Skipped : goal.shape_of-heads-in-Skipped
+shape_of-heads-in-Skipped c = refl
+
+pub shape_of-chain-in-Skipped : goal.shape_of-chain-in-Skipped
+shape_of-chain-in-Skipped c = refl
+
+pub returns-in-Skipped : goal.returns-in-Skipped
+returns-in-Skipped c =
+    let pre = c.requires in
+    let line-answer = c.line_answer-answer in record {
+  step_as = λ ss d. step-skipped d _ _ _ _ _ _ (line-answer.ensures.answer_as ss (done-stands d)) c.in-Skipped.is;
+  step_indexed = pre.lines_indexed;
+}
+
+pub shape_of-tokens-in_default-outcome : goal.shape_of-tokens-in_default-outcome
+shape_of-tokens-in_default-outcome c = c.line_answer-answer.auto.1.1.1.1.1.1.1.0
+
+pub shape_of-scratch-in_default-outcome : goal.shape_of-scratch-in_default-outcome
+shape_of-scratch-in_default-outcome c = c.line_answer-answer.auto.1.1.1.1.1.1.1.1.0
+
+pub shape_of-names-in_default-outcome : goal.shape_of-names-in_default-outcome
+shape_of-names-in_default-outcome c = refl
+
+pub shape_of-wires-in_default-outcome : goal.shape_of-wires-in_default-outcome
+shape_of-wires-in_default-outcome c = refl
+
+pub shape_of-rows-in_default-outcome : goal.shape_of-rows-in_default-outcome
+shape_of-rows-in_default-outcome c = refl
+
+pub shape_of-heads-in_default-outcome : goal.shape_of-heads-in_default-outcome
+shape_of-heads-in_default-outcome c = refl
+
+pub shape_of-chain-in_default-outcome : goal.shape_of-chain-in_default-outcome
+shape_of-chain-in_default-outcome c = refl
+
+pub returns-in_default-outcome : goal.returns-in_default-outcome
+returns-in_default-outcome c = record {
+  step_as = λ ss d. step-refused d _ _ _ _ _ _ (c.line_answer-answer.ensures.answer_as ss (done-stands d)) (refused-left c.line_answer-answer.result.outcome c.in_default.keys2 c.in_default-outcome.keys2);
+  step_indexed = tt;
+}
+
+pub shape_of-tokens : goal.shape_of-tokens
+shape_of-tokens c =
+    let line-answer = (at-line-answer (at-put-statement c.before.before.before.before.before.before)).line-answer in
+    line-answer.kept.1.1.1.1.1.1.1.0
+
+pub shape_of-scratch : goal.shape_of-scratch
+shape_of-scratch c =
+    let line-answer = (at-line-answer (at-put-statement c.before.before.before.before.before.before)).line-answer in
+    let put-statement = (at-put-statement c.before.before.before.before.before.before).put-statement in
+    put-statement.kept.1.1.1.0 ∙ line-answer.kept.1.1.1.1.1.1.1.1.0
+
+pub shape_of-names : goal.shape_of-names
+shape_of-names c =
+    let put-statement = (at-put-statement c.before.before.before.before.before.before).put-statement in
+    put-statement.kept.1.1.1.1.0
+
+pub shape_of-strings : goal.shape_of-strings
+shape_of-strings c =
+    let put-statement = (at-put-statement c.before.before.before.before.before.before).put-statement in
+    put-statement.kept.1.1.1.1.1.0
+
+pub shape_of-bits : goal.shape_of-bits
+shape_of-bits c =
+    let put-statement = (at-put-statement c.before.before.before.before.before.before).put-statement in
+    put-statement.kept.1.1.1.1.1.1.0
+
+pub shape_of-wires : goal.shape_of-wires
+shape_of-wires c =
+    let put-statement = (at-put-statement c.before.before.before.before.before.before).put-statement in
+    put-statement.kept.1.1.1.1.1.1.1.0
+
+pub shape_of-rows : goal.shape_of-rows
+shape_of-rows c =
+    let put-statement = (at-put-statement c.before.before.before.before.before.before).put-statement in
+    put-statement.kept.1.1.1.1.1.1.1.1.0
+
+pub shape_of-heads : goal.shape_of-heads
+shape_of-heads c = c.index_line.auto.1.1.1.0
+
+pub shape_of-chain : goal.shape_of-chain
+shape_of-chain c = c.index_line.auto.1.1.1.1.0
+
+pub returns : goal.returns
+unfolding place_after
+returns c =
+    let put = at-put-statement c.before.before.before.before.before.before in
+    let line-answer = (at-line-answer put).line-answer in
+    let outcome = (at-outcome put).outcome in
+    let used-from = (at-used-from put).used-from in
+    let put-statement = put.put-statement in
+    let kind-code = c.kind_code-kind in
+    let index-line = c.index_line in record {
+  step_as = λ ss d. step-stated d _ _ _ _ _ _ outcome.given.1 _ _ (line-answer.ensures.1 ss (done-stands d))
+          line-answer.ensures.0 _ _ _ _ _ used-from.ensures put-statement.ensures kind-code.ensures
+          c.step_code.ensures (after_is _ _ _ _ c.after.ensures);
+  step_indexed = lines-upto (ap (λ (p : Place). p.rows) c.after.ensures) (ap (λ (p : Place). p.wires) c.after.ensures)
+          index-line.ensures;
+}

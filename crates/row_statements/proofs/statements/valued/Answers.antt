@@ -1,0 +1,18 @@
+-- The name, the constant, then the row.
+-- Assumes nothing.
+use mathlib.Core.Path.{refl, sym, ◌∙◌}
+use borrow.Author.Tests.{not-true, not-false}
+use Rattle.rules.specs.Layout.{padded, row}
+use Rattle.tables.specs.Row.{words}
+use Rattle.row_statements.proofs.ReadLaws.{valued_not, valued-lacks, valued-settled}
+use Rattle.row_statements.proofs.statements.valued.Goals as goal
+
+pub returns-then-not-name_stands : goal.returns-then-not-name_stands
+returns-then-not-name_stands c = valued_not _ _ _ _ _ _ _ (sym c.name_stands.ensures ∙ not-true _ c.if-not-name_stands.true-raw)
+
+pub returns-in-Constant : goal.returns-in-Constant
+unfolding words row padded
+returns-in-Constant c = valued-settled _ _ _ _ _ _ _ (sym c.name_stands.ensures ∙ not-false _ c.if-not-name_stands.false-raw) _ _ _ c.constant_at-h.ensures c.in-Constant.is _ refl _ c.settle.ensures
+
+pub returns-in-Nothing : goal.returns-in-Nothing
+returns-in-Nothing c = valued-lacks _ _ _ _ _ _ _ _ c.constant_at-h.ensures c.in-Nothing.is

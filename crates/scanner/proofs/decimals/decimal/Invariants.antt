@@ -1,0 +1,14 @@
+-- `decimal` meets its contract. The invariant: going on with n from i on gives, capped, the whole number.
+-- Assumes nothing.
+use mathlib.Core.Path.{◌≡◌}
+use Prim.Native.Nat.{◌-◌, ◌≤◌}
+use lib.ListN.{length, drop}
+use Rattle.rules.specs.Tokens.{number, decimal}
+use Rattle.scanner.specs.Numbers.{capped}
+use Rattle.scanner.proofs.decimals.decimal.Given as goal
+
+abbrev pub invariant-loop-i : goal.invariant-loop-i
+invariant-loop-i l = (l.n ≤ 2147483649) × (capped (decimal l.ds) ≡ capped (number 10 l.n (drop l.i l.ds)))
+
+abbrev pub decreases-loop-i : goal.decreases-loop-i
+decreases-loop-i l = length l.ds - l.i

@@ -1,0 +1,25 @@
+-- `run_end` meets its contract. The invariant: from i on the run ends where it ends from `at` on.
+-- Assumes nothing.
+use mathlib.Core.Path.{refl, sym, ◌∙◌}
+use Prim.Native.Nat.{◌-◌}
+use Rattle.scanner.proofs.ClassLaws.{inside, below, above}
+use Rattle.scanner.proofs.RunLaws.{end_of-end, end_of-more, end_of-stop}
+use Rattle.scanner.proofs.runs.run_end.Goals as goal
+
+pub loop-i-init : goal.loop-i-init
+loop-i-init c = refl
+
+pub class_in-c-requires : goal.class_in-c-requires
+class_in-c-requires c = c.requires
+
+pub returns-then-c-lo : goal.returns-then-c-lo
+returns-then-c-lo c = sym (c.loop-i.invariant ∙ end_of-stop _ _ _ c.loop-i-test.true (below _ _ _ _ c.class_in-c.ensures c.if-c-lo.true))
+
+pub returns-then-hi-c : goal.returns-then-hi-c
+returns-then-hi-c c = sym (c.loop-i.invariant ∙ end_of-stop _ _ _ c.loop-i-test.true (above _ _ _ _ c.class_in-c.ensures c.if-hi-c.true))
+
+pub loop-i-preserved : goal.loop-i-preserved
+loop-i-preserved c = c.loop-i.invariant ∙ end_of-more _ _ _ c.loop-i-test.true (inside _ _ _ _ c.class_in-c.ensures c.if-c-lo.false c.if-hi-c.false)
+
+pub returns : goal.returns
+returns c = sym (c.loop-i.invariant ∙ end_of-end _ _ _ c.loop-i-test.false)

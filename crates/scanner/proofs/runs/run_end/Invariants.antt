@@ -1,0 +1,14 @@
+-- `run_end` meets its contract. The invariant: from i on the run ends where it ends from `at` on.
+-- Assumes nothing.
+use mathlib.Core.Path.{◌≡◌}
+use Prim.Native.Nat.{◌-◌}
+use lib.ListN.{length}
+use Rattle.scanner.specs.Class.{in_class}
+use Rattle.scanner.specs.Runs.{end_of}
+use Rattle.scanner.proofs.runs.run_end.Given as goal
+
+abbrev pub invariant-loop-i : goal.invariant-loop-i
+invariant-loop-i l = end_of (in_class l.lo l.hi) l.s l.at ≡ end_of (in_class l.lo l.hi) l.s l.i
+
+abbrev pub decreases-loop-i : goal.decreases-loop-i
+decreases-loop-i l = length l.s - l.i

@@ -1,0 +1,11 @@
+
+use Rattle.rules.specs.Layout.{padded, row, rename_row}
+use Rattle.tables.specs.Row.{words}
+use Rattle.session.proofs.put_rename.Goals as goal
+
+pub returns : goal.returns
+unfolding words rename_row row padded
+returns c = record {
+  names_after = c.put_bytes.ensures;
+  rows_after = c.put_row.ensures;
+}

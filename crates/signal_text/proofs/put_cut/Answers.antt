@@ -1,0 +1,59 @@
+-- The wire, whole or with bounds.
+-- Assumes nothing.
+use mathlib.Core.Path.{◌≡◌, sym, ◌∙◌}
+use mathlib.Core.Logic.{⊎_elim}
+use Prim.Native.Nat.{suc, ◌+◌, ◌-◌}
+use Rattle.wires.specs.Rows.{wire_of}
+use Rattle.text.specs.Written.{written-most, written_then, written_as}
+use Rattle.wire_names.specs.NowLaws.{wire-now, none_in}
+use Rattle.signal_text.specs.CutLaws.{cut-none, cut-whole, cut-part}
+use native.Mathlib.Omega.{arith}
+use Rattle.signal_text.proofs.put_cut.Goals as goal
+
+pub returns-then-many-eq0 : goal.returns-then-many-eq0
+returns-then-many-eq0 c =
+    let a = c.args in
+    written_as c.put_bytes.ensures
+    (cut-none _ a.low a.count (none_in a.names.now a.wires.now a.rows.now a.m (a.m.wires - (a.wire.0 + 1)) c.if-many-eq0.true))
+
+pub shape_of-out-then-many-eq0 : goal.shape_of-out-then-many-eq0
+shape_of-out-then-many-eq0 c = (returns c).kept
+
+pub put_token-end-requires : goal.put_token-end-requires
+put_token-end-requires c = c.requires.0
+
+pub returns-then-count-column : goal.returns-then-count-column
+unfolding wire_of
+returns-then-count-column c =
+    let a = c.args in
+    let n = c.if-wire-many.n in
+    let e : a.m.wires ≡ (a.m.wires - (a.wire.0 + 1)) + suc n = ⊎_elim (λ w. omega arith) (λ w. omega arith) c.if-wire-many.branch in
+    let at_n = wire-now a.names.now a.wires.now a.rows.now a.m a.wire.0 n e in
+    written_as c.put_token-end.ensures (cut-whole _ _ _ c.name_now.ensures _ _ a.low a.count at_n (c.if-count-column.true ∙ c.column.ensures))
+
+pub shape_of-out-then-count-column : goal.shape_of-out-then-count-column
+shape_of-out-then-count-column c = (returns-2 c).kept
+
+pub put_bounds-requires : goal.put_bounds-requires
+put_bounds-requires c = (written-most c.put_token-end.ensures, omega arith, omega arith, omega arith)
+
+pub returns : goal.returns
+unfolding wire_of
+returns c =
+    let args = c.args in
+    let if1 = c.if-many-eq0 in
+    let if2 = c.if-wire-many in
+    let n = if2.n in
+    let e : args.m.wires ≡ (args.m.wires - (args.wire.0 + 1)) + suc n =
+    ⊎_elim (λ w. omega (arith, if1.false)) (λ w. omega (arith, if1.false)) if2.branch in
+    let name-now = c.name_now in
+    let put-token = c.put_token-end in
+    let column = c.column in
+    let if3 = c.if-count-column in
+    let put-bounds = c.put_bounds in
+    let at_n = wire-now args.names.now args.wires.now args.rows.now args.m args.wire.0 n e in
+    written_as (written_then put-token.ensures put-bounds.ensures)
+    (cut-part _ _ _ name-now.ensures _ _ args.low args.count at_n (λ q. if3.false (q ∙ sym column.ensures)))
+
+pub shape_of-out : goal.shape_of-out
+shape_of-out c = (returns-3 c).kept

@@ -1,0 +1,70 @@
+-- `slices` meets its contract. The invariant: the slices from row i on are those that were read and those from row `at` on, and the bits
+-- of those that were read are as many as the part's width, from the sum of their low bounds on. The table is written behind the last.
+-- Assumes nothing.
+use mathlib.Core.Path.{sym, ◌∙◌}
+use Prim.Native.Nat.{◌-◌}
+use native.Mathlib.Omega.{arith}
+use Rattle.signals.proofs.Parses.{mark-below}
+use Rattle.signals.proofs.SliceLaws.{slices-start, slices-read, slices-broken, slices-on}
+use Rattle.signals.proofs.slices.Goals as goal
+
+pub loop-at-init : goal.loop-at-init
+loop-at-init c = slices-start _ _ _ _ _ _ c.requires.most_width_in_bounds c.requires.tokens_len_bound.1
+
+pub is_mark-requires : goal.is_mark-requires
+is_mark-requires c = tt
+
+pub overflow_add-at : goal.overflow_add-at
+overflow_add-at c = omega (arith, mark-below _ _ _ (sym c.is_mark.ensures ∙ c.loop-at-test.true))
+
+pub bounds_at-requires : goal.bounds_at-requires
+bounds_at-requires c = (c.requires.tokens_len_bound.0, omega (arith, mark-below _ _ _ (sym c.is_mark.ensures ∙ c.loop-at-test.true)))
+
+pub returns-in_default : goal.returns-in_default
+returns-in_default c =
+    let pre = c.requires in
+    let loop = c.loop-at in
+    let is-mark = c.is_mark in
+    let if1 = c.loop-at-test in
+    let bounds-at = c.bounds_at in
+    slices-broken _ _ _ _ _ _ pre.most_width_in_bounds _ _ loop.invariant (sym is-mark.ensures ∙ if1.true)
+    (rw c.in_default.is at bounds-at.ensures)
+
+pub slice-part-requires : goal.slice-part-requires
+slice-part-requires c = omega (arith, c.loop-at.invariant.inside.within)
+
+pub loop-at-smaller : goal.loop-at-smaller
+loop-at-smaller c =
+    let B = rw c.in-Read.is at c.bounds_at.ensures in
+    omega (arith, B.0, B.1)
+
+pub loop-at-preserved : goal.loop-at-preserved
+loop-at-preserved c =
+    let pre = c.requires in
+    let loop = c.loop-at in
+    let is-mark = c.is_mark in
+    let if1 = c.loop-at-test in
+    let bounds-at = c.bounds_at in
+    let high = c.high-1 in
+    slices-on _ _ _ _ _ _ pre.most_width_in_bounds _ _ loop.invariant (sym is-mark.ensures ∙ if1.true) _ _ _
+    (rw c.in-Read.is at bounds-at.ensures) _ c.slice-part.ensures
+
+pub move_part-requires : goal.move_part-requires
+move_part-requires c =
+    let pre = c.requires in
+    let loop = c.loop-at in (
+      omega (arith, loop.invariant.inside.within),
+      λ e. omega (arith, pre.most_width_in_bounds, pre.most_width_in_bounds.1 (loop.invariant.inside.none e)),
+    )
+
+pub shape_of-scratch : goal.shape_of-scratch
+shape_of-scratch c = c.move_part.ensures.kept.long
+
+pub returns : goal.returns
+returns c =
+    let pre = c.requires in
+    let loop = c.loop-at in
+    let is-mark = c.is_mark in
+    let if1 = c.loop-at-test in
+    let move-part = c.move_part in
+    slices-read _ _ _ _ _ _ pre.most_width_in_bounds _ _ loop.invariant _ (sym is-mark.ensures ∙ if1.false) move-part.ensures

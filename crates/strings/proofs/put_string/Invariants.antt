@@ -1,0 +1,18 @@
+
+use mathlib.Core.List.{List}
+use mathlib.Core.Path.{◌≡◌}
+use Prim.Native.Nat.{ℕ, ◌+◌, ◌-◌}
+use lib.ListN.{length}
+use lib.Seq.{slice}
+use Rattle.tables.specs.Store.{store}
+use Rattle.strings.specs.Machine.{inside_of}
+use Rattle.strings.proofs.Reached.{Reached}
+use Rattle.strings.proofs.put_string.Given as goal
+
+-- The loop has reached `i`, and the bytes given so far are stored from `to` on, up to `end`: the plain ones before the loop starts.
+abbrev pub invariant-loop-i : goal.invariant-loop-i
+invariant-loop-i l =
+    (ds : List ℕ) × Reached l.s l.at l.i (inside_of l.inside) ds × (l.end ≡ l.to + length ds) × ((l : List ℕ) → l.initial.out ≡ store l l.to (slice l.at l.initial.i l.s) → l.out ≡ store l l.to ds) × (length l.out ≡ length l.initial.out)
+
+abbrev pub decreases-loop-i : goal.decreases-loop-i
+decreases-loop-i l = length l.s - l.i

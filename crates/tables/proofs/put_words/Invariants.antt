@@ -1,0 +1,12 @@
+-- The loop's invariant: the first j values of src are stored.
+use mathlib.Core.Path.{◌≡◌}
+use Prim.Native.Nat.{◌≤◌, ◌-◌}
+use lib.ListN.{length, take}
+use Rattle.tables.specs.Store.{store}
+use Rattle.tables.proofs.put_words.Given as goal
+
+abbrev pub invariant-loop-j : goal.invariant-loop-j
+invariant-loop-j l = (l.j ≤ length l.src) × (length l.table ≡ length l.initial.table) × (l.table ≡ store l.initial.table l.at (take l.j l.src))
+
+abbrev pub decreases-loop-j : goal.decreases-loop-j
+decreases-loop-j l = length l.src - l.j

@@ -1,0 +1,24 @@
+-- The loop's invariant: i spaces are written.
+use mathlib.Core.Path.{◌≡◌}
+use Prim.Native.Nat.{◌-◌}
+use native.Mathlib.Omega.{arith}
+use Rattle.text.specs.Written.{written_none, written-most, written_then, written_as}
+use Rattle.text.proofs.TextLaws.{spaces-more}
+use Rattle.text.proofs.put_spaces.Goals as goal
+
+pub loop-i-init : goal.loop-i-init
+loop-i-init c = (omega arith, written_none c.args.at c.args.out.now c.requires)
+
+pub put_byte-end-requires : goal.put_byte-end-requires
+put_byte-end-requires c = written-most c.loop-i.invariant.1
+
+pub loop-i-preserved : goal.loop-i-preserved
+loop-i-preserved c = (omega arith, written_as (written_then c.loop-i.invariant.1 c.put_byte-end.ensures) (spaces-more c.loop-i.i))
+
+pub shape_of-out : goal.shape_of-out
+shape_of-out c = c.loop-i.invariant.1.kept
+
+pub returns : goal.returns
+returns c =
+    let e : c.loop-i.i ≡ c.args.n = omega arith in
+    rw e at c.loop-i.invariant.1

@@ -1,0 +1,37 @@
+-- Open memory holds a design; else the refusal of opening it.
+-- Assumes nothing.
+use Rattle.netlist.specs.Results.{lent}
+use Rattle.session.proofs.OpenLaws.{opened, not_opened}
+use Rattle.session.proofs.CallLaws.{not-open}
+use Rattle.writer.proofs.TextLaws.{bits-few, measured}
+use Rattle.writer.proofs.measure.Goals as goal
+
+pub measure_rows-requires : goal.measure_rows-requires
+measure_rows-requires c =
+    let args = c.args in
+    let open-memory = c.open_memory in
+    let place = c.place-1 in
+    bits-few
+    (opened
+    (lent args.names.now args.strings.now args.bits.now args.wires.now args.rows.now args.renames args.room)
+    _ open-memory.ensures _ c.in-Open.is)
+
+pub returns-in-Open : goal.returns-in-Open
+returns-in-Open c =
+    let args = c.args in
+    let open-memory = c.open_memory in
+    let place = c.place-1 in
+    measured
+    (opened
+    (lent args.names.now args.strings.now args.bits.now args.wires.now args.rows.now args.renames args.room)
+    _ open-memory.ensures _ c.in-Open.is) c.counts_at.result c.counts_at.ensures
+    _ c.measure_rows.ensures
+
+pub returns-in-Refused : goal.returns-in-Refused
+returns-in-Refused c =
+    let args = c.args in
+    let open-memory = c.open_memory in
+    not-open (λ n. (n, 0)) _ _
+    (not_opened
+    (lent args.names.now args.strings.now args.bits.now args.wires.now args.rows.now args.renames args.room)
+    _ open-memory.ensures _ c.in-Refused.is)
