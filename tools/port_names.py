@@ -8,7 +8,7 @@ import re
 CAMEL = re.compile(r"(?<=[a-z0-9])[A-Z]")
 TOKEN = re.compile(r"[A-Za-z_][A-Za-z0-9_'?-]*")
 # Strings of antt and Rust, and characters of Rust, are kept.
-KEPT = re.compile(r"""b?"(?:\\.|[^"\\])*"|b'(?:\\.|[^'\\])'""")
+KEPT = re.compile(r"""b?"(?:\\.|[^"\\\n])*"|b'(?:\\.|[^'\\])'""")
 
 # Where the snake case of a function is the name of a lemma or a field, one of them takes another: (files, name, new name).
 APART = [

@@ -31,46 +31,46 @@ abbrev pub name_start_byte : ℕ
 name_start_byte = 7
 
 -- `"`
-abbrev pub quoteByte : ℕ
-quoteByte = 8
+abbrev pub quote_byte : ℕ
+quote_byte = 8
 
 -- 8 and 9
-abbrev pub highDigit : ℕ
-highDigit = 9
+abbrev pub high_digit : ℕ
+high_digit = 9
 
 -- 2 to 7
-abbrev pub octalDigit : ℕ
-octalDigit = 10
+abbrev pub octal_digit : ℕ
+octal_digit = 10
 
 -- 0 and 1
-abbrev pub valueDigit : ℕ
-valueDigit = 11
+abbrev pub value_digit : ℕ
+value_digit = 11
 
 -- `-`
-abbrev pub minusByte : ℕ
-minusByte = 12
+abbrev pub minus_byte : ℕ
+minus_byte = 12
 
 -- x, z and m
-abbrev pub valueLetter : ℕ
-valueLetter = 13
+abbrev pub value_letter : ℕ
+value_letter = 13
 
 -- any other lowercase letter
 abbrev pub letter : ℕ
 letter = 14
 
 -- ---- the class of a byte
-unfoldable pub digitClass : ℕ → ℕ
-digitClass b = cond (isValueDigit b) valueDigit (cond (isOctal b) octalDigit highDigit)
+unfoldable pub digit_class : ℕ → ℕ
+digit_class b = cond (is_value_digit b) value_digit (cond (is_octal b) octal_digit high_digit)
 
-unfoldable pub letterClass : ℕ → ℕ
-letterClass b = cond (isValueDigit b) valueLetter letter
+unfoldable pub letter_class : ℕ → ℕ
+letter_class b = cond (is_value_digit b) value_letter letter
 
 -- above 32
-unfoldable pub printClass : ℕ → ℕ
-printClass b =
-    cond (isMark b) markByte
-    (cond (eqb b (byte "#")) commentByte
-    (cond (isNameStart b) nameStartByte
+unfoldable pub print_class : ℕ → ℕ
+print_class b =
+    cond (is_mark b) mark_byte
+    (cond (eqb b (byte "#")) comment_byte
+    (cond (is_name_start b) name_start_byte
     (cond (eqb b (byte "\"")) quote_byte
     (cond (is_digit b) (digit_class b)
     (cond (eqb b (byte "-")) minus_byte

@@ -18,8 +18,8 @@ returns c =
       processes = c.one_if-9.ensures i;
       steps = c.one_if-10.ensures i;
       step_signals = c.count_if.ensures i;
-      signal_bits = c.args.signal-bits;
-      value_bits = c.args.value-bits;
-      string_bytes = c.args.string-bytes;
-      name_bytes = c.args.name-bytes;
+      signal_bits = c.args.signal_bits;
+      value_bits = c.args.value_bits;
+      string_bytes = c.args.string_bytes;
+      name_bytes = c.args.name_bytes;
     }
