@@ -1,0 +1,12 @@
+-- The loop's invariant: the size of the lines of the first w wires.
+use mathlib.Core.Path.{◌≡◌}
+use Prim.Native.Nat.{◌-◌, ◌≤◌}
+use lib.ListN.{length}
+use Rattle.listing.specs.Lines.{lines_at}
+use Rattle.listing.proofs.lines_size.Given as goal
+
+abbrev pub invariant-loop-w : goal.invariant-loop-w
+invariant-loop-w l = (l.w ≤ l.m.wires) × (l.size ≡ length (lines_at l.names l.strings l.wires l.rows l.m l.w))
+
+abbrev pub decreases-loop-w : goal.decreases-loop-w
+decreases-loop-w l = l.m.wires - l.w

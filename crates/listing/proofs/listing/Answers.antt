@@ -1,0 +1,37 @@
+-- Open memory holds a design; else the refusal of opening it.
+use Rattle.netlist.specs.Results.{lent}
+use Rattle.session.proofs.OpenLaws.{opened, not_opened}
+use Rattle.session.proofs.CallLaws.{not-open}
+use Rattle.listing.proofs.ListLaws.{fits, listed-missing, listed-there}
+use Rattle.listing.proofs.listing.Goals as goal
+
+pub returns-then-place-number : goal.returns-then-place-number
+returns-then-place-number c =
+    let args = c.args in
+    let held =
+    opened (lent args.names.now args.strings.now args.bits.now args.wires.now args.rows.now args.renames args.room)
+    _ c.open_memory.ensures _ c.in-Open.is in
+    listed-missing held args.m.0 args.out.now c.if-place-number.true
+
+pub list_module-requires : goal.list_module-requires
+list_module-requires c = CLAUSES wires_bound names_len 
+    let args = c.args in
+    let held =
+    opened (lent args.names.now args.strings.now args.bits.now args.wires.now args.rows.now args.renames args.room)
+    _ c.open_memory.ensures _ c.in-Open.is in
+    fits held args.m.0 _ c.module_of.ensures
+
+pub returns-else-place-number : goal.returns-else-place-number
+returns-else-place-number c =
+    let args = c.args in
+    let held =
+    opened (lent args.names.now args.strings.now args.bits.now args.wires.now args.rows.now args.renames args.room)
+    _ c.open_memory.ensures _ c.in-Open.is in
+    listed-there held args.m.0 args.out.now c.if-place-number.false _ c.module_of.ensures _ c.list_module.ensures
+
+pub returns-in-Refused : goal.returns-in-Refused
+returns-in-Refused c =
+    let args = c.args in
+    not-open (λ n. (n, 0, args.out.now)) _ _
+    (not_opened (lent args.names.now args.strings.now args.bits.now args.wires.now args.rows.now args.renames args.room)
+    _ c.open_memory.ensures _ c.in-Refused.is)

@@ -1,0 +1,26 @@
+
+use Rattle.netlist.specs.Results.{lent}
+use Rattle.session.proofs.OpenLaws.{opened, not_opened}
+use Rattle.session.proofs.CallLaws.{not-open}
+use Rattle.look_up.proofs.AskLaws.{looked-up}
+use Rattle.look_up.proofs.look_up.Goals as goal
+
+pub returns-in-Open : goal.returns-in-Open
+returns-in-Open c =
+    let args = c.args in
+    let open-memory = c.open_memory in
+    let place = c.place-1 in
+    looked-up
+    (opened
+    (lent args.names.now args.strings.now args.bits.now args.wires.now args.rows.now args.renames args.room)
+    _ open-memory.ensures _ c.in-Open.is) args.m.0 args.name.now _ _
+    c.module_of.ensures c.find.ensures
+
+pub returns-in-Refused : goal.returns-in-Refused
+returns-in-Refused c =
+    let args = c.args in
+    let open-memory = c.open_memory in
+    not-open (λ n. (n, 0)) _ _
+    (not_opened
+    (lent args.names.now args.strings.now args.bits.now args.wires.now args.rows.now args.renames args.room)
+    _ open-memory.ensures _ c.in-Refused.is)

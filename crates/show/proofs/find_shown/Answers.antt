@@ -1,0 +1,58 @@
+-- Open memory holds a design; else the refusal of opening it.
+-- Assumes nothing.
+use native.Mathlib.Omega.{arith}
+use Rattle.netlist.specs.Results.{lent}
+use Rattle.session.proofs.OpenLaws.{opened, not_opened}
+use Rattle.session.proofs.HoldLaws.{wire-fits}
+use Rattle.show.proofs.ShowLaws.{shown-there, shown-missing, shown-refused}
+use Rattle.show.proofs.find_shown.Goals as goal
+
+pub returns-then-own-number : goal.returns-then-own-number
+returns-then-own-number c = CLAUSES shown_at in_range shown_as 
+    let args = c.args in
+    let open-memory = c.open_memory in
+    let place = c.place-1 in
+    let module-wires = c.module_wires-own in
+    shown-missing
+    (opened
+    (lent args.names.now args.strings.now args.bits.now args.wires.now args.rows.now args.renames args.room)
+    _ open-memory.ensures _ c.in-Open.is) _ _ _ module-wires.ensures c.if-own-number.true
+
+pub overflow_add-own : goal.overflow_add-own
+overflow_add-own c =
+    let args = c.args in
+    let open-memory = c.open_memory in
+    let place = c.place-1 in
+    let module-wires = c.module_wires-own in
+    omega (
+      arith,
+      wire-fits
+          (opened
+          (lent args.names.now args.strings.now args.bits.now args.wires.now args.rows.now args.renames args.room)
+          _ open-memory.ensures _ c.in-Open.is) args.m.0 args.w.0 _ module-wires.ensures
+          c.if-own-number.false,
+    )
+
+pub returns-else-own-number : goal.returns-else-own-number
+returns-else-own-number c = CLAUSES shown_at in_range shown_as 
+    let args = c.args in
+    let open-memory = c.open_memory in
+    let place = c.place-1 in
+    let module-wires = c.module_wires-own in
+    let if1 = c.if-own-number in
+    shown-there
+    (opened
+    (lent args.names.now args.strings.now args.bits.now args.wires.now args.rows.now args.renames args.room)
+    _ open-memory.ensures _ c.in-Open.is) args.m.0 args.w.0 _ module-wires.ensures if1.false
+    _ c.shown_wire.ensures
+
+pub returns-in-Refused : goal.returns-in-Refused
+returns-in-Refused c = CLAUSES shown_at in_range shown_as 
+    let args = c.args in
+    let open-memory = c.open_memory in
+    shown-refused
+    (lent args.names.now args.strings.now args.bits.now args.wires.now args.rows.now args.renames args.room)
+    args.m.0 args.w.0 _
+    (not_opened
+    (lent args.names.now args.strings.now args.bits.now args.wires.now args.rows.now args.renames args.room)
+    _ open-memory.ensures _ c.in-Refused.is)

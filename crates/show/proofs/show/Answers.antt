@@ -1,0 +1,51 @@
+-- The part of each case of the place.
+-- Assumes nothing.
+use mathlib.Core.Path.{subst}
+use Rattle.netlist.specs.Results.{lent}
+use Rattle.show.specs.Parts.{InRange}
+use Rattle.show.proofs.ShowLaws.{shown-name, shown-text, shown-none}
+use Rattle.show.proofs.show.Goals as goal
+
+pub slice_bounds-result-count : goal.slice_bounds-result-count
+slice_bounds-result-count c =
+    let args = c.args in
+    let find-shown = c.find_shown-place in
+    (subst (InRange args.names.now args.strings.now) c.in-Name.is
+    find-shown.ensures.in_range).0
+
+pub returns-in-Name : goal.returns-in-Name
+returns-in-Name c = CLAUSES shown_as lies_at 
+    let args = c.args in
+    let find-shown = c.find_shown-place in
+    let place = c.place-1 in
+    shown-name
+    (lent args.names.now args.strings.now args.bits.now args.wires.now args.rows.now args.renames args.room)
+    args.m.0 args.w.0 args.names.ref_ptr args.strings.ref_ptr _ find-shown.ensures _ _
+    c.in-Name.is
+
+pub slice_bounds-result-count-in-Text : goal.slice_bounds-result-count-in-Text
+slice_bounds-result-count-in-Text c =
+    let args = c.args in
+    let find-shown = c.find_shown-place in
+    (subst (InRange args.names.now args.strings.now) c.in-Text.is
+    find-shown.ensures.in_range).0
+
+pub returns-in-Text : goal.returns-in-Text
+returns-in-Text c = CLAUSES shown_as lies_at 
+    let args = c.args in
+    let find-shown = c.find_shown-place in
+    let place2 = c.place-in-Text-1 in
+    shown-text
+    (lent args.names.now args.strings.now args.bits.now args.wires.now args.rows.now args.renames args.room)
+    args.m.0 args.w.0 args.names.ref_ptr args.strings.ref_ptr _ find-shown.ensures _ _
+    c.in-Text.is
+
+pub returns-in-Refused : goal.returns-in-Refused
+returns-in-Refused c = CLAUSES shown_as lies_at 
+    let args = c.args in
+    let find-shown = c.find_shown-place in
+    let place3 = c.place-in-Refused-1 in
+    shown-none
+    (lent args.names.now args.strings.now args.bits.now args.wires.now args.rows.now args.renames args.room)
+    args.m.0 args.w.0 args.names.ref_ptr args.strings.ref_ptr _ find-shown.ensures _
+    c.in-Refused.is
