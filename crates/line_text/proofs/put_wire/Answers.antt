@@ -1,12 +1,12 @@
 -- The word, the options, the name now.
 -- Assumes nothing.
 use mathlib.Core.Path.{◌≡◌, ◌∙◌}
-use mathlib.Core.Logic.{⊎_elim}
 use Prim.Native.Nat.{◌-◌}
 use Rattle.text.specs.Written.{written-most, written_then, written_as}
 use Rattle.line_text.specs.LineLaws.{own-now, line-wire}
 use native.Mathlib.Omega.{arith}
 use Rattle.line_text.proofs.put_wire.Goals as goal
+use Rattle.line_text.proofs.put_wire.Goals.{else-m-k, then-m-k}
 
 pub put_wire_options-end-requires : goal.put_wire_options-end-requires
 put_wire_options-end-requires c = (written-most c.put_bytes-first.ensures, omega arith)
@@ -23,7 +23,7 @@ returns c =
     let put-wire-options = c.put_wire_options-end in
     let name-now = c.name_now in
     let put-token = c.put_token in
-    let e : if1.n ≡ column.result - args.m.first = ⊎_elim (λ w. omega arith) (λ w. omega arith) if1.branch in
+    let e : if1.n ≡ column.result - args.m.first = (elim if1.branch [ then-m-k w ↦ omega arith | else-m-k w ↦ omega arith ]) in
     rw (← column.ensures)
     (written_as
     (written_then put-bytes.ensures (written_then put-wire-options.ensures put-token.ensures))

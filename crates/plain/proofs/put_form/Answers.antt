@@ -1,12 +1,12 @@
 -- The first byte, and those behind it.
 use mathlib.Core.Path.{sym, ap}
-use mathlib.Core.Logic.{⊎_elim}
 use native.Mathlib.Omega.{arith}
 use lib.ListN.{length, length-set}
 use borrow.Author.Tests.{eq-eqb, ne_eqb}
 use Rattle.plain.specs.Put.{put-none, put_as, put-kept}
 use Rattle.plain.proofs.AnswerLaws.{form-none, form-some, first_then}
 use Rattle.plain.proofs.put_form.Goals as goal
+use Rattle.plain.proofs.put_form.Goals.{else-name-eq92, then-name-eq92}
 
 pub returns-then-name-eq0 : goal.returns-then-name-eq0
 returns-then-name-eq0 c = put_as (put-none c.args.at c.args.out.now) (sym (form-none _ c.if-name-eq0.true))
@@ -31,7 +31,7 @@ returns c =
     let if1 = c.if-name-eq0 in
     let if2 = c.if-name-eq92 in
     let put-later = c.put_later in
-    first_then (form-some args.name.now if1.false) (⊎_elim (λ w. rw (eq-eqb _ _ w.0.taken) w.1) (λ w. rw (ne_eqb _ _ w.0.left) w.1) if2.branch) put-later.ensures
+    first_then (form-some args.name.now if1.false) ((elim if2.branch [ then-name-eq92 w ↦ rw (eq-eqb _ _ w.if-name-eq92.true) w.first-is | else-name-eq92 w ↦ rw (ne_eqb _ _ w.if-name-eq92.false) w.first-is ])) put-later.ensures
 
 pub shape_of-out : goal.shape_of-out
 shape_of-out c = put-kept (returns-2 c)

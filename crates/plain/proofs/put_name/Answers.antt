@@ -1,7 +1,6 @@
 -- The first byte, and those behind it.
 use mathlib.Core.Path.{sym}
 use Prim.Native.Nat.{◌-◌}
-use mathlib.Core.Logic.{⊎_elim}
 use native.Mathlib.Omega.{arith}
 use lib.ListN.{length, length-set}
 use Rattle.lists.specs.Parts.{length_part}
@@ -9,6 +8,7 @@ use borrow.Author.Tests.{eq-eqb, ne_eqb}
 use Rattle.plain.specs.Put.{put-none, put_as, put-kept}
 use Rattle.plain.proofs.AnswerLaws.{name-none, name-some, first_then}
 use Rattle.plain.proofs.put_name.Goals as goal
+use Rattle.plain.proofs.put_name.Goals.{else-form-eq112, then-form-eq112}
 
 pub returns-then-form-eq0 : goal.returns-then-form-eq0
 returns-then-form-eq0 c = put_as (put-none 0 c.args.out.now) (sym (name-none _ c.if-form-eq0.true))
@@ -29,7 +29,7 @@ returns c =
     let if1 = c.if-form-eq0 in
     let if2 = c.if-form-eq112 in
     let put-taken = c.put_taken in
-    first_then (name-some args.form.now if1.false) (⊎_elim (λ w. rw (eq-eqb _ _ w.0.taken) w.1) (λ w. rw (ne_eqb _ _ w.0.left) w.1) if2.branch) put-taken.ensures
+    first_then (name-some args.form.now if1.false) ((elim if2.branch [ then-form-eq112 w ↦ rw (eq-eqb _ _ w.if-form-eq112.true) w.first-is | else-form-eq112 w ↦ rw (ne_eqb _ _ w.if-form-eq112.false) w.first-is ])) put-taken.ensures
 
 pub shape_of-out : goal.shape_of-out
 shape_of-out c = put-kept (returns-2 c)

@@ -3,12 +3,12 @@
 use Prim.Native.Nat.{◌-◌}
 use mathlib.Core.Path.{◌≡◌, ◌∙◌}
 use mathlib.Core.Bool.{◌&&◌}
-use mathlib.Core.Logic.{⊎_elim}
 use native.Mathlib.Omega.{arith}
 use lib.Dec.{ltb}
 use Rattle.signals.proofs.Parses.{readable-on}
 use Rattle.signal_list.proofs.ReadLaws.{list-start, list-told, list-broken, list_on_lem}
 use Rattle.signal_list.proofs.signals_from.Goals as goal
+use Rattle.signal_list.proofs.signals_from.Goals.{else-comma, then-comma}
 
 pub loop-at-init : goal.loop-at-init
 loop-at-init c = list-start _ _ _ _ _ _ c.requires.readable.here
@@ -32,7 +32,7 @@ returns-in_default c =
     let if1 = c.if-comma in
     let loop-test = c.loop-at-test in
     let loop = c.loop-at in
-    let due : if1.next-signal ≡ (args.comma && ltb 0 loop.sum.count) = ⊎_elim (λ w. w.1 ∙ rw w.0.taken) (λ w. w.1 ∙ rw w.0.left) if1.branch in
+    let due : if1.next-signal ≡ (args.comma && ltb 0 loop.sum.count) = (elim if1.branch [ then-comma w ↦ w.next_signal-is ∙ rw w.if-comma.true | else-comma w ↦ w.next_signal-is ∙ rw w.if-comma.false ]) in
     list-broken _ _ _ _ _ _ _ _ _ loop.invariant _ due (omega (arith, loop-test.true)) _ (rw c.in_default.is at next-signal.ensures)
 
 pub added-sum-requires : goal.added-sum-requires
@@ -52,7 +52,7 @@ loop-at-preserved c =
     let if1 = c.if-comma in
     let loop-test = c.loop-at-test in
     let loop = c.loop-at in
-    let due : if1.next-signal ≡ (args.comma && ltb 0 loop.sum.count) = ⊎_elim (λ w. w.1 ∙ rw w.0.taken) (λ w. w.1 ∙ rw w.0.left) if1.branch in
+    let due : if1.next-signal ≡ (args.comma && ltb 0 loop.sum.count) = (elim if1.branch [ then-comma w ↦ w.next_signal-is ∙ rw w.if-comma.true | else-comma w ↦ w.next_signal-is ∙ rw w.if-comma.false ]) in
     list_on_lem _ _ _ _ _ _ _ _ _ loop.invariant _ due (omega (arith, loop-test.true)) _ _ _ _ (rw c.in-Read.is at next-signal.ensures) c.added-sum.ensures
 
 pub shape_of-scratch : goal.shape_of-scratch

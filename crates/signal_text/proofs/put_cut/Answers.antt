@@ -1,7 +1,6 @@
 -- The wire, whole or with bounds.
 -- Assumes nothing.
 use mathlib.Core.Path.{◌≡◌, sym, ◌∙◌}
-use mathlib.Core.Logic.{⊎_elim}
 use Prim.Native.Nat.{suc, ◌+◌, ◌-◌}
 use Rattle.wires.specs.Rows.{wire_of}
 use Rattle.text.specs.Written.{written-most, written_then, written_as}
@@ -9,6 +8,7 @@ use Rattle.wire_names.specs.NowLaws.{wire-now, none_in}
 use Rattle.signal_text.specs.CutLaws.{cut-none, cut-whole, cut-part}
 use native.Mathlib.Omega.{arith}
 use Rattle.signal_text.proofs.put_cut.Goals as goal
+use Rattle.signal_text.proofs.put_cut.Goals.{else-wire-many, then-wire-many}
 
 pub returns-then-many-eq0 : goal.returns-then-many-eq0
 returns-then-many-eq0 c =
@@ -27,7 +27,7 @@ unfolding wire_of
 returns-then-count-column c =
     let a = c.args in
     let n = c.if-wire-many.n in
-    let e : a.m.wires ≡ (a.m.wires - (a.wire.0 + 1)) + suc n = ⊎_elim (λ w. omega arith) (λ w. omega arith) c.if-wire-many.branch in
+    let e : a.m.wires ≡ (a.m.wires - (a.wire.0 + 1)) + suc n = (elim c.if-wire-many.branch [ then-wire-many w ↦ omega arith | else-wire-many w ↦ omega arith ]) in
     let at_n = wire-now a.names.now a.wires.now a.rows.now a.m a.wire.0 n e in
     written_as c.put_token-end.ensures (cut-whole _ _ _ c.name_now.ensures _ _ a.low a.count at_n (c.if-count-column.true ∙ c.column.ensures))
 
@@ -45,7 +45,7 @@ returns c =
     let if2 = c.if-wire-many in
     let n = if2.n in
     let e : args.m.wires ≡ (args.m.wires - (args.wire.0 + 1)) + suc n =
-    ⊎_elim (λ w. omega (arith, if1.false)) (λ w. omega (arith, if1.false)) if2.branch in
+    (elim if2.branch [ then-wire-many w ↦ omega (arith, if1.false) | else-wire-many w ↦ omega (arith, if1.false) ]) in
     let name-now = c.name_now in
     let put-token = c.put_token-end in
     let column = c.column in

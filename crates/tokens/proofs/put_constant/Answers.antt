@@ -1,11 +1,11 @@
 -- By the constant: the row is its words.
 use native.Mathlib.Omega.{arith}
-use mathlib.Core.Logic.{⊎_elim}
 use Rattle.tokens.specs.Rows.{constant_words, sign_word}
 use Rattle.tokens.proofs.put_constant.Goals as goal
+use Rattle.tokens.proofs.put_constant.Goals.{else-z, then-z}
 
 pub put_row-requires : goal.put_row-requires
-put_row-requires c = let s = rw c.in-Integer.is at c.requires.1 in (c.requires.0, s.0, s.1, ⊎_elim (λ w. omega arith) (λ w. omega arith) c.if-z.branch)
+put_row-requires c = let s = rw c.in-Integer.is at c.requires.1 in (c.requires.0, s.0, s.1, (elim c.if-z.branch [ then-z w ↦ omega arith | else-z w ↦ omega arith ]))
 
 pub put_row-requires-in-Value : goal.put_row-requires-in-Value
 put_row-requires-in-Value c = let s = rw c.in-Value.is at c.requires.1 in (c.requires.0, s.0, s.1, s.2)
@@ -15,7 +15,7 @@ put_row-requires-in-Text c = let s = rw c.in-Text.is at c.requires.1 in (c.requi
 
 pub returns-after-z : goal.returns-after-z
 unfolding constant_words sign_word
-returns-after-z c = rw c.in-Integer.is (⊎_elim (λ w. rw w.0.taken (rw w.1 at c.put_row.ensures)) (λ w. rw w.0.left (rw w.1 at c.put_row.ensures)) c.if-z.branch)
+returns-after-z c = rw c.in-Integer.is ((elim c.if-z.branch [ then-z w ↦ rw w.if-z.true (rw w.sign-is at c.put_row.ensures) | else-z w ↦ rw w.if-z.false (rw w.sign-is at c.put_row.ensures) ]))
 
 pub returns-in-Value : goal.returns-in-Value
 unfolding constant_words

@@ -128,4 +128,4 @@ returns-in-393025501294709 c = rw c.in-393025501294709.is
 
 pub returns-in_default : goal.returns-in_default
 unfolding short_codes word_code keywords
-returns-in_default c = code-none c.args.n c.in_default.rest (omega arith)
+returns-in_default c = code-none c.args.n c.in_default.in_default-own.rest (omega arith)
