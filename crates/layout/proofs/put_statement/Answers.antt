@@ -10,7 +10,6 @@ put_valued-requires c = CLAUSES fits optional_fits most_width_in_bounds rows_in_
     let args = c.args in
     let pre = c.requires in
     let as-valued = c.as_valued in
-    let kind = c.kind-1 in
     valued-room args.f.now args.scratch.now args.statement args.u
     (tabled args.names.now args.strings.now args.bits.now args.wires.now args.rows.now)
     pre _ _ _ _ ((rw c.in-Named.is at as-valued.ensures) args.f.now args.scratch.now pre.sound)
@@ -20,7 +19,6 @@ put_step-requires c =
     let args = c.args in
     let pre = c.requires in
     let as-valued = c.as_valued in
-    let step = c.step-1 in
     let is = rw c.in-Step.is at as-valued.ensures in
     step_room args.f.now args.scratch.now args.statement args.u _ _ _ is.0 is.1
     (tabled args.names.now args.strings.now args.bits.now args.wires.now args.rows.now) pre
@@ -53,7 +51,6 @@ returns-in-Named c =
     let args = c.args in
     let pre = c.requires in
     let as-valued = c.as_valued in
-    let kind = c.kind-1 in
     let put-valued = c.put_valued in
     valued-put args.f.now args.scratch.now args.statement args.u _ _ _ _ _ _ _ _ _ _ _ _ _
     ((rw c.in-Named.is at as-valued.ensures) args.f.now args.scratch.now pre.sound)
@@ -65,7 +62,6 @@ returns-in-Step c =
     let args = c.args in
     let pre = c.requires in
     let as-valued = c.as_valued in
-    let step = c.step-1 in
     let put_step = c.put_step in
     let is = rw c.in-Step.is at as-valued.ensures in
     step-put args.f.now args.scratch.now args.statement args.u _ _ _ is.0 is.1 _ _ _ _ _ _ _ pre.sound
@@ -74,6 +70,5 @@ returns-in-Step c =
 pub returns-in-Nothing : goal.returns-in-Nothing
 returns-in-Nothing c =
     let as-valued = c.as_valued in
-    let enum_told = c.enum_told-1 in
     let put-plain = c.put_plain in
     put-plain.ensures (rw c.in-Nothing.is at as-valued.ensures) _

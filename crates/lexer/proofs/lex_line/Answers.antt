@@ -19,7 +19,6 @@ put_token-requires c =
     let pre = c.requires in
     let loop = c.loop-token in
     let step = c.step in
-    let token = c.token-1 in
     fits args.f.now _ _ args.start args.end loop.i loop.n pre.1 loop.invariant _ _
     (told args.f.now args.end loop.i _ _ step.ensures c.in-Token.is) pre.3 pre.2
 
@@ -35,7 +34,6 @@ loop-token-smaller c =
     let pre = c.requires in
     let loop = c.loop-token in
     let step = c.step in
-    let token = c.token-1 in
     let w = within args.f.now _ _ args.start args.end loop.i loop.n pre.1 loop.invariant _ _
     (told args.f.now args.end loop.i _ _ step.ensures c.in-Token.is) in
     omega (arith, w.0, w.1)
@@ -46,7 +44,6 @@ loop-token-preserved c =
     let pre = c.requires in
     let loop = c.loop-token in
     let step = c.step in
-    let token = c.token-1 in
     let put-token = c.put_token in
     step-on args.f.now _ _ args.start args.end loop.i loop.n pre.1 loop.invariant _ _
     (told args.f.now args.end loop.i _ _ step.ensures c.in-Token.is) pre.3 _

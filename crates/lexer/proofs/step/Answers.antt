@@ -77,7 +77,6 @@ returns-then-k-eq-MINUS c = blanks-then _ _ _ c.run_end-p.ensures _ c.minus_step
 pub word_step-requires : goal.word_step-requires
 word_step-requires c =
     let pre = c.requires in
-    let shared-slice-known = c.shared_slice_known-1 in
     let run-end = c.run_end-p in
     let if1 = c.if-s-p in
     let class-in = c.class_in-k in

@@ -29,10 +29,9 @@ pub returns : goal.returns
 unfolding shapes.of₂ shapes.of₁ shapes.after shapes.give shapes.whole id_gives literal_gives ended form_of name_in value_in
 returns c =
     let id-at = c.id_at in
-    let start = c.start-1 in
     let if1 = c.if-tokens-j in
     let literal-at = c.literal_at in
-    let c-known = c.c-1 in (
+    (
       λ f. rw
           (id-at.ensures f, c.in-Span.is, present-thing _ f _ _ if1.false, literal-at.ensures.0 f, c.in-Read.is)
           (c.finished.ensures.0 f),

@@ -25,9 +25,7 @@ pub returns : goal.returns
 unfolding shapes.of₂ shapes.of₁ shapes.after shapes.give shapes.whole id_gives literal_gives ended form_of name_in
 returns c =
     let id-at = c.id_at in
-    let start = c.start-1 in
     let literal-at = c.literal_at in
-    let value = c.value-1 in
     ⊎_elim
     (λ w. (
       λ f. rw (id-at.ensures f, c.in-Span.is, literal-at.ensures.0 f, c.in-Read.is, w.0.taken)

@@ -22,7 +22,6 @@ pub put_text-requires : goal.put_text-requires
 unfolding literal_in literal_width
 put_text-requires c =
     let pre = c.requires in
-    let c3 = c.c-in-Text-1 in
     let w = rw c.in-Text.is at pre.c_bound in
     record {
   f_value = rw c.in-Text.is at pre.whole;

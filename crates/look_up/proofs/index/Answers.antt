@@ -12,7 +12,6 @@ pub returns-then-own-number : goal.returns-then-own-number
 returns-then-own-number c =
     let args = c.args in
     let open-memory = c.open_memory in
-    let place = c.place-1 in
     let module-wires = c.module_wires-own in
     index-missing
     (opened
@@ -23,7 +22,6 @@ pub overflow_add-own : goal.overflow_add-own
 overflow_add-own c =
     let args = c.args in
     let open-memory = c.open_memory in
-    let place = c.place-1 in
     let module-wires = c.module_wires-own in
     omega (
       arith,
@@ -38,7 +36,6 @@ pub returns-else-own-number : goal.returns-else-own-number
 returns-else-own-number c =
     let args = c.args in
     let open-memory = c.open_memory in
-    let place = c.place-1 in
     let module-wires = c.module_wires-own in
     let if1 = c.if-own-number in
     index-there

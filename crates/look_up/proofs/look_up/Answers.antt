@@ -9,7 +9,6 @@ pub returns-in-Open : goal.returns-in-Open
 returns-in-Open c =
     let args = c.args in
     let open-memory = c.open_memory in
-    let place = c.place-1 in
     looked-up
     (opened
     (lent args.names.now args.strings.now args.bits.now args.wires.now args.rows.now args.renames args.room)

@@ -25,7 +25,7 @@ standing_renames-s-requires c =
     let right-tables = c.right_tables in
     let if1 = c.if-not-right_tables in
     let replay = c.replay-r in
-    let r = c.r-1 in record {
+    record {
   names_len_bound = (
         names-short _ _ _ _ _ (sym right-tables.ensures ∙ not-false _ if1.false-raw),
         few-wires _ _ _ _ _ replay.ensures.replays c.in-Holding.is,
@@ -36,7 +36,6 @@ standing_renames-s-requires c =
 pub returns-in_default-s : goal.returns-in_default-s
 returns-in_default-s c =
     let replay = c.replay-r in
-    let r = c.r-1 in
     let standing-renames = c.standing_renames-s in
     no-renames-there _ _ replay.ensures.replays _ _ c.in-Holding.is _ standing-renames.ensures
     c.in_default-s.is
@@ -44,9 +43,7 @@ returns-in_default-s c =
 pub returns-then-used-room : goal.returns-then-used-room
 returns-then-used-room c =
     let replay = c.replay-r in
-    let r = c.r-1 in
     let standing-renames = c.standing_renames-s in
-    let s = c.s-1 in
     other-room _ _ replay.ensures.replays _ _ c.in-Holding.is _ standing-renames.ensures _ c.in-Used.is
     (λ e. omega arith)
 
@@ -56,9 +53,7 @@ returns-then-rest_is_zero c =
     let right-tables = c.right_tables in
     let if1 = c.if-not-right_tables in
     let replay = c.replay-r in
-    let r = c.r-1 in
     let standing-renames = c.standing_renames-s in
-    let s = c.s-1 in
     memory-holds _ _ replay.ensures.replays _ _ c.in-Holding.is _ standing-renames.ensures _ c.in-Used.is
     (omega arith) (sym right-tables.ensures ∙ not-false _ if1.false-raw)
     (sym c.rest_is_zero.ensures ∙ c.if-rest_is_zero.true)
@@ -66,5 +61,4 @@ returns-then-rest_is_zero c =
 pub returns : goal.returns
 returns c =
     let replay = c.replay-r in
-    let r = c.r-1 in
     rest-left _ _ replay.ensures.replays _ _ c.in-Holding.is (sym c.rest_is_zero.ensures ∙ c.if-rest_is_zero.false)

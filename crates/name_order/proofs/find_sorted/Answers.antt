@@ -28,11 +28,11 @@ returns-then-same_bytes c =
     let pre = c.requires in
     let place-among = c.place_among-at in
     let if1 = c.if-index-at in
-    let name_in = c.name_in in
+    let its-name = c.name_in in
     let same_bytes = c.same_bytes in
     sym
     (halving-found (name_in args.names.now args.wires.now args.rows.now args.m) args.name.now args.m.wires pre.apart args.index.now pre.index_value _ place-among.ensures if1.false _ refl _
-    (same_bytes.ensures ∙ ap (λ (n : Name). same n args.name.now) name_in.ensures) c.if-same_bytes.true)
+    (same_bytes.ensures ∙ ap (λ (n : Name). same n args.name.now) its-name.ensures) c.if-same_bytes.true)
 
 pub returns : goal.returns
 unfolding sought
@@ -41,8 +41,8 @@ returns c =
     let pre = c.requires in
     let place-among = c.place_among-at in
     let if1 = c.if-index-at in
-    let name_in = c.name_in in
+    let its-name = c.name_in in
     let same_bytes = c.same_bytes in
     sym
     (halving-other (name_in args.names.now args.wires.now args.rows.now args.m) args.name.now args.m.wires pre.apart args.index.now pre.index_value _ place-among.ensures if1.false _ refl _
-    (same_bytes.ensures ∙ ap (λ (n : Name). same n args.name.now) name_in.ensures) c.if-same_bytes.false)
+    (same_bytes.ensures ∙ ap (λ (n : Name). same n args.name.now) its-name.ensures) c.if-same_bytes.false)

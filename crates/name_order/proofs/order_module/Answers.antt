@@ -27,22 +27,22 @@ insert-requires c =
     let args = c.args in
     let pre = c.requires in
     let loop = c.loop-k in
-    let name_in = c.name_in-name in
+    let its-name = c.name_in-name in
     let place-among = c.place_among-count in
-    built-room (name_in args.names.now args.wires.now args.rows.now args.m) args.index.now args.start args.m.wires (pre) loop.index loop.k loop.invariant.3 loop.invariant.0 (loop.k - 1) (omega arith) _ name_in.ensures _ place-among.ensures
+    built-room (name_in args.names.now args.wires.now args.rows.now args.m) args.index.now args.start args.m.wires (pre) loop.index loop.k loop.invariant.3 loop.invariant.0 (loop.k - 1) (omega arith) _ its-name.ensures _ place-among.ensures
 
 pub loop-k-preserved : goal.loop-k-preserved
 loop-k-preserved c =
     let args = c.args in
     let pre = c.requires in
     let loop = c.loop-k in
-    let name_in = c.name_in-name in
+    let its-name = c.name_in-name in
     let place-among = c.place_among-count in
     let insert = c.insert in (
       omega arith,
       refl,
       ap length insert.ensures ∙ length-store _ _ _ ∙ loop.invariant.2,
-      built-more (name_in args.names.now args.wires.now args.rows.now args.m) args.index.now args.start args.m.wires (pre) loop.index loop.k loop.invariant.3 loop.invariant.0 (loop.k - 1) (omega arith) _ name_in.ensures _ place-among.ensures _ insert.ensures,
+      built-more (name_in args.names.now args.wires.now args.rows.now args.m) args.index.now args.start args.m.wires (pre) loop.index loop.k loop.invariant.3 loop.invariant.0 (loop.k - 1) (omega arith) _ its-name.ensures _ place-among.ensures _ insert.ensures,
     )
 
 pub returns : goal.returns

@@ -8,5 +8,5 @@ use Rattle.name_order.proofs.wire_before.Goals as goal
 pub returns : goal.returns
 returns c =
     let args = c.args in
-    let name_in = c.name_in in
-    c.comes_before.ensures ∙ ap (λ (n : Name). before n args.name.now) name_in.ensures
+    let its-name = c.name_in in
+    c.comes_before.ensures ∙ ap (λ (n : Name). before n args.name.now) its-name.ensures

@@ -1,5 +1,6 @@
 -- The three directions, the last one first.
 -- Assumes nothing.
+use mathlib.Core.List.{[]}
 use mathlib.Core.Path.{refl}
 use mathlib.Core.Option.{Option-elim}
 use Rattle.rules.specs.Statements.{input, output, inout}

@@ -50,7 +50,6 @@ returns-then-not-offset_fits c os H =
     let between = c.between in
     let if2 = c.if-not-between in
     let port-of = c.port_of in
-    let code = c.code-1 in
     let word-or2 = c.word_or-offset in
     let p = rw c.in-Good.is at port-of.ensures in
     wire-offset _ _ os H (sym options-good.ensures ∙ not-false _ if1.false-raw) _ word-or.ensures _
@@ -72,7 +71,6 @@ returns c os H =
     let between = c.between in
     let if2 = c.if-not-between in
     let port-of = c.port_of in
-    let code = c.code-1 in
     let word-or2 = c.word_or-offset in
     let offset-fits = c.offset_fits in
     let p = rw c.in-Good.is at port-of.ensures in

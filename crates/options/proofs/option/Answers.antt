@@ -40,7 +40,6 @@ pub returns-in_default : goal.returns-in_default
 unfolding front integer_gives
 returns-in_default c =
     let token-at = c.token_at in
-    let c-known = c.c-1 in
     let offered = c.offered in
     let if2 = c.if-not-offered in
     let flag = c.flag in
@@ -60,7 +59,6 @@ pub returns-in-Given : goal.returns-in-Given
 unfolding integer_gives
 returns-in-Given c =
     let token-at = c.token_at in
-    let c-known = c.c-1 in
     let offered = c.offered in
     let if2 = c.if-not-offered in
     let flag = c.flag in

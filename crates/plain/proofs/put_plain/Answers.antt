@@ -1,6 +1,6 @@
 -- By the two cases of a byte.
 use mathlib.Core.Path.{refl, sym, ap₂, ◌∙◌}
-use mathlib.Core.List.{◌∷◌}
+use mathlib.Core.List.{[], ◌∷◌}
 use Prim.Native.Nat.{ℕ}
 use Rattle.plain.specs.Put.{put-by}
 use Rattle.plain.proofs.ByteLaws.{plain-kept, plain_other}

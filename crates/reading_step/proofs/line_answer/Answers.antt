@@ -30,7 +30,6 @@ pub returns-then-n-eq0 : goal.returns-then-n-eq0
 returns-then-n-eq0 c =
     let args = c.args in
     let lex-line = c.lex_line in
-    let n = c.n-1 in
     record {
   storable = tt;
   answer_as = λ ss st. outcome-none ss _ _ _ args.line _ lex-line.ensures _ c.in-Tokens.is c.if-n-eq0.true;
@@ -49,7 +48,6 @@ returns-then-not-line c =
     let args = c.args in
     let pre = c.requires in
     let lex-line = c.lex_line in
-    let n = c.n-1 in
     let if1 = c.if-n-eq0 in record {
   storable = storable-refused _ args.line _ _ c.judged.ensures;
   answer_as = λ ss st. answer-refused _ args.line _ _ c.judged.ensures ss _
@@ -62,7 +60,6 @@ overflow_mul-stop c =
     let args = c.args in
     let pre = c.requires in
     let lex-line = c.lex_line in
-    let n = c.n-1 in
     omega
     (arith, rows_few _ _ _ args.line _ lex-line.ensures _ c.in-Tokens.is pre.line_fits.0.high pre.line_fits.0.file pre.line_fits.1)
 
@@ -74,7 +71,6 @@ judge_line-requires c =
     let args = c.args in
     let pre = c.requires in
     let lex-line = c.lex_line in
-    let n = c.n-1 in
     let if1 = c.if-n-eq0 in record {
   ready = rows-ready _ _ _ args.line _ lex-line.ensures _ c.in-Tokens.is pre.0.0.high pre.0.0.file
           pre.0.1 _ _ pre.0.0.scratch-long pre.1.0.few if1.false;
@@ -111,7 +107,6 @@ returns-else-not-line c =
     let args = c.args in
     let pre = c.requires in
     let lex-line = c.lex_line in
-    let n = c.n-1 in
     let if1 = c.if-n-eq0 in
     let if2 = c.if-not-line in
     let judge-line = c.judge_line in record {

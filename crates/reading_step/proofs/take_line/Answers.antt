@@ -34,7 +34,6 @@ put_statement-requires c =
     let pre = c.requires in
     let args = c.args in
     let line-answer = c.line_answer-answer in
-    let outcome = c.outcome-1 in
     let used-from = c.used_from-u in
     put-storable pre.1.0.done (line_of args.f.now args.line) _ _ _ _ _ c.in-Stated.is _ _
     (line-answer.ensures.answer_as _ (done-stands pre.1.0.done)) line-answer.ensures.storable _ used-from.ensures

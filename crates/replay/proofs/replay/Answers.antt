@@ -90,7 +90,6 @@ loop-place-smaller c =
     let is-statement = c.is_statement in
     let if1 = c.if-not-is_statement in
     let one_more = c.one_more-t in
-    let t = c.t-1 in
     omega (
       arith,
       (done-ready _ _ _ _ loop.invariant.0).few,
@@ -105,7 +104,6 @@ loop-place-preserved c =
     let is-statement = c.is_statement in
     let if1 = c.if-not-is_statement in
     let one_more = c.one_more-t in
-    let t = c.t-1 in
     let index-row = c.index_row in (
       done_next _ _ _ _ loop.invariant.0 _ word.ensures (sym is-statement.ensures ∙ not-false _ if1.false-raw) _ _ _
           one_more.ensures c.in-Next.is,

@@ -8,7 +8,6 @@ pub undo_open-requires : goal.undo_open-requires
 undo_open-requires c =
     let args = c.args in
     let open-memory = c.open_memory in
-    let place = c.place-1 in
     opened
     (lent args.names.now args.strings.now args.bits.now args.wires.now args.rows.now args.renames args.room)
     _ open-memory.ensures _ c.in-Open.is

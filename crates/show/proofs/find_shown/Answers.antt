@@ -11,7 +11,6 @@ pub returns-then-own-number : goal.returns-then-own-number
 returns-then-own-number c = CLAUSES shown_at in_range shown_as 
     let args = c.args in
     let open-memory = c.open_memory in
-    let place = c.place-1 in
     let module-wires = c.module_wires-own in
     shown-missing
     (opened
@@ -22,7 +21,6 @@ pub overflow_add-own : goal.overflow_add-own
 overflow_add-own c =
     let args = c.args in
     let open-memory = c.open_memory in
-    let place = c.place-1 in
     let module-wires = c.module_wires-own in
     omega (
       arith,
@@ -37,7 +35,6 @@ pub returns-else-own-number : goal.returns-else-own-number
 returns-else-own-number c = CLAUSES shown_at in_range shown_as 
     let args = c.args in
     let open-memory = c.open_memory in
-    let place = c.place-1 in
     let module-wires = c.module_wires-own in
     let if1 = c.if-own-number in
     shown-there

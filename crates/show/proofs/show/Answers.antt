@@ -17,7 +17,6 @@ pub returns-in-Name : goal.returns-in-Name
 returns-in-Name c = CLAUSES shown_as lies_at 
     let args = c.args in
     let find-shown = c.find_shown-place in
-    let place = c.place-1 in
     shown-name
     (lent args.names.now args.strings.now args.bits.now args.wires.now args.rows.now args.renames args.room)
     args.m.0 args.w.0 args.names.ref_ptr args.strings.ref_ptr _ find-shown.ensures _ _
@@ -34,7 +33,6 @@ pub returns-in-Text : goal.returns-in-Text
 returns-in-Text c = CLAUSES shown_as lies_at 
     let args = c.args in
     let find-shown = c.find_shown-place in
-    let place2 = c.place-in-Text-1 in
     shown-text
     (lent args.names.now args.strings.now args.bits.now args.wires.now args.rows.now args.renames args.room)
     args.m.0 args.w.0 args.names.ref_ptr args.strings.ref_ptr _ find-shown.ensures _ _
@@ -44,7 +42,6 @@ pub returns-in-Refused : goal.returns-in-Refused
 returns-in-Refused c = CLAUSES shown_as lies_at 
     let args = c.args in
     let find-shown = c.find_shown-place in
-    let place3 = c.place-in-Refused-1 in
     shown-none
     (lent args.names.now args.strings.now args.bits.now args.wires.now args.rows.now args.renames args.room)
     args.m.0 args.w.0 args.names.ref_ptr args.strings.ref_ptr _ find-shown.ensures _

@@ -1,7 +1,7 @@
 -- `comma_at` meets its contract: a token that is no mark is no comma.
 -- Assumes nothing.
 use mathlib.Core.Path.{◌≡◌, refl, sym}
-use mathlib.Core.List.{◌∷◌}
+use mathlib.Core.List.{[], ◌∷◌}
 use mathlib.Core.Bool.{false}
 use types.Run.{OneOf, miss}
 use denote.Enum.Declared.{tag_of}

@@ -28,7 +28,6 @@ pub returns-in-Digit : goal.returns-in-Digit
 returns-in-Digit c =
     let args = c.args in
     let decode = c.decode in
-    let enum_told = c.enum_told-1 in
     let put_byte = c.put_byte-behind in
     let put-value = c.put_value in
     let ws = wires_in args.names.now args.wires.now args.rows.now args.m in

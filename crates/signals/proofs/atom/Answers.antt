@@ -1,5 +1,6 @@
 -- `atom` meets its contract: by the token of the row.
 -- Assumes nothing.
+use mathlib.Core.List.{[]}
 use mathlib.Core.Path.{refl, sym, subst, ◌∙◌}
 use Rattle.rules.specs.Shapes.{one, is_atom, atom}
 use Rattle.tokens.specs.Rows.{front}
@@ -21,7 +22,7 @@ literal_bits-bits-requires c =
     let pre = c.requires in
     let args = c.args in
     let token-at = c.token_at in
-    let c-known = c.c-1 in (
+    (
       pre.readable.file,
       pre.most_width_in_bounds,
       subst (WholeToken args.f.now) (sym token-at.ensures ∙ c.in-Constant.is)
@@ -34,7 +35,6 @@ shape_of-scratch-in-Name c = c.wire_bits-bits.ensures.kept.long
 pub returns-in-Name : goal.returns-in-Name
 returns-in-Name c =
     let token-at = c.token_at in
-    let start = c.start-1 in
     let part = c.part in
     let wire-bits = c.wire_bits-bits in
     atom-name _ _ _ _ _ _ _ _ _ _ _ (sym c.in-Name.is ∙ token-at.ensures) part.ensures wire-bits.ensures

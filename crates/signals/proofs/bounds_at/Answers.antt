@@ -39,7 +39,6 @@ pub returns-in_default-integer_at : goal.returns-in_default-integer_at
 unfolding integer_gives
 returns-in_default-integer_at c f =
     let integer-at = c.integer_at in
-    let high = c.high-1 in
     let is-mark2 = c.is_mark-2 in
     let if2 = c.if-not-is_mark in
     let integer-at2 = c.integer_at-2 in
@@ -53,11 +52,9 @@ pub returns-then-not-is_mark-2 : goal.returns-then-not-is_mark-2
 unfolding integer_gives
 returns-then-not-is_mark-2 c f =
     let integer-at = c.integer_at in
-    let high = c.high-1 in
     let is-mark2 = c.is_mark-2 in
     let if2 = c.if-not-is_mark in
     let integer-at2 = c.integer_at-2 in
-    let low = c.low-1 in
     bounds-unclosed f _ _ _ (rw c.in-Given.is at (integer-at.ensures f))
     (sym is-mark2.ensures ∙ not-false _ if2.false-raw) _ (rw c.in-Given-integer_at.is at (integer-at2.ensures f))
     (sym c.is_mark-3.ensures ∙ not-true _ c.if-not-is_mark-2.true-raw)
@@ -66,11 +63,9 @@ pub returns : goal.returns
 unfolding integer_gives slot_in
 returns c =
     let integer-at = c.integer_at in
-    let high = c.high-1 in
     let is-mark2 = c.is_mark-2 in
     let if2 = c.if-not-is_mark in
     let integer-at2 = c.integer_at-2 in
-    let low = c.low-1 in
     let m = sym c.is_mark-3.ensures ∙ not-false _ c.if-not-is_mark-2.false-raw in
     let b = mark-below _ _ _ m in (
       omega arith,

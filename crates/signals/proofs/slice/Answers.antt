@@ -36,10 +36,7 @@ pub returns-in-Fits-integer_of : goal.returns-in-Fits-integer_of
 unfolding slot_in
 returns-in-Fits-integer_of c =
     let integer-of = c.integer_of in
-    let h = c.h-1 in
-    let low = c.low-1 in
     let integer-of2 = c.integer_of-in-Given in
-    let l = c.l-1 in
     let H = rw c.in-Fits.is at integer-of.ensures in
     let L = rw c.in-Fits-integer_of.is at integer-of2.ensures in
     rw c.in-Given.is (slice-two _ _ _ _ H.0 H.1 _ _ L.0 L.1 c.cut-in-Given.ensures)

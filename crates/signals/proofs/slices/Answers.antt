@@ -45,7 +45,6 @@ loop-at-preserved c =
     let is-mark = c.is_mark in
     let if1 = c.loop-at-test in
     let bounds-at = c.bounds_at in
-    let high = c.high-1 in
     slices-on _ _ _ _ _ _ pre.most_width_in_bounds _ _ loop.invariant (sym is-mark.ensures ∙ if1.true) _ _ _
     (rw c.in-Read.is at bounds-at.ensures) _ c.slice-part.ensures
 

@@ -18,7 +18,6 @@ put_wire-requires c =
     let args = c.args in
     let pre = c.requires in
     let indexed-wire = c.indexed_wire in
-    let number = c.number-1 in
     let F = indexed-wire.ensures ∙ ap found_of c.in-At.is in (
       omega (arith, c.if-width-gt-MOST_BITS.false),
       omega
@@ -30,7 +29,6 @@ pub returns-else-width-gt-MOST_BITS : goal.returns-else-width-gt-MOST_BITS
 returns-else-width-gt-MOST_BITS c =
     let pre = c.requires in
     let indexed-wire = c.indexed_wire in
-    let number = c.number-1 in
     let if1 = c.if-width-gt-MOST_BITS in
     let put-wire = c.put_wire in
     wire-put-fits _ _ _ _ (indexed-wire.ensures ∙ ap found_of c.in-At.is) _ _ _ if1.false pre.0

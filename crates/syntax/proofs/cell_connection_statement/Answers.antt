@@ -18,7 +18,7 @@ pub signal-requires : goal.signal-requires
 signal-requires c =
     let pre = c.requires in
     let id-at = c.id_at in
-    let start = c.start-1 in record {
+    record {
   readable = readable-on _ _ _ _ pre.ready.rows (id_below _ _ _ _ _ id-at.ensures c.in-Span.is);
   depth_in_bounds = (omega (arith, pre.ready.room), pre.ready.few, pre.wires_indexed);
 }
@@ -28,7 +28,6 @@ unfolding id_gives
 returns-in_default-signal c =
     let args = c.args in
     let id-at = c.id_at in
-    let start = c.start-1 in
     let signal = c.signal in
     no-shape
     (no-signal _ _ _ (rw c.in-Span.is at (id-at.ensures args.f.now)) (rw c.in_default-signal.is at signal.ensures.read))
@@ -38,9 +37,7 @@ unfolding id_gives
 returns-then-next-tokens c =
     let args = c.args in
     let id-at = c.id_at in
-    let start = c.start-1 in
     let signal = c.signal in
-    let next = c.next-1 in
     let a = rw c.in-Read.is at signal.ensures.read in
     no-shape
     (named-read _ _ _ (rw c.in-Span.is at (id-at.ensures args.f.now)) _ _ a.3.is ∙ rows_left _ _ _ _ c.if-next-tokens.true)
@@ -50,9 +47,7 @@ unfolding id_gives name_in
 returns c =
     let args = c.args in
     let id-at = c.id_at in
-    let start = c.start-1 in
     let signal = c.signal in
-    let next = c.next-1 in
     let a = rw c.in-Read.is at signal.ensures.read in
     rw (
       named-read _ _ _ (rw c.in-Span.is at (id-at.ensures args.f.now)) _ _ a.3.is

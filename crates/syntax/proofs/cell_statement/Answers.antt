@@ -15,7 +15,6 @@ returns-in-Form c first attributed =
     let args = c.args in
     let pre = c.requires in
     let cell-line-kind = c.cell_line_kind in
-    let form = c.form-1 in
     rw (cell-line-kind.ensures.0 args.f.now first attributed, c.in-Form.is)
     (c.form_statement.ensures
     (form-whole _ _ pre.ready.rows.closed c.in-Form.form (rw c.in-Form.is at cell-line-kind.ensures.1))
@@ -25,7 +24,6 @@ pub returns-in-Connect : goal.returns-in-Connect
 returns-in-Connect c first attributed =
     let args = c.args in
     let cell-line-kind = c.cell_line_kind in
-    let enum_told = c.enum_told-1 in
     let cell-connection-statement = c.cell_connection_statement in
     rw (cell-line-kind.ensures.0 args.f.now first attributed, c.in-Connect.is)
     cell-connection-statement.ensures

@@ -23,7 +23,6 @@ pub signal-requires-2 : goal.signal-requires-2
 signal-requires-2 c =
     let pre = c.requires in
     let signal = c.signal in
-    let next = c.next-1 in
     let a = rw c.in-Read.is at signal.ensures.read in record {
   readable = readable-on _ _ _ _ pre.ready.rows a.1;
   depth_in_bounds = (omega (arith, signal.ensures.kept.long, pre.ready.room), pre.ready.few, pre.wires_indexed);
@@ -37,9 +36,7 @@ returns-in_default-signal c =
 pub returns-then-end-tokens : goal.returns-then-end-tokens
 returns-then-end-tokens c =
     let signal = c.signal in
-    let next = c.next-1 in
     let signal2 = c.signal-2 in
-    let end = c.end-1 in
     let a = rw c.in-Read.is at signal.ensures.read in
     let b = rw c.in-Read-signal.is at signal2.ensures.read in
     no-shape (both_read _ _ _ _ a.3.is _ _ b.3.is ∙ rows_left _ _ _ _ c.if-end-tokens.true)
@@ -47,9 +44,7 @@ returns-then-end-tokens c =
 pub returns : goal.returns
 returns c =
     let signal = c.signal in
-    let next = c.next-1 in
     let signal2 = c.signal-2 in
-    let end = c.end-1 in
     let a = rw c.in-Read.is at signal.ensures.read in
     let b = rw c.in-Read-signal.is at signal2.ensures.read in
     rw (both_read _ _ _ _ a.3.is _ _ b.3.is ∙ no_rows _ _ _ _ c.if-end-tokens.false)

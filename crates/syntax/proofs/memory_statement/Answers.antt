@@ -19,7 +19,6 @@ unfolding kind_of name_in
 returns c ws s =
     let args = c.args in
     let memory-line = c.memory_line in
-    let options = c.options-1 in
     let memory-rules = c.memory_rules in
     let g = rw c.in-Read.is at (memory-line.ensures args.f.now) in
     rw g.1

@@ -15,7 +15,6 @@ returns-in-Form c first =
     let args = c.args in
     let pre = c.requires in
     let module-line-kind = c.module_line_kind in
-    let form = c.form-1 in
     rw (module-line-kind.ensures.0 args.f.now first, c.in-Form.is)
     (c.form_statement.ensures
     (form-whole _ _ pre.ready.rows.closed c.in-Form.form (rw c.in-Form.is at module-line-kind.ensures.1))
@@ -31,6 +30,5 @@ pub returns-in-Connect : goal.returns-in-Connect
 returns-in-Connect c first =
     let args = c.args in
     let module-line-kind = c.module_line_kind in
-    let enum-told3 = c.enum_told-in-Connect-1 in
     let connection-statement = c.connection_statement in
     rw (module-line-kind.ensures.0 args.f.now first, c.in-Connect.is) connection-statement.ensures

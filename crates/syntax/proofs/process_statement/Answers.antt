@@ -19,7 +19,6 @@ returns-in-Form c =
     let args = c.args in
     let pre = c.requires in
     let process-line-kind = c.process_line_kind in
-    let form = c.form-1 in
     rw (process-line-kind.ensures.0 args.f.now args.place.first, c.in-Form.is)
     (c.form_statement.ensures
     (form-whole _ _ pre.ready.rows.closed c.in-Form.form (rw c.in-Form.is at process-line-kind.ensures.1))
@@ -30,6 +29,5 @@ unfolding context_of
 returns-in-Step c =
     let args = c.args in
     let process-line-kind = c.process_line_kind in
-    let step = c.step-1 in
     let step-statement = c.step_statement in
     rw (process-line-kind.ensures.0 args.f.now args.place.first, c.in-Step.is) step-statement.ensures

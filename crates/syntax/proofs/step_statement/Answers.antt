@@ -28,7 +28,6 @@ pub returns-then-not-arity_fits : goal.returns-then-not-arity_fits
 returns-then-not-arity_fits c =
     let pre = c.requires in
     let signals-from = c.signals_from in
-    let width = c.width-1 in
     let arity-fits = c.arity_fits in
     let code = pre.step_from in
     let L = rw c.in-Read.is at signals-from.ensures.read in
@@ -38,7 +37,6 @@ pub returns : goal.returns
 returns c =
     let pre = c.requires in
     let signals-from = c.signals_from in
-    let width = c.width-1 in
     let arity-fits = c.arity_fits in
     let code = pre.step_from in
     let L = rw c.in-Read.is at signals-from.ensures.read in

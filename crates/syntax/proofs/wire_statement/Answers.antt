@@ -14,7 +14,6 @@ unfolding kind_of name_in
 returns-in_default-wire_rules c names s =
     let args = c.args in
     let wire-line = c.wire_line in
-    let options = c.options-1 in
     let wire-rules = c.wire_rules in
     let g = rw c.in-Read.is at (wire-line.ensures args.f.now) in
     rw g.1 (judged (wire-bad _ _ s g.0 _ (rw c.in_default-wire_rules.is at (wire-rules.ensures g.0 g.2))))
@@ -24,9 +23,7 @@ unfolding kind_of name_in
 returns-then-port_taken c names s =
     let args = c.args in
     let wire-line = c.wire_line in
-    let options = c.options-1 in
     let wire-rules = c.wire_rules in
-    let width = c.width-1 in
     let if1 = c.if-flags-gt-MOST_PLAIN_FLAGS in
     let g = rw c.in-Read.is at (wire-line.ensures args.f.now) in
     let w = rw c.in-Good.is at (wire-rules.ensures g.0 g.2) in
@@ -38,9 +35,7 @@ unfolding kind_of name_in
 returns-else-port_taken c names s =
     let args = c.args in
     let wire-line = c.wire_line in
-    let options = c.options-1 in
     let wire-rules = c.wire_rules in
-    let width = c.width-1 in
     let if1 = c.if-flags-gt-MOST_PLAIN_FLAGS in
     let g = rw c.in-Read.is at (wire-line.ensures args.f.now) in
     let w = rw c.in-Good.is at (wire-rules.ensures g.0 g.2) in
@@ -52,9 +47,7 @@ unfolding kind_of name_in
 returns-else-flags-gt-MOST_PLAIN_FLAGS c names s =
     let args = c.args in
     let wire-line = c.wire_line in
-    let options = c.options-1 in
     let wire-rules = c.wire_rules in
-    let width = c.width-1 in
     let g = rw c.in-Read.is at (wire-line.ensures args.f.now) in
     let w = rw c.in-Good.is at (wire-rules.ensures g.0 g.2) in
     rw g.1 (judged (wire-stated _ _ s g.0 _ w (port-free _ g.0 w c.if-flags-gt-MOST_PLAIN_FLAGS.false)))

@@ -10,7 +10,6 @@ pub measure_rows-requires : goal.measure_rows-requires
 measure_rows-requires c =
     let args = c.args in
     let open-memory = c.open_memory in
-    let place = c.place-1 in
     bits-few
     (opened
     (lent args.names.now args.strings.now args.bits.now args.wires.now args.rows.now args.renames args.room)
@@ -20,7 +19,6 @@ pub returns-in-Open : goal.returns-in-Open
 returns-in-Open c =
     let args = c.args in
     let open-memory = c.open_memory in
-    let place = c.place-1 in
     measured
     (opened
     (lent args.names.now args.strings.now args.bits.now args.wires.now args.rows.now args.renames args.room)

@@ -15,7 +15,6 @@ pub put_value-requires : goal.put_value-requires
 unfolding literal_in kept digits_of literal_bits
 put_value-requires c =
     let pre = c.requires in
-    let c2 = c.c-in-Value-1 in
     record {
   end_value = rw c.in-Value.is at pre.constant_fits.good;
   most_width_in_bounds = pre.most_width_in_bounds;
@@ -26,7 +25,6 @@ pub put_text-requires : goal.put_text-requires
 unfolding literal_in kept bytes_of
 put_text-requires c =
     let pre = c.requires in
-    let c3 = c.c-in-Text-1 in
     record {
   f_value = rw c.in-Text.is at pre.constant_fits.whole;
   fits = rw c.in-Text.is at pre.constant_fits.strings-fit;
@@ -43,7 +41,6 @@ returns-in-Integer c = record {
 pub returns-in-Value : goal.returns-in-Value
 unfolding literal_in kept constant_columns bytes_of digits_of literal_bits
 returns-in-Value c =
-    let c2 = c.c-in-Value-1 in
     let put-value = c.put_value in record {
   c_value = rw (c.in-Value.is, put-value.ensures.value);
   strings_after = rw (c.in-Value.is, store-none);

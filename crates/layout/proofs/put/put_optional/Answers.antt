@@ -8,7 +8,6 @@ use Rattle.layout.proofs.put.put_optional.Goals as goal
 pub put_constant-requires : goal.put_constant-requires
 put_constant-requires c =
     let pre = c.requires in
-    let c-known = c.c-1 in
     record {
   constant_fits = rw c.in-Read.is at pre.optional_fits;
   most_width_in_bounds = pre.most_width_in_bounds;

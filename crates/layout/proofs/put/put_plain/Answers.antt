@@ -8,7 +8,6 @@ pub put_columns-requires : goal.put_columns-requires
 put_columns-requires c =
     let args = c.args in
     let pre = c.requires in
-    let statement = c.statement-1 in
     autoidx-room args.f.now args.scratch.now args.statement args.u args.names.now
     args.bits.now args.wires.now args.rows.now pre _ c.in-Autoidx.is
 
@@ -16,7 +15,6 @@ pub put_wire-requires : goal.put_wire-requires
 put_wire-requires c = CLAUSES fits wires_in_bounds rows_in_bounds 
     let args = c.args in
     let pre = c.requires in
-    let statement2 = c.statement-in-Wire-1 in
     wire-room args.f.now args.scratch.now args.statement args.u args.names.now args.bits.now
     args.wires.now args.rows.now pre _ _ _ _ _ c.in-Wire.is
 
@@ -24,7 +22,6 @@ pub put_memory-requires : goal.put_memory-requires
 put_memory-requires c = CLAUSES fits rows_in_bounds 
     let args = c.args in
     let pre = c.requires in
-    let statement3 = c.statement-in-Memory-1 in
     memory-room args.f.now args.scratch.now args.statement args.u args.names.now
     args.bits.now args.wires.now args.rows.now pre _ _ _ _ c.in-Memory.is
 
@@ -32,7 +29,6 @@ pub put_cell-requires : goal.put_cell-requires
 put_cell-requires c = CLAUSES fits rows_in_bounds 
     let args = c.args in
     let pre = c.requires in
-    let statement4 = c.statement-in-Cell-1 in
     cell_room args.f.now args.scratch.now args.statement args.u args.names.now args.bits.now
     args.wires.now args.rows.now pre _ _ c.in-Cell.is
 
@@ -40,7 +36,6 @@ pub put_cell_connection-requires : goal.put_cell_connection-requires
 put_cell_connection-requires c = CLAUSES fits width_in_bounds fits_2 rows_in_bounds 
     let args = c.args in
     let pre = c.requires in
-    let statement5 = c.statement-in-CellConnection-1 in
     cell-connection-room args.f.now args.scratch.now args.statement args.u args.names.now
     args.bits.now args.wires.now args.rows.now pre _ _ _ c.in-CellConnection.is
 
@@ -48,7 +43,6 @@ pub put_connection-requires : goal.put_connection-requires
 put_connection-requires c = CLAUSES left_le_most_width fits rows_in_bounds 
     let args = c.args in
     let pre = c.requires in
-    let statement6 = c.statement-in-Connection-1 in
     connection-room args.f.now args.scratch.now args.statement args.u args.names.now
     args.bits.now args.wires.now args.rows.now pre _ _ _ c.in-Connection.is
 
@@ -65,8 +59,6 @@ shape_of-rows-in-Autoidx c = c.put_columns.auto.0
 pub returns-in-Autoidx : goal.returns-in-Autoidx
 returns-in-Autoidx c =
     let args = c.args in
-    let statement = c.statement-1 in
-    let known-told = c.in-Autoidx.known_told-1-own in
     let put-columns = c.put_columns in
     autoidx-put args.f.now args.scratch.now args.statement args.u _ _ _ _ _ _
     (omega (arith, c.known_told-1.given)) c.in-Autoidx.is put-columns.ensures
@@ -84,8 +76,6 @@ pub returns-in-Wire : goal.returns-in-Wire
 returns-in-Wire c =
     let args = c.args in
     let pre = c.requires in
-    let statement2 = c.statement-in-Wire-1 in
-    let known-told2 = c.in-Wire.known_told-in-Wire-1-own in
     let put-wire = c.put_wire in
     wire-puts args.f.now args.scratch.now args.statement args.u _ _ _ _ _ _ _ _ _ _ _ _
     (omega (arith, c.known_told-in-Wire-1.given)) c.in-Wire.is pre.sound put-wire.ensures
@@ -99,8 +89,6 @@ shape_of-rows-in-Memory c = c.put_memory.auto.1.1.1.1.1.1.1.0
 pub returns-in-Memory : goal.returns-in-Memory
 returns-in-Memory c =
     let args = c.args in
-    let statement3 = c.statement-in-Memory-1 in
-    let known-told3 = c.in-Memory.known_told-in-Memory-1-own in
     let put-memory = c.put_memory in
     memory-put args.f.now args.scratch.now args.statement args.u _ _ _ _ _ _ _ _ _ _
     (omega (arith, c.known_told-in-Memory-1.given)) c.in-Memory.is put-memory.ensures.names_after put-memory.ensures.rows_after
@@ -114,7 +102,6 @@ shape_of-rows-in-Cell c = c.put_cell.auto.1.1.1.1.1.0
 pub returns-in-Cell : goal.returns-in-Cell
 returns-in-Cell c =
     let args = c.args in
-    let statement4 = c.statement-in-Cell-1 in
     let put-cell = c.put_cell in
     cell-put args.f.now args.scratch.now args.statement args.u _ _ _ _ _ _ _ _ c.in-Cell.is
     put-cell.ensures.names_after put-cell.ensures.rows_after
@@ -131,7 +118,6 @@ shape_of-rows-in-CellConnection c = c.put_cell_connection.auto.1.1.1.1.1.1.1.0
 pub returns-in-CellConnection : goal.returns-in-CellConnection
 returns-in-CellConnection c =
     let args = c.args in
-    let statement5 = c.statement-in-CellConnection-1 in
     let put-cell-connection = c.put_cell_connection in
     cell-connection-put args.f.now args.scratch.now args.statement args.u _ _ _ _ _ _ _ _ _ _
     c.in-CellConnection.is put-cell-connection.ensures.names_after put-cell-connection.ensures.bits_after
@@ -146,7 +132,6 @@ shape_of-rows-in-Connection c = c.put_connection.auto.1.1.1.1.1.0
 pub returns-in-Connection : goal.returns-in-Connection
 returns-in-Connection c =
     let args = c.args in
-    let statement6 = c.statement-in-Connection-1 in
     let put-connection = c.put_connection in
     connection-put args.f.now args.scratch.now args.statement args.u _ _ _ _ _ _ _ _ _
     c.in-Connection.is put-connection.ensures.bits_after put-connection.ensures.rows_after
@@ -157,7 +142,6 @@ shape_of-rows-in-End c = c.put_columns-in-End.auto.0
 pub returns-in-End : goal.returns-in-End
 returns-in-End c =
     let args = c.args in
-    let enum_told = c.enum_told-1 in
     let put-columns2 = c.put_columns-in-End in
     end-put args.f.now args.scratch.now args.statement args.u _ _ _ _ _ c.in-End.is
     put-columns2.ensures

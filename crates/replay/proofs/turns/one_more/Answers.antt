@@ -45,7 +45,6 @@ returns-in-Statement c =
     let if2 = c.if-not-line_stands in
     let used-from = c.used_from-x in
     let statement-at = c.statement_at-f in
-    let f = c.f-1 in
     turn-counted _ _ _ _ _ get-row.ensures _ used-from.ensures _ statement-at.ensures _ _ _ _ _ c.in-Statement.is
     if1.false line-stands.ensures (not-false _ if2.false-raw) _ step_of_lem.ensures _ (c.counted.ensures _ _ _)
 

@@ -1,3 +1,0 @@
-pub mod ReaderLaws
-pub mod Walk
-pub mod Locals
