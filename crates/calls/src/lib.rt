@@ -3,7 +3,7 @@
 
 ghost use Rattle.std.specs.Prelude.{◌≡◌, ◌+◌, ◌*◌, ◌^◌, ◌≤◌, ◌<◌, length, set};
 ghost use Rattle.tables.specs.Store.{store};
-ghost use Rattle.netlist.specs.Results.{result, lent};
+ghost use Rattle.netlist.specs.Results.{result as outcome, lent};
 ghost use Rattle.session.specs.Called.{CalledAs};
 ghost use Rattle.theorems.specs.DamagedMemory.{Held};
 ghost use Rattle.calls.specs.Calls.{call_at, calls_in, answer_words, session};
@@ -35,7 +35,7 @@ const ANSWER_WORDS: usize = 2;
 
 // A word, if there is a place for it.
 fn put_word(table: &mut [u32], at: usize, w: u32)
-    ensures* { λ _. ⌜ table.new ≡ set table.old at w ⌝ }
+    ensures { table.new ≡ set table.old at w }
 {
     if at < table.len() {
         table[at] = w;
@@ -45,7 +45,7 @@ fn put_word(table: &mut [u32], at: usize, w: u32)
 // A call's answer in two words, number and place, as far as there is room.
 fn put_answer(answers: &mut [u32], i: usize, number: u32, place: u32)
     requires { 2 * i + 1 < 2 ^ 64 }
-    ensures* { λ _. ⌜ answers.new ≡ store answers.old (2 * i) (answer_words (number, place)) ⌝ }
+    ensures { answers.new ≡ store answers.old (2 * i) (answer_words (number, place)) }
 {
     put_word(answers, ANSWER_WORDS * i, number);
     put_word(answers, ANSWER_WORDS * i + 1, place);
@@ -65,7 +65,7 @@ fn make_call(
     room: u32,
 ) -> CallResult
     requires { 5 * i + 5 ≤ length calls.now }
-    ensures* { λ r. ⌜ CalledAs (lent names.old strings.now bits.now wires.now rows.old renames room) (call_at calls.now texts.now i) (result r.number r.place (lent names.new strings.now bits.now wires.now rows.new r.renames r.room)) ⌝ }
+    ensures { CalledAs (lent names.old strings.now bits.now wires.now rows.old renames room) (call_at calls.now texts.now i) (outcome result.number result.place (lent names.new strings.now bits.now wires.now rows.new result.renames result.room)) }
 {
     let at = CALL_WORDS * i;
     if word(calls, at) != CALL_RENAME {
@@ -89,7 +89,7 @@ fn make_call(
 
 // Number and place 0, with these counts.
 fn accepted(renames: u32, room: u32) -> CallResult
-    ensures* { λ r. ⌜ r ≡ record { number = 0; place = 0; renames = renames; room = room } ⌝ }
+    ensures { result ≡ record { number = 0; place = 0; renames = renames; room = room } }
 {
     CallResult {
         number: 0,
@@ -113,7 +113,7 @@ fn make_calls(
     room: u32,
 ) -> CallResult
     requires { Held (lent names.old strings.now bits.now wires.now rows.old renames room) }
-    ensures* { λ r. ⌜ MadeAs (lent names.old strings.now bits.now wires.now rows.old renames room) answers.old (calls_in calls.now texts.now) (result r.number r.place (lent names.new strings.now bits.now wires.now rows.new r.renames r.room)) answers.new ⌝ }
+    ensures { MadeAs (lent names.old strings.now bits.now wires.now rows.old renames room) answers.old (calls_in calls.now texts.now) (outcome result.number result.place (lent names.new strings.now bits.now wires.now rows.new result.renames result.room)) answers.new }
 {
     let many = calls.len() / CALL_WORDS;
     let mut i = 0;
@@ -146,7 +146,7 @@ pub fn run_calls(
     renames: u32,
     room: u32,
 ) -> CallResult
-    ensures* { λ r. ⌜ (result r.number r.place (lent names.new strings.new bits.new wires.new rows.new r.renames r.room), answers.new) ≡ session f.now (calls_in calls.now texts.now) (lent names.old strings.old bits.old wires.old rows.old renames room) answers.old ⌝ }
+    ensures { (outcome result.number result.place (lent names.new strings.new bits.new wires.new rows.new result.renames result.room), answers.new) ≡ session f.now (calls_in calls.now texts.now) (lent names.old strings.old bits.old wires.old rows.old renames room) answers.old }
 {
     let left = fill(f, names, strings, bits, wires, rows, renames, room);
     if left.number != 0 {

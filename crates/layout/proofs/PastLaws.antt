@@ -27,7 +27,7 @@ room-past ss x w h =
     let q : used_after (used (rooms_of ss)) x ≡ used_by (place_of (x ∷ ss)) (sums_of (x ∷ ss)) = used-more x ss in
     record {
       names = omega (arith, ap (λ (u : Used). u.names) q, w.name-bytes);
-      strings = omega (arith, ap (λ (u : Used). u.strings) q, w.string_bytes);
+      strings = omega (arith, ap (λ (u : Used). u.strings) q, w.string-bytes);
       bits = omega (arith, ap (λ (u : Used). u.bits) q, w.value-bits, w.signal-bits);
       wires = omega (arith, ap (λ (u : Used). u.wires) q, w.wires);
       rows = omega (arith, ap (λ (u : Used). u.rows) q, h);

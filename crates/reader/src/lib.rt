@@ -7,7 +7,7 @@ ghost use Rattle.rules.specs.Layout.{empty, memory};
 ghost use Rattle.layout.specs.Put.{tables_of};
 ghost use Rattle.layout.specs.Stored.{Sized};
 ghost use Rattle.netlist.specs.Tables.{tabled};
-ghost use Rattle.netlist.specs.Results.{result, lent};
+ghost use Rattle.netlist.specs.Results.{result as outcome, lent};
 ghost use Rattle.reader.specs.Fill.{leaves, fill_into};
 
 use file_lines::Answer;
@@ -27,7 +27,7 @@ pub struct Checked {
 
 // By way of tables of its own: a line is judged by the names, wires and rows of those before it.
 pub fn check(f: &[u8]) -> Checked
-    ensures* { λ r. ⌜ (r.number, r.place) ≡ checked (read f.now) ⌝ }
+    ensures { (result.number, result.place) ≡ checked (read f.now) }
 {
     let size = f.len();
     if MOST_FILE_BYTES < size {
@@ -65,7 +65,7 @@ fn clear_tables(
     rows: &mut [u32],
 )
     requires { Sized (tabled names.old strings.old bits.old wires.old rows.old) }
-    ensures* { λ _. ⌜ tabled names.new strings.new bits.new wires.new rows.new ≡ tables_of (memory empty 0) ⌝ }
+    ensures { tabled names.new strings.new bits.new wires.new rows.new ≡ tables_of (memory empty 0) }
 {
     clear_bytes(names);
     clear_bytes(strings);
@@ -84,7 +84,7 @@ fn fill_sized(
     rows: &mut [u32],
 ) -> CallResult
     requires { Sized (tabled names.old strings.old bits.old wires.old rows.old) }
-    ensures* { λ r. ⌜ result r.number r.place (lent names.new strings.new bits.new wires.new rows.new r.renames r.room) ≡ leaves (read f.now) ⌝ }
+    ensures { outcome result.number result.place (lent names.new strings.new bits.new wires.new rows.new result.renames result.room) ≡ leaves (read f.now) }
 {
     clear_tables(names, strings, bits, wires, rows);
     if MOST_FILE_BYTES < f.len() {
@@ -124,7 +124,7 @@ pub fn fill(
     renames: u32,
     room: u32,
 ) -> CallResult
-    ensures* { λ r. ⌜ result r.number r.place (lent names.new strings.new bits.new wires.new rows.new r.renames r.room) ≡ fill_into f.now (lent names.old strings.old bits.old wires.old rows.old renames room) ⌝ }
+    ensures { outcome result.number result.place (lent names.new strings.new bits.new wires.new rows.new result.renames result.room) ≡ fill_into f.now (lent names.old strings.old bits.old wires.old rows.old renames room) }
 {
     if right_lengths(
         names.len(),

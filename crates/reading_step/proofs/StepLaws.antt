@@ -6,8 +6,6 @@ use mathlib.Core.Bool.{true}
 use mathlib.Core.List.{List, [], ◌∷◌}
 use mathlib.Core.Option.{Option, none, some, map}
 use native.Mathlib.Omega.{arith}
-use types.Run.{OneOf, miss}
-use denote.Enum.Declared.{tag_of}
 use lib.ListN.{length}
 use Rattle.rules.specs.Lines as rules
 use Rattle.rules.specs.Statements as statements
@@ -52,8 +50,6 @@ use Rattle.steps.specs.SearchLaws.{admitted-single}
 use Rattle.reading_step.specs.Steps.{PlaceFits, step_in, States, OutcomeIs, Storable, Done, Goes, StepIndexed}
 use Rattle.reading_step.specs.declared.Outcome.{Outcome}
 use Rattle.reading_step.specs.declared.Outcome.TheVariants as outcomes
-use Rattle.reading_step.specs.contracts.Outcome.{the_type}
-use Rattle.syntax.specs.contracts.Statement.{the_type as statement-type}
 use Rattle.reading_step.specs.declared.Step.{Step}
 use Rattle.reading_step.specs.declared.Step.TheVariants.{Next}
 
@@ -77,7 +73,7 @@ sized_past ss a =
     let q : used (rooms_of ss) ≡ used_by (place_of ss) (sums_of ss) = used-past ss in
     record {
       names = length-padded 16384 _ (omega (arith, ap (λ (u : rooms.Used). u.names) q, w.name-bytes));
-      strings = length-padded 8192 _ (omega (arith, ap (λ (u : rooms.Used). u.strings) q, w.string_bytes));
+      strings = length-padded 8192 _ (omega (arith, ap (λ (u : rooms.Used). u.strings) q, w.string-bytes));
       bits = length-padded 16384 _ (omega (arith, ap (λ (u : rooms.Used). u.bits) q, w.value-bits, w.signal-bits));
       wires = flat-long (8 * 512) 512 _ (eights-wires ss) (omega (arith, ap (λ (u : rooms.Used). u.wires) q, same-wires ss, w.wires)) refl;
       rows = flat-long (8 * 6945) 6945 _ (eights-rows ss) (omega (arith, ap (λ (u : rooms.Used). u.rows) q, admitted-few ss a)) refl;
@@ -243,7 +239,7 @@ module _ {ss : Past} {p : Place} {u : Sizes} {t : Tables} (d : Done ss p u t) (l
   step-refused e = subst (OutcomeIs ss l f s i j) e st
 
 -- an answer that is no step
-pub no_step : (r : Statement) → OneOf (0 ∷ 1 ∷ 2 ∷ 3 ∷ 4 ∷ 5 ∷ 6 ∷ 7 ∷ 8 ∷ 9 ∷ 11 ∷ 12 ∷ 13 ∷ 14 ∷ 15 ∷ []) (tag_of statement-type r) → 0 ≡ step_in r
+pub no_step : (r : Statement) → ((p w n l : ℕ) → r ≡ StepOf p w n l → ⊥) → 0 ≡ step_in r
 unfolding step_in
 no_step (Autoidx w) h = refl
 no_step (Attribute n c) h = refl
@@ -255,7 +251,7 @@ no_step (Cell k n) h = refl
 no_step (CellParameter o n c) h = refl
 no_step (CellConnection n w l) h = refl
 no_step (Connection a b l) h = refl
-no_step (StepOf p w n l) h = absurd (miss (0 ∷ 1 ∷ 2 ∷ 3 ∷ 4 ∷ 5 ∷ 6 ∷ 7 ∷ 8 ∷ 9 ∷ 11 ∷ 12 ∷ 13 ∷ 14 ∷ 15 ∷ []) 10 tt h)
+no_step (StepOf p w n l) h = absurd (h p w n l refl)
 no_step End h = refl
 no_step NoShape h = refl
 no_step (Process n) h = refl
@@ -263,9 +259,9 @@ no_step BadNumber h = refl
 no_step MissingWire h = refl
 
 -- what is neither skipped nor stated is refused
-pub refused-left : (x : Outcome) → OneOf (1 ∷ 2 ∷ []) (tag_of the_type x) → OneOf (0 ∷ 2 ∷ []) (tag_of the_type x) → x ≡ outcomes.Refused
-refused-left outcomes.Skipped h k = absurd (miss (1 ∷ 2 ∷ []) 0 tt h)
-refused-left (outcomes.Stated r u) h k = absurd (miss (0 ∷ 2 ∷ []) 1 tt k)
+pub refused-left : (x : Outcome) → (x ≡ outcomes.Skipped → ⊥) → ((r : Statement) (more : Sizes) → x ≡ outcomes.Stated r more → ⊥) → x ≡ outcomes.Refused
+refused-left outcomes.Skipped h k = absurd (h refl)
+refused-left (outcomes.Stated r u) h k = absurd (k r u refl)
 refused-left outcomes.Refused h k = refl
 
 pub next-indexed :

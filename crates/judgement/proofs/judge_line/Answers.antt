@@ -19,10 +19,10 @@ judge_statement-requires c =
     let line-statement = c.line_statement-statement in record {
   f_len_bound = pre.ready.rows.file;
   sound = line-sound args.place args.f.now args.tokens.now args.names.now args.wires.now
-            line-statement.new.1.1.1.1.1.1.0 line-statement.result line-statement.ensures;
+            line-statement.new.scratch line-statement.result line-statement.ensures;
   within = pre.within;
   bounds = pre.bounds;
-  indexed = pre.lines_indexed.by_Row;
+  indexed = pre.lines_indexed.by_row;
 }
 
 pub returns : goal.returns
@@ -31,8 +31,8 @@ returns c =
     let pre = c.requires in
     let line-statement = c.line_statement-statement in record {
   storable = c.judge_statement.ensures.storable;
-  judged_as = λ ss st. c.judge_statement.ensures.judges_as ss args.wires.now line-statement.new.1.1.1.1.1.1.0 _ st
+  judged_as = λ ss st. c.judge_statement.ensures.judges_as ss args.wires.now line-statement.new.scratch _ st
           (omega (arith, line-statement.auto, pre.ready.room))
           (line-says args.place args.f.now args.tokens.now args.names.now args.wires.now
-          line-statement.new.1.1.1.1.1.1.0 line-statement.result line-statement.ensures ss _ _ st);
+          line-statement.new.scratch line-statement.result line-statement.ensures ss _ _ st);
 }

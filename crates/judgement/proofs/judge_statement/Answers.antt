@@ -1,11 +1,13 @@
 -- The tests in the order of their numbers.
-use mathlib.Core.Path.{sym, ap, ◌∙◌}
+use mathlib.Core.Path.{sym, ap, subst, ◌∙◌}
 use native.Mathlib.Omega.{arith}
 use borrow.Author.Tests.{not-true, not-false}
 use Rattle.rules.specs.Judgement.{Verdict}
 use Rattle.context.specs.Sizes.{exceeds}
 use Rattle.context.proofs.SizeLaws.{within-limits, within-small}
+use Rattle.context.specs.declared.sizes.Sizes.{Sizes}
 use Rattle.judgement.specs.declared.Parts.{Parts}
+use Rattle.judgement.specs.Judged.{Accepts}
 use Rattle.judgement.proofs.PartLaws.{no_number, parts-coded, merged-none}
 use Rattle.judgement.proofs.Verdicts.{number-refused, taken_refused, fault-is, fault-refused, sizes-refused, accepted}
 use Rattle.judgement.proofs.judge_statement.Statement.{statement}
@@ -88,9 +90,9 @@ returns-then-within c =
   storable = (
         pre.sound,
         merged-none _ parts-of.result _ _ parts-of.ensures merge.ensures if3.false,
-        within-limits _ (not-true _ (sym c.within.ensures ∙ c.if-within.true)),
+        within-limits plus.result (not-true (exceeds plus.result) (sym c.within.ensures ∙ c.if-within.true)),
       );
-  judges_as = λ ss ws s o st room says. rw plus.ensures
+  judges_as = λ ss ws s o st room says. subst (λ (u : Sizes). Accepts ss o args.f.now s args.statement u) (sym plus.ensures)
           (accepted ss args.f.now s args.names.now ws args.rows.now o args.statement args.place
           args.sums st says (rw parts-of.ensures at if1.false) (sym name-is-taken.ensures ∙ if2.false)
           (sym (fault-is st args.statement parts-of.ensures uneven.ensures merge.ensures) ∙ if3.false)

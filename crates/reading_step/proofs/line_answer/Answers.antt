@@ -9,9 +9,6 @@ lex_line-requires c =
     let pre = c.requires in
     (pre.line_fits.0.low, pre.line_fits.0.high, pre.line_fits.0.file, pre.line_fits.1)
 
-pub enum_known-p : goal.enum_known-p
-enum_known-p c = c.in-Bad.keys1
-
 pub overflow_cast-result : goal.overflow_cast-result
 overflow_cast-result c =
     let args = c.args in
@@ -19,9 +16,6 @@ overflow_cast-result c =
     let lex-line = c.lex_line in
     omega
     (arith, bad-low _ _ _ args.line _ lex-line.ensures _ c.in-Bad.is pre.line_fits.0.high, pre.line_fits.0.file)
-
-pub enum_known-n : goal.enum_known-n
-enum_known-n c = c.in-Tokens.keys2
 
 pub returns-then-n-eq0 : goal.returns-then-n-eq0
 returns-then-n-eq0 c =
@@ -66,11 +60,11 @@ judge_line-requires c =
     let pre = c.requires in
     let lex-line = c.lex_line in
     let if1 = c.if-n-eq0 in record {
-  ready = rows-ready _ _ _ args.line _ lex-line.ensures _ c.in-Tokens.is pre.0.0.high pre.0.0.file
-          pre.0.1 _ _ pre.0.0.scratch-long pre.1.0.few if1.false;
-  within = pre.1.0.within;
-  bounds = pre.1.0.bounds;
-  lines_indexed = pre.1.1;
+  ready = rows-ready _ _ _ args.line _ lex-line.ensures _ c.in-Tokens.is pre.line_fits.0.high pre.line_fits.0.file
+          pre.line_fits.1 _ _ pre.line_fits.0.scratch-long pre.place_fits.few if1.false;
+  within = pre.place_fits.within;
+  bounds = pre.place_fits.bounds;
+  lines_indexed = pre.lines_indexed;
 }
 
 pub judged-requires-in-Tokens : goal.judged-requires-in-Tokens
@@ -97,6 +91,6 @@ returns-else-not-line c =
     let judge-line = c.judge_line in record {
   storable = storable-judged _ _ _ _ c.judged-in-Tokens.ensures judge-line.ensures.storable;
   answer_as = λ ss st. answer-judged ss _ _ _ _ _ _ c.judged-in-Tokens.ensures
-          (outcome-shaped ss _ _ _ args.line _ lex-line.ensures _ c.in-Tokens.is pre.0.0.high pre.0.0.file
-          pre.0.1 if1.false if2.false) (judge-line.ensures.judged_as ss st);
+          (outcome-shaped ss _ _ _ args.line _ lex-line.ensures _ c.in-Tokens.is pre.line_fits.0.high pre.line_fits.0.file
+          pre.line_fits.1 if1.false if2.false) (judge-line.ensures.judged_as ss st);
 }

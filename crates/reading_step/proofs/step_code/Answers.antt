@@ -5,7 +5,7 @@ use Rattle.reading_step.proofs.step_code.Statement.{statement}
 use Rattle.reading_step.proofs.step_code.Goals as goal
 
 pub returns-in_default : goal.returns-in_default
-returns-in_default c = no_step c.args.statement c.in_default.keys2
+returns-in_default c = no_step c.args.statement c.in_default.not-Step
 
 pub returns : goal.returns
 unfolding step_in

@@ -18,12 +18,6 @@ line_answer-answer-requires c =
   lines_indexed = pre.lines_indexed;
 }
 
-pub enum_told-1 : goal.enum_told-1
-enum_told-1 c = c.in-Skipped.keys1
-
-pub enum_known-outcome : goal.enum_known-outcome
-enum_known-outcome c = c.in-Stated.keys1
-
 pub used_from-u-requires : goal.used_from-u-requires
 used_from-u-requires c =
     let pre = c.requires in
@@ -35,9 +29,9 @@ put_statement-requires c =
     let args = c.args in
     let line-answer = c.line_answer-answer in
     let used-from = c.used_from-u in
-    put-storable pre.1.0.done (line_of args.f.now args.line) _ _ _ _ _ c.in-Stated.is _ _
-    (line-answer.ensures.answer_as _ (done-stands pre.1.0.done)) line-answer.ensures.storable _ used-from.ensures
-    (line-answer.auto.1.1.1.1.1.1.1.1.0 ∙ pre.0.0.scratch-long)
+    put-storable pre.some_done.done (line_of args.f.now args.line) _ _ _ _ _ c.in-Stated.is _ _
+    (line-answer.ensures.answer_as _ (done-stands pre.some_done.done)) line-answer.ensures.storable _ used-from.ensures
+    (line-answer.auto.scratch ∙ pre.line_fits.0.scratch-long)
 
 pub kind_code-kind-requires : goal.kind_code-kind-requires
 kind_code-kind-requires c = tt
@@ -50,21 +44,20 @@ index_line-requires c =
     let pre = c.requires in
     let args = c.args in
     let line-answer = c.line_answer-answer in
-    let outcome = c.outcome-1 in
     let used-from = c.used_from-u in
     let put-statement = c.put_statement in record {
-  lines_indexed = step-indexed pre.1.0.done (line_of args.f.now args.line) _ _ _ _ _ outcome.given.1 _ _
-          (line-answer.ensures.1 _ (done-stands pre.1.0.done)) line-answer.ensures.0 _ _ used-from.ensures
-          put-statement.ensures _ _ pre.1.1;
-  row_lt_row_room = (omega (arith, done-few pre.1.0.done), done-wires pre.1.0.done);
+  lines_indexed = step-indexed pre.some_done.done (line_of args.f.now args.line) _ _ _ _ _ c.in-Stated.is _ _
+          (line-answer.ensures.answer_as _ (done-stands pre.some_done.done)) line-answer.ensures.storable _ _ used-from.ensures
+          put-statement.ensures _ _ pre.lines_indexed;
+  row_lt_row_room = (omega (arith, done-few pre.some_done.done), done-wires pre.some_done.done);
 }
 
 pub after-requires : goal.after-requires
 after-requires c =
     let pre = c.requires in
     record {
-  rows_bound = done-rows pre.1.0.done;
-  bounds = (done-fits pre.1.0.done).bounds;
+  rows_bound = done-rows pre.some_done.done;
+  bounds = (done-fits pre.some_done.done).bounds;
 }
 
 pub returns-in-Skipped : goal.returns-in-Skipped
@@ -77,7 +70,7 @@ returns-in-Skipped c =
 
 pub returns-in_default-outcome : goal.returns-in_default-outcome
 returns-in_default-outcome c = record {
-  step_as = λ ss d. step-refused d _ _ _ _ _ _ (c.line_answer-answer.ensures.answer_as ss (done-stands d)) (refused-left c.line_answer-answer.result.outcome c.in_default.keys2 c.in_default-outcome.keys2);
+  step_as = λ ss d. step-refused d _ _ _ _ _ _ (c.line_answer-answer.ensures.answer_as ss (done-stands d)) (refused-left c.line_answer-answer.result.outcome c.in_default.not-Skipped c.in_default-outcome.not-Stated);
   step_indexed = tt;
 }
 
@@ -85,13 +78,12 @@ pub returns : goal.returns
 unfolding place_after
 returns c =
     let line-answer = c.line_answer-answer in
-    let outcome = c.outcome-1 in
     let used-from = c.used_from-u in
     let put-statement = c.put_statement in
     let kind-code = c.kind_code-kind in
     let index-line = c.index_line in record {
-  step_as = λ ss d. step-stated d _ _ _ _ _ _ outcome.given.1 _ _ (line-answer.ensures.1 ss (done-stands d))
-          line-answer.ensures.0 _ _ _ _ _ used-from.ensures put-statement.ensures kind-code.ensures
+  step_as = λ ss d. step-stated d _ _ _ _ _ _ c.in-Stated.is _ _ (line-answer.ensures.answer_as ss (done-stands d))
+          line-answer.ensures.storable _ _ _ _ _ used-from.ensures put-statement.ensures kind-code.ensures
           c.step_code.ensures (after_is _ _ _ _ c.after.ensures);
   step_indexed = lines-upto (ap (λ (p : Place). p.rows) c.after.ensures) (ap (λ (p : Place). p.wires) c.after.ensures)
           index-line.ensures;
