@@ -27,7 +27,7 @@ returns c =
     let args = c.args in
     let pre = c.requires in record {
   out_after = answer-held args.f.now _ _ check.ensures if1.false
-          (lent args.names.now args.strings.now args.bits.now args.wires.now args.rows.now 0 0) pre.0 _
-          fill.ensures args.out.now pre.1 _ _ put-held.ensures.printed_as;
+          (lent args.names.now args.strings.now args.bits.now args.wires.now args.rows.now 0 0) pre.rows_value _
+          fill.ensures args.out.now pre.out_len _ _ put-held.ensures.printed_as;
   upper_bound = put-held.ensures.upper_bound;
 }

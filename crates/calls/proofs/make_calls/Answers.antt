@@ -30,22 +30,13 @@ loop-i-preserved c =
     let make-call = c.make_call-left in
     let put-answer = c.put_answer in (
       omega arith,
-      put-answer.auto.0 ∙ loop.invariant.1,
-      make-call.auto.1.1.1.0 ∙ loop.invariant.2,
-      make-call.auto.1.1.1.1.1.1.1.0 ∙ loop.invariant.3,
+      put-answer.auto.answers ∙ loop.invariant.1,
+      make-call.auto.names ∙ loop.invariant.2,
+      make-call.auto.rows ∙ loop.invariant.3,
       loop.invariant.4,
       going_step loop.invariant.5 _ _ (calls-next args.calls.now args.texts.now _ loop.i (omega arith)) _
           make-call.ensures _ put-answer.ensures,
     )
-
-pub shape_of-answers : goal.shape_of-answers
-shape_of-answers c = c.loop-i.invariant.1
-
-pub shape_of-names : goal.shape_of-names
-shape_of-names c = c.loop-i.invariant.2
-
-pub shape_of-rows : goal.shape_of-rows
-shape_of-rows c = c.loop-i.invariant.3
 
 pub returns : goal.returns
 returns c =

@@ -3,24 +3,19 @@ use mathlib.Core.Path.{refl, ◌∙◌}
 use Rattle.file_lines.proofs.FileLaws.{ended, longer}
 use Rattle.file_reader.proofs.read_longer.Goals as goal
 
-pub slice_bounds-read_lines-end : goal.slice_bounds-read_lines-end
-slice_bounds-read_lines-end c = refl
-
 pub read_lines-requires : goal.read_lines-requires
 read_lines-requires c = record {
   before = c.requires.before;
   lines_indexed = c.requires.lines_indexed;
 }
 
-pub enum_known-a : goal.enum_known-a
-enum_known-a c = c.in-Ended.keys1
-
-pub enum_known-l : goal.enum_known-l
-enum_known-l c = c.in-Longer.keys2
-
 pub read_longest-requires : goal.read_longest-requires
-read_longest-requires c = CLAUSES before lines_indexed 
-(let x = longer _ _ _ _ _ _ _ _ c.read_lines.ensures _ _ _ c.in-Longer.is in (x.0, x.1))
+read_longest-requires c = 
+    let x = longer _ _ _ _ _ _ _ _ c.read_lines.ensures _ _ _ c.in-Longer.is in
+    record {
+  before = x.0;
+  lines_indexed = x.1;
+}
 
 pub returns-in-Ended : goal.returns-in-Ended
 returns-in-Ended c =

@@ -3,20 +3,11 @@ use mathlib.Core.Path.{refl}
 use Rattle.file_lines.proofs.FileLaws.{ended, no_longer}
 use Rattle.file_reader.proofs.read_longest.Goals as goal
 
-pub slice_bounds-read_lines-end : goal.slice_bounds-read_lines-end
-slice_bounds-read_lines-end c = refl
-
 pub read_lines-requires : goal.read_lines-requires
 read_lines-requires c = record {
   before = c.requires.before;
   lines_indexed = c.requires.lines_indexed;
 }
-
-pub enum_known-a : goal.enum_known-a
-enum_known-a c = c.in-Ended.keys1
-
-pub enum_known-p : goal.enum_known-p
-enum_known-p c = c.in-Longer.keys2
 
 pub returns-in-Ended : goal.returns-in-Ended
 returns-in-Ended c =

@@ -7,21 +7,6 @@ use Rattle.one_wire.proofs.seek_wire.Goals as goal
 pub returns-then-size-gt-MOST_FILE_BYTES : goal.returns-then-size-gt-MOST_FILE_BYTES
 returns-then-size-gt-MOST_FILE_BYTES c = sought-long _ _ _ c.if-size-gt-MOST_FILE_BYTES.true
 
-pub slice_bounds-read_until-end : goal.slice_bounds-read_until-end
-slice_bounds-read_until-end c = refl
-
-pub slice_bounds-read_until-end-2 : goal.slice_bounds-read_until-end-2
-slice_bounds-read_until-end-2 c = refl
-
-pub slice_bounds-read_until-end-3 : goal.slice_bounds-read_until-end-3
-slice_bounds-read_until-end-3 c = refl
-
-pub slice_bounds-read_until-end-4 : goal.slice_bounds-read_until-end-4
-slice_bounds-read_until-end-4 c = refl
-
-pub slice_bounds-read_until-end-5 : goal.slice_bounds-read_until-end-5
-slice_bounds-read_until-end-5 c = refl
-
 pub read_until-requires : goal.read_until-requires
 read_until-requires c = record {
   f_len_bound = c.if-size-gt-MOST_FILE_BYTES.false;

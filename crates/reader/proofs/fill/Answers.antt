@@ -3,9 +3,6 @@ use mathlib.Core.Path.{◌∙◌, sym}
 use Rattle.reader.proofs.HalfLaws.{right-sized, into-right, into-wrong}
 use Rattle.reader.proofs.fill.Goals as goal
 
-pub right_lengths-requires : goal.right_lengths-requires
-right_lengths-requires c = tt
-
 pub fill_sized-requires : goal.fill_sized-requires
 fill_sized-requires c =
     right-sized c.args.names.now c.args.strings.now c.args.bits.now c.args.wires.now c.args.rows.now (sym c.right_lengths.ensures ∙ c.if-right_lengths.true)

@@ -18,15 +18,9 @@ read_file-requires c =
   rows_value = c.clear_tables.ensures;
 }
 
-pub enum_known-sums : goal.enum_known-sums
-enum_known-sums c = c.in-Accepted.keys1
-
-pub enum_known-number : goal.enum_known-number
-enum_known-number c = c.in-Refused.keys2
-
 pub clear_tables-requires-in-Refused : goal.clear_tables-requires-in-Refused
 clear_tables-requires-in-Refused c =
-    still-sized c.args.names.now c.args.strings.now c.args.bits.now c.args.wires.now c.args.rows.now c.requires (c.read_file.auto.1.0 ∙ c.clear_tables.auto.0) (c.read_file.auto.1.1.0 ∙ c.clear_tables.auto.1.0) (c.read_file.auto.1.1.1.0 ∙ c.clear_tables.auto.1.1.0) (c.read_file.auto.1.1.1.1.0 ∙ c.clear_tables.auto.1.1.1.0) (c.read_file.auto.1.1.1.1.1.0 ∙ c.clear_tables.auto.1.1.1.1.0)
+    still-sized c.args.names.now c.args.strings.now c.args.bits.now c.args.wires.now c.args.rows.now c.requires (c.read_file.auto.names ∙ c.clear_tables.auto.names) (c.read_file.auto.strings ∙ c.clear_tables.auto.strings) (c.read_file.auto.bits ∙ c.clear_tables.auto.bits) (c.read_file.auto.wires ∙ c.clear_tables.auto.wires) (c.read_file.auto.rows ∙ c.clear_tables.auto.rows)
 
 pub returns-in-Accepted : goal.returns-in-Accepted
 returns-in-Accepted c =
