@@ -26,7 +26,7 @@ loop-j-preserved c =
     let loop-test = c.loop-j-test in
     let put-bits = c.put_bits in (
       omega arith,
-      put-bits.auto.1.1.0 ∙ loop.invariant.1,
+      put-bits.auto.out ∙ loop.invariant.1,
       bytes-more _ _ _ _ _ _ loop-test.true loop.invariant.2 put-bits.ensures,
     )
 
