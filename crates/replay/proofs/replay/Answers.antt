@@ -110,7 +110,7 @@ loop-place-preserved c =
       indexed-upto
           (next-rows _ _ _ _ loop.invariant.0 _ word.ensures (sym is-statement.ensures ∙ not-false _ if1.false-raw) _ _ _
           one_more.ensures c.in-Next.is) index-row.ensures.indexed_2,
-      index-row.auto.1.1.0 ∙ loop.invariant.2,
+      index-row.auto.heads ∙ loop.invariant.2,
       index-row.ensures.chain_len_unchanged ∙ loop.invariant.3,
       omega (arith, index-row.ensures.chain_len_unchanged, loop.invariant.4),
     )
