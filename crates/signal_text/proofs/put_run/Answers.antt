@@ -17,9 +17,9 @@ pub put_value-requires : goal.put_value-requires
 put_value-requires c =
     let a = c.args in
     record {
-  at_le_past_text = written-most c.put_byte-behind.ensures;
-  bits_len_bound = omega (arith, length-take (a.i - a.j) (drop a.j a.s.now));
-}
+      at_le_past_text = written-most c.put_byte-behind.ensures;
+      bits_len_bound = omega (arith, length-take (a.i - a.j) (drop a.j a.s.now));
+    }
 
 pub put_cut-requires : goal.put_cut-requires
 put_cut-requires c = (c.requires.0, narrow _ c.decode.ensures c.in-Wire.is, omega arith, omega arith)
