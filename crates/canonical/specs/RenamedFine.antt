@@ -121,7 +121,7 @@ module _ (r : Rename) (d : Design) where
         step-signals = le_trans (same_size signals_of_step (λ w n m. refl)) b.step-signals;
         signal-bits = le_trans (same_size signal_size (λ w n m. refl)) b.signal-bits;
         value-bits = le_trans (same_size value_size (λ w n m. refl)) b.value-bits;
-        string_bytes = le_trans (same_size string_size (λ w n m. refl)) b.string_bytes;
+        string-bytes = le_trans (same_size string_size (λ w n m. refl)) b.string-bytes;
         name-bytes = h;
       })
 

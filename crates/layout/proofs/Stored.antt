@@ -6,8 +6,6 @@ use mathlib.Core.List.{List, [], ◌∷◌, map, Option-to_list}
 use mathlib.Core.Option
 use mathlib.Core.Option.{Option, none, some, Option-elim}
 use native.Mathlib.Omega.{arith}
-use types.Run.{OneOf, miss}
-use denote.Enum.Declared.{tag_of}
 use lib.ListN.{length}
 use Rattle.rules.specs.Tokens.{Name}
 use Rattle.rules.specs.Statements as rules
@@ -29,7 +27,6 @@ use Rattle.line_forms.specs.declared.Span.{Span}
 use Rattle.syntax.specs.Statements.{fault_of, wire_from, memory_from, signal_in, statement_in, GoodConstant, GoodOptional, Sound}
 use Rattle.syntax.specs.declared.Statement.{Statement}
 use Rattle.syntax.specs.declared.Statement.TheVariants.{Autoidx, Attribute, Module, Parameter, Wire as WireOf, Memory as MemoryOf, Cell, CellParameter, CellConnection, Connection, Step as StepOf, End, NoShape, Process, BadNumber, MissingWire}
-use Rattle.syntax.specs.contracts.Statement.{the_type}
 use Rattle.netlist.specs.Tables.{Tables, tabled}
 use Rattle.layout.specs.Put.{names_put, bits_put_at, rows_put, Puts, RoomFor, Fits, constant_in, optional_in, optional_columns, optional_bytes, optional_digits, valued_row, OptionalFits, WireHas, WirePut}
 use Rattle.layout.specs.PartLaws.{no_names, no-string, one-string, no_bits, one_value}
@@ -205,42 +202,47 @@ module _ (f s : List ℕ) (r : Statement) (u : Used) (names names' bits wires wi
 
 -- any other answer that is plain is a refusal
 module _ (f s : List ℕ) (u : Used) (names bits wires rows : List ℕ) where
-  pub refusal-put : (r : Statement) → OneOf (1 ∷ 2 ∷ 3 ∷ 7 ∷ 10 ∷ 12 ∷ 13 ∷ 14 ∷ 15 ∷ []) (tag_of the_type r) → PlainPut f s r u names names bits bits wires wires rows rows
+  pub refusal-put :
+      (r : Statement) → ((w : ℕ) → r ≡ Autoidx w → ⊥) → ((n : Span) (w o k p : ℕ) → r ≡ WireOf n w o k p → ⊥) → ((n : Span) (w z t : ℕ) → r ≡ MemoryOf n w z t → ⊥) →
+      ((k n : Span) → r ≡ Cell k n → ⊥) → ((n : Span) (w l : ℕ) → r ≡ CellConnection n w l → ⊥) → ((a b l : ℕ) → r ≡ Connection a b l → ⊥) → (r ≡ End → ⊥) →
+      PlainPut f s r u names names bits bits wires wires rows rows
   unfolding statement_in
-  refusal-put (Autoidx w) o = absurd (miss (1 ∷ 2 ∷ 3 ∷ 7 ∷ 10 ∷ 12 ∷ 13 ∷ 14 ∷ 15 ∷ []) 0 tt o)
-  refusal-put (Attribute n c) o = λ k. absurd k
-  refusal-put (Module n) o = λ k. absurd k
-  refusal-put (Parameter n c) o = λ k. absurd k
-  refusal-put (WireOf n w t g p) o = absurd (miss (1 ∷ 2 ∷ 3 ∷ 7 ∷ 10 ∷ 12 ∷ 13 ∷ 14 ∷ 15 ∷ []) 4 tt o)
-  refusal-put (MemoryOf n w z t) o = absurd (miss (1 ∷ 2 ∷ 3 ∷ 7 ∷ 10 ∷ 12 ∷ 13 ∷ 14 ∷ 15 ∷ []) 5 tt o)
-  refusal-put (Cell t n) o = absurd (miss (1 ∷ 2 ∷ 3 ∷ 7 ∷ 10 ∷ 12 ∷ 13 ∷ 14 ∷ 15 ∷ []) 6 tt o)
-  refusal-put (CellParameter z n c) o = λ k. absurd k
-  refusal-put (CellConnection n w l) o = absurd (miss (1 ∷ 2 ∷ 3 ∷ 7 ∷ 10 ∷ 12 ∷ 13 ∷ 14 ∷ 15 ∷ []) 8 tt o)
-  refusal-put (Connection a b l) o = absurd (miss (1 ∷ 2 ∷ 3 ∷ 7 ∷ 10 ∷ 12 ∷ 13 ∷ 14 ∷ 15 ∷ []) 9 tt o)
-  refusal-put (StepOf p w n l) o = λ k. absurd k
-  refusal-put End o = absurd (miss (1 ∷ 2 ∷ 3 ∷ 7 ∷ 10 ∷ 12 ∷ 13 ∷ 14 ∷ 15 ∷ []) 11 tt o)
-  refusal-put NoShape o = λ k strings. refl
-  refusal-put (Process n) o = λ k. absurd k
-  refusal-put BadNumber o = λ k strings. refl
-  refusal-put MissingWire o = λ k strings. refl
+  refusal-put (Autoidx w) autoidx wire memory cell cell-connection connection end = absurd (autoidx w refl)
+  refusal-put (Attribute n c) autoidx wire memory cell cell-connection connection end = λ k. absurd k
+  refusal-put (Module n) autoidx wire memory cell cell-connection connection end = λ k. absurd k
+  refusal-put (Parameter n c) autoidx wire memory cell cell-connection connection end = λ k. absurd k
+  refusal-put (WireOf n w t g p) autoidx wire memory cell cell-connection connection end = absurd (wire n w t g p refl)
+  refusal-put (MemoryOf n w z t) autoidx wire memory cell cell-connection connection end = absurd (memory n w z t refl)
+  refusal-put (Cell t n) autoidx wire memory cell cell-connection connection end = absurd (cell t n refl)
+  refusal-put (CellParameter z n c) autoidx wire memory cell cell-connection connection end = λ k. absurd k
+  refusal-put (CellConnection n w l) autoidx wire memory cell cell-connection connection end = absurd (cell-connection n w l refl)
+  refusal-put (Connection a b l) autoidx wire memory cell cell-connection connection end = absurd (connection a b l refl)
+  refusal-put (StepOf p w n l) autoidx wire memory cell cell-connection connection end = λ k. absurd k
+  refusal-put End autoidx wire memory cell cell-connection connection end = absurd (end refl)
+  refusal-put NoShape autoidx wire memory cell cell-connection connection end = λ k strings. refl
+  refusal-put (Process n) autoidx wire memory cell cell-connection connection end = λ k. absurd k
+  refusal-put BadNumber autoidx wire memory cell cell-connection connection end = λ k strings. refl
+  refusal-put MissingWire autoidx wire memory cell cell-connection connection end = λ k strings. refl
 
-pub plain-rest : (r : Statement) → OneOf (0 ∷ 4 ∷ 5 ∷ 6 ∷ 8 ∷ 9 ∷ 11 ∷ 12 ∷ 14 ∷ 15 ∷ []) (tag_of the_type r) → Plain r
-plain-rest (Autoidx w) o = tt
-plain-rest (Attribute n c) o = absurd (miss (0 ∷ 4 ∷ 5 ∷ 6 ∷ 8 ∷ 9 ∷ 11 ∷ 12 ∷ 14 ∷ 15 ∷ []) 1 tt o)
-plain-rest (Module n) o = absurd (miss (0 ∷ 4 ∷ 5 ∷ 6 ∷ 8 ∷ 9 ∷ 11 ∷ 12 ∷ 14 ∷ 15 ∷ []) 2 tt o)
-plain-rest (Parameter n c) o = absurd (miss (0 ∷ 4 ∷ 5 ∷ 6 ∷ 8 ∷ 9 ∷ 11 ∷ 12 ∷ 14 ∷ 15 ∷ []) 3 tt o)
-plain-rest (WireOf n w t g p) o = tt
-plain-rest (MemoryOf n w z t) o = tt
-plain-rest (Cell t n) o = tt
-plain-rest (CellParameter z n c) o = absurd (miss (0 ∷ 4 ∷ 5 ∷ 6 ∷ 8 ∷ 9 ∷ 11 ∷ 12 ∷ 14 ∷ 15 ∷ []) 7 tt o)
-plain-rest (CellConnection n w l) o = tt
-plain-rest (Connection a b l) o = tt
-plain-rest (StepOf p w n l) o = absurd (miss (0 ∷ 4 ∷ 5 ∷ 6 ∷ 8 ∷ 9 ∷ 11 ∷ 12 ∷ 14 ∷ 15 ∷ []) 10 tt o)
-plain-rest End o = tt
-plain-rest NoShape o = tt
-plain-rest (Process n) o = absurd (miss (0 ∷ 4 ∷ 5 ∷ 6 ∷ 8 ∷ 9 ∷ 11 ∷ 12 ∷ 14 ∷ 15 ∷ []) 13 tt o)
-plain-rest BadNumber o = tt
-plain-rest MissingWire o = tt
+pub plain-rest :
+    (r : Statement) → ((n : Span) (c : ConstantSpan) → r ≡ Attribute n c → ⊥) → ((n : Span) → r ≡ Module n → ⊥) → ((n : Span) (c : ConstantSlot) → r ≡ Parameter n c → ⊥) →
+    ((z : ℕ) (n : Span) (c : ConstantSpan) → r ≡ CellParameter z n c → ⊥) → ((p w n l : ℕ) → r ≡ StepOf p w n l → ⊥) → ((n : Span) → r ≡ Process n → ⊥) → Plain r
+plain-rest (Autoidx w) attribute block parameter cell-parameter step process = tt
+plain-rest (Attribute n c) attribute block parameter cell-parameter step process = absurd (attribute n c refl)
+plain-rest (Module n) attribute block parameter cell-parameter step process = absurd (block n refl)
+plain-rest (Parameter n c) attribute block parameter cell-parameter step process = absurd (parameter n c refl)
+plain-rest (WireOf n w t g p) attribute block parameter cell-parameter step process = tt
+plain-rest (MemoryOf n w z t) attribute block parameter cell-parameter step process = tt
+plain-rest (Cell t n) attribute block parameter cell-parameter step process = tt
+plain-rest (CellParameter z n c) attribute block parameter cell-parameter step process = absurd (cell-parameter z n c refl)
+plain-rest (CellConnection n w l) attribute block parameter cell-parameter step process = tt
+plain-rest (Connection a b l) attribute block parameter cell-parameter step process = tt
+plain-rest (StepOf p w n l) attribute block parameter cell-parameter step process = absurd (step p w n l refl)
+plain-rest End attribute block parameter cell-parameter step process = tt
+plain-rest NoShape attribute block parameter cell-parameter step process = tt
+plain-rest (Process n) attribute block parameter cell-parameter step process = absurd (process n refl)
+plain-rest BadNumber attribute block parameter cell-parameter step process = tt
+plain-rest MissingWire attribute block parameter cell-parameter step process = tt
 
 -- ---- answers of a name and, if they have one, a constant
 
@@ -252,12 +254,12 @@ module _ (f s : List ℕ) where
   valued x e n c k w g q = record { x = x; is = e; names-are = n; constants-are = c; no-signals = k; no-wires = w; good = g; row_is = q }
 
   pub attribute-valued : (r : Statement) (n : Span) (c : ConstantSpan) → r ≡ Attribute n c → Sound f r → ValuedHas f s r 2 n (literal.Read c) 0
-  unfolding statement_in holds contents value_in Option.map Option-to_list Option-elim statement_row columns code valued_row optional_columns
+  unfolding statement_in holds contents value_in Option-to_list Option-elim statement_row columns code valued_row optional_columns
   attribute-valued r n c e g =
       valued (attr-stmt (name_in f n) (constant_in f c)) (ap (statement_in f s) e) refl refl refl refl (rw e at g) (λ u. sym (row_zero u (constant_in f c) 2 u.names (length (name_in f n))))
 
   pub cell-parameter-valued : (r : Statement) (z : ℕ) (n : Span) (c : ConstantSpan) → r ≡ CellParameter z n c → Sound f r → ValuedHas f s r 8 n (literal.Read c) z
-  unfolding statement_in holds contents value_in Option.map Option-to_list Option-elim statement_row columns code valued_row optional_columns
+  unfolding statement_in holds contents value_in Option-to_list Option-elim statement_row columns code valued_row optional_columns
   cell-parameter-valued r z n c e g =
       let k : (z ≤ 2) × GoodConstant f c = rw e at g in
       valued (cell-param-stmt (sort_of z) (name_in f n) (constant_in f c)) (ap (statement_in f s) e) refl refl refl refl k.1 (λ u. rw (sort-code z k.0))
@@ -272,11 +274,11 @@ module _ (f s : List ℕ) where
   parameter-valued r n c e g = valued (param-stmt (name_in f n) (optional_in f c)) (ap (statement_in f s) e) refl refl refl refl (rw e at g) (λ u. parameter-row u (name_in f n) c)
 
   pub module-valued : (r : Statement) (n : Span) → r ≡ Module n → Sound f r → ValuedHas f s r 3 n literal.Nothing 0
-  unfolding statement_in holds contents value_in Option.map Option-to_list Option-elim statement_row columns code valued_row optional_columns row padded
+  unfolding statement_in holds contents value_in Option-to_list Option-elim statement_row columns code valued_row optional_columns row padded
   module-valued r n e g = valued (module-stmt (name_in f n)) (ap (statement_in f s) e) refl refl refl refl tt (λ u. refl)
 
   pub process-valued : (r : Statement) (n : Span) → r ≡ Process n → Sound f r → ValuedHas f s r 11 n literal.Nothing 0
-  unfolding statement_in holds contents value_in Option.map Option-to_list Option-elim statement_row columns code valued_row optional_columns row padded
+  unfolding statement_in holds contents value_in Option-to_list Option-elim statement_row columns code valued_row optional_columns row padded
   process-valued r n e g = valued (proc-stmt (name_in f n)) (ap (statement_in f s) e) refl refl refl refl tt (λ u. refl)
 
 -- what they need
@@ -284,7 +286,7 @@ module _ (f s : List ℕ) (r : Statement) (u : Used) (t : Tables) (h : Storable 
   constant-room :
       (x : rules.Statement) (c : ConstantSlot) → statement_in f s r ≡ some x → (contents x).constants ≡ Option-to_list (optional_in f c) → (contents x).signals ≡ [] → GoodOptional f c →
       OptionalFits f c u t.strings t.bits
-  unfolding value_in Option.map Option-to_list
+  unfolding value_in Option-to_list
   constant-room x (literal.Read c) e kc ks g =
       record {
         good = g.good;

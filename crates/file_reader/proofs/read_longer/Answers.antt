@@ -20,101 +20,11 @@ enum_known-l c = c.in-Longer.keys2
 
 pub read_longest-requires : goal.read_longest-requires
 read_longest-requires c = CLAUSES before lines_indexed 
-    let after-read-lines = c.before.before.before.before.before.before.before.before.before.before.before.before.before.before.before.before.before.before.before.before.before.before.before.before.before.before.before.before in
-    (let x = longer _ _ _ _ _ _ _ _ after-read-lines.read-lines.ensures _ _ _ c.in-Longer.is in (x.0, x.1))
-
-pub shape_of-scratch-in-Ended : goal.shape_of-scratch-in-Ended
-shape_of-scratch-in-Ended c =
-    let after-read-lines = c.before.before.before.before.before.before.before.before.before.before.before.before.before.before.before.before.before.before.before.before in
-    after-read-lines.read-lines.auto.1.1.1.1.1.0
-
-pub shape_of-names-in-Ended : goal.shape_of-names-in-Ended
-shape_of-names-in-Ended c =
-    let after-read-lines = c.before.before.before.before.before.before.before.before.before.before.before.before.before.before.before.before.before.before.before.before in
-    after-read-lines.read-lines.auto.1.1.1.1.1.1.0
-
-pub shape_of-strings-in-Ended : goal.shape_of-strings-in-Ended
-shape_of-strings-in-Ended c =
-    let after-read-lines = c.before.before.before.before.before.before.before.before.before.before.before.before.before.before.before.before.before.before.before.before in
-    after-read-lines.read-lines.auto.1.1.1.1.1.1.1.0
-
-pub shape_of-bits-in-Ended : goal.shape_of-bits-in-Ended
-shape_of-bits-in-Ended c =
-    let after-read-lines = c.before.before.before.before.before.before.before.before.before.before.before.before.before.before.before.before.before.before.before.before in
-    after-read-lines.read-lines.auto.1.1.1.1.1.1.1.1.0
-
-pub shape_of-wires-in-Ended : goal.shape_of-wires-in-Ended
-shape_of-wires-in-Ended c =
-    let after-read-lines = c.before.before.before.before.before.before.before.before.before.before.before.before.before.before.before.before.before.before.before.before in
-    after-read-lines.read-lines.auto.1.1.1.1.1.1.1.1.1.0
-
-pub shape_of-rows-in-Ended : goal.shape_of-rows-in-Ended
-shape_of-rows-in-Ended c =
-    let after-read-lines = c.before.before.before.before.before.before.before.before.before.before.before.before.before.before.before.before.before.before.before.before in
-    after-read-lines.read-lines.auto.1.1.1.1.1.1.1.1.1.1.0
-
-pub shape_of-heads-in-Ended : goal.shape_of-heads-in-Ended
-shape_of-heads-in-Ended c =
-    let after-read-lines = c.before.before.before.before.before.before.before.before.before.before.before.before.before.before.before.before.before.before.before.before in
-    after-read-lines.read-lines.auto.1.1.1.1.1.1.1.1.1.1.1.0
-
-pub shape_of-chain-in-Ended : goal.shape_of-chain-in-Ended
-shape_of-chain-in-Ended c =
-    let after-read-lines = c.before.before.before.before.before.before.before.before.before.before.before.before.before.before.before.before.before.before.before.before in
-    after-read-lines.read-lines.auto.1.1.1.1.1.1.1.1.1.1.1.1.0
+(let x = longer _ _ _ _ _ _ _ _ c.read_lines.ensures _ _ _ c.in-Longer.is in (x.0, x.1))
 
 pub returns-in-Ended : goal.returns-in-Ended
 returns-in-Ended c =
-    let after-read-lines = c.before.before.before.before.before.before.before.before.before.before.before.before.before.before.before.before.before.before.before.before in
-    ended _ _ _ _ _ _ _ _ after-read-lines.read-lines.ensures _ c.in-Ended.is
-
-pub shape_of-scratch-in-Longer : goal.shape_of-scratch-in-Longer
-shape_of-scratch-in-Longer c =
-    let on-the-way = c.before.before.before.before.before.before.before.before.before.before.before.before.before.before.before.before.before.before.before.before.before.before.before.before.before.before.before.before.before.before.before in
-    let after-read-lines = on-the-way.before.before.before.before.before.before.before.before.before.before.before.before.before.before in
-    c.read_longest.auto.1.1.1.1.0 ∙ after-read-lines.read-lines.auto.1.1.1.1.1.0
-
-pub shape_of-names-in-Longer : goal.shape_of-names-in-Longer
-shape_of-names-in-Longer c =
-    let on-the-way = c.before.before.before.before.before.before.before.before.before.before.before.before.before.before.before.before.before.before.before.before.before.before.before.before.before.before.before.before.before.before.before in
-    let after-read-lines = on-the-way.before.before.before.before.before.before.before.before.before.before.before.before.before.before in
-    c.read_longest.auto.1.1.1.1.1.0 ∙ after-read-lines.read-lines.auto.1.1.1.1.1.1.0
-
-pub shape_of-strings-in-Longer : goal.shape_of-strings-in-Longer
-shape_of-strings-in-Longer c =
-    let on-the-way = c.before.before.before.before.before.before.before.before.before.before.before.before.before.before.before.before.before.before.before.before.before.before.before.before.before.before.before.before.before.before.before in
-    let after-read-lines = on-the-way.before.before.before.before.before.before.before.before.before.before.before.before.before.before in
-    c.read_longest.auto.1.1.1.1.1.1.0 ∙ after-read-lines.read-lines.auto.1.1.1.1.1.1.1.0
-
-pub shape_of-bits-in-Longer : goal.shape_of-bits-in-Longer
-shape_of-bits-in-Longer c =
-    let on-the-way = c.before.before.before.before.before.before.before.before.before.before.before.before.before.before.before.before.before.before.before.before.before.before.before.before.before.before.before.before.before.before.before in
-    let after-read-lines = on-the-way.before.before.before.before.before.before.before.before.before.before.before.before.before.before in
-    c.read_longest.auto.1.1.1.1.1.1.1.0 ∙ after-read-lines.read-lines.auto.1.1.1.1.1.1.1.1.0
-
-pub shape_of-wires-in-Longer : goal.shape_of-wires-in-Longer
-shape_of-wires-in-Longer c =
-    let on-the-way = c.before.before.before.before.before.before.before.before.before.before.before.before.before.before.before.before.before.before.before.before.before.before.before.before.before.before.before.before.before.before.before in
-    let after-read-lines = on-the-way.before.before.before.before.before.before.before.before.before.before.before.before.before.before in
-    c.read_longest.auto.1.1.1.1.1.1.1.1.0 ∙ after-read-lines.read-lines.auto.1.1.1.1.1.1.1.1.1.0
-
-pub shape_of-rows-in-Longer : goal.shape_of-rows-in-Longer
-shape_of-rows-in-Longer c =
-    let on-the-way = c.before.before.before.before.before.before.before.before.before.before.before.before.before.before.before.before.before.before.before.before.before.before.before.before.before.before.before.before.before.before.before in
-    let after-read-lines = on-the-way.before.before.before.before.before.before.before.before.before.before.before.before.before.before in
-    c.read_longest.auto.1.1.1.1.1.1.1.1.1.0 ∙ after-read-lines.read-lines.auto.1.1.1.1.1.1.1.1.1.1.0
-
-pub shape_of-heads-in-Longer : goal.shape_of-heads-in-Longer
-shape_of-heads-in-Longer c =
-    let on-the-way = c.before.before.before.before.before.before.before.before.before.before.before.before.before.before.before.before.before.before.before.before.before.before.before.before.before.before.before.before.before.before.before in
-    let after-read-lines = on-the-way.before.before.before.before.before.before.before.before.before.before.before.before.before.before in
-    c.read_longest.auto.1.1.1.1.1.1.1.1.1.1.0 ∙ after-read-lines.read-lines.auto.1.1.1.1.1.1.1.1.1.1.1.0
-
-pub shape_of-chain-in-Longer : goal.shape_of-chain-in-Longer
-shape_of-chain-in-Longer c =
-    let on-the-way = c.before.before.before.before.before.before.before.before.before.before.before.before.before.before.before.before.before.before.before.before.before.before.before.before.before.before.before.before.before.before.before in
-    let after-read-lines = on-the-way.before.before.before.before.before.before.before.before.before.before.before.before.before.before in
-    c.read_longest.auto.1.1.1.1.1.1.1.1.1.1.1.0 ∙ after-read-lines.read-lines.auto.1.1.1.1.1.1.1.1.1.1.1.1.0
+    ended _ _ _ _ _ _ _ _ c.read_lines.ensures _ c.in-Ended.is
 
 pub returns-in-Longer : goal.returns-in-Longer
 returns-in-Longer c = c.read_longest.ensures

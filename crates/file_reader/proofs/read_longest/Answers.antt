@@ -18,60 +18,10 @@ enum_known-a c = c.in-Ended.keys1
 pub enum_known-p : goal.enum_known-p
 enum_known-p c = c.in-Longer.keys2
 
-pub shape_of-scratch-in-Ended : goal.shape_of-scratch-in-Ended
-shape_of-scratch-in-Ended c = c.read_lines.auto.1.1.1.1.1.0
-
-pub shape_of-names-in-Ended : goal.shape_of-names-in-Ended
-shape_of-names-in-Ended c = c.read_lines.auto.1.1.1.1.1.1.0
-
-pub shape_of-strings-in-Ended : goal.shape_of-strings-in-Ended
-shape_of-strings-in-Ended c = c.read_lines.auto.1.1.1.1.1.1.1.0
-
-pub shape_of-bits-in-Ended : goal.shape_of-bits-in-Ended
-shape_of-bits-in-Ended c = c.read_lines.auto.1.1.1.1.1.1.1.1.0
-
-pub shape_of-wires-in-Ended : goal.shape_of-wires-in-Ended
-shape_of-wires-in-Ended c = c.read_lines.auto.1.1.1.1.1.1.1.1.1.0
-
-pub shape_of-rows-in-Ended : goal.shape_of-rows-in-Ended
-shape_of-rows-in-Ended c = c.read_lines.auto.1.1.1.1.1.1.1.1.1.1.0
-
-pub shape_of-heads-in-Ended : goal.shape_of-heads-in-Ended
-shape_of-heads-in-Ended c = c.read_lines.auto.1.1.1.1.1.1.1.1.1.1.1.0
-
-pub shape_of-chain-in-Ended : goal.shape_of-chain-in-Ended
-shape_of-chain-in-Ended c = c.read_lines.auto.1.1.1.1.1.1.1.1.1.1.1.1.0
-
 pub returns-in-Ended : goal.returns-in-Ended
 returns-in-Ended c =
-    let after-read-lines = c.before.before.before.before.before.before.before.before.before.before.before.before.before.before.before.before.before.before.before.before in
-    ended _ _ _ _ _ _ _ _ after-read-lines.read-lines.ensures _ c.in-Ended.is
-
-pub shape_of-scratch-in-Longer : goal.shape_of-scratch-in-Longer
-shape_of-scratch-in-Longer c = c.read_lines.auto.1.1.1.1.1.0
-
-pub shape_of-names-in-Longer : goal.shape_of-names-in-Longer
-shape_of-names-in-Longer c = c.read_lines.auto.1.1.1.1.1.1.0
-
-pub shape_of-strings-in-Longer : goal.shape_of-strings-in-Longer
-shape_of-strings-in-Longer c = c.read_lines.auto.1.1.1.1.1.1.1.0
-
-pub shape_of-bits-in-Longer : goal.shape_of-bits-in-Longer
-shape_of-bits-in-Longer c = c.read_lines.auto.1.1.1.1.1.1.1.1.0
-
-pub shape_of-wires-in-Longer : goal.shape_of-wires-in-Longer
-shape_of-wires-in-Longer c = c.read_lines.auto.1.1.1.1.1.1.1.1.1.0
-
-pub shape_of-rows-in-Longer : goal.shape_of-rows-in-Longer
-shape_of-rows-in-Longer c = c.read_lines.auto.1.1.1.1.1.1.1.1.1.1.0
-
-pub shape_of-heads-in-Longer : goal.shape_of-heads-in-Longer
-shape_of-heads-in-Longer c = c.read_lines.auto.1.1.1.1.1.1.1.1.1.1.1.0
-
-pub shape_of-chain-in-Longer : goal.shape_of-chain-in-Longer
-shape_of-chain-in-Longer c = c.read_lines.auto.1.1.1.1.1.1.1.1.1.1.1.1.0
+    ended _ _ _ _ _ _ _ _ c.read_lines.ensures _ c.in-Ended.is
 
 pub returns-in-Longer : goal.returns-in-Longer
 returns-in-Longer c =
-    let after-read-lines = c.before.before.before.before.before.before.before.before.before.before.before.before.before.before.before.before.before.before.before.before in
-    absurd (no_longer _ _ _ _ _ _ _ _ after-read-lines.read-lines.ensures _ _ _ c.in-Longer.is refl)
+    absurd (no_longer _ _ _ _ _ _ _ _ c.read_lines.ensures _ _ _ c.in-Longer.is refl)

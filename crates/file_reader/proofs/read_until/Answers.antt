@@ -31,12 +31,9 @@ slice_bounds-read_lines-end-4 c = refl
 pub read_lines-requires : goal.read_lines-requires
 unfolding place_of wires_in sum
 read_lines-requires c =
-    let after-start = c.before.before.before.before.before.before.before.before.before.before in
-    let after-line-at = after-start.before in
-    let entry = after-line-at.before.before.before.before.before.before.before.before in
     record {
-  before = before _ _ (reached-start _ _ _ _ _ _ (entry.requires.0, refl, entry.requires.1) after-start.start.ensures c.none.ensures (none-settled _ _)) after-line-at.line_at_lem.ensures;
-  lines_indexed = lines-upto (ap (λ (p : Place). p.rows) after-start.start.ensures) (ap (λ (p : Place). p.wires) after-start.start.ensures) (lines_none _ _ _ _ _ refl refl);
+  before = before _ _ (reached-start _ _ _ _ _ _ (c.requires.f_len_bound, refl, c.requires.rows_value) c.start.ensures c.none.ensures (none-settled _ _)) c.line_at.ensures;
+  lines_indexed = lines-upto (ap (λ (p : Place). p.rows) c.start.ensures) (ap (λ (p : Place). p.wires) c.start.ensures) (lines_none _ _ _ _ _ refl refl);
 }
 
 pub enum_known-a : goal.enum_known-a
@@ -47,129 +44,45 @@ enum_known-line c = c.in-Longer.keys2
 
 pub overflow_sub-line : goal.overflow_sub-line
 overflow_sub-line c =
-    let after-read-lines = c.before.before.before.before.before.before.before.before.before.before.before.before.before.before.before.before.before.before in
-    (let x = longer _ _ _ _ _ _ _ _ after-read-lines.read-lines.ensures _ _ _ c.in-Longer.is in (reached-fits x.0.reached _ x.0.is).low)
+    (let x = longer _ _ _ _ _ _ _ _ c.read_lines.ensures _ _ _ c.in-Longer.is in (reached-fits x.0.reached _ x.0.is).low)
 
 pub slice_bounds-read_longest-end : goal.slice_bounds-read_longest-end
 slice_bounds-read_longest-end c =
-    let after-read-lines = c.before.before.before.before.before.before.before.before.before.before.before.before.before.before.before.before.before.before.before.before in
-    sym after-read-lines.read-lines.auto.1.1.1.1.1.0
+    sym c.read_lines.auto.1.1.1.1.1.0
 
 pub slice_bounds-read_longest-end-then-line-gt-LONGER_LINE : goal.slice_bounds-read_longest-end-then-line-gt-LONGER_LINE
 slice_bounds-read_longest-end-then-line-gt-LONGER_LINE c =
-    let after-read-lines = c.before.before.before.before.before.before.before.before.before.before.before.before.before.before.before.before.before.before.before.before.before.before.before.before.before.before in
-    sym after-read-lines.read-lines.auto.1.1.1.1.1.1.1.1.1.1.1.0
+    sym c.read_lines.auto.1.1.1.1.1.1.1.1.1.1.1.0
 
 pub slice_bounds-read_longest-end-then-line-gt-LONGER_LINE-2 : goal.slice_bounds-read_longest-end-then-line-gt-LONGER_LINE-2
 slice_bounds-read_longest-end-then-line-gt-LONGER_LINE-2 c =
-    let after-read-lines = c.before.before.before.before.before.before.before.before.before.before.before.before.before.before.before.before.before.before.before.before.before.before.before.before.before.before.before in
-    sym after-read-lines.read-lines.auto.1.1.1.1.1.1.1.1.1.1.1.1.0
+    sym c.read_lines.auto.1.1.1.1.1.1.1.1.1.1.1.1.0
 
 pub read_longest-requires : goal.read_longest-requires
 read_longest-requires c = CLAUSES before lines_indexed 
-    let after-read-lines = c.before.before.before.before.before.before.before.before.before.before.before.before.before.before.before.before.before.before.before.before.before.before.before.before.before.before.before in
-    (let x = longer _ _ _ _ _ _ _ _ after-read-lines.read-lines.ensures _ _ _ c.in-Longer.is in (x.0, x.1))
-
-pub shape_of-names-then-line-gt-LONGER_LINE : goal.shape_of-names-then-line-gt-LONGER_LINE
-shape_of-names-then-line-gt-LONGER_LINE c =
-    let on-the-way = c.before.before.before.before.before.before.before.before.before.before.before.before.before.before.before.before.before.before.before.before.before.before.before.before.before.before.before.before in
-    let after-read-lines = on-the-way.before.before.before.before.before.before.before.before.before.before.before.before.before in
-    c.read_longest.auto.1.1.1.1.1.0 ∙ after-read-lines.read-lines.auto.1.1.1.1.1.1.0
-
-pub shape_of-strings-then-line-gt-LONGER_LINE : goal.shape_of-strings-then-line-gt-LONGER_LINE
-shape_of-strings-then-line-gt-LONGER_LINE c =
-    let on-the-way = c.before.before.before.before.before.before.before.before.before.before.before.before.before.before.before.before.before.before.before.before.before.before.before.before.before.before.before.before in
-    let after-read-lines = on-the-way.before.before.before.before.before.before.before.before.before.before.before.before.before in
-    c.read_longest.auto.1.1.1.1.1.1.0 ∙ after-read-lines.read-lines.auto.1.1.1.1.1.1.1.0
-
-pub shape_of-bits-then-line-gt-LONGER_LINE : goal.shape_of-bits-then-line-gt-LONGER_LINE
-shape_of-bits-then-line-gt-LONGER_LINE c =
-    let on-the-way = c.before.before.before.before.before.before.before.before.before.before.before.before.before.before.before.before.before.before.before.before.before.before.before.before.before.before.before.before in
-    let after-read-lines = on-the-way.before.before.before.before.before.before.before.before.before.before.before.before.before in
-    c.read_longest.auto.1.1.1.1.1.1.1.0 ∙ after-read-lines.read-lines.auto.1.1.1.1.1.1.1.1.0
-
-pub shape_of-wires-then-line-gt-LONGER_LINE : goal.shape_of-wires-then-line-gt-LONGER_LINE
-shape_of-wires-then-line-gt-LONGER_LINE c =
-    let on-the-way = c.before.before.before.before.before.before.before.before.before.before.before.before.before.before.before.before.before.before.before.before.before.before.before.before.before.before.before.before in
-    let after-read-lines = on-the-way.before.before.before.before.before.before.before.before.before.before.before.before.before in
-    c.read_longest.auto.1.1.1.1.1.1.1.1.0 ∙ after-read-lines.read-lines.auto.1.1.1.1.1.1.1.1.1.0
-
-pub shape_of-rows-then-line-gt-LONGER_LINE : goal.shape_of-rows-then-line-gt-LONGER_LINE
-shape_of-rows-then-line-gt-LONGER_LINE c =
-    let on-the-way = c.before.before.before.before.before.before.before.before.before.before.before.before.before.before.before.before.before.before.before.before.before.before.before.before.before.before.before.before in
-    let after-read-lines = on-the-way.before.before.before.before.before.before.before.before.before.before.before.before.before in
-    c.read_longest.auto.1.1.1.1.1.1.1.1.1.0 ∙ after-read-lines.read-lines.auto.1.1.1.1.1.1.1.1.1.1.0
+(let x = longer _ _ _ _ _ _ _ _ c.read_lines.ensures _ _ _ c.in-Longer.is in (x.0, x.1))
 
 pub returns-then-line-gt-LONGER_LINE : goal.returns-then-line-gt-LONGER_LINE
 returns-then-line-gt-LONGER_LINE c = c.read_longest.ensures
 
 pub slice_bounds-read_longer-end : goal.slice_bounds-read_longer-end
 slice_bounds-read_longer-end c =
-    let after-read-lines = c.before.before.before.before.before.before.before.before.before.before.before.before.before.before.before.before.before.before.before.before in
-    sym after-read-lines.read-lines.auto.1.1.1.1.1.0
+    sym c.read_lines.auto.1.1.1.1.1.0
 
 pub slice_bounds-read_longer-end-in-Longer : goal.slice_bounds-read_longer-end-in-Longer
 slice_bounds-read_longer-end-in-Longer c =
-    let after-read-lines = c.before.before.before.before.before.before.before.before.before.before.before.before.before.before.before.before.before.before.before.before.before.before.before.before.before.before in
-    sym after-read-lines.read-lines.auto.1.1.1.1.1.1.1.1.1.1.1.0
+    sym c.read_lines.auto.1.1.1.1.1.1.1.1.1.1.1.0
 
 pub slice_bounds-read_longer-end-in-Longer-2 : goal.slice_bounds-read_longer-end-in-Longer-2
 slice_bounds-read_longer-end-in-Longer-2 c =
-    let after-read-lines = c.before.before.before.before.before.before.before.before.before.before.before.before.before.before.before.before.before.before.before.before.before.before.before.before.before.before.before in
-    sym after-read-lines.read-lines.auto.1.1.1.1.1.1.1.1.1.1.1.1.0
+    sym c.read_lines.auto.1.1.1.1.1.1.1.1.1.1.1.1.0
 
 pub read_longer-requires : goal.read_longer-requires
 read_longer-requires c = CLAUSES before lines_indexed 
-    let after-read-lines = c.before.before.before.before.before.before.before.before.before.before.before.before.before.before.before.before.before.before.before.before.before.before.before.before.before.before.before in
-    (let x = longer _ _ _ _ _ _ _ _ after-read-lines.read-lines.ensures _ _ _ c.in-Longer.is in (x.0, x.1))
-
-pub shape_of-names-in-Ended : goal.shape_of-names-in-Ended
-shape_of-names-in-Ended c = c.read_lines.auto.1.1.1.1.1.1.0
-
-pub shape_of-strings-in-Ended : goal.shape_of-strings-in-Ended
-shape_of-strings-in-Ended c = c.read_lines.auto.1.1.1.1.1.1.1.0
-
-pub shape_of-bits-in-Ended : goal.shape_of-bits-in-Ended
-shape_of-bits-in-Ended c = c.read_lines.auto.1.1.1.1.1.1.1.1.0
-
-pub shape_of-wires-in-Ended : goal.shape_of-wires-in-Ended
-shape_of-wires-in-Ended c = c.read_lines.auto.1.1.1.1.1.1.1.1.1.0
-
-pub shape_of-rows-in-Ended : goal.shape_of-rows-in-Ended
-shape_of-rows-in-Ended c = c.read_lines.auto.1.1.1.1.1.1.1.1.1.1.0
+(let x = longer _ _ _ _ _ _ _ _ c.read_lines.ensures _ _ _ c.in-Longer.is in (x.0, x.1))
 
 pub returns-in-Ended : goal.returns-in-Ended
 returns-in-Ended c = ended _ _ _ _ _ _ _ _ c.read_lines.ensures _ c.in-Ended.is
-
-pub shape_of-names-else-line-gt-LONGER_LINE : goal.shape_of-names-else-line-gt-LONGER_LINE
-shape_of-names-else-line-gt-LONGER_LINE c =
-    let on-the-way = c.before.before.before.before.before.before.before.before.before.before.before.before.before.before.before.before.before.before.before.before.before.before.before.before.before.before.before.before in
-    let after-read-lines = on-the-way.before.before.before.before.before.before.before.before.before.before.before.before.before in
-    c.read_longer.auto.1.1.1.1.1.0 ∙ after-read-lines.read-lines.auto.1.1.1.1.1.1.0
-
-pub shape_of-strings-else-line-gt-LONGER_LINE : goal.shape_of-strings-else-line-gt-LONGER_LINE
-shape_of-strings-else-line-gt-LONGER_LINE c =
-    let on-the-way = c.before.before.before.before.before.before.before.before.before.before.before.before.before.before.before.before.before.before.before.before.before.before.before.before.before.before.before.before in
-    let after-read-lines = on-the-way.before.before.before.before.before.before.before.before.before.before.before.before.before in
-    c.read_longer.auto.1.1.1.1.1.1.0 ∙ after-read-lines.read-lines.auto.1.1.1.1.1.1.1.0
-
-pub shape_of-bits-else-line-gt-LONGER_LINE : goal.shape_of-bits-else-line-gt-LONGER_LINE
-shape_of-bits-else-line-gt-LONGER_LINE c =
-    let on-the-way = c.before.before.before.before.before.before.before.before.before.before.before.before.before.before.before.before.before.before.before.before.before.before.before.before.before.before.before.before in
-    let after-read-lines = on-the-way.before.before.before.before.before.before.before.before.before.before.before.before.before in
-    c.read_longer.auto.1.1.1.1.1.1.1.0 ∙ after-read-lines.read-lines.auto.1.1.1.1.1.1.1.1.0
-
-pub shape_of-wires-else-line-gt-LONGER_LINE : goal.shape_of-wires-else-line-gt-LONGER_LINE
-shape_of-wires-else-line-gt-LONGER_LINE c =
-    let on-the-way = c.before.before.before.before.before.before.before.before.before.before.before.before.before.before.before.before.before.before.before.before.before.before.before.before.before.before.before.before in
-    let after-read-lines = on-the-way.before.before.before.before.before.before.before.before.before.before.before.before.before in
-    c.read_longer.auto.1.1.1.1.1.1.1.1.0 ∙ after-read-lines.read-lines.auto.1.1.1.1.1.1.1.1.1.0
-
-pub shape_of-rows-else-line-gt-LONGER_LINE : goal.shape_of-rows-else-line-gt-LONGER_LINE
-shape_of-rows-else-line-gt-LONGER_LINE c =
-    let on-the-way = c.before.before.before.before.before.before.before.before.before.before.before.before.before.before.before.before.before.before.before.before.before.before.before.before.before.before.before.before in
-    let after-read-lines = on-the-way.before.before.before.before.before.before.before.before.before.before.before.before.before in
-    c.read_longer.auto.1.1.1.1.1.1.1.1.1.0 ∙ after-read-lines.read-lines.auto.1.1.1.1.1.1.1.1.1.1.0
 
 pub returns-else-line-gt-LONGER_LINE : goal.returns-else-line-gt-LONGER_LINE
 returns-else-line-gt-LONGER_LINE c = c.read_longer.ensures

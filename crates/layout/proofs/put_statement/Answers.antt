@@ -1,4 +1,3 @@
-
 use Rattle.netlist.specs.Tables.{tabled}
 use Rattle.layout.proofs.Stored.{valued-room, plain-room, valued-put}
 use Rattle.layout.proofs.StepLaws.{step_room, step-put}
@@ -6,13 +5,19 @@ use Rattle.layout.proofs.put_statement.Statement.{statement}
 use Rattle.layout.proofs.put_statement.Goals as goal
 
 pub put_valued-requires : goal.put_valued-requires
-put_valued-requires c = CLAUSES fits optional_fits most_width_in_bounds rows_in_bounds 
+put_valued-requires c =
     let args = c.args in
     let pre = c.requires in
     let as-valued = c.as_valued in
-    valued-room args.f.now args.scratch.now args.statement args.u
+    let whole = valued-room args.f.now args.scratch.now args.statement args.u
     (tabled args.names.now args.strings.now args.bits.now args.wires.now args.rows.now)
-    pre _ _ _ _ ((rw c.in-Named.is at as-valued.ensures) args.f.now args.scratch.now pre.sound)
+    pre _ _ _ _ ((rw c.in-Named.is at as-valued.ensures) args.f.now args.scratch.now pre.sound) in
+    record {
+      fits = whole.0;
+      optional_fits = whole.1.0;
+      most_width_in_bounds = whole.1.1.0;
+      rows_in_bounds = whole.1.1.1;
+    }
 
 pub put_step-requires : goal.put_step-requires
 put_step-requires c =
@@ -30,21 +35,6 @@ put_plain-requires c =
     plain-room args.f.now args.scratch.now args.statement args.u
     (tabled args.names.now args.strings.now args.bits.now args.wires.now args.rows.now)
     pre
-
-pub shape_of-scratch-in-Named : goal.shape_of-scratch-in-Named
-shape_of-scratch-in-Named c = c.put_valued.auto.1.1.1.1.1.1.0
-
-pub shape_of-names-in-Named : goal.shape_of-names-in-Named
-shape_of-names-in-Named c = c.put_valued.auto.1.1.1.1.1.1.1.0
-
-pub shape_of-strings : goal.shape_of-strings
-shape_of-strings c = c.put_valued.auto.1.1.1.1.1.1.1.1.0
-
-pub shape_of-bits-in-Named : goal.shape_of-bits-in-Named
-shape_of-bits-in-Named c = c.put_valued.auto.1.1.1.1.1.1.1.1.1.0
-
-pub shape_of-rows-in-Named : goal.shape_of-rows-in-Named
-shape_of-rows-in-Named c = c.put_valued.auto.1.1.1.1.1.1.1.1.1.1.0
 
 pub returns-in-Named : goal.returns-in-Named
 returns-in-Named c =

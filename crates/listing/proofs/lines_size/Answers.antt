@@ -22,7 +22,7 @@ overflow_add-size c =
     let args = c.args in
     let loop = c.loop-w in
     let pre = c.requires in
-    omega (arith, pre, size-more args.names.now args.strings.now args.wires.now args.rows.now args.m loop.w loop.size _ loop.invariant.1 c.line_size-size.ensures, lines-most args.names.now args.strings.now args.wires.now args.rows.now args.m pre.names_len pre.names_len.1 (loop.w + 1))
+    omega (arith, pre, size-more args.names.now args.strings.now args.wires.now args.rows.now args.m loop.w loop.size _ loop.invariant.1 c.line_size-size.ensures, lines-most args.names.now args.strings.now args.wires.now args.rows.now args.m pre.names_len.0 pre.names_len.1 (loop.w + 1))
 
 pub loop-w-preserved : goal.loop-w-preserved
 loop-w-preserved c =

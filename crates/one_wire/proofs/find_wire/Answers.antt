@@ -13,12 +13,7 @@ bytes_at-requires c = (omega arith, omega arith)
 
 pub returns-then-same_bytes : goal.returns-then-same_bytes
 returns-then-same_bytes c =
-    let after-same-bytes = c.before.before in
-    let after-bytes-at = after-same-bytes.before in
-    let after-if1 = after-bytes-at.before.before in
-    let after-loop = after-if1.before.before in
-    let after-module-wires = after-loop.before in
-    sought-row _ _ _ _ _ after-loop.loop.invariant.0 _ after-module-wires.module-wires.ensures _ refl after-if1.if1.true (named _ _ _ _ _ _ _ after-bytes-at.bytes-at.ensures after-same-bytes.same_bytes.ensures c.if-same_bytes.true) c.wire_in.result c.wire_in.ensures
+    sought-row _ _ _ _ _ c.loop-k.invariant.0 _ c.module_wires-own.ensures _ refl c.loop-k-test.true (named _ _ _ _ _ _ _ c.bytes_at.ensures c.same_bytes.ensures c.if-same_bytes.true) c.wire_in.result c.wire_in.ensures
 
 pub loop-k-preserved : goal.loop-k-preserved
 loop-k-preserved c =

@@ -30,12 +30,8 @@ read_until-requires c = record {
 
 pub returns-in-Accepted : goal.returns-in-Accepted
 returns-in-Accepted c =
-    let after-read-until = c.before.before.before.before.before.before.before.before.before.before.before in
-    let after-if1 = after-read-until.before.before.before.before.before.before in
-    sought-accepted _ _ _ after-if1.if1.false _ _ _ _ after-read-until.read-until.ensures c.in-Accepted.is c.find_wire.result c.find_wire.ensures
+    sought-accepted _ _ _ c.if-size-gt-MOST_FILE_BYTES.false _ _ _ _ c.read_until.ensures c.in-Accepted.is c.find_wire.result c.find_wire.ensures
 
 pub returns-in-Refused : goal.returns-in-Refused
 returns-in-Refused c =
-    let after-read-until = c.before.before.before.before.before.before.before.before in
-    let after-if1 = after-read-until.before.before.before.before.before.before in
-    sought-refused _ _ _ after-if1.if1.false _ _ _ _ after-read-until.read-until.ensures c.in-Refused.is
+    sought-refused _ _ _ c.if-size-gt-MOST_FILE_BYTES.false _ _ _ _ c.read_until.ensures c.in-Refused.is

@@ -36,11 +36,8 @@ enum_known-number c = c.in-Refused.keys2
 
 pub returns-in-Accepted : goal.returns-in-Accepted
 returns-in-Accepted c =
-    let after-if1 = c.before.before.before.before.before.before.before.before.before.before.before.before.before in
-    checked-accepted _ after-if1.if1.false _ _ _ _ c.read_file.ensures c.in-Accepted.is
+    checked-accepted _ c.if-size-gt-MOST_FILE_BYTES.false _ _ _ _ c.read_file.ensures c.in-Accepted.is
 
 pub returns-in-Refused : goal.returns-in-Refused
 returns-in-Refused c =
-    let after-read-file = c.before.before.before.before.before.before.before.before in
-    let after-if1 = after-read-file.before.before.before.before.before.before in
-    checked_refused _ after-if1.if1.false _ _ _ _ after-read-file.read-file.ensures c.in-Refused.is
+    checked_refused _ c.if-size-gt-MOST_FILE_BYTES.false _ _ _ _ c.read_file.ensures c.in-Refused.is

@@ -23,9 +23,6 @@ overflow_cast-result c =
 pub enum_known-n : goal.enum_known-n
 enum_known-n c = c.in-Tokens.keys2
 
-pub shape_of-tokens-then-n-eq0 : goal.shape_of-tokens-then-n-eq0
-shape_of-tokens-then-n-eq0 c = c.lex_line.auto.1.1.1.0
-
 pub returns-then-n-eq0 : goal.returns-then-n-eq0
 returns-then-n-eq0 c =
     let args = c.args in
@@ -39,9 +36,6 @@ pub judged-requires : goal.judged-requires
 judged-requires c =
     let pre = c.requires in
     (pre.line_fits.0.low, pre.line_fits.0.high, pre.line_fits.0.file)
-
-pub shape_of-tokens-then-not-line : goal.shape_of-tokens-then-not-line
-shape_of-tokens-then-not-line c = c.lex_line.auto.1.1.1.0
 
 pub returns-then-not-line : goal.returns-then-not-line
 returns-then-not-line c =
@@ -84,9 +78,6 @@ judged-requires-in-Tokens c =
     let pre = c.requires in
     (pre.line_fits.0.low, pre.line_fits.0.high, pre.line_fits.0.file)
 
-pub shape_of-tokens-in-Bad : goal.shape_of-tokens-in-Bad
-shape_of-tokens-in-Bad c = c.lex_line.auto.1.1.1.0
-
 pub returns-in-Bad : goal.returns-in-Bad
 returns-in-Bad c =
     let args = c.args in
@@ -95,12 +86,6 @@ returns-in-Bad c =
   storable = tt;
   answer_as = λ ss st. outcome-bad ss _ _ _ args.line _ lex-line.ensures _ c.in-Bad.is pre.line_fits.0.high;
 }
-
-pub shape_of-tokens-else-not-line : goal.shape_of-tokens-else-not-line
-shape_of-tokens-else-not-line c = c.lex_line.auto.1.1.1.0
-
-pub shape_of-scratch : goal.shape_of-scratch
-shape_of-scratch c = c.judge_line.auto.1.1.1.1.1.1.1.0
 
 pub returns-else-not-line : goal.returns-else-not-line
 returns-else-not-line c =

@@ -47,12 +47,11 @@ step_code-requires c = tt
 
 pub index_line-requires : goal.index_line-requires
 index_line-requires c =
-    let entry = at_entry (at-line-answer put) in
-    let pre = entry.pre in
-    let args = entry.args in
-    let line-answer = (at-line-answer put).line-answer in
-    let outcome = (at-outcome put).outcome in
-    let used-from = (at-used-from put).used-from in
+    let pre = c.requires in
+    let args = c.args in
+    let line-answer = c.line_answer-answer in
+    let outcome = c.outcome-1 in
+    let used-from = c.used_from-u in
     let put-statement = c.put_statement in record {
   lines_indexed = step-indexed pre.1.0.done (line_of args.f.now args.line) _ _ _ _ _ outcome.given.1 _ _
           (line-answer.ensures.1 _ (done-stands pre.1.0.done)) line-answer.ensures.0 _ _ used-from.ensures
@@ -62,32 +61,11 @@ index_line-requires c =
 
 pub after-requires : goal.after-requires
 after-requires c =
-    let pre = (at_entry (at-line-answer (at-put-statement c.before.before.before.before.before))).requires in
+    let pre = c.requires in
     record {
   rows_bound = done-rows pre.1.0.done;
   bounds = (done-fits pre.1.0.done).bounds;
 }
-
-pub shape_of-tokens-in-Skipped : goal.shape_of-tokens-in-Skipped
-shape_of-tokens-in-Skipped c = c.line_answer-answer.auto.1.1.1.1.1.1.1.0
-
-pub shape_of-scratch-in-Skipped : goal.shape_of-scratch-in-Skipped
-shape_of-scratch-in-Skipped c = c.line_answer-answer.auto.1.1.1.1.1.1.1.1.0
-
-pub shape_of-names-in-Skipped : goal.shape_of-names-in-Skipped
-shape_of-names-in-Skipped c = refl
-
-pub shape_of-wires-in-Skipped : goal.shape_of-wires-in-Skipped
-shape_of-wires-in-Skipped c = refl
-
-pub shape_of-rows-in-Skipped : goal.shape_of-rows-in-Skipped
-shape_of-rows-in-Skipped c = refl
-
-pub shape_of-heads-in-Skipped : goal.shape_of-heads-in-Skipped
-shape_of-heads-in-Skipped c = refl
-
-pub shape_of-chain-in-Skipped : goal.shape_of-chain-in-Skipped
-shape_of-chain-in-Skipped c = refl
 
 pub returns-in-Skipped : goal.returns-in-Skipped
 returns-in-Skipped c =
@@ -97,83 +75,19 @@ returns-in-Skipped c =
   step_indexed = pre.lines_indexed;
 }
 
-pub shape_of-tokens-in_default-outcome : goal.shape_of-tokens-in_default-outcome
-shape_of-tokens-in_default-outcome c = c.line_answer-answer.auto.1.1.1.1.1.1.1.0
-
-pub shape_of-scratch-in_default-outcome : goal.shape_of-scratch-in_default-outcome
-shape_of-scratch-in_default-outcome c = c.line_answer-answer.auto.1.1.1.1.1.1.1.1.0
-
-pub shape_of-names-in_default-outcome : goal.shape_of-names-in_default-outcome
-shape_of-names-in_default-outcome c = refl
-
-pub shape_of-wires-in_default-outcome : goal.shape_of-wires-in_default-outcome
-shape_of-wires-in_default-outcome c = refl
-
-pub shape_of-rows-in_default-outcome : goal.shape_of-rows-in_default-outcome
-shape_of-rows-in_default-outcome c = refl
-
-pub shape_of-heads-in_default-outcome : goal.shape_of-heads-in_default-outcome
-shape_of-heads-in_default-outcome c = refl
-
-pub shape_of-chain-in_default-outcome : goal.shape_of-chain-in_default-outcome
-shape_of-chain-in_default-outcome c = refl
-
 pub returns-in_default-outcome : goal.returns-in_default-outcome
 returns-in_default-outcome c = record {
   step_as = λ ss d. step-refused d _ _ _ _ _ _ (c.line_answer-answer.ensures.answer_as ss (done-stands d)) (refused-left c.line_answer-answer.result.outcome c.in_default.keys2 c.in_default-outcome.keys2);
   step_indexed = tt;
 }
 
-pub shape_of-tokens : goal.shape_of-tokens
-shape_of-tokens c =
-    let line-answer = (at-line-answer (at-put-statement c.before.before.before.before.before.before)).line-answer in
-    line-answer.kept.1.1.1.1.1.1.1.0
-
-pub shape_of-scratch : goal.shape_of-scratch
-shape_of-scratch c =
-    let line-answer = (at-line-answer (at-put-statement c.before.before.before.before.before.before)).line-answer in
-    let put-statement = (at-put-statement c.before.before.before.before.before.before).put-statement in
-    put-statement.kept.1.1.1.0 ∙ line-answer.kept.1.1.1.1.1.1.1.1.0
-
-pub shape_of-names : goal.shape_of-names
-shape_of-names c =
-    let put-statement = (at-put-statement c.before.before.before.before.before.before).put-statement in
-    put-statement.kept.1.1.1.1.0
-
-pub shape_of-strings : goal.shape_of-strings
-shape_of-strings c =
-    let put-statement = (at-put-statement c.before.before.before.before.before.before).put-statement in
-    put-statement.kept.1.1.1.1.1.0
-
-pub shape_of-bits : goal.shape_of-bits
-shape_of-bits c =
-    let put-statement = (at-put-statement c.before.before.before.before.before.before).put-statement in
-    put-statement.kept.1.1.1.1.1.1.0
-
-pub shape_of-wires : goal.shape_of-wires
-shape_of-wires c =
-    let put-statement = (at-put-statement c.before.before.before.before.before.before).put-statement in
-    put-statement.kept.1.1.1.1.1.1.1.0
-
-pub shape_of-rows : goal.shape_of-rows
-shape_of-rows c =
-    let put-statement = (at-put-statement c.before.before.before.before.before.before).put-statement in
-    put-statement.kept.1.1.1.1.1.1.1.1.0
-
-pub shape_of-heads : goal.shape_of-heads
-shape_of-heads c = c.index_line.auto.1.1.1.0
-
-pub shape_of-chain : goal.shape_of-chain
-shape_of-chain c = c.index_line.auto.1.1.1.1.0
-
 pub returns : goal.returns
 unfolding place_after
 returns c =
-    let put = at-put-statement c.before.before.before.before.before.before in
-    let line-answer = (at-line-answer put).line-answer in
-    let outcome = (at-outcome put).outcome in
-    let used-from = (at-used-from put).used-from in
-    let put-statement = put.put-statement in
+    let line-answer = c.line_answer-answer in
+    let outcome = c.outcome-1 in
+    let used-from = c.used_from-u in
+    let put-statement = c.put_statement in
     let kind-code = c.kind_code-kind in
     let index-line = c.index_line in record {
   step_as = λ ss d. step-stated d _ _ _ _ _ _ outcome.given.1 _ _ (line-answer.ensures.1 ss (done-stands d))

@@ -1,4 +1,3 @@
-
 use Rattle.layout.proofs.Stored.{attribute-valued, parameter-valued, cell-parameter-valued, module-valued, process-valued, plain-rest}
 use Rattle.layout.proofs.put.as_valued.Statement.{statement}
 use Rattle.layout.proofs.put.as_valued.Goals as goal
@@ -22,4 +21,6 @@ pub returns-in-Step : goal.returns-in-Step
 returns-in-Step c = (_, c.in-Step.is)
 
 pub returns-in_default : goal.returns-in_default
-returns-in_default c = plain-rest c.args.statement c.in_default.keys7
+returns-in_default c =
+    let other = c.in_default in
+    plain-rest c.args.statement other.not-Attribute other.not-Module other.not-Parameter other.not-CellParameter other.not-Step other.not-Process

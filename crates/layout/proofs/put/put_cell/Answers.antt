@@ -1,4 +1,3 @@
-
 use Prim.Native.Nat.{ℕ, ◌+◌}
 use mathlib.Core.Path.{refl, ap}
 use Rattle.rules.specs.Statements.{code, holds, contents}
@@ -13,7 +12,7 @@ returns c =
     let put-name = c.put_name-first in
     let put-name2 = c.put_name-size in
     let put-columns = c.put_columns in record {
-  names_after = names-put _ _ _ _ _ _ _ _ refl put-name.ensures.names_after (ap (λ (n : ℕ). args.u.names + n) put-name.ensures.value)
+      names_after = names-put _ _ _ _ _ _ _ _ refl put-name.ensures.names_after (ap (λ (n : ℕ). args.u.names + n) put-name.ensures.value)
           put-name2.ensures.names_after;
-  rows_after = rw (put-name.ensures.value, put-name2.ensures.value) at put-columns.ensures;
-}
+      rows_after = rw (put-name.ensures.value, put-name2.ensures.value) at put-columns.ensures;
+    }

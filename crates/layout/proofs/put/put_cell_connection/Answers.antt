@@ -1,4 +1,3 @@
-
 use mathlib.Core.Path.{refl}
 use native.Mathlib.Omega.{arith}
 use Rattle.rules.specs.Statements.{code, holds, contents}
@@ -17,18 +16,9 @@ pub put_named-requires : goal.put_named-requires
 put_named-requires c =
     let pre = c.requires in
     record {
-  fits = pre.fits;
-  rows_in_bounds = pre.rows_in_bounds;
-}
-
-pub shape_of-names : goal.shape_of-names
-shape_of-names c = c.put_named.auto.1.1.1.0
-
-pub shape_of-bits : goal.shape_of-bits
-shape_of-bits c = c.reverse_words.auto.1.1.1.0
-
-pub shape_of-rows : goal.shape_of-rows
-shape_of-rows c = c.put_named.auto.1.1.1.1.0
+      fits = pre.fits;
+      rows_in_bounds = pre.rows_in_bounds;
+    }
 
 pub returns : goal.returns
 unfolding statement_row columns code holds contents row padded
@@ -37,7 +27,7 @@ returns c =
     let pre = c.requires in
     let reverse-words = c.reverse_words in
     let put-named = c.put_named in record {
-  names_after = name-put _ _ _ _ _ refl put-named.ensures.names_after;
-  bits_after = signal-put _ _ _ _ _ _ refl reverse-words.ensures refl;
-  rows_after = rw (signal-long args.scratch.now 0 args.width (omega (arith, pre.width_in_bounds))) put-named.ensures.rows_after;
-}
+      names_after = name-put _ _ _ _ _ refl put-named.ensures.names_after;
+      bits_after = signal-put _ _ _ _ _ _ refl reverse-words.ensures refl;
+      rows_after = rw (signal-long args.scratch.now 0 args.width (omega (arith, pre.width_in_bounds))) put-named.ensures.rows_after;
+    }

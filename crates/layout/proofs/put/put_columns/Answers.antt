@@ -1,4 +1,3 @@
-
 use Rattle.rules.specs.Layout.{padded, row}
 use Rattle.tables.specs.Row.{words}
 use Rattle.layout.proofs.put.put_columns.Goals as goal

@@ -1,4 +1,3 @@
-
 use mathlib.Core.Path.{refl}
 use native.Mathlib.Omega.{arith}
 use Rattle.rules.specs.Statements.{code, holds, contents}
@@ -37,12 +36,6 @@ overflow_cast-right c = omega (arith, c.requires.fits)
 pub put_columns-requires : goal.put_columns-requires
 put_columns-requires c = c.requires.rows_in_bounds
 
-pub shape_of-bits : goal.shape_of-bits
-shape_of-bits c = omega (arith, c.reverse_words.auto, c.reverse_words-2.auto)
-
-pub shape_of-rows : goal.shape_of-rows
-shape_of-rows c = c.put_columns.auto.0
-
 pub returns : goal.returns
 unfolding statement_row columns code holds contents row padded
 returns c =
@@ -51,9 +44,9 @@ returns c =
     let reverse-words = c.reverse_words in
     let reverse-words2 = c.reverse_words-2 in
     let put-columns = c.put_columns in record {
-  bits_after = signals-put _ _ _ _ _ _ refl reverse-words.ensures 2048 _ _ refl (omega (arith, pre.left_le_most_width))
+      bits_after = signals-put _ _ _ _ _ _ refl reverse-words.ensures 2048 _ _ refl (omega (arith, pre.left_le_most_width))
           reverse-words2.ensures;
-  rows_after = rw
+      rows_after = rw
           (signal-long args.scratch.now 0 args.left (omega (arith, pre.left_le_most_width)), signal-long args.scratch.now 2048 args.right pre.left_le_most_width.1)
           put-columns.ensures;
-}
+    }

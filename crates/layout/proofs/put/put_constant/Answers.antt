@@ -16,19 +16,19 @@ unfolding literal_in kept digits_of literal_bits
 put_value-requires c =
     let pre = c.requires in
     record {
-  end_value = rw c.in-Value.is at pre.constant_fits.good;
-  most_width_in_bounds = pre.most_width_in_bounds;
-  fits = rw c.in-Value.is at pre.constant_fits.bits_fit;
-}
+      end_value = rw c.in-Value.is at pre.constant_fits.good;
+      most_width_in_bounds = pre.most_width_in_bounds;
+      fits = rw c.in-Value.is at pre.constant_fits.bits_fit;
+    }
 
 pub put_text-requires : goal.put_text-requires
 unfolding literal_in kept bytes_of
 put_text-requires c =
     let pre = c.requires in
     record {
-  f_value = rw c.in-Text.is at pre.constant_fits.whole;
-  fits = rw c.in-Text.is at pre.constant_fits.strings-fit;
-}
+      f_value = rw c.in-Text.is at pre.constant_fits.whole;
+      fits = rw c.in-Text.is at pre.constant_fits.strings-fit;
+    }
 
 pub returns-in-Integer : goal.returns-in-Integer
 unfolding literal_in kept constant_columns bytes_of digits_of
@@ -42,10 +42,10 @@ pub returns-in-Value : goal.returns-in-Value
 unfolding literal_in kept constant_columns bytes_of digits_of literal_bits
 returns-in-Value c =
     let put-value = c.put_value in record {
-  c_value = rw (c.in-Value.is, put-value.ensures.value);
-  strings_after = rw (c.in-Value.is, store-none);
-  bits_after = rw c.in-Value.is put-value.ensures.bits_after;
-}
+      c_value = rw (c.in-Value.is, put-value.ensures.value);
+      strings_after = rw (c.in-Value.is, store-none);
+      bits_after = rw c.in-Value.is put-value.ensures.bits_after;
+    }
 
 pub returns-in-Text : goal.returns-in-Text
 unfolding literal_in kept constant_columns bytes_of digits_of

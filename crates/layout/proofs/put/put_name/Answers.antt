@@ -1,4 +1,3 @@
-
 use mathlib.Core.Path.{ap, ◌∙◌}
 use native.Mathlib.Omega.{arith}
 use lib.ListN.{length}
@@ -21,6 +20,6 @@ returns c =
     let part = c.part-bytes in
     let put-bytes = c.put_bytes in
     record {
-  value = ap length part.ensures;
-  names_after = put-bytes.ensures ∙ ap (store args.names.now args.at) part.ensures;
-}
+      value = ap length part.ensures;
+      names_after = put-bytes.ensures ∙ ap (store args.names.now args.at) part.ensures;
+    }

@@ -12,39 +12,63 @@ put_columns-requires c =
     args.bits.now args.wires.now args.rows.now pre _ c.in-Autoidx.is
 
 pub put_wire-requires : goal.put_wire-requires
-put_wire-requires c = CLAUSES fits wires_in_bounds rows_in_bounds 
+put_wire-requires c =
     let args = c.args in
     let pre = c.requires in
-    wire-room args.f.now args.scratch.now args.statement args.u args.names.now args.bits.now
-    args.wires.now args.rows.now pre _ _ _ _ _ c.in-Wire.is
+    let whole = wire-room args.f.now args.scratch.now args.statement args.u args.names.now args.bits.now
+    args.wires.now args.rows.now pre _ _ _ _ _ c.in-Wire.is in
+    record {
+      fits = whole.0;
+      wires_in_bounds = whole.1.0;
+      rows_in_bounds = whole.1.1;
+    }
 
 pub put_memory-requires : goal.put_memory-requires
-put_memory-requires c = CLAUSES fits rows_in_bounds 
+put_memory-requires c =
     let args = c.args in
     let pre = c.requires in
-    memory-room args.f.now args.scratch.now args.statement args.u args.names.now
-    args.bits.now args.wires.now args.rows.now pre _ _ _ _ c.in-Memory.is
+    let whole = memory-room args.f.now args.scratch.now args.statement args.u args.names.now
+    args.bits.now args.wires.now args.rows.now pre _ _ _ _ c.in-Memory.is in
+    record {
+      fits = whole.0;
+      rows_in_bounds = whole.1;
+    }
 
 pub put_cell-requires : goal.put_cell-requires
-put_cell-requires c = CLAUSES fits rows_in_bounds 
+put_cell-requires c =
     let args = c.args in
     let pre = c.requires in
-    cell_room args.f.now args.scratch.now args.statement args.u args.names.now args.bits.now
-    args.wires.now args.rows.now pre _ _ c.in-Cell.is
+    let whole = cell_room args.f.now args.scratch.now args.statement args.u args.names.now args.bits.now
+    args.wires.now args.rows.now pre _ _ c.in-Cell.is in
+    record {
+      fits = whole.0;
+      rows_in_bounds = whole.1;
+    }
 
 pub put_cell_connection-requires : goal.put_cell_connection-requires
-put_cell_connection-requires c = CLAUSES fits width_in_bounds fits_2 rows_in_bounds 
+put_cell_connection-requires c =
     let args = c.args in
     let pre = c.requires in
-    cell-connection-room args.f.now args.scratch.now args.statement args.u args.names.now
-    args.bits.now args.wires.now args.rows.now pre _ _ _ c.in-CellConnection.is
+    let whole = cell-connection-room args.f.now args.scratch.now args.statement args.u args.names.now
+    args.bits.now args.wires.now args.rows.now pre _ _ _ c.in-CellConnection.is in
+    record {
+      fits = whole.0;
+      width_in_bounds = whole.1.0;
+      fits_2 = whole.1.1.0;
+      rows_in_bounds = whole.1.1.1;
+    }
 
 pub put_connection-requires : goal.put_connection-requires
-put_connection-requires c = CLAUSES left_le_most_width fits rows_in_bounds 
+put_connection-requires c =
     let args = c.args in
     let pre = c.requires in
-    connection-room args.f.now args.scratch.now args.statement args.u args.names.now
-    args.bits.now args.wires.now args.rows.now pre _ _ _ c.in-Connection.is
+    let whole = connection-room args.f.now args.scratch.now args.statement args.u args.names.now
+    args.bits.now args.wires.now args.rows.now pre _ _ _ c.in-Connection.is in
+    record {
+      left_le_most_width = whole.0;
+      fits = whole.1.0;
+      rows_in_bounds = whole.1.1;
+    }
 
 pub put_columns-requires-in-End : goal.put_columns-requires-in-End
 put_columns-requires-in-End c =
@@ -53,24 +77,12 @@ put_columns-requires-in-End c =
     end-room args.f.now args.scratch.now args.statement args.u args.names.now args.bits.now
     args.wires.now args.rows.now pre c.in-End.is
 
-pub shape_of-rows-in-Autoidx : goal.shape_of-rows-in-Autoidx
-shape_of-rows-in-Autoidx c = c.put_columns.auto.0
-
 pub returns-in-Autoidx : goal.returns-in-Autoidx
 returns-in-Autoidx c =
     let args = c.args in
     let put-columns = c.put_columns in
     autoidx-put args.f.now args.scratch.now args.statement args.u _ _ _ _ _ _
-    (omega (arith, c.known_told-1.given)) c.in-Autoidx.is put-columns.ensures
-
-pub shape_of-names-in-Wire : goal.shape_of-names-in-Wire
-shape_of-names-in-Wire c = c.put_wire.auto.1.1.1.1.1.1.1.0
-
-pub shape_of-wires : goal.shape_of-wires
-shape_of-wires c = c.put_wire.auto.1.1.1.1.1.1.1.1.0
-
-pub shape_of-rows-in-Wire : goal.shape_of-rows-in-Wire
-shape_of-rows-in-Wire c = c.put_wire.auto.1.1.1.1.1.1.1.1.1.0
+    (omega arith) c.in-Autoidx.is put-columns.ensures
 
 pub returns-in-Wire : goal.returns-in-Wire
 returns-in-Wire c =
@@ -78,26 +90,14 @@ returns-in-Wire c =
     let pre = c.requires in
     let put-wire = c.put_wire in
     wire-puts args.f.now args.scratch.now args.statement args.u _ _ _ _ _ _ _ _ _ _ _ _
-    (omega (arith, c.known_told-in-Wire-1.given)) c.in-Wire.is pre.sound put-wire.ensures
-
-pub shape_of-names-in-Memory : goal.shape_of-names-in-Memory
-shape_of-names-in-Memory c = c.put_memory.auto.1.1.1.1.1.1.0
-
-pub shape_of-rows-in-Memory : goal.shape_of-rows-in-Memory
-shape_of-rows-in-Memory c = c.put_memory.auto.1.1.1.1.1.1.1.0
+    (omega arith) c.in-Wire.is pre.sound put-wire.ensures
 
 pub returns-in-Memory : goal.returns-in-Memory
 returns-in-Memory c =
     let args = c.args in
     let put-memory = c.put_memory in
     memory-put args.f.now args.scratch.now args.statement args.u _ _ _ _ _ _ _ _ _ _
-    (omega (arith, c.known_told-in-Memory-1.given)) c.in-Memory.is put-memory.ensures.names_after put-memory.ensures.rows_after
-
-pub shape_of-names-in-Cell : goal.shape_of-names-in-Cell
-shape_of-names-in-Cell c = c.put_cell.auto.1.1.1.1.0
-
-pub shape_of-rows-in-Cell : goal.shape_of-rows-in-Cell
-shape_of-rows-in-Cell c = c.put_cell.auto.1.1.1.1.1.0
+    (omega arith) c.in-Memory.is put-memory.ensures.names_after put-memory.ensures.rows_after
 
 pub returns-in-Cell : goal.returns-in-Cell
 returns-in-Cell c =
@@ -105,15 +105,6 @@ returns-in-Cell c =
     let put-cell = c.put_cell in
     cell-put args.f.now args.scratch.now args.statement args.u _ _ _ _ _ _ _ _ c.in-Cell.is
     put-cell.ensures.names_after put-cell.ensures.rows_after
-
-pub shape_of-names-in-CellConnection : goal.shape_of-names-in-CellConnection
-shape_of-names-in-CellConnection c = c.put_cell_connection.auto.1.1.1.1.1.0
-
-pub shape_of-bits-in-CellConnection : goal.shape_of-bits-in-CellConnection
-shape_of-bits-in-CellConnection c = c.put_cell_connection.auto.1.1.1.1.1.1.0
-
-pub shape_of-rows-in-CellConnection : goal.shape_of-rows-in-CellConnection
-shape_of-rows-in-CellConnection c = c.put_cell_connection.auto.1.1.1.1.1.1.1.0
 
 pub returns-in-CellConnection : goal.returns-in-CellConnection
 returns-in-CellConnection c =
@@ -123,21 +114,12 @@ returns-in-CellConnection c =
     c.in-CellConnection.is put-cell-connection.ensures.names_after put-cell-connection.ensures.bits_after
     put-cell-connection.ensures.rows_after
 
-pub shape_of-bits-in-Connection : goal.shape_of-bits-in-Connection
-shape_of-bits-in-Connection c = c.put_connection.auto.1.1.1.1.0
-
-pub shape_of-rows-in-Connection : goal.shape_of-rows-in-Connection
-shape_of-rows-in-Connection c = c.put_connection.auto.1.1.1.1.1.0
-
 pub returns-in-Connection : goal.returns-in-Connection
 returns-in-Connection c =
     let args = c.args in
     let put-connection = c.put_connection in
     connection-put args.f.now args.scratch.now args.statement args.u _ _ _ _ _ _ _ _ _
     c.in-Connection.is put-connection.ensures.bits_after put-connection.ensures.rows_after
-
-pub shape_of-rows-in-End : goal.shape_of-rows-in-End
-shape_of-rows-in-End c = c.put_columns-in-End.auto.0
 
 pub returns-in-End : goal.returns-in-End
 returns-in-End c =
@@ -149,4 +131,6 @@ returns-in-End c =
 pub returns-in_default : goal.returns-in_default
 returns-in_default c =
     let args = c.args in
-    refusal-put args.f.now args.scratch.now args.u _ _ _ _ args.statement c.in_default.keys8
+    let other = c.in_default in
+    refusal-put args.f.now args.scratch.now args.u _ _ _ _ args.statement other.not-Autoidx other.not-Wire other.not-Memory
+    other.not-Cell other.not-CellConnection other.not-Connection other.not-End

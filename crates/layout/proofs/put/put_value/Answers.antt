@@ -9,7 +9,12 @@ use Rattle.layout.proofs.put.put_value.Goals as goal
 pub put_literal-requires : goal.put_literal-requires
 put_literal-requires c =
     let w = value-narrow _ _ _ _ c.requires.end_value in
-    CLAUSES c_value c_bound c_in_bounds whole (c.requires.end_value, (w, (omega (arith, w, c.requires.most_width_in_bounds), tt)))
+    record {
+      c_value = c.requires.end_value;
+      c_bound = w;
+      c_in_bounds = omega (arith, w, c.requires.most_width_in_bounds);
+      whole = tt;
+    }
 
 pub reverse_words-requires : goal.reverse_words-requires
 reverse_words-requires c =
@@ -27,8 +32,8 @@ returns c =
     let put-literal = c.put_literal in
     let literal-width = c.literal_width-width in
     let reverse-words = c.reverse_words in record {
-  value = value-width _ _ _ _ pre.end_value _ literal-width.ensures.0;
-  bits_after = reverse-words.ensures
+      value = value-width _ _ _ _ pre.end_value _ literal-width.ensures.0;
+      bits_after = reverse-words.ensures
           ∙ ap (store args.bits.now args.at)
           (value-stored _ _ _ _ pre.end_value _ _ _ pre.most_width_in_bounds literal-width.ensures.0 put-literal.ensures);
-}
+    }

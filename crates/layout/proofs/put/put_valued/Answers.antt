@@ -1,4 +1,3 @@
-
 use Rattle.layout.specs.Put.{valued_row}
 use Rattle.layout.proofs.put.put_valued.Goals as goal
 
@@ -12,32 +11,17 @@ pub put_named-requires : goal.put_named-requires
 put_named-requires c =
     let pre = c.requires in
     record {
-  fits = pre.fits;
-  rows_in_bounds = pre.rows_in_bounds;
-}
-
-pub shape_of-scratch : goal.shape_of-scratch
-shape_of-scratch c = c.put_optional-k.auto.1.1.1.0
-
-pub shape_of-names : goal.shape_of-names
-shape_of-names c = c.put_named.auto.1.1.1.0
-
-pub shape_of-strings : goal.shape_of-strings
-shape_of-strings c = c.put_optional-k.auto.1.1.1.1.0
-
-pub shape_of-bits : goal.shape_of-bits
-shape_of-bits c = c.put_optional-k.auto.1.1.1.1.1.0
-
-pub shape_of-rows : goal.shape_of-rows
-shape_of-rows c = c.put_named.auto.1.1.1.1.0
+      fits = pre.fits;
+      rows_in_bounds = pre.rows_in_bounds;
+    }
 
 pub returns : goal.returns
 unfolding valued_row
 returns c =
     let put-optional = c.put_optional-k in
     let put-named = c.put_named in record {
-  names_after = put-named.ensures.names_after;
-  strings_after = put-optional.ensures.strings_after;
-  bits_after = put-optional.ensures.bits_after;
-  rows_after = rw put-optional.ensures.c_value put-named.ensures.rows_after;
-}
+      names_after = put-named.ensures.names_after;
+      strings_after = put-optional.ensures.strings_after;
+      bits_after = put-optional.ensures.bits_after;
+      rows_after = rw put-optional.ensures.c_value put-named.ensures.rows_after;
+    }

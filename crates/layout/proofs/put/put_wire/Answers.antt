@@ -1,4 +1,3 @@
-
 use mathlib.Core.Path.{refl}
 use Rattle.rules.specs.Statements.{code, holds, contents}
 use Rattle.rules.specs.Layout.{padded, row, columns, statement_row}
@@ -14,15 +13,6 @@ put_named-size-requires c = record {
 
 pub put_columns-requires : goal.put_columns-requires
 put_columns-requires c = c.requires.wires_in_bounds
-
-pub shape_of-names : goal.shape_of-names
-shape_of-names c = c.put_named-size.auto.1.1.1.0
-
-pub shape_of-wires : goal.shape_of-wires
-shape_of-wires c = c.put_columns.auto.0
-
-pub shape_of-rows : goal.shape_of-rows
-shape_of-rows c = c.put_named-size.auto.1.1.1.1.0
 
 pub returns : goal.returns
 unfolding statement_row columns code holds contents row padded

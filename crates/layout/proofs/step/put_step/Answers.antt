@@ -1,4 +1,3 @@
-
 use Rattle.layout.proofs.StepLaws.{step-stored}
 use Rattle.layout.proofs.step.put_step.Goals as goal
 
