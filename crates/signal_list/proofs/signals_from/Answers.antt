@@ -32,7 +32,7 @@ returns-in_default c =
     let if1 = c.if-comma in
     let loop-test = c.loop-at-test in
     let loop = c.loop-at in
-    let due : if1.next-signal ≡ (args.comma && ltb 0 loop.sum.count) = (elim if1.branch [ then-comma w ↦ w.next_signal-is ∙ rw w.if-comma.true | else-comma w ↦ w.next_signal-is ∙ rw w.if-comma.false ]) in
+    let due : if1.next_signal ≡ (args.comma && ltb 0 loop.sum.count) = (elim if1.branch [ then-comma w ↦ w.next_signal-is ∙ rw w.if-comma.true | else-comma w ↦ w.next_signal-is ∙ rw w.if-comma.false ]) in
     list-broken _ _ _ _ _ _ _ _ _ loop.invariant _ due (omega (arith, loop-test.true)) _ (rw c.in_default.is at next-signal.ensures)
 
 pub added-sum-requires : goal.added-sum-requires
@@ -52,7 +52,7 @@ loop-at-preserved c =
     let if1 = c.if-comma in
     let loop-test = c.loop-at-test in
     let loop = c.loop-at in
-    let due : if1.next-signal ≡ (args.comma && ltb 0 loop.sum.count) = (elim if1.branch [ then-comma w ↦ w.next_signal-is ∙ rw w.if-comma.true | else-comma w ↦ w.next_signal-is ∙ rw w.if-comma.false ]) in
+    let due : if1.next_signal ≡ (args.comma && ltb 0 loop.sum.count) = (elim if1.branch [ then-comma w ↦ w.next_signal-is ∙ rw w.if-comma.true | else-comma w ↦ w.next_signal-is ∙ rw w.if-comma.false ]) in
     list_on_lem _ _ _ _ _ _ _ _ _ loop.invariant _ due (omega (arith, loop-test.true)) _ _ _ _ (rw c.in-Read.is at next-signal.ensures) c.added-sum.ensures
 
 pub shape_of-scratch : goal.shape_of-scratch

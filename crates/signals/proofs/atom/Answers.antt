@@ -24,7 +24,7 @@ literal_bits-bits-requires c =
     let token-at = c.token_at in
     (
       pre.readable.file,
-      pre.most_width_in_bounds,
+      pre.most_width_in_bounds.0,
       subst (WholeToken args.f.now) (sym token-at.ensures ∙ c.in-Constant.is)
           (pre.readable.closed.whole args.i),
     )

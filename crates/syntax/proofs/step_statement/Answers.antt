@@ -16,7 +16,7 @@ signals_from-requires c =
 
 pub returns-in_default : goal.returns-in_default
 returns-in_default c =
-    let code = c.requires.step_from in
+    let code = c.requires.step_from.0 in
     step-broken _ _ _ _ _ _ code.0 code.1 _ refl (rw c.in_default.is at c.signals_from.ensures.read)
 
 pub overflow_cast-count : goal.overflow_cast-count
@@ -29,7 +29,7 @@ returns-then-not-arity_fits c =
     let pre = c.requires in
     let signals-from = c.signals_from in
     let arity-fits = c.arity_fits in
-    let code = pre.step_from in
+    let code = pre.step_from.0 in
     let L = rw c.in-Read.is at signals-from.ensures.read in
     step-miscounted _ _ _ _ _ _ code.0 code.1 _ refl _ _ _ L (sym (arity-fits.ensures.fits code.0 code.1) ∙ not-true _ c.if-not-arity_fits.true-raw)
 
@@ -38,7 +38,7 @@ returns c =
     let pre = c.requires in
     let signals-from = c.signals_from in
     let arity-fits = c.arity_fits in
-    let code = pre.step_from in
+    let code = pre.step_from.0 in
     let L = rw c.in-Read.is at signals-from.ensures.read in
     rw c.refused.ensures
     (step-judged _ _ _ _ _ _ code.0 code.1 _ refl _ _ _ L (sym (arity-fits.ensures.fits code.0 code.1) ∙ not-false _ c.if-not-arity_fits.false-raw)
