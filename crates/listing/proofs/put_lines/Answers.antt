@@ -1,6 +1,6 @@
 -- The loop's invariant: the lines of the first w wires are put.
 use mathlib.Core.Path.{◌≡◌, ap}
-use Prim.Native.Nat.{ℕ, ◌-◌, ◌<◌}
+use Prim.Native.Nat.{ℕ, ◌<◌}
 use native.Mathlib.Omega.{arith}
 use Rattle.plain.specs.Put.{put-none, put-kept, put_then, put_as}
 use Rattle.listing.specs.Lines.{lines_at}

@@ -1,6 +1,6 @@
 -- The loop's invariant: the rows before k are written, but for attributes that wait, and no level is too deep.
 -- Assumes nothing.
-use Prim.Native.Nat.{◌-◌, ◌<◌}
+use Prim.Native.Nat.{◌<◌}
 use native.Mathlib.Omega.{arith}
 use Rattle.text.specs.Written.{written-most}
 use Rattle.text.specs.Reaches.{reaches-start, reaches-next, reaches_end}
