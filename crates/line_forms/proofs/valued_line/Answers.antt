@@ -27,14 +27,14 @@ returns c =
     let id-at = c.id_at in
     let literal-at = c.literal_at in
     elim c.if-attribute.branch [
-      then-attribute w ↦ (
-      λ f. rw (id-at.ensures f, c.in-Span.is, literal-at.ensures.0 f, c.in-Read.is, w.if-attribute.true)
-          (rw w.form-is at (c.finished.ensures.0 f)),
-      λ h. rw w.form-is at c.finished.ensures.1 (_, rw c.in-Read.is at literal-at.ensures.1),
-    )
-    | else-attribute w ↦ (
-      λ f. rw (id-at.ensures f, c.in-Span.is, literal-at.ensures.0 f, c.in-Read.is, w.if-attribute.false)
-          (rw w.form-is at (c.finished.ensures.0 f)),
-      λ h. rw w.form-is at c.finished.ensures.1 (h, (_, rw c.in-Read.is at literal-at.ensures.1)),
-    )
+      | then-attribute w ↦ (
+        λ f. rw (id-at.ensures f, c.in-Span.is, literal-at.ensures.0 f, c.in-Read.is, w.if-attribute.true)
+            (rw w.form-is at (c.finished.ensures.0 f)),
+        λ h. rw w.form-is at c.finished.ensures.1 (_, rw c.in-Read.is at literal-at.ensures.1),
+      )
+      | else-attribute w ↦ (
+        λ f. rw (id-at.ensures f, c.in-Span.is, literal-at.ensures.0 f, c.in-Read.is, w.if-attribute.false)
+            (rw w.form-is at (c.finished.ensures.0 f)),
+        λ h. rw w.form-is at c.finished.ensures.1 (h, (_, rw c.in-Read.is at literal-at.ensures.1)),
+      )
     ]

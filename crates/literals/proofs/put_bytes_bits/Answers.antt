@@ -1,7 +1,6 @@
 -- The loop's invariant: the bits of the first j bytes are stored.
 use mathlib.Core.Path.{refl, sym, ap, ◌∙◌}
 use mathlib.Core.List.{flat_map}
-use Prim.Native.Nat.{◌-◌}
 use native.Mathlib.Omega.{arith}
 use Rattle.tables.specs.Store.{store, store-none}
 use Rattle.literals.proofs.CodeLaws.{bytes-more, bytes-all}

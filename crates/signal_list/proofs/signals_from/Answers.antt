@@ -1,6 +1,5 @@
 -- `signals_from` meets its contract. The loop's invariant: the signals from row `from` on are those that were read and those from row `at` on.
 -- Assumes nothing.
-use Prim.Native.Nat.{◌-◌}
 use mathlib.Core.Path.{◌≡◌, ◌∙◌}
 use mathlib.Core.Bool.{◌&&◌}
 use native.Mathlib.Omega.{arith}
@@ -18,9 +17,9 @@ next_signal-requires c =
     let pre = c.requires in
     let loop = c.loop-at in
     record {
-  readable = readable-on _ _ _ _ pre.readable loop.invariant.within;
-  scratch_length_in_bounds = (omega (arith, pre.scratch_length_in_bounds, loop.invariant.long), pre.scratch_length_in_bounds.1, pre.scratch_length_in_bounds.2);
-}
+      readable = readable-on _ _ _ _ pre.readable loop.invariant.within;
+      scratch_length_in_bounds = (omega (arith, pre.scratch_length_in_bounds, loop.invariant.long), pre.scratch_length_in_bounds.1, pre.scratch_length_in_bounds.2);
+    }
 
 pub shape_of-scratch-in_default : goal.shape_of-scratch-in_default
 shape_of-scratch-in_default c = c.next_signal.ensures.kept.long ∙ c.loop-at.invariant.long

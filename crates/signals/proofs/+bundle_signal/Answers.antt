@@ -14,8 +14,8 @@ bundle-loop-scope-init t c = members-on-start _ _ _ _ _ _ _ c.requires.readable.
 pub bundle-returns-in_default : goal.bundle-returns-in_default
 bundle-returns-in_default t c =
     let P : Place c.args.o c.loop-scope.width c.if-width-lt-MOST_BITS.put = elim c.if-width-lt-MOST_BITS.branch [
-      bundle-then-width-lt-MOST_BITS w ↦ place-behind _ _ _ w.if-width-lt-MOST_BITS.true w.put-is
-    | bundle-else-width-lt-MOST_BITS w ↦ place_end _ _ _ w.if-width-lt-MOST_BITS.false w.put-is
+      | bundle-then-width-lt-MOST_BITS w ↦ place-behind _ _ _ w.if-width-lt-MOST_BITS.true w.put-is
+      | bundle-else-width-lt-MOST_BITS w ↦ place_end _ _ _ w.if-width-lt-MOST_BITS.false w.put-is
     ] in
     bundle-broken _ _ _ _ _ _ _ _ _ _ _ c.loop-scope.invariant _ P _ (sym c.is_mark.ensures ∙ c.loop-scope-test.true)
     (rw c.in_default.is at c.signal-m.ensures)
@@ -23,8 +23,8 @@ bundle-returns-in_default t c =
 pub bundle-loop-scope-preserved : goal.bundle-loop-scope-preserved
 bundle-loop-scope-preserved t c =
     let P : Place c.args.o c.loop-scope.width c.if-width-lt-MOST_BITS.put = elim c.if-width-lt-MOST_BITS.branch [
-      bundle-then-width-lt-MOST_BITS w ↦ place-behind _ _ _ w.if-width-lt-MOST_BITS.true w.put-is
-    | bundle-else-width-lt-MOST_BITS w ↦ place_end _ _ _ w.if-width-lt-MOST_BITS.false w.put-is
+      | bundle-then-width-lt-MOST_BITS w ↦ place-behind _ _ _ w.if-width-lt-MOST_BITS.true w.put-is
+      | bundle-else-width-lt-MOST_BITS w ↦ place_end _ _ _ w.if-width-lt-MOST_BITS.false w.put-is
     ] in
     bundle-on _ _ _ _ _ _ _ _ _ _ _ c.loop-scope.invariant _ P _ (sym c.is_mark.ensures ∙ c.loop-scope-test.true) _ _ _
     c.merge-fault.ensures (rw c.in-Read.is at c.signal-m.ensures)

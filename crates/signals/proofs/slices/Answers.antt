@@ -2,7 +2,6 @@
 -- of those that were read are as many as the part's width, from the sum of their low bounds on. The table is written behind the last.
 -- Assumes nothing.
 use mathlib.Core.Path.{sym, ◌∙◌}
-use Prim.Native.Nat.{◌-◌}
 use native.Mathlib.Omega.{arith}
 use Rattle.signals.proofs.Parses.{mark-below}
 use Rattle.signals.proofs.SliceLaws.{slices-start, slices-read, slices-broken, slices-on}
