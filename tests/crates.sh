@@ -12,7 +12,7 @@ crates=$(cut -d: -f1 "$list")
 # The crates that the files of a crate name, but for the kit's.
 named() {
   {
-    find "crates/$1" \( -name '*.rt' -o -name '*.antt' \) -exec grep -hoE 'Rattle\.[a-z_]+' {} + | sed 's/Rattle\.//'
+    find "crates/$1" -not -path '*/out/*' \( -name '*.rt' -o -name '*.antt' \) -exec grep -hoE 'Rattle\.[a-z_]+' {} + | sed 's/Rattle\.//'
     find "crates/$1/src" -name '*.rt' -exec sed -nE 's/^(pub )?use ([a-z_]+)::.*/\2/p' {} +
   } | sort -u | comm -12 - <(sort <<< "$crates")
 }
@@ -50,7 +50,7 @@ counts() {
     at=crates/$crate
     seconds=$(sed -nE "s/^\| $crate \| ([0-9]+) \|.*/\1/p" docs/PROVING.md)
     functions=$(find "$at/src" -name '*.rt' -exec cat {} + | grep -cE '^ *(pub )?(extern "C" )?fn ' || true)
-    edits=$(find "$at" -name '*.edit' | wc -l)
+    edits=$(find "$at/must-fail" -name '*.edit' 2> /dev/null | wc -l)
     echo "| $crate | ${seconds:-0} | $functions | $(lines "$at/src" rt) | $(lines "$at/specs" antt) | $(lines "$at/proofs" antt) | $edits |"
   done | awk -F'|' '{ print; for (i = 3; i <= 8; i++) sum[i] += $i } END { printf "| all |"; for (i = 3; i <= 8; i++) printf " %d |", sum[i]; print "" }'
 }

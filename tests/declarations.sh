@@ -52,7 +52,7 @@ refusals_in_rust() {
     sed -E ':word; s/^([A-Za-z_]*[a-z])([A-Z])/\1_\2/; t word; s/^[A-Za-z_]+/\U&/'
 }
 
-mapfile -t sources < <(find crates -path '*/src/*.rt' -not -path 'crates/compare_bench/*') # no part of the product
+mapfile -t sources < <(find crates -path 'crates/*/src/*.rt' -not -path '*/out/*' -not -path 'crates/compare_bench/*') # no part of the product
 exported > "$built/exported"
 if [ "$(cat "${sources[@]}" | grep -c '^#\[unsafe(no_mangle)\]')" != "$(grep -c '^fn ' "$built/exported")" ]; then
   echo "crates/: a call is exported in a form that tests/declarations.sh does not know" >&2

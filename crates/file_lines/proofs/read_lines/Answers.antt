@@ -1,4 +1,3 @@
-
 use Prim.Native.Nat.{◌-◌}
 use mathlib.Core.Path.{refl, ◌∙◌, sym}
 use native.Mathlib.Omega.{arith}
@@ -52,10 +51,10 @@ returns-then-tokens-line c = (c.loop-line.invariant.0, c.loop-line.invariant.1, 
 pub take_line-requires : goal.take_line-requires
 take_line-requires c =
     record {
-  line_fits = (reached-fits c.loop-line.invariant.0.reached _ c.loop-line.invariant.0.is, omega (arith, c.if-tokens-line.false));
-  some_done = record { past = c.loop-line.invariant.0.reached.past; done = c.loop-line.invariant.0.reached.done };
-  lines_indexed = c.loop-line.invariant.1;
-}
+      line_fits = (reached-fits c.loop-line.invariant.0.reached _ c.loop-line.invariant.0.is, omega (arith, c.if-tokens-line.false));
+      some_done = record { past = c.loop-line.invariant.0.reached.past; done = c.loop-line.invariant.0.reached.done };
+      lines_indexed = c.loop-line.invariant.1;
+    }
 
 pub enum_known-p : goal.enum_known-p
 enum_known-p c = c.in-Next.keys1
