@@ -3,7 +3,7 @@
 set -euo pipefail
 cd "$(dirname "$0")/.."
 cases=crates/vectors/specs/Cases.antt
-fresh=target/cases.antt
+fresh=target/cases
 mkdir -p target
 cargo run --quiet --release --offline --manifest-path tests/reference/Cargo.toml --target-dir target/cargo --bin cases > "$fresh"
 if [ "${1:-}" = --write ]; then

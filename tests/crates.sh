@@ -6,17 +6,17 @@ set -euo pipefail
 cd "$(dirname "$0")/.."
 list=target/crates
 mkdir -p target
-sed -E 's/#.*//; /^[[:space:]]*$/d' crates.txt > "$list"
+sed -E 's/#.*//; /^[[:space:]]*$/d; s/ staticlib:/:/' crates.txt > "$list"
 crates=$(cut -d: -f1 "$list")
 
 # The crates that the files of a crate name, but for the kit's.
 named() {
   {
-    find "crates/$1" \( -name '*.rt' -o -name '*.antt' \) -exec grep -hoE 'Rattle·[a-z_]+' {} + | sed 's/Rattle·//'
+    find "crates/$1" -not -path '*/out/*' \( -name '*.rt' -o -name '*.antt' \) -exec grep -hoE 'Rattle\.[a-z_]+' {} + | sed 's/Rattle\.//'
     find "crates/$1/src" -name '*.rt' -exec sed -nE 's/^(pub )?use ([a-z_]+)::.*/\2/p' {} +
   } | sort -u | comm -12 - <(sort <<< "$crates")
 }
-above="io libc os"
+above=""
 while IFS=: read -r crate depends; do
   for dependency in $depends; do
     case " $above " in *" $dependency "*) ;; *) echo "crates.txt: $dependency does not stand above $crate" >&2 && exit 1 ;; esac
@@ -40,7 +40,7 @@ lines() {
 floors() {
   awk '
   /^# / { if (row) print row " |"; row = "| " substr($0, 3) " |"; comma = " "; next }
-  /^[a-z_]+:/ { if (!row) { print "crates.txt: no floor above " $1 > "/dev/stderr"; exit 1 } sub(/:.*/, ""); row = row comma "`" $0 "`"; comma = ", " }
+  /^[a-z_]+( staticlib)?:/ { if (!row) { print "crates.txt: no floor above " $1 > "/dev/stderr"; exit 1 } sub(/[ :].*/, ""); row = row comma "`" $0 "`"; comma = ", " }
   END { if (row) print row " |" }' crates.txt
 }
 
@@ -50,7 +50,7 @@ counts() {
     at=crates/$crate
     seconds=$(sed -nE "s/^\| $crate \| ([0-9]+) \|.*/\1/p" docs/PROVING.md)
     functions=$(find "$at/src" -name '*.rt' -exec cat {} + | grep -cE '^ *(pub )?(extern "C" )?fn ' || true)
-    edits=$(find "$at" -name '*.edit' | wc -l)
+    edits=$(find "$at/must-fail" -name '*.edit' 2> /dev/null | wc -l)
     echo "| $crate | ${seconds:-0} | $functions | $(lines "$at/src" rt) | $(lines "$at/specs" antt) | $(lines "$at/proofs" antt) | $edits |"
   done | awk -F'|' '{ print; for (i = 3; i <= 8; i++) sum[i] += $i } END { printf "| all |"; for (i = 3; i <= 8; i++) printf " %d |", sum[i]; print "" }'
 }

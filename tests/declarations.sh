@@ -25,7 +25,7 @@ sorted() {
 
 # A slice passes as a pointer and then a length. Sources shorten four names.
 exported() {
-  flat "${sources[@]}" | items '#\[no_mangle\] pub extern "C" fn' |
+  flat "${sources[@]}" | items '#\[unsafe\(no_mangle\)\] pub extern "C" fn' |
     sed -E 's/\bm: /module: /; s/\bw: /wire: /; s/\bf: /file: /; s/\bnew: /name: /
       s/([a-z_]+): &(mut )?\[([a-z0-9]+)\]/\1: \&\2\3, \1_length: usize/g; s/&mut /*mut /g; s/&/*const /g' | sorted
 }
@@ -52,9 +52,9 @@ refusals_in_rust() {
     sed -E ':word; s/^([A-Za-z_]*[a-z])([A-Z])/\1_\2/; t word; s/^[A-Za-z_]+/\U&/'
 }
 
-mapfile -t sources < <(find crates -path '*/src/*.rt' -not -path 'crates/compare_bench/*') # no part of the product
+mapfile -t sources < <(find crates -path 'crates/*/src/*.rt' -not -path '*/out/*' -not -path 'crates/compare_bench/*') # no part of the product
 exported > "$built/exported"
-if [ "$(cat "${sources[@]}" | grep -c '^#\[no_mangle\]')" != "$(grep -c '^fn ' "$built/exported")" ]; then
+if [ "$(cat "${sources[@]}" | grep -c '^#\[unsafe(no_mangle)\]')" != "$(grep -c '^fn ' "$built/exported")" ]; then
   echo "crates/: a call is exported in a form that tests/declarations.sh does not know" >&2
   exit 1
 fi

@@ -21,7 +21,7 @@ functions() {
 for folder in crates/*/; do
   crate=$(basename "$folder")
   public=$(functions "$crate")
-  modules=$(find "$folder" -path '*/specs/*.antt' -exec basename {} .antt \;)
+  modules=$(find "$folder" -path '*/specs/*.antt' -not -path '*/out/*' -exec basename {} .antt \;)
   lines="" names=""
   for edit in "$folder"must-fail/*.edit; do
     [ -e "$edit" ] || continue

@@ -2,7 +2,7 @@
 #![tactic(auto)]
 
 ghost use Rattle.rules.specs.Session.{Call};
-ghost use Rattle.netlist.specs.Results.{result, lent};
+ghost use Rattle.netlist.specs.Results.{result as outcome, lent};
 ghost use Rattle.session.specs.Called.{CalledAs};
 ghost use Rattle.card.specs.Lent.{lent_with, answered};
 
@@ -24,7 +24,7 @@ fn rename_by_number(
     w: u32,
     new: &[u8],
 ) -> CallResult
-    ensures* { λ r. ⌜ CalledAs (lent names.old strings.now bits.now wires.now rows.old renames room) (Call.rename (record { module_number = m; wire_number = w; new_name = new.now })) (result r.number r.place (lent names.new strings.now bits.now wires.now rows.new r.renames r.room)) ⌝ }
+    ensures { CalledAs (lent names.old strings.now bits.now wires.now rows.old renames room) (Call.rename (record { module_number = m; wire_number = w; new_name = new.now })) (outcome result.number result.place (lent names.new strings.now bits.now wires.now rows.new result.renames result.room)) }
 {
     let wire = WireNumber(w);
     rename(
@@ -53,7 +53,7 @@ pub extern "C" fn skytassel_rename(
     w: u32,
     new: &[u8],
 ) -> Answer
-    ensures* { λ r. ⌜ CalledAs (lent_with card.old names.old strings.now bits.now wires.now rows.old) (Call.rename (record { module_number = m; wire_number = w; new_name = new.now })) (answered r (lent_with card.new names.new strings.now bits.now wires.now rows.new)) ⌝ }
+    ensures { CalledAs (lent_with card.old names.old strings.now bits.now wires.now rows.old) (Call.rename (record { module_number = m; wire_number = w; new_name = new.now })) (answered result (lent_with card.new names.new strings.now bits.now wires.now rows.new)) }
 {
     let renamed = rename_by_number(
         names,
@@ -84,7 +84,7 @@ pub extern "C" fn skytassel_undo(
     rows: &mut [u32],
     card: &mut Card,
 ) -> Answer
-    ensures* { λ r. ⌜ CalledAs (lent_with card.old names.old strings.now bits.now wires.now rows.old) Call.undo (answered r (lent_with card.new names.new strings.now bits.now wires.now rows.new)) ⌝ }
+    ensures { CalledAs (lent_with card.old names.old strings.now bits.now wires.now rows.old) Call.undo (answered result (lent_with card.new names.new strings.now bits.now wires.now rows.new)) }
 {
     let undone = undo(names, strings, bits, wires, rows, card.renames, card.room);
     card.renames = undone.renames;

@@ -6,7 +6,7 @@ use Rattle.std.proofs.Common.{ap, ◌∙◌}
 use mathlib.Core.List.{List, [], ◌∷◌, ◌++◌, map, reverse, append-nil, Option-to_list}
 use Rattle.std.proofs.Math.Option
 use Rattle.std.proofs.Math.Option.{Option, none, some}
-use borrow.Author.Tests.{eq-eqb, ne_eqb}
+use borrow.Author.Tests.{ne_eqb}
 use Rattle.rules.specs.Bytes.{bytes}
 use Rattle.rules.specs.Tokens.{Name, Literal, value, integer, string, literal}
 use Rattle.rules.specs.Statements.{Sig, Opt, Sort, autoidx-stmt, attr-stmt, module-stmt, param-stmt, wire-stmt, memory-stmt, cell-stmt, cell-param-stmt, cell-conn-stmt, conn-stmt, proc-stmt, step-stmt, Step, Signal, translate}
@@ -21,7 +21,7 @@ use Rattle.netlist.specs.Steps.{step_named, signals_at}
 use Rattle.netlist.specs.Statements.{constant_at, optional_at, signal_at, memory_at, statement_by, statement_at}
 use Rattle.wire_names.specs.declared.Module.{Module}
 use Rattle.wire_names.specs.Now.{name_now, own_now}
-use Rattle.signal_text.specs.Pieces.{spread, Piece, piece-none, piece-name, piece-word, piece-literal, piece-sig, spread-name, spread-literal, spread-digits, spread-append, spaced-word, spaced-two, spaced-three}
+use Rattle.signal_text.specs.Pieces.{spread, Piece, piece-none, piece-name, piece-word, piece-literal, piece-sig, spread-name, spread-literal, spread-digits, spaced-word, spaced-two, spaced-three}
 use Rattle.step_text.specs.Steps.{step_text}
 use Rattle.line_text.specs.Options.{piece-options, spread-options}
 use Rattle.line_text.specs.Lines.{statement_now, body_text}

@@ -1,6 +1,6 @@
 -- The tokens of options, the last of which stands first.
 -- Assumes nothing.
-use Rattle.std.specs.Prelude.{◌≡◌, refl, false, ℕ, ◌-◌, ℤ}
+use Rattle.std.specs.Prelude.{◌≡◌, refl, false, ℕ, ℤ}
 use Rattle.std.proofs.Common.{sym, ap, ◌∙◌, arith}
 use mathlib.Core.List.{List, [], ◌∷◌, ◌++◌, map, append_assoc, append-nil, Option-to_list}
 use Rattle.std.proofs.Math.Option.{Option, none, some}

@@ -130,7 +130,7 @@ module _ {m : layouts.Memory} {ss : List Statement} {rs : List Rename} (h : Hold
   unfolding layout memory right_lengths right_sizes place_of
   holds-sizes =
       let a : length m.names ≡ names_length = sym (holds_as (λ x. length x.names)) ∙ length-padded names_length S.names names-fit in
-      let b : length m.strings ≡ strings_length = sym (holds_as (λ x. length x.strings)) ∙ length-padded strings_length S.strings (omega (arith, in_place.strings, sums-fit.string_bytes)) in
+      let b : length m.strings ≡ strings_length = sym (holds_as (λ x. length x.strings)) ∙ length-padded strings_length S.strings (omega (arith, in_place.strings, sums-fit.string-bytes)) in
       let c : length m.bits ≡ bits_length = sym (holds_as (λ x. length x.bits)) ∙ length-padded bits_length S.bits (omega (arith, in_place.bits, sums-fit.value-bits, sums-fit.signal-bits)) in
       let d : length m.wires ≡ 4096 = sym (holds_as (λ x. length x.wires)) ∙ length-padded wires_length (flat S.wires) (omega (arith, in_place.wires, wires-fit)) in
       let e : length m.rows ≡ 55560 =

@@ -16,7 +16,7 @@ use Rattle.lists.specs.Tests.{by-test, by_cond, and-true-left, and-true-right}
 use Rattle.lists.specs.Lists.{keeps-before}
 use Rattle.context.specs.Forms.{by_form}
 use Rattle.admitted.specs.Admitted.{kinds, stands_in, stands}
-use Rattle.admitted.specs.CountLaws.{Standing, one-stands, among-test, stands-kind, context-scope, scope_behind, scope-behind}
+use Rattle.admitted.specs.CountLaws.{Standing, one-stands, among-test, stands-kind, context-scope, scope_behind}
 use Rattle.module_text.specs.Blocks.{line_of}
 use Rattle.module_text.specs.Passes.{lines_of, kind_lines, first_line, object_lines, cell_block, print_cell, print_to_end}
 use Rattle.module_text.specs.PassLaws.{lines-only}

@@ -2,7 +2,7 @@
 -- Assumes nothing.
 use Rattle.std.specs.Prelude.{ℕ, suc, ◌+◌, ◌-◌, ◌*◌, ◌≤◌, ◌<◌, ◌≡◌, true, false, cond, List, [], ◌++◌, eqb}
 use Rattle.std.proofs.Math.Path.{refl}
-use Rattle.std.proofs.Common.{ap, ◌∙◌, eq-eqb, ne_eqb}
+use Rattle.std.proofs.Common.{ne_eqb}
 use native.Mathlib.Omega.{arith}
 use Rattle.rules.specs.Bytes.{bytes}
 use Rattle.lists.specs.Tests.{cond-le, by-test}
@@ -12,7 +12,7 @@ use Rattle.netlist.specs.Tables.{Tables}
 use Rattle.wire_names.specs.Now.{wires_in}
 use Rattle.wire_names.specs.declared.Module.{Module}
 use Rattle.line_text.specs.Lines.{statement_now, line_of}
-use Rattle.text.specs.Written.{Written, written_none, written_then}
+use Rattle.text.specs.Written.{Written, written_then}
 use Rattle.process_text.specs.declared.Inside.{Inside}
 use Rattle.process_text.specs.Rows.{waiting_from, step_at, level_of, deepens, opened_by, behind, closes, row_line, row_lines, step_rows, inside_rows, process_rows}
 

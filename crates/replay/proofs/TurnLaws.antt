@@ -95,7 +95,7 @@ small_of ss s e =
     rw (
       le-leb (signal_size s) 8192 (omega (arith, w.signal-bits)),
       le-leb (value_size s) 8192 (omega (arith, w.value-bits)),
-      le-leb (string_size s) 8192 (omega (arith, w.string_bytes)),
+      le-leb (string_size s) 8192 (omega (arith, w.string-bytes)),
       le-leb (name_size s) 16384 (omega (arith, w.name-bytes)),
     )
 

@@ -91,7 +91,7 @@ unfolding equal each_length all
 even-asked v [] e = refl
 even-asked v (x ∷ xs) e =
     rw (ne_eqb (suc (length xs)) 0 (λ q. omega arith))
-    (by-test (eqb v (length x)) (λ q. let z = eqb-true v (length x) q in rw (q, z) (sym e)) (λ q. rw q))
+    (by-test (eqb v (length x)) (λ q. rw q (sym (ap (λ (k : ℕ). all (eqb k) (map length xs)) (eqb-true v (length x) q) ∙ e))) (λ q. rw q))
 
 narrow-fine : (ws : Wires) (z : List ℕ) → length z ≤ 2048 → fine_signal ws (signal_of z) ≡ all (λ c. fine_bit ws (bit_of (bit_at c))) z
 unfolding fine_signal

@@ -8,7 +8,7 @@ ghost use Rattle.rules.specs.Session.{Call};
 ghost use Rattle.rules.specs.Layout.{rename_row};
 ghost use Rattle.tables.specs.Store.{store};
 ghost use Rattle.wires.specs.Rows.{column};
-ghost use Rattle.netlist.specs.Results.{result, lent};
+ghost use Rattle.netlist.specs.Results.{lent, result as outcome};
 ghost use Rattle.session.specs.Called.{CalledAs};
 ghost use Rattle.session.specs.Steps.{Holding, OpenedIs};
 
@@ -41,7 +41,7 @@ pub fn open_memory(
     renames: u32,
     room: u32,
 ) -> Opened
-    ensures* { λ r. ⌜ OpenedIs (lent names.now strings.now bits.now wires.now rows.now renames room) r ⌝ }
+    ensures { OpenedIs (lent names.now strings.now bits.now wires.now rows.now renames room) result }
 {
     if !right_lengths(
         names.len(),
@@ -69,8 +69,8 @@ fn put_rename(
     new: &[u8],
 )
     requires { (room + length new.now ≤ length names.old) × (8 * row + 8 ≤ length rows.old) × (length new.now ≤ longest_name) }
-    ensures* names_after { λ _. ⌜ names.new ≡ store names.old room new.now ⌝ }
-    ensures* rows_after { λ _. ⌜ rows.new ≡ store rows.old (8 * row) (rename_row room (record { module_number = m.0; wire_number = w.0; new_name = new.now })) ⌝ }
+    ensures names_after { names.new ≡ store names.old room new.now }
+    ensures rows_after { rows.new ≡ store rows.old (8 * row) (rename_row room (record { module_number = m.0; wire_number = w.0; new_name = new.now })) }
 {
     put_bytes(names, room as usize, new);
     put_row(
@@ -103,7 +103,7 @@ fn rename_open(
     new: &[u8],
 ) -> CallResult
     requires { Holding (lent names.old strings.now bits.now wires.now rows.old renames room) place }
-    ensures* { λ r. ⌜ CalledAs (lent names.old strings.now bits.now wires.now rows.old renames room) (Call.rename (record { module_number = m.0; wire_number = w.0; new_name = new.now })) (result r.number r.place (lent names.new strings.now bits.now wires.now rows.new r.renames r.room)) ⌝ }
+    ensures { CalledAs (lent names.old strings.now bits.now wires.now rows.old renames room) (Call.rename (record { module_number = m.0; wire_number = w.0; new_name = new.now })) (outcome result.number result.place (lent names.new strings.now bits.now wires.now rows.new result.renames result.room)) }
 {
     let number = judge_rename(names, wires, rows, place, renames, room, m, w, new);
     if number != 0 {
@@ -135,7 +135,7 @@ pub fn rename(
     w: WireNumber,
     new: &[u8],
 ) -> CallResult
-    ensures* { λ r. ⌜ CalledAs (lent names.old strings.now bits.now wires.now rows.old renames room) (Call.rename (record { module_number = m.0; wire_number = w.0; new_name = new.now })) (result r.number r.place (lent names.new strings.now bits.now wires.now rows.new r.renames r.room)) ⌝ }
+    ensures { CalledAs (lent names.old strings.now bits.now wires.now rows.old renames room) (Call.rename (record { module_number = m.0; wire_number = w.0; new_name = new.now })) (outcome result.number result.place (lent names.new strings.now bits.now wires.now rows.new result.renames result.room)) }
 {
     match open_memory(names, strings, bits, wires, rows, renames, room) {
         Opened::Open(place) => rename_open(
@@ -153,9 +153,9 @@ pub fn rename(
 // Zeros over a rename's row and over its name, the last one; where the name started.
 fn take_rename(names: &mut [u8], rows: &mut [u32], row: u32, room: u32) -> u32
     requires { (column rows.old row 1 ≤ room) × (room ≤ length names.old) × (8 * row + 8 ≤ length rows.old) }
-    ensures* r_value { λ r. ⌜ r ≡ column rows.old row 1 ⌝ }
-    ensures* names_after { λ r. ⌜ names.new ≡ store names.old (column rows.old row 1) (replicate (room - column rows.old row 1) 0) ⌝ }
-    ensures* rows_after { λ r. ⌜ rows.new ≡ store rows.old (8 * row) (replicate 8 0) ⌝ }
+    ensures r_value { result ≡ column rows.old row 1 }
+    ensures names_after { names.new ≡ store names.old (column rows.old row 1) (replicate (room - column rows.old row 1) 0) }
+    ensures rows_after { rows.new ≡ store rows.old (8 * row) (replicate 8 0) }
 {
     let at = ROW_WORDS * row as usize;
     let start = word(rows, at + RENAME_NAME);
@@ -190,7 +190,7 @@ fn undo_open(
     room: u32,
 ) -> CallResult
     requires { Holding (lent names.old strings.now bits.now wires.now rows.old renames room) place }
-    ensures* { λ r. ⌜ CalledAs (lent names.old strings.now bits.now wires.now rows.old renames room) Call.undo (result r.number r.place (lent names.new strings.now bits.now wires.now rows.new r.renames r.room)) ⌝ }
+    ensures { CalledAs (lent names.old strings.now bits.now wires.now rows.old renames room) Call.undo (outcome result.number result.place (lent names.new strings.now bits.now wires.now rows.new result.renames result.room)) }
 {
     if renames == 0 {
         return CallResult {
@@ -219,7 +219,7 @@ pub fn undo(
     renames: u32,
     room: u32,
 ) -> CallResult
-    ensures* { λ r. ⌜ CalledAs (lent names.old strings.now bits.now wires.now rows.old renames room) Call.undo (result r.number r.place (lent names.new strings.now bits.now wires.now rows.new r.renames r.room)) ⌝ }
+    ensures { CalledAs (lent names.old strings.now bits.now wires.now rows.old renames room) Call.undo (outcome result.number result.place (lent names.new strings.now bits.now wires.now rows.new result.renames result.room)) }
 {
     match open_memory(names, strings, bits, wires, rows, renames, room) {
         Opened::Open(place) => {

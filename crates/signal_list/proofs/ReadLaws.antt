@@ -26,7 +26,7 @@ use Rattle.signal_list.specs.Sums.{place_of, added_to, listed_of}
 use Rattle.signal_list.specs.Reads.{NextIs, ListedIs}
 use Rattle.signal_list.specs.declared.Sum.{Sum}
 use Rattle.signal_list.specs.declared.Listed.{Listed}
-use Rattle.signal_list.specs.declared.Listed.TheVariants.{Read, NoShape}
+use Rattle.signal_list.specs.declared.Listed.TheVariants.{NoShape}
 use Rattle.signal_list.proofs.SumLaws.{SumHeld, nothing_read, sum-start, sum_more, sum_told}
 
 -- ---- the next signal, with a comma before it or without

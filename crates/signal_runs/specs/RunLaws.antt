@@ -1,13 +1,13 @@
 -- The runs of a signal from its highest bit down.
 -- Assumes nothing.
-use Rattle.std.specs.Prelude.{◌≡◌, refl, true, false, cond, ◌&&◌, List, [], ◌∷◌, map, ℕ, zero, suc, ◌+◌, ◌-◌, ◌≤◌, ◌<◌, eqb, ltb, length, get_or, take, drop}
+use Rattle.std.specs.Prelude.{◌≡◌, true, false, cond, ◌&&◌, List, [], ◌∷◌, ℕ, zero, suc, ◌+◌, ◌-◌, ◌≤◌, ◌<◌, eqb, ltb, length, get_or, drop}
 use Rattle.std.proofs.Common.{sym, subst, ◌∙◌, arith, length-drop, drop-cons, get_or-drop}
 use Rattle.std.proofs.Math.Path.{ap}
 use Rattle.std.proofs.Math.Numerals.{add-one}
 use Rattle.rules.specs.Statements.{Bit, digit, bit}
 use Rattle.rules.specs.Text.{Run, digits, span, join, runs}
 use Rattle.lists.specs.Tests.{by-test}
-use Rattle.numbers.specs.Kinds.{digit_of, bit_of, bit_at, signal_of}
+use Rattle.numbers.specs.Kinds.{bit_of, bit_at, signal_of}
 use Rattle.numbers.specs.declared.kinds.SignalBit.{SignalBit}
 use Rattle.numbers.specs.declared.kinds.WireNumber.{WireNumber}
 use Rattle.signal_runs.specs.Runs.{is_digit, is_bit, joined, joint, run_by, first_run, Apart, Lowest}

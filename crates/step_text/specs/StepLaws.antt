@@ -2,13 +2,13 @@
 -- Assumes nothing.
 use Rattle.std.specs.Prelude.{ℕ, zero, suc, ◌+◌, ◌-◌, ◌≤◌, ◌<◌, ◌≡◌, refl, Bool, true, false, cond, ◌&&◌, eqb, ltb, length, take, drop}
 use Rattle.std.proofs.Math.Path.{sym}
-use Rattle.std.proofs.Common.{ap, ap₂, ◌∙◌, arith, drop-drop, eqb-true, lt-ltb}
+use Rattle.std.proofs.Common.{ap, ◌∙◌, arith, drop-drop, eqb-true, lt-ltb}
 use mathlib.Core.List.{List, [], ◌∷◌, ◌++◌, map, append_assoc, append-nil}
 use Rattle.std.proofs.Math.Option.{Option, none, some}
 use Rattle.std.proofs.lemmas.Bool.{false≢true}
 use Rattle.std.proofs.Math.Seq.{slice}
-use Rattle.rules.specs.Tokens.{Token, mark, word}
-use Rattle.rules.specs.Statements.{Sig, Signal, Step, assign, update, switch, case, low, high, posedge, negedge, edge, global, init, always, step_code, step-stmt}
+use Rattle.rules.specs.Tokens.{Token, word}
+use Rattle.rules.specs.Statements.{Sig, Signal, Step, assign, update, switch, case, low, high, posedge, negedge, edge, global, init, always, step_code}
 use Rattle.rules.specs.Shapes.{is_mark}
 use Rattle.rules.specs.Signals.{Wires}
 use Rattle.rules.specs.Text.{sig, sig_tokens, word_token, step_tokens, between, list_tokens, shape_tokens, behind, tight, token_text, spaced}

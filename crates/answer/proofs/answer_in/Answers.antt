@@ -13,10 +13,10 @@ returns-then-found-ne0 c =
     let check = c.check-found in
     let if1 = c.if-found-ne0 in
     let put-refusal = c.put_refusal in record {
-  out_after = refusal-put check.result.number check.result.place (omega arith) (omega arith) put-refusal.ensures
+      out_after = refusal-put check.result.number check.result.place (omega arith) (omega arith) put-refusal.ensures
           ∙ ap (putting args.out.now) (answer-refused args.f.now _ _ check.ensures if1.true);
-  upper_bound = refusal-fits check.result.number check.result.place (omega arith) (omega arith) put-refusal.ensures;
-}
+      upper_bound = refusal-fits check.result.number check.result.place (omega arith) (omega arith) put-refusal.ensures;
+    }
 
 pub returns : goal.returns
 returns c =
@@ -26,8 +26,8 @@ returns c =
     let check = c.check-found in
     let args = c.args in
     let pre = c.requires in record {
-  out_after = answer-held args.f.now _ _ check.ensures if1.false
+      out_after = answer-held args.f.now _ _ check.ensures if1.false
           (lent args.names.now args.strings.now args.bits.now args.wires.now args.rows.now 0 0) pre.rows_value _
           fill.ensures args.out.now pre.out_len _ _ put-held.ensures.printed_as;
-  upper_bound = put-held.ensures.upper_bound;
-}
+      upper_bound = put-held.ensures.upper_bound;
+    }

@@ -1,4 +1,3 @@
-
 use Rattle.calls.proofs.CallLaws.{call-undo, call-rename}
 use Rattle.calls.proofs.make_call.Goals as goal
 

@@ -1,4 +1,3 @@
-
 use Rattle.calls.proofs.CallLaws.{put_two}
 use Rattle.calls.proofs.put_answer.Goals as goal
 

@@ -1,4 +1,3 @@
-
 use Rattle.netlist.specs.Results.{lent}
 use Rattle.calls.specs.Calls.{calls_in}
 use Rattle.calls.proofs.RunLaws.{run-refused, run-open, run-done}

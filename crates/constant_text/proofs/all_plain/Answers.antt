@@ -1,6 +1,5 @@
 -- The loop's invariant: what is found so far and what the bytes from i on tell is what all of them tell.
 use mathlib.Core.Path.{refl, sym, ◌∙◌}
-use Prim.Native.Nat.{◌-◌}
 use native.Mathlib.Omega.{arith}
 use Rattle.constant_text.specs.Plain.{plain}
 use Rattle.lists.specs.Elements.{all-turn, all_told}

@@ -3,7 +3,6 @@ use mathlib.Core.Path.{◌≡◌}
 use Prim.Native.Nat.{◌-◌}
 use native.Mathlib.Omega.{arith}
 use lib.Seq.{drop-length}
-use Rattle.rules.specs.Text.{digit_byte}
 use Rattle.text.specs.Written.{written_none, written-most, written_then, written_as}
 use Rattle.constant_text.proofs.DigitLaws.{digits_more}
 use Rattle.constant_text.proofs.put_digits.Goals as goal

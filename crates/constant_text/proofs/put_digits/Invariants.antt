@@ -1,5 +1,5 @@
 -- The loop's invariant: the digits from i on are written, the highest first.
-use Prim.Native.Nat.{◌-◌, ◌≤◌}
+use Prim.Native.Nat.{◌≤◌}
 use mathlib.Core.List.{map, reverse}
 use lib.ListN.{length, drop}
 use Rattle.rules.specs.Text.{digit_byte}

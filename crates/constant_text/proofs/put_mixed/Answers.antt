@@ -1,6 +1,5 @@
 -- The loop's invariant: the first i bytes of s are written, each as it stands in a string.
 use mathlib.Core.Path.{◌≡◌, ap}
-use Prim.Native.Nat.{◌-◌}
 use native.Mathlib.Omega.{arith}
 use mathlib.Core.List.{flat_map}
 use lib.ListN.{length}

@@ -1,7 +1,6 @@
 -- The loop's invariant: the first row of the kind is the first one from k on.
 -- Assumes nothing.
 use mathlib.Core.Path.{refl, sym, ◌∙◌}
-use Prim.Native.Nat.{◌-◌}
 use native.Mathlib.Omega.{arith}
 use Rattle.design_text.proofs.Loops.{row-found, row-later, row-none}
 use Rattle.design_text.proofs.next_row.Goals as goal

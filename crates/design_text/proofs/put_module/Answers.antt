@@ -50,4 +50,4 @@ returns c =
     put-body.ensures put-bytes.ensures
 
 pub shape_of-out : goal.shape_of-out
-shape_of-out c = (returns-2 c).kept
+shape_of-out c = (returns c).kept

@@ -1,6 +1,6 @@
 -- The loop's invariant: the modules whose lines stand before row k are written, and there are as many as their lines.
 -- Assumes nothing.
-use Prim.Native.Nat.{◌-◌, ◌≤◌}
+use Prim.Native.Nat.{◌≤◌}
 use native.Mathlib.Omega.{arith}
 use Rattle.text.specs.Written.{written-most}
 use Rattle.text.specs.Reaches.{reaches-next, reaches_end}

@@ -36,7 +36,7 @@ returns-then-kind-eq-CELL_KIND c =
     (written_then put-kind.ensures put-cell.ensures)
 
 pub shape_of-out-then-kind-eq-CELL_KIND : goal.shape_of-out-then-kind-eq-CELL_KIND
-shape_of-out-then-kind-eq-CELL_KIND c = (returns-2 c).kept
+shape_of-out-then-kind-eq-CELL_KIND c = (returns-then-kind-eq-CELL_KIND c).kept
 
 pub put_process-requires : goal.put_process-requires
 put_process-requires c =
@@ -53,7 +53,7 @@ returns-then-kind-eq-PROCESS_KIND c =
     (written_then c.put_kind-line.ensures c.put_process.ensures)
 
 pub shape_of-out-then-kind-eq-PROCESS_KIND : goal.shape_of-out-then-kind-eq-PROCESS_KIND
-shape_of-out-then-kind-eq-PROCESS_KIND c = (returns-3 c).kept
+shape_of-out-then-kind-eq-PROCESS_KIND c = (returns-then-kind-eq-PROCESS_KIND c).kept
 
 pub put_line-requires : goal.put_line-requires
 put_line-requires c =
@@ -74,4 +74,4 @@ returns c =
     (written_then put-kind.ensures put-line.ensures)
 
 pub shape_of-out : goal.shape_of-out
-shape_of-out c = (returns-4 c).kept
+shape_of-out c = (returns c).kept

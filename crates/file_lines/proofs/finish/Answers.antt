@@ -1,4 +1,3 @@
-
 use Rattle.file_lines.specs.Lines.{finish_of}
 use Rattle.file_lines.proofs.finish.Goals as goal
 

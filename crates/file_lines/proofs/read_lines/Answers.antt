@@ -1,4 +1,3 @@
-
 use Prim.Native.Nat.{◌-◌}
 use mathlib.Core.Path.{refl, ◌∙◌}
 use native.Mathlib.Omega.{arith}
@@ -19,10 +18,10 @@ returns-then-tokens-line c = (c.loop-line.invariant.0, c.loop-line.invariant.1, 
 pub take_line-requires : goal.take_line-requires
 take_line-requires c =
     record {
-  line_fits = (reached-fits c.loop-line.invariant.0.reached _ c.loop-line.invariant.0.is, omega (arith, c.if-tokens-line.false));
-  some_done = record { past = c.loop-line.invariant.0.reached.past; done = c.loop-line.invariant.0.reached.done };
-  lines_indexed = c.loop-line.invariant.1;
-}
+      line_fits = (reached-fits c.loop-line.invariant.0.reached _ c.loop-line.invariant.0.is, omega (arith, c.if-tokens-line.false));
+      some_done = record { past = c.loop-line.invariant.0.reached.past; done = c.loop-line.invariant.0.reached.done };
+      lines_indexed = c.loop-line.invariant.1;
+    }
 
 pub is_settled-requires : goal.is_settled-requires
 is_settled-requires c = tt

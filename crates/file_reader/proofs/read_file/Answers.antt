@@ -1,4 +1,3 @@
-
 use mathlib.Core.Path.{refl}
 use mathlib.Core.Bool.{false}
 use Rattle.file_lines.proofs.FileLaws.{no-goal}

@@ -1,4 +1,3 @@
-
 use mathlib.Core.Path.{refl, ◌∙◌}
 use Rattle.file_lines.proofs.FileLaws.{ended, longer}
 use Rattle.file_reader.proofs.read_longer.Goals as goal
@@ -10,12 +9,12 @@ read_lines-requires c = record {
 }
 
 pub read_longest-requires : goal.read_longest-requires
-read_longest-requires c = 
+read_longest-requires c =
     let x = longer _ _ _ _ _ _ _ _ c.read_lines.ensures _ _ _ c.in-Longer.is in
     record {
-  before = x.0;
-  lines_indexed = x.1;
-}
+      before = x.0;
+      lines_indexed = x.1;
+    }
 
 pub returns-in-Ended : goal.returns-in-Ended
 returns-in-Ended c =

@@ -1,4 +1,3 @@
-
 use mathlib.Core.Path.{refl}
 use Rattle.file_lines.proofs.FileLaws.{ended, no_longer}
 use Rattle.file_reader.proofs.read_longest.Goals as goal

@@ -1,4 +1,3 @@
-
 use mathlib.Core.Path.{refl, sym, ap, ◌∙◌}
 use borrow.Author.Tests.{not-true, not-false}
 use Rattle.rules.specs.Bytes.{same}
@@ -27,37 +26,18 @@ returns-then-place-goal c = λ ss ep l.
 
 pub returns-then-kind-eq-END_KIND : goal.returns-then-kind-eq-END_KIND
 returns-then-kind-eq-END_KIND c =
-    let after-row-kind = c.before.before in
-    let after-if4 = after-row-kind.before.before in
-    let after-if3 = after-if4.before.before.before in
-    let after-if2 = after-if3.before.before in
-    let after-if1 = after-if2.before.before in
-    let entry = after-if1.before.before.before.before.before in
     λ ss ep l.
-    let args = entry.args in
-    ended args.place args.goal args.name.now args.names.now args.rows.now _ (not-false _ after-if1.if1.false) after-if2.if2.false after-if3.if3.false after-if4.if4.false refl ss ep l (sym after-row-kind.row-kind.ensures ∙ c.if-kind-eq-END_KIND.true) _ refl
+    let args = c.args in
+    ended args.place args.goal args.name.now args.names.now args.rows.now _ (not-false _ c.if-not-goal.false) c.if-place-eq0.false c.if-place-eq0-2.false c.if-place-goal.false refl ss ep l (sym c.row_kind-kind.ensures ∙ c.if-kind-eq-END_KIND.true) _ refl
 
 pub returns-then-kind-ne-WIRE_KIND : goal.returns-then-kind-ne-WIRE_KIND
 returns-then-kind-ne-WIRE_KIND c =
-    let after-row-kind = c.before.before in
-    let after-if4 = after-row-kind.before.before in
-    let after-if3 = after-if4.before.before.before in
-    let after-if2 = after-if3.before.before in
-    let after-if1 = after-if2.before.before in
-    let entry = after-if1.before.before.before.before.before in
     λ ss ep l.
-    let args = entry.args in
-    other-line args.place args.goal args.name.now args.names.now args.rows.now _ (not-false _ after-if1.if1.false) after-if2.if2.false after-if3.if3.false after-if4.if4.false refl ss ep l (λ e. c.if-kind-eq-END_KIND.false (after-row-kind.row-kind.ensures ∙ e)) (λ e. c.if-kind-ne-WIRE_KIND.true (after-row-kind.row-kind.ensures ∙ e))
+    let args = c.args in
+    other-line args.place args.goal args.name.now args.names.now args.rows.now _ (not-false _ c.if-not-goal.false) c.if-place-eq0.false c.if-place-eq0-2.false c.if-place-goal.false refl ss ep l (λ e. c.if-kind-eq-END_KIND.false (c.row_kind-kind.ensures ∙ e)) (λ e. c.if-kind-ne-WIRE_KIND.true (c.row_kind-kind.ensures ∙ e))
 
 pub returns : goal.returns
 returns c =
-    let after-if6 = c.before.before in
-    let after-row-kind = after-if6.before.before in
-    let after-if4 = after-row-kind.before.before in
-    let after-if3 = after-if4.before.before.before in
-    let after-if2 = after-if3.before.before in
-    let after-if1 = after-if2.before.before in
-    let entry = after-if1.before.before.before.before.before in
     λ ss ep l.
-    let args = entry.args in
-    c.same_bytes.ensures ∙ ap (same args.name.now) c.row_name.ensures ∙ declared args.place args.goal args.name.now args.names.now args.rows.now _ (not-false _ after-if1.if1.false) after-if2.if2.false after-if3.if3.false after-if4.if4.false refl ss ep l (sym after-row-kind.row-kind.ensures ∙ after-if6.if6.false)
+    let args = c.args in
+    c.same_bytes.ensures ∙ ap (same args.name.now) c.row_name.ensures ∙ declared args.place args.goal args.name.now args.names.now args.rows.now _ (not-false _ c.if-not-goal.false) c.if-place-eq0.false c.if-place-eq0-2.false c.if-place-goal.false refl ss ep l (sym c.row_kind-kind.ensures ∙ c.if-kind-ne-WIRE_KIND.false)

@@ -17,22 +17,22 @@ pub returns-then-parts-ne0 : goal.returns-then-parts-ne0
 returns-then-parts-ne0 c =
     let args = c.args in
     let parts-of = c.parts_of-parts in record {
-  storable = tt;
-  judges_as = λ ss ws s o st room says. number-refused ss args.f.now s args.names.now ws args.rows.now o
+      storable = tt;
+      judges_as = λ ss ws s o st room says. number-refused ss args.f.now s args.names.now ws args.rows.now o
           args.statement args.place args.sums st says (rw parts-of.ensures at c.if-parts-ne0.true)
           ∙ ap (λ (q : Parts). Verdict.refused q.number) (sym parts-of.ensures);
-}
+    }
 
 pub returns-then-name_is_taken : goal.returns-then-name_is_taken
 returns-then-name_is_taken c =
     let args = c.args in
     let parts-of = c.parts_of-parts in
     let if1 = c.if-parts-ne0 in record {
-  storable = tt;
-  judges_as = λ ss ws s o st room says. taken_refused ss args.f.now s args.names.now ws args.rows.now o
+      storable = tt;
+      judges_as = λ ss ws s o st room says. taken_refused ss args.f.now s args.names.now ws args.rows.now o
           args.statement args.place args.sums st says (rw parts-of.ensures at if1.false)
           (sym c.name_is_taken.ensures ∙ c.if-name_is_taken.true);
-}
+    }
 
 pub uneven-requires : goal.uneven-requires
 uneven-requires c =
@@ -49,24 +49,24 @@ returns-then-fault-ne0 c =
     let if2 = c.if-name_is_taken in
     let uneven = c.uneven in
     let merge = c.merge-fault in record {
-  storable = tt;
-  judges_as = λ ss ws s o st room says. fault-refused ss args.f.now s args.names.now ws args.rows.now o
+      storable = tt;
+      judges_as = λ ss ws s o st room says. fault-refused ss args.f.now s args.names.now ws args.rows.now o
           args.statement args.place args.sums st says (rw parts-of.ensures at if1.false)
           (sym name-is-taken.ensures ∙ if2.false) _
           (fault-is st args.statement parts-of.ensures uneven.ensures merge.ensures)
           c.if-fault-ne0.true;
-}
+    }
 
 pub statement_sizes-requires : goal.statement_sizes-requires
 statement_sizes-requires c =
     let pre = c.requires in
     let parts-of = c.parts_of-parts in
     let if1 = c.if-parts-ne0 in record {
-  f_len_bound = pre.f_len_bound;
-  statement_value = no_number _ (rw parts-of.ensures at if1.false);
-  statement_value_2 = merged-none _ parts-of.result _ _ parts-of.ensures c.merge-fault.ensures c.if-fault-ne0.false;
-  sound = pre.sound;
-}
+      f_len_bound = pre.f_len_bound;
+      statement_value = no_number _ (rw parts-of.ensures at if1.false);
+      statement_value_2 = merged-none _ parts-of.result _ _ parts-of.ensures c.merge-fault.ensures c.if-fault-ne0.false;
+      sound = pre.sound;
+    }
 
 pub plus-sums-requires : goal.plus-sums-requires
 plus-sums-requires c = record {
@@ -87,18 +87,18 @@ returns-then-within c =
     let if3 = c.if-fault-ne0 in
     let statement-sizes = c.statement_sizes in
     let plus = c.plus-sums in record {
-  storable = (
+      storable = (
         pre.sound,
         merged-none _ parts-of.result _ _ parts-of.ensures merge.ensures if3.false,
         within-limits plus.result (not-true (exceeds plus.result) (sym c.within.ensures ∙ c.if-within.true)),
       );
-  judges_as = λ ss ws s o st room says. subst (λ (u : Sizes). Accepts ss o args.f.now s args.statement u) (sym plus.ensures)
+      judges_as = λ ss ws s o st room says. subst (λ (u : Sizes). Accepts ss o args.f.now s args.statement u) (sym plus.ensures)
           (accepted ss args.f.now s args.names.now ws args.rows.now o args.statement args.place
           args.sums st says (rw parts-of.ensures at if1.false) (sym name-is-taken.ensures ∙ if2.false)
           (sym (fault-is st args.statement parts-of.ensures uneven.ensures merge.ensures) ∙ if3.false)
           statement-sizes.result room statement-sizes.ensures.sizes_are
           (rw plus.ensures at (not-true (exceeds plus.result) (sym c.within.ensures ∙ c.if-within.true))));
-}
+    }
 
 pub returns : goal.returns
 returns c =
@@ -112,11 +112,11 @@ returns c =
     let if3 = c.if-fault-ne0 in
     let statement-sizes = c.statement_sizes in
     let plus = c.plus-sums in record {
-  storable = tt;
-  judges_as = λ ss ws s o st room says. sizes-refused ss args.f.now s args.names.now ws args.rows.now o
+      storable = tt;
+      judges_as = λ ss ws s o st room says. sizes-refused ss args.f.now s args.names.now ws args.rows.now o
           args.statement args.place args.sums st says (rw parts-of.ensures at if1.false)
           (sym name-is-taken.ensures ∙ if2.false)
           (sym (fault-is st args.statement parts-of.ensures uneven.ensures merge.ensures) ∙ if3.false)
           statement-sizes.result room statement-sizes.ensures.sizes_are
           (rw plus.ensures at (not-false (exceeds plus.result) (sym c.within.ensures ∙ c.if-within.false)));
-}
+    }

@@ -1,5 +1,4 @@
 -- A turn takes a token and puts it into the next row.
-use Prim.Native.Nat.{◌-◌}
 use native.Mathlib.Omega.{arith}
 use Rattle.lexer.proofs.Reached.{start, told, fits, within, step-on, ended, broke}
 use Rattle.lexer.proofs.lex_line.Goals as goal

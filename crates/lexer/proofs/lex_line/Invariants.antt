@@ -1,6 +1,6 @@
 -- A turn takes a token and puts it into the next row.
 use Prim.Native.Nat.{◌-◌}
-use Rattle.lexer.proofs.Reached.{Reached, start}
+use Rattle.lexer.proofs.Reached.{Reached}
 use Rattle.lexer.proofs.lex_line.Given as goal
 
 abbrev pub invariant-loop-token : goal.invariant-loop-token

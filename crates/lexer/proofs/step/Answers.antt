@@ -39,9 +39,9 @@ string_step-requires c =
     let if1 = c.if-s-p in
     let class-in = c.class_in-k in
     record {
-  class_value = pre;
-  starts = starts _ _ _ run-end.ensures if1.false _ class-in.ensures 8 8 (omega arith) (omega arith);
-}
+      class_value = pre;
+      starts = starts _ _ _ run-end.ensures if1.false _ class-in.ensures 8 8 (omega arith) (omega arith);
+    }
 
 pub returns-then-k-eq-QUOTE : goal.returns-then-k-eq-QUOTE
 returns-then-k-eq-QUOTE c = blanks-then _ _ _ c.run_end-p.ensures _ c.string_step.ensures
@@ -53,9 +53,9 @@ number_step-requires c =
     let if1 = c.if-s-p in
     let class-in = c.class_in-k in
     record {
-  class_value = pre;
-  starts = starts _ _ _ run-end.ensures if1.false _ class-in.ensures 9 11 (omega arith) (omega arith);
-}
+      class_value = pre;
+      starts = starts _ _ _ run-end.ensures if1.false _ class-in.ensures 9 11 (omega arith) (omega arith);
+    }
 
 pub returns-then-k-lt-MINUS : goal.returns-then-k-lt-MINUS
 returns-then-k-lt-MINUS c = blanks-then _ _ _ c.run_end-p.ensures _ c.number_step.ensures
@@ -67,9 +67,9 @@ minus_step-requires c =
     let if1 = c.if-s-p in
     let class-in = c.class_in-k in
     record {
-  class_value = pre;
-  starts = starts _ _ _ run-end.ensures if1.false _ class-in.ensures 12 12 (omega arith) (omega arith);
-}
+      class_value = pre;
+      starts = starts _ _ _ run-end.ensures if1.false _ class-in.ensures 12 12 (omega arith) (omega arith);
+    }
 
 pub returns-then-k-eq-MINUS : goal.returns-then-k-eq-MINUS
 returns-then-k-eq-MINUS c = blanks-then _ _ _ c.run_end-p.ensures _ c.minus_step.ensures
@@ -83,9 +83,9 @@ word_step-requires c =
     let l : class-in.result ≤ 14 = omega
     (arith, class-le _ (byte_small _ (c.type_inv.s run-end.result)), class-in.ensures) in
     record {
-  class_value = pre;
-  starts = starts _ _ _ run-end.ensures if1.false _ class-in.ensures 13 14 (omega arith) l;
-}
+      class_value = pre;
+      starts = starts _ _ _ run-end.ensures if1.false _ class-in.ensures 13 14 (omega arith) l;
+    }
 
 pub returns : goal.returns
 returns c = blanks-then _ _ _ c.run_end-p.ensures _ c.word_step.ensures

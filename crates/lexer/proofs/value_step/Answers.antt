@@ -9,7 +9,7 @@ run_end-e-requires c = c.requires.class_value
 pub separate-requires : goal.separate-requires
 separate-requires c = let b = ends _ _ _ _ _ c.run_end-e.ensures (omega (arith, c.requires.p_le_q.1)) in record {
   class_value = c.requires.class_value;
-  p_lt_e = (omega (arith, b.0, c.requires.p_le_q), b.1, (c.requires.p_le_q, omega (arith, b.0), b.1));
+  p_lt_e = (omega (arith, b.0, c.requires.p_le_q.0), b.1, (c.requires.p_le_q.0, omega (arith, b.0), b.1));
 }
 
 pub returns : goal.returns

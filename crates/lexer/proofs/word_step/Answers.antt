@@ -9,6 +9,12 @@ run_end-e-requires c = c.requires.class_value
 pub slice_bounds-keyword-count : goal.slice_bounds-keyword-count
 slice_bounds-keyword-count c = (ends _ _ _ _ _ c.run_end-e.ensures (omega (arith, c.requires.starts.inside))).0
 
+pub slice_bounds-keyword-start : goal.slice_bounds-keyword-start
+slice_bounds-keyword-start c = (ends _ _ _ _ _ c.run_end-e.ensures (omega (arith, c.requires.starts.inside))).0
+
+pub slice_bounds-keyword-end : goal.slice_bounds-keyword-end
+slice_bounds-keyword-end c = (ends _ _ _ _ _ c.run_end-e.ensures (omega (arith, c.requires.starts.inside))).1
+
 pub separate-requires : goal.separate-requires
 separate-requires c = let b = ends-past _ _ 13 14 13 14 _ c.requires.starts (omega arith) (omega arith) c.run_end-e.ensures in record {
   class_value = c.requires.class_value;

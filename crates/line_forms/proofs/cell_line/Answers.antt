@@ -24,8 +24,7 @@ pub returns : goal.returns
 unfolding shapes.of₂ shapes.of₁ shapes.after shapes.give shapes.whole id_gives ended form_of name_in
 returns c =
     let id-at = c.id_at in
-    let id-at2 = c.id_at-2 in
-    (
+    let id-at2 = c.id_at-2 in (
       λ f. rw (id-at.ensures f, c.in-Span.is, id-at2.ensures f, c.in-Span-id_at.is) (c.finished.ensures.0 f),
       c.finished.ensures.1 tt,
     )

@@ -1,11 +1,11 @@
 -- The name, then the end, whichever of the two it is.
-use mathlib.Core.Logic.{⊎_elim}
 use native.Mathlib.Omega.{arith}
 use Rattle.rules.specs.Shapes as shapes
 use Rattle.tokens.specs.Parts.{id_gives}
 use Rattle.line_forms.specs.Forms.{form_of, name_in, ended}
 use Rattle.line_forms.proofs.LineLaws.{id_below}
 use Rattle.line_forms.proofs.named_line.Goals as goal
+use Rattle.line_forms.proofs.named_line.Goals.{then-process, else-process}
 
 pub returns-in_default : goal.returns-in_default
 unfolding shapes.of₁ shapes.after shapes.give shapes.whole id_gives form_of
@@ -17,7 +17,7 @@ overflow_add-i c = omega (arith, id_below _ _ _ _ _ c.id_at.ensures c.in-Span.is
 pub returns : goal.returns
 unfolding shapes.of₁ shapes.after shapes.give shapes.whole id_gives ended form_of name_in
 returns c =
-    ⊎_elim
-    (λ w. (λ f. rw (c.id_at.ensures f, c.in-Span.is, w.0.taken) (rw w.1 at (c.finished.ensures.0 f)), rw w.1 at c.finished.ensures.1 tt))
-    (λ w. (λ f. rw (c.id_at.ensures f, c.in-Span.is, w.0.left) (rw w.1 at (c.finished.ensures.0 f)), rw w.1 at c.finished.ensures.1 tt))
-    c.if-process.branch
+    elim c.if-process.branch [
+      | then-process w ↦ (λ f. rw (c.id_at.ensures f, c.in-Span.is, w.if-process.true) (rw w.form-is at (c.finished.ensures.0 f)), rw w.form-is at c.finished.ensures.1 tt)
+      | else-process w ↦ (λ f. rw (c.id_at.ensures f, c.in-Span.is, w.if-process.false) (rw w.form-is at (c.finished.ensures.0 f)), rw w.form-is at c.finished.ensures.1 tt)
+    ]

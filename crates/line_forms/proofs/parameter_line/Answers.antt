@@ -30,8 +30,7 @@ unfolding shapes.of₂ shapes.of₁ shapes.after shapes.give shapes.whole id_giv
 returns c =
     let id-at = c.id_at in
     let if1 = c.if-tokens-j in
-    let literal-at = c.literal_at in
-    (
+    let literal-at = c.literal_at in (
       λ f. rw
           (id-at.ensures f, c.in-Span.is, present-thing _ f _ _ if1.false, literal-at.ensures.0 f, c.in-Read.is)
           (c.finished.ensures.0 f),

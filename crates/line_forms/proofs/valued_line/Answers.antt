@@ -1,11 +1,11 @@
 -- The name, the constant, then the end, whichever of the two it is.
-use mathlib.Core.Logic.{⊎_elim}
 use native.Mathlib.Omega.{arith}
 use Rattle.rules.specs.Shapes as shapes
 use Rattle.tokens.specs.Parts.{id_gives, literal_gives}
 use Rattle.line_forms.specs.Forms.{form_of, name_in, ended}
 use Rattle.line_forms.proofs.LineLaws.{id_below}
 use Rattle.line_forms.proofs.valued_line.Goals as goal
+use Rattle.line_forms.proofs.valued_line.Goals.{then-attribute, else-attribute}
 
 pub returns-in_default : goal.returns-in_default
 unfolding shapes.of₂ shapes.of₁ shapes.after shapes.give shapes.whole id_gives form_of
@@ -26,15 +26,15 @@ unfolding shapes.of₂ shapes.of₁ shapes.after shapes.give shapes.whole id_giv
 returns c =
     let id-at = c.id_at in
     let literal-at = c.literal_at in
-    ⊎_elim
-    (λ w. (
-      λ f. rw (id-at.ensures f, c.in-Span.is, literal-at.ensures.0 f, c.in-Read.is, w.0.taken)
-          (rw w.1 at (c.finished.ensures.0 f)),
-      λ h. rw w.1 at c.finished.ensures.1 (_, rw c.in-Read.is at literal-at.ensures.1),
-    ))
-    (λ w. (
-      λ f. rw (id-at.ensures f, c.in-Span.is, literal-at.ensures.0 f, c.in-Read.is, w.0.left)
-          (rw w.1 at (c.finished.ensures.0 f)),
-      λ h. rw w.1 at c.finished.ensures.1 (h, (_, rw c.in-Read.is at literal-at.ensures.1)),
-    ))
-    c.if-attribute.branch
+    elim c.if-attribute.branch [
+      | then-attribute w ↦ (
+        λ f. rw (id-at.ensures f, c.in-Span.is, literal-at.ensures.0 f, c.in-Read.is, w.if-attribute.true)
+            (rw w.form-is at (c.finished.ensures.0 f)),
+        λ h. rw w.form-is at c.finished.ensures.1 (_, rw c.in-Read.is at literal-at.ensures.1),
+      )
+      | else-attribute w ↦ (
+        λ f. rw (id-at.ensures f, c.in-Span.is, literal-at.ensures.0 f, c.in-Read.is, w.if-attribute.false)
+            (rw w.form-is at (c.finished.ensures.0 f)),
+        λ h. rw w.form-is at c.finished.ensures.1 (h, (_, rw c.in-Read.is at literal-at.ensures.1)),
+      )
+    ]

@@ -24,7 +24,7 @@ returns-then-kind-eq-CONSTANT_VALUE c =
     column.result column.ensures _ words-at.ensures if1.true)
 
 pub shape_of-out-then-kind-eq-CONSTANT_VALUE : goal.shape_of-out-then-kind-eq-CONSTANT_VALUE
-shape_of-out-then-kind-eq-CONSTANT_VALUE c = (returns c).kept
+shape_of-out-then-kind-eq-CONSTANT_VALUE c = (returns-then-kind-eq-CONSTANT_VALUE c).kept
 
 pub put_integer-requires : goal.put_integer-requires
 put_integer-requires c = written-most c.put_byte-space.ensures
@@ -42,7 +42,7 @@ returns-then-kind-eq-CONSTANT_INTEGER c =
     column.result column.ensures _ column2.ensures if2.true)
 
 pub shape_of-out-then-kind-eq-CONSTANT_INTEGER : goal.shape_of-out-then-kind-eq-CONSTANT_INTEGER
-shape_of-out-then-kind-eq-CONSTANT_INTEGER c = (returns-2 c).kept
+shape_of-out-then-kind-eq-CONSTANT_INTEGER c = (returns-then-kind-eq-CONSTANT_INTEGER c).kept
 
 pub put_string-requires : goal.put_string-requires
 put_string-requires c = written-most c.put_byte-space.ensures
@@ -61,4 +61,4 @@ returns c =
     column.result column.ensures _ bytes-at.ensures if1.false if2.false)
 
 pub shape_of-out : goal.shape_of-out
-shape_of-out c = (returns-3 c).kept
+shape_of-out c = (returns c).kept

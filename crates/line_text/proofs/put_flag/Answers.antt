@@ -11,7 +11,7 @@ unfolding unless
 returns-then-set c = rw c.if-set.true (written_as c.put_token.ensures (option-word c.args.w.now))
 
 pub shape_of-out-then-set : goal.shape_of-out-then-set
-shape_of-out-then-set c = (returns c).kept
+shape_of-out-then-set c = (returns-then-set c).kept
 
 pub returns : goal.returns
 unfolding unless option_tokens spread behind

@@ -28,4 +28,4 @@ returns c =
     (written_as (written_then put-bytes.ensures put-signed.ensures) (option-number (bytes "offset") (signed_of args.word)))
 
 pub shape_of-out : goal.shape_of-out
-shape_of-out c = (returns-2 c).kept
+shape_of-out c = (returns c).kept

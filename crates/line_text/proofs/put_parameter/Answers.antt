@@ -20,7 +20,7 @@ returns-then-column-eq0 c =
     c.if-column-eq0.true)
 
 pub shape_of-out-then-column-eq0 : goal.shape_of-out-then-column-eq0
-shape_of-out-then-column-eq0 c = (returns c).kept
+shape_of-out-then-column-eq0 c = (returns-then-column-eq0 c).kept
 
 pub put_constant-requires : goal.put_constant-requires
 put_constant-requires c = (written-most c.put_token-end.ensures, omega arith, omega arith, omega arith)
@@ -39,4 +39,4 @@ returns c =
     args.strings.now args.bits.now args.rows.now args.row 3 _ column.ensures if1.false)
 
 pub shape_of-out : goal.shape_of-out
-shape_of-out c = (returns-2 c).kept
+shape_of-out c = (returns c).kept

@@ -25,7 +25,7 @@ returns-then-direction-eq-PORT_INPUT c =
     (written_as (written_then put-bytes.ensures put-number.ensures) (option-number (bytes "input") (pos args.n)))
 
 pub shape_of-out-then-direction-eq-PORT_INPUT : goal.shape_of-out-then-direction-eq-PORT_INPUT
-shape_of-out-then-direction-eq-PORT_INPUT c = (returns c).kept
+shape_of-out-then-direction-eq-PORT_INPUT c = (returns-then-direction-eq-PORT_INPUT c).kept
 
 pub put_number-requires-then-direction-eq-PORT_OUTPUT : goal.put_number-requires-then-direction-eq-PORT_OUTPUT
 put_number-requires-then-direction-eq-PORT_OUTPUT c = written-most c.put_bytes-end-then-direction-eq-PORT_OUTPUT.ensures
@@ -41,7 +41,7 @@ returns-then-direction-eq-PORT_OUTPUT c =
     (written_as (written_then put-bytes2.ensures put-number2.ensures) (option-number (bytes "output") (pos args.n)))
 
 pub shape_of-out-then-direction-eq-PORT_OUTPUT : goal.shape_of-out-then-direction-eq-PORT_OUTPUT
-shape_of-out-then-direction-eq-PORT_OUTPUT c = (returns-2 c).kept
+shape_of-out-then-direction-eq-PORT_OUTPUT c = (returns-then-direction-eq-PORT_OUTPUT c).kept
 
 pub put_number-requires-then-direction-eq-PORT_INOUT : goal.put_number-requires-then-direction-eq-PORT_INOUT
 put_number-requires-then-direction-eq-PORT_INOUT c = written-most c.put_bytes-end-then-direction-eq-PORT_INOUT.ensures
@@ -57,7 +57,7 @@ returns-then-direction-eq-PORT_INOUT c =
     (written_as (written_then put-bytes3.ensures put-number3.ensures) (option-number (bytes "inout") (pos args.n)))
 
 pub shape_of-out-then-direction-eq-PORT_INOUT : goal.shape_of-out-then-direction-eq-PORT_INOUT
-shape_of-out-then-direction-eq-PORT_INOUT c = (returns-3 c).kept
+shape_of-out-then-direction-eq-PORT_INOUT c = (returns-then-direction-eq-PORT_INOUT c).kept
 
 pub returns : goal.returns
 unfolding port_of Option-to_list direction_word setting integer_text option_tokens spread behind

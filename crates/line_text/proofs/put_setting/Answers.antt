@@ -26,4 +26,4 @@ returns c =
     (written_as (written_then put-token.ensures put-number.ensures) (option-number args.w.now (pos args.n)))
 
 pub shape_of-out : goal.shape_of-out
-shape_of-out c = (returns-2 c).kept
+shape_of-out c = (returns c).kept

@@ -17,7 +17,7 @@ unfolding sort_at sort_of sort_tokens word_token spread behind tight token_text
 returns-then-sort-eq-SORT_SIGNED c = rw (← c.column-sort.ensures, c.if-sort-eq-SORT_SIGNED.true) c.put_bytes.ensures
 
 pub shape_of-out-then-sort-eq-SORT_SIGNED : goal.shape_of-out-then-sort-eq-SORT_SIGNED
-shape_of-out-then-sort-eq-SORT_SIGNED c = (returns-2 c).kept
+shape_of-out-then-sort-eq-SORT_SIGNED c = (returns-then-sort-eq-SORT_SIGNED c).kept
 
 pub returns : goal.returns
 unfolding sort_at sort_of sort_tokens word_token spread behind tight token_text
@@ -29,4 +29,4 @@ returns c =
     rw (← column.ensures, ne_eqb _ _ if1.false, ne_eqb _ _ if2.false) put-bytes2.ensures
 
 pub shape_of-out : goal.shape_of-out
-shape_of-out c = (returns-3 c).kept
+shape_of-out c = (returns c).kept

@@ -18,7 +18,7 @@ returns-then-kind-eq-WIRE_KIND c =
     args.row _ column.ensures if1.true)
 
 pub shape_of-out-then-kind-eq-WIRE_KIND : goal.shape_of-out-then-kind-eq-WIRE_KIND
-shape_of-out-then-kind-eq-WIRE_KIND c = (returns c).kept
+shape_of-out-then-kind-eq-WIRE_KIND c = (returns-then-kind-eq-WIRE_KIND c).kept
 
 pub returns-then-kind-eq-CELL_CONNECTION_KIND : goal.returns-then-kind-eq-CELL_CONNECTION_KIND
 returns-then-kind-eq-CELL_CONNECTION_KIND c =
@@ -32,7 +32,7 @@ returns-then-kind-eq-CELL_CONNECTION_KIND c =
     args.row _ column.ensures if2.true)
 
 pub shape_of-out-then-kind-eq-CELL_CONNECTION_KIND : goal.shape_of-out-then-kind-eq-CELL_CONNECTION_KIND
-shape_of-out-then-kind-eq-CELL_CONNECTION_KIND c = (returns-2 c).kept
+shape_of-out-then-kind-eq-CELL_CONNECTION_KIND c = (returns-then-kind-eq-CELL_CONNECTION_KIND c).kept
 
 pub returns-then-kind-eq-CONNECTION_KIND : goal.returns-then-kind-eq-CONNECTION_KIND
 returns-then-kind-eq-CONNECTION_KIND c =
@@ -46,7 +46,7 @@ returns-then-kind-eq-CONNECTION_KIND c =
     args.row _ column.ensures if3.true)
 
 pub shape_of-out-then-kind-eq-CONNECTION_KIND : goal.shape_of-out-then-kind-eq-CONNECTION_KIND
-shape_of-out-then-kind-eq-CONNECTION_KIND c = (returns-3 c).kept
+shape_of-out-then-kind-eq-CONNECTION_KIND c = (returns-then-kind-eq-CONNECTION_KIND c).kept
 
 pub returns-then-kind-eq-STEP_KIND : goal.returns-then-kind-eq-STEP_KIND
 returns-then-kind-eq-STEP_KIND c =
@@ -57,7 +57,7 @@ returns-then-kind-eq-STEP_KIND c =
     args.row _ c.column-kind.ensures c.if-kind-eq-STEP_KIND.true)
 
 pub shape_of-out-then-kind-eq-STEP_KIND : goal.shape_of-out-then-kind-eq-STEP_KIND
-shape_of-out-then-kind-eq-STEP_KIND c = (returns-4 c).kept
+shape_of-out-then-kind-eq-STEP_KIND c = (returns-then-kind-eq-STEP_KIND c).kept
 
 pub returns : goal.returns
 returns c =
@@ -76,4 +76,4 @@ returns c =
     args.row _ column.ensures (ne_eqb _ _ if1.false))
 
 pub shape_of-out : goal.shape_of-out
-shape_of-out c = (returns-5 c).kept
+shape_of-out c = (returns c).kept

@@ -21,7 +21,7 @@ overflow_add-result c =
     let args = c.args in
     let pre = c.requires in
     let sum = line-sum args.names.now args.strings.now args.wires.now args.rows.now args.m args.w _ _ (c.form_size-name.ensures ∙ ap (λ (l : List ℕ). length (plain_form l)) c.name_now.ensures) c.shown_part_size-shown.ensures in
-    omega (arith, sum, line-most args.names.now args.strings.now args.wires.now args.rows.now args.m pre.names_len pre.names_len.1 args.w)
+    omega (arith, sum, line-most args.names.now args.strings.now args.wires.now args.rows.now args.m pre.names_len.0 pre.names_len.1 args.w)
 
 pub overflow_add-result-2 : goal.overflow_add-result-2
 unfolding name_at
@@ -29,7 +29,7 @@ overflow_add-result-2 c =
     let args = c.args in
     let pre = c.requires in
     let sum = line-sum args.names.now args.strings.now args.wires.now args.rows.now args.m args.w _ _ (c.form_size-name.ensures ∙ ap (λ (l : List ℕ). length (plain_form l)) c.name_now.ensures) c.shown_part_size-shown.ensures in
-    omega (arith, sum, line-most args.names.now args.strings.now args.wires.now args.rows.now args.m pre.names_len pre.names_len.1 args.w)
+    omega (arith, sum, line-most args.names.now args.strings.now args.wires.now args.rows.now args.m pre.names_len.0 pre.names_len.1 args.w)
 
 pub overflow_add-result-3 : goal.overflow_add-result-3
 unfolding name_at
@@ -37,7 +37,7 @@ overflow_add-result-3 c =
     let args = c.args in
     let pre = c.requires in
     let sum = line-sum args.names.now args.strings.now args.wires.now args.rows.now args.m args.w _ _ (c.form_size-name.ensures ∙ ap (λ (l : List ℕ). length (plain_form l)) c.name_now.ensures) c.shown_part_size-shown.ensures in
-    omega (arith, sum, line-most args.names.now args.strings.now args.wires.now args.rows.now args.m pre.names_len pre.names_len.1 args.w)
+    omega (arith, sum, line-most args.names.now args.strings.now args.wires.now args.rows.now args.m pre.names_len.0 pre.names_len.1 args.w)
 
 pub returns : goal.returns
 unfolding name_at

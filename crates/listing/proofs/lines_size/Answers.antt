@@ -1,6 +1,6 @@
 -- The loop's invariant: the size of the lines of the first w wires.
 use mathlib.Core.Path.{◌≡◌, refl, ap, ◌∙◌}
-use Prim.Native.Nat.{ℕ, ◌+◌, ◌-◌}
+use Prim.Native.Nat.{ℕ, ◌+◌}
 use native.Mathlib.Omega.{arith}
 use lib.ListN.{length}
 use Rattle.listing.specs.Lines.{lines_at}
@@ -22,7 +22,7 @@ overflow_add-size c =
     let args = c.args in
     let loop = c.loop-w in
     let pre = c.requires in
-    omega (arith, pre, size-more args.names.now args.strings.now args.wires.now args.rows.now args.m loop.w loop.size _ loop.invariant.1 c.line_size-size.ensures, lines-most args.names.now args.strings.now args.wires.now args.rows.now args.m pre.names_len pre.names_len.1 (loop.w + 1))
+    omega (arith, pre, size-more args.names.now args.strings.now args.wires.now args.rows.now args.m loop.w loop.size _ loop.invariant.1 c.line_size-size.ensures, lines-most args.names.now args.strings.now args.wires.now args.rows.now args.m pre.names_len.0 pre.names_len.1 (loop.w + 1))
 
 pub loop-w-preserved : goal.loop-w-preserved
 loop-w-preserved c =

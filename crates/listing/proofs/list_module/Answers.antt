@@ -26,7 +26,7 @@ pub overflow_cast-result : goal.overflow_cast-result
 overflow_cast-result c =
     let args = c.args in
     let pre = c.requires in
-    omega (arith, pre, c.lines_size-size.ensures, lines-most args.names.now args.strings.now args.wires.now args.rows.now args.m pre.names_len pre.names_len.1 args.m.wires)
+    omega (arith, pre, c.lines_size-size.ensures, lines-most args.names.now args.strings.now args.wires.now args.rows.now args.m pre.names_len.0 pre.names_len.1 args.m.wires)
 
 pub shape_of-out : goal.shape_of-out
 shape_of-out c = put-kept c.put_lines.ensures

@@ -14,12 +14,13 @@ returns-then-place-number c =
     listed-missing held args.m.0 args.out.now c.if-place-number.true
 
 pub list_module-requires : goal.list_module-requires
-list_module-requires c = CLAUSES wires_bound names_len 
+list_module-requires c =
     let args = c.args in
     let held =
     opened (lent args.names.now args.strings.now args.bits.now args.wires.now args.rows.now args.renames args.room)
     _ c.open_memory.ensures _ c.in-Open.is in
-    fits held args.m.0 _ c.module_of.ensures
+    let all = fits held args.m.0 _ c.module_of.ensures in
+    record { wires_bound = all.0; names_len = all.1 }
 
 pub returns-else-place-number : goal.returns-else-place-number
 returns-else-place-number c =

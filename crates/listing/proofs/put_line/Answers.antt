@@ -41,9 +41,9 @@ put_shown_part-end-requires c =
     let args = c.args in
     let f = put_as put-form.ensures (ap plain_form name-now.ensures) in
     record {
-  w_bound = pre.w_bound;
-  w_in_bounds = line-behind args.names.now args.strings.now args.wires.now args.rows.now args.m args.w args.at _ f pre.w_in_bounds;
-}
+      w_bound = pre.w_bound;
+      w_in_bounds = line-behind args.names.now args.strings.now args.wires.now args.rows.now args.m args.w args.at _ f pre.w_in_bounds;
+    }
 
 pub bounds-out-end : goal.bounds-out-end
 unfolding name_at
@@ -55,7 +55,7 @@ bounds-out-end c =
 pub overflow_add-result : goal.overflow_add-result
 unfolding name_at
 overflow_add-result c =
-    let good = c.XXwell-formed in
+    let good = c.well_formed in
     let pre = c.requires in
     let name-now = c.name_now in
     let put-form = c.put_form-space in

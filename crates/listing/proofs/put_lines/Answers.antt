@@ -1,6 +1,6 @@
 -- The loop's invariant: the lines of the first w wires are put.
 use mathlib.Core.Path.{◌≡◌, ap}
-use Prim.Native.Nat.{ℕ, ◌-◌, ◌<◌}
+use Prim.Native.Nat.{ℕ, ◌<◌}
 use native.Mathlib.Omega.{arith}
 use Rattle.plain.specs.Put.{put-none, put-kept, put_then, put_as}
 use Rattle.listing.specs.Lines.{lines_at}
@@ -18,9 +18,9 @@ put_line-end-requires c =
     let pre = c.requires in
     let inside : loop.w < args.m.wires = omega arith in
     record {
-  w_bound = omega (arith, pre);
-  w_in_bounds = omega (arith, pre, loop.invariant.1.place, put-kept loop.invariant.1, lines_fit args.names.now args.strings.now args.wires.now args.rows.now args.m loop.w args.m.wires inside);
-}
+      w_bound = omega (arith, pre);
+      w_in_bounds = omega (arith, pre, loop.invariant.1.place, put-kept loop.invariant.1, lines_fit args.names.now args.strings.now args.wires.now args.rows.now args.m loop.w args.m.wires inside);
+    }
 
 pub loop-w-preserved : goal.loop-w-preserved
 loop-w-preserved c =

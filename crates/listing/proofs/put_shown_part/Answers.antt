@@ -14,6 +14,16 @@ slice_bounds-put_shown-count c =
     let args = c.args in
     (name-told args.names.now args.strings.now args.wires.now args.rows.now args.m args.w _ c.shown_place.ensures _ _ c.in-Name.is).0
 
+pub slice_bounds-put_shown-start : goal.slice_bounds-put_shown-start
+slice_bounds-put_shown-start c =
+    let args = c.args in
+    (name-told args.names.now args.strings.now args.wires.now args.rows.now args.m args.w _ c.shown_place.ensures _ _ c.in-Name.is).0
+
+pub slice_bounds-put_shown-end : goal.slice_bounds-put_shown-end
+slice_bounds-put_shown-end c =
+    let args = c.args in
+    (name-told args.names.now args.strings.now args.wires.now args.rows.now args.m args.w _ c.shown_place.ensures _ _ c.in-Name.is).1
+
 pub put_shown-requires : goal.put_shown-requires
 put_shown-requires c =
     let args = c.args in
@@ -23,6 +33,16 @@ pub slice_bounds-put_shown-count-in-Text : goal.slice_bounds-put_shown-count-in-
 slice_bounds-put_shown-count-in-Text c =
     let args = c.args in
     (text-told args.names.now args.strings.now args.wires.now args.rows.now args.m args.w _ c.shown_place.ensures _ _ c.in-Text.is).0
+
+pub slice_bounds-put_shown-start-in-Text : goal.slice_bounds-put_shown-start-in-Text
+slice_bounds-put_shown-start-in-Text c =
+    let args = c.args in
+    (text-told args.names.now args.strings.now args.wires.now args.rows.now args.m args.w _ c.shown_place.ensures _ _ c.in-Text.is).0
+
+pub slice_bounds-put_shown-end-in-Text : goal.slice_bounds-put_shown-end-in-Text
+slice_bounds-put_shown-end-in-Text c =
+    let args = c.args in
+    (text-told args.names.now args.strings.now args.wires.now args.rows.now args.m args.w _ c.shown_place.ensures _ _ c.in-Text.is).1
 
 pub put_shown-requires-in-Text : goal.put_shown-requires-in-Text
 put_shown-requires-in-Text c =

@@ -13,6 +13,16 @@ slice_bounds-shown_size-count c =
     let args = c.args in
     (name-told args.names.now args.strings.now args.wires.now args.rows.now args.m args.w _ c.shown_place.ensures _ _ c.in-Name.is).0
 
+pub slice_bounds-shown_size-start : goal.slice_bounds-shown_size-start
+slice_bounds-shown_size-start c =
+    let args = c.args in
+    (name-told args.names.now args.strings.now args.wires.now args.rows.now args.m args.w _ c.shown_place.ensures _ _ c.in-Name.is).0
+
+pub slice_bounds-shown_size-end : goal.slice_bounds-shown_size-end
+slice_bounds-shown_size-end c =
+    let args = c.args in
+    (name-told args.names.now args.strings.now args.wires.now args.rows.now args.m args.w _ c.shown_place.ensures _ _ c.in-Name.is).1
+
 pub shown_size-requires : goal.shown_size-requires
 shown_size-requires c =
     let args = c.args in
@@ -22,6 +32,16 @@ pub slice_bounds-shown_size-count-in-Text : goal.slice_bounds-shown_size-count-i
 slice_bounds-shown_size-count-in-Text c =
     let args = c.args in
     (text-told args.names.now args.strings.now args.wires.now args.rows.now args.m args.w _ c.shown_place.ensures _ _ c.in-Text.is).0
+
+pub slice_bounds-shown_size-start-in-Text : goal.slice_bounds-shown_size-start-in-Text
+slice_bounds-shown_size-start-in-Text c =
+    let args = c.args in
+    (text-told args.names.now args.strings.now args.wires.now args.rows.now args.m args.w _ c.shown_place.ensures _ _ c.in-Text.is).0
+
+pub slice_bounds-shown_size-end-in-Text : goal.slice_bounds-shown_size-end-in-Text
+slice_bounds-shown_size-end-in-Text c =
+    let args = c.args in
+    (text-told args.names.now args.strings.now args.wires.now args.rows.now args.m args.w _ c.shown_place.ensures _ _ c.in-Text.is).1
 
 pub shown_size-requires-in-Text : goal.shown_size-requires-in-Text
 shown_size-requires-in-Text c =

@@ -1,6 +1,5 @@
 -- The loop's invariant: the codes of the first j places are stored.
 use mathlib.Core.Path.{refl, sym, ◌∙◌}
-use Prim.Native.Nat.{◌-◌}
 use native.Mathlib.Omega.{arith}
 use lib.ListN.{length-set}
 use Rattle.tables.specs.Store.{store-none, filled, filled-end}

@@ -1,7 +1,6 @@
 -- The loop's invariant: the bits of the first j bytes are stored.
 use mathlib.Core.Path.{refl, sym, ap, ◌∙◌}
 use mathlib.Core.List.{flat_map}
-use Prim.Native.Nat.{◌-◌}
 use native.Mathlib.Omega.{arith}
 use Rattle.tables.specs.Store.{store, store-none}
 use Rattle.literals.proofs.CodeLaws.{bytes-more, bytes-all}
@@ -26,7 +25,7 @@ loop-j-preserved c =
     let loop-test = c.loop-j-test in
     let put-bits = c.put_bits in (
       omega arith,
-      put-bits.auto.1.1.0 ∙ loop.invariant.1,
+      put-bits.auto.out ∙ loop.invariant.1,
       bytes-more _ _ _ _ _ _ loop-test.true loop.invariant.2 put-bits.ensures,
     )
 

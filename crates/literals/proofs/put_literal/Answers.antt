@@ -24,10 +24,10 @@ put_text-requires c =
     let pre = c.requires in
     let w = rw c.in-Text.is at pre.c_bound in
     record {
-  f_value = rw c.in-Text.is at pre.whole;
-  f_len_bound = omega (arith, w);
-  f_in_bounds = rw c.in-Text.is at pre.c_in_bounds;
-}
+      f_value = rw c.in-Text.is at pre.whole;
+      f_len_bound = omega (arith, w);
+      f_in_bounds = rw c.in-Text.is at pre.c_in_bounds;
+    }
 
 pub returns-in-Integer : goal.returns-in-Integer
 unfolding literal_in

@@ -1,4 +1,3 @@
-
 use native.Mathlib.Omega.{arith}
 use lib.IntN.{pos}
 use Rattle.netlist.specs.Results.{lent}

@@ -1,4 +1,3 @@
-
 use Rattle.netlist.specs.Results.{lent}
 use Rattle.session.proofs.OpenLaws.{opened, not_opened}
 use Rattle.session.proofs.CallLaws.{not-open}

@@ -26,12 +26,12 @@ standing_renames-s-requires c =
     let if1 = c.if-not-right_tables in
     let replay = c.replay-r in
     record {
-  names_len_bound = (
+      names_len_bound = (
         names-short _ _ _ _ _ (sym right-tables.ensures ∙ not-false _ if1.false-raw),
         few-wires _ _ _ _ _ replay.ensures.replays c.in-Holding.is,
       );
-  indexed = index_kept _ _ _ _ _ replay.ensures.index_left c.in-Holding.is;
-}
+      indexed = index_kept _ _ _ _ _ replay.ensures.index_left c.in-Holding.is;
+    }
 
 pub returns-in_default-s : goal.returns-in_default-s
 returns-in_default-s c =

@@ -16,7 +16,7 @@ pub returns-then-names-end : goal.returns-then-names-end
 returns-then-names-end c = no_name _ _ _ _ _ _ _ c.get_row-x.ensures c.if-names-end.true
 
 pub indexed_rename-number-requires : goal.indexed_rename-number-requires
-indexed_rename-number-requires c = CLAUSES indexed indexed_2  c.requires.YYindexed
+indexed_rename-number-requires c = record { indexed = c.requires.indexed; indexed_2 = c.requires.indexed_2 }
 
 pub returns-then-number-ne0 : goal.returns-then-number-ne0
 returns-then-number-ne0 c = rename-refused _ _ _ _ _ _ _ c.get_row-x.ensures _ c.part-new.ensures _ c.indexed_rename-number.ensures c.if-number-ne0.true

@@ -20,10 +20,10 @@ all_renames-requires c =
     let pre = c.requires in
     let index-wires = c.index_wires in
     record {
-  names_len_bound = pre.names_len_bound.0;
-  indexed = pre.indexed;
-  indexed_2 = index-wires.ensures;
-}
+      names_len_bound = pre.names_len_bound.0;
+      indexed = pre.indexed;
+      indexed_2 = index-wires.ensures;
+    }
 
 pub returns : goal.returns
 returns c = c.all_renames.ensures

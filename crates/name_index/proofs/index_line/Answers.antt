@@ -13,7 +13,7 @@ pub put-requires : goal.put-requires
 put-requires c =
     let pre = c.requires in
     let row-key = c.row_key-key in
-    (row_fits _ _ _ _ _ _ _ pre.lines_indexed _ row-key.ensures, omega (arith, pre.lines_indexed.chain-long, pre.row_lt_row_room))
+    (row_fits _ _ _ _ _ _ _ pre.lines_indexed _ row-key.ensures, omega (arith, pre.lines_indexed.chain-long, pre.row_lt_row_room.0))
 
 -- src/lib.rt:156:9
 pub returns-then-kind-ne-WIRE_KIND : goal.returns-then-kind-ne-WIRE_KIND
@@ -22,7 +22,7 @@ returns-then-kind-ne-WIRE_KIND c =
     let row-key = c.row_key-key in
     let put = c.put in
     line_plain _ _ c.if-kind-ne-WIRE_KIND.true
-    (line_row _ _ _ _ _ _ _ pre.lines_indexed _ row-key.ensures pre.row_lt_row_room _ _ put.ensures.0 put.ensures.1)
+    (line_row _ _ _ _ _ _ _ pre.lines_indexed _ row-key.ensures pre.row_lt_row_room.0 _ _ put.ensures.0 put.ensures.1)
 
 -- src/lib.rt:159:36
 pub overflow_add-g : goal.overflow_add-g
@@ -38,10 +38,10 @@ put-requires-2 c =
     let bytes-at = c.bytes_at in
     let hash = c.hash-g in (
       wire-fits _ _ _ _ _ _ _
-          (line_row _ _ _ _ _ _ _ pre.lines_indexed _ row-key.ensures pre.row_lt_row_room _ _ put.ensures.0 put.ensures.1) _
+          (line_row _ _ _ _ _ _ _ pre.lines_indexed _ row-key.ensures pre.row_lt_row_room.0 _ _ put.ensures.0 put.ensures.1) _
           (hash.ensures ∙ ap hash_of bytes-at.ensures),
       omega
-          (arith, (line_row _ _ _ _ _ _ _ pre.lines_indexed _ row-key.ensures pre.row_lt_row_room _ _ put.ensures.0 put.ensures.1).chain-long, pre.row_lt_row_room),
+          (arith, (line_row _ _ _ _ _ _ _ pre.lines_indexed _ row-key.ensures pre.row_lt_row_room.0 _ _ put.ensures.0 put.ensures.1).chain-long, pre.row_lt_row_room.0),
     )
 
 -- src/lib.rt:139:1
@@ -57,6 +57,6 @@ returns c =
     let put2 = c.put-2 in
     line-declared _ _ if1.false
     (line-wire _ _ _ _ _ _ _
-    (line_row _ _ _ _ _ _ _ pre.lines_indexed _ row-key.ensures pre.row_lt_row_room _ _ put.ensures.0 put.ensures.1) _
-    (hash.ensures ∙ ap hash_of bytes-at.ensures) (omega (arith, pre.row_lt_row_room)) pre.row_lt_row_room.1 _ _ put2.ensures.0
+    (line_row _ _ _ _ _ _ _ pre.lines_indexed _ row-key.ensures pre.row_lt_row_room.0 _ _ put.ensures.0 put.ensures.1) _
+    (hash.ensures ∙ ap hash_of bytes-at.ensures) (omega (arith, pre.row_lt_row_room.0)) pre.row_lt_row_room.1 _ _ put2.ensures.0
     put2.ensures.1)

@@ -22,9 +22,9 @@ loop-k-preserved c =
       omega arith,
       wire-put _ _ _ _ _ _ loop.invariant.1 (hash.ensures ∙ ap hash_of bytes-at.ensures) (omega (arith, loop.invariant.4))
           _ _ put.ensures.0 put.ensures.1,
-      put.auto.0 ∙ loop.invariant.2,
-      put.auto.1.0 ∙ loop.invariant.3,
-      omega (arith, put.auto.1.0, loop.invariant.4),
+      put.auto.heads ∙ loop.invariant.2,
+      put.auto.chain ∙ loop.invariant.3,
+      omega (arith, put.auto.chain, loop.invariant.4),
     )
 
 pub shape_of-heads : goal.shape_of-heads

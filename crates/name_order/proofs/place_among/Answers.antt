@@ -16,10 +16,10 @@ halve-left-requires c =
     let pre = c.requires in
     let loop = c.loop-left in
     record {
-  ordered = pre;
-  halved = loop.invariant;
-  low_lt_high = c.loop-left-test.true;
-}
+      ordered = pre;
+      halved = loop.invariant;
+      low_lt_high = c.loop-left-test.true;
+    }
 
 pub loop-left-smaller : goal.loop-left-smaller
 loop-left-smaller c = c.halve-left.ensures.less

@@ -18,9 +18,9 @@ indexed_taken-requires c =
     let pre = c.requires in
     let args = c.args in
     let space-from = c.space_from-from in record {
-  indexed = indexed-part _ _ _ _ _ (rw space-from.ensures (space-within _ _ pre.bounds)) pre.indexed;
-  named = rw (space-from.ensures, c.space_kinds.ensures) (space-named _ args.place args.kind);
-}
+      indexed = indexed-part _ _ _ _ _ (rw space-from.ensures (space-within _ _ pre.bounds)) pre.indexed;
+      named = rw (space-from.ensures, c.space_kinds.ensures) (space-named _ args.place args.kind);
+    }
 
 pub returns : goal.returns
 unfolding found_in

@@ -1,4 +1,3 @@
-
 use mathlib.Core.Path.{sym, ap, ◌∙◌}
 use lib.IntN.{ℤ, pos}
 use native.Mathlib.Omega.{arith}

@@ -1,4 +1,3 @@
-
 use mathlib.Core.Path.{ap, ◌∙◌}
 use Rattle.one_wire.specs.declared.BitIndex.{BitIndex}
 use Rattle.one_wire.proofs.SeekLaws.{index-told, index-refused}

@@ -1,4 +1,3 @@
-
 use mathlib.Core.Path.{refl}
 use Rattle.file_reader.proofs.ZeroLaws.{zero-tables}
 use Rattle.one_wire.proofs.SeekLaws.{sought-long, sought-accepted, sought-refused}

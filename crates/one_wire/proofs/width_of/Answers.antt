@@ -1,4 +1,3 @@
-
 use Rattle.one_wire.proofs.SeekLaws.{width-told, width-refused}
 use Rattle.one_wire.proofs.width_of.Goals as goal
 

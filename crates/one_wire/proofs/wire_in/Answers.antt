@@ -1,4 +1,3 @@
-
 use mathlib.Core.Path.{refl}
 use Rattle.one_wire.proofs.RowLaws.{wire-row}
 use Rattle.one_wire.proofs.wire_in.Goals as goal

@@ -1,6 +1,5 @@
 -- The tests in the order of the rules; the good columns are the words of the numbers.
 -- Assumes nothing.
-use borrow.Author.Tests.{not-true, not-false}
 use mathlib.Core.Path.{sym, ◌∙◌}
 use Rattle.option_rules.proofs.Meaning.{memory-options, memory-width, memory-size, memory-good}
 use Rattle.option_rules.proofs.memory_rules.Goals as goal
@@ -9,7 +8,7 @@ pub options_good-requires : goal.options_good-requires
 options_good-requires c = tt
 
 pub returns-then-not-options_good : goal.returns-then-not-options_good
-returns-then-not-options_good c os H = memory-options _ _ os H (sym c.options_good.ensures ∙ not-true _ c.if-not-options_good.true-raw)
+returns-then-not-options_good c os H = memory-options _ _ os H (sym c.options_good.ensures ∙ c.if-not-options_good.true)
 
 pub word_or-width-requires : goal.word_or-width-requires
 word_or-width-requires c = tt
@@ -18,7 +17,7 @@ pub between-requires : goal.between-requires
 between-requires c = tt
 
 pub returns-then-not-between : goal.returns-then-not-between
-returns-then-not-between c os H = memory-width _ _ os H (sym c.options_good.ensures ∙ not-false _ c.if-not-options_good.false-raw) _ c.word_or-width.ensures (sym c.between.ensures ∙ not-true _ c.if-not-between.true-raw)
+returns-then-not-between c os H = memory-width _ _ os H (sym c.options_good.ensures ∙ c.if-not-options_good.false) _ c.word_or-width.ensures (sym c.between.ensures ∙ c.if-not-between.true)
 
 pub word_or-size-requires : goal.word_or-size-requires
 word_or-size-requires c = tt
@@ -34,10 +33,10 @@ returns-then-not-between-2 c os H =
     let between = c.between in
     let if2 = c.if-not-between in
     let word-or2 = c.word_or-size in
-    memory-size _ _ os H (sym options-good.ensures ∙ not-false _ if1.false-raw) _ word-or.ensures _
-    word-or2.ensures (sym between.ensures ∙ not-false _ if2.false-raw)
+    memory-size _ _ os H (sym options-good.ensures ∙ if1.false) _ word-or.ensures _
+    word-or2.ensures (sym between.ensures ∙ if2.false)
     ∙ sym c.between-2.ensures
-    ∙ not-true _ c.if-not-between-2.true-raw
+    ∙ c.if-not-between-2.true
 
 pub word_or-offset-requires : goal.word_or-offset-requires
 word_or-offset-requires c = tt
@@ -51,6 +50,6 @@ returns c os H =
     let if2 = c.if-not-between in
     let word-or2 = c.word_or-size in
     let between2 = c.between-2 in
-    memory-good _ _ os H (sym options-good.ensures ∙ not-false _ if1.false-raw) _ word-or.ensures _
-    word-or2.ensures (sym between.ensures ∙ not-false _ if2.false-raw) _ c.word_or-offset.ensures
-    (sym between2.ensures ∙ not-false _ c.if-not-between-2.false-raw)
+    memory-good _ _ os H (sym options-good.ensures ∙ if1.false) _ word-or.ensures _
+    word-or2.ensures (sym between.ensures ∙ if2.false) _ c.word_or-offset.ensures
+    (sym between2.ensures ∙ c.if-not-between-2.false)

@@ -1,7 +1,6 @@
 -- The tests in the order of `options_good`.
 -- Assumes nothing.
 use mathlib.Core.Path.{sym, ◌∙◌}
-use borrow.Author.Tests.{not-true, not-false}
 use Rattle.option_rules.specs.Numbers.{options_good}
 use Rattle.option_rules.proofs.options_good.Goals as goal
 
@@ -14,11 +13,11 @@ all_fit-requires c = tt
 
 pub returns-then-not-all_fit : goal.returns-then-not-all_fit
 unfolding options_good
-returns-then-not-all_fit c = rw (c.if-o.false, sym c.all_fit.ensures ∙ not-true _ c.if-not-all_fit.true-raw)
+returns-then-not-all_fit c = rw (c.if-o.false, sym c.all_fit.ensures ∙ c.if-not-all_fit.true)
 
 pub all_fit-requires-2 : goal.all_fit-requires-2
 all_fit-requires-2 c = tt
 
 pub returns : goal.returns
 unfolding options_good
-returns c = rw (c.if-o.false, sym c.all_fit.ensures ∙ not-false _ c.if-not-all_fit.false-raw) c.all_fit-2.ensures
+returns c = rw (c.if-o.false, sym c.all_fit.ensures ∙ c.if-not-all_fit.false) c.all_fit-2.ensures

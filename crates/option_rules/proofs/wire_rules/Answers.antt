@@ -1,6 +1,5 @@
 -- The tests in the order of the rules; the good columns are the words of the numbers.
 -- Assumes nothing.
-use borrow.Author.Tests.{not-true, not-false}
 use mathlib.Core.Path.{sym, ◌∙◌}
 use native.Mathlib.Omega.{arith}
 use Rattle.option_rules.proofs.Ports.{code-most}
@@ -11,7 +10,7 @@ pub options_good-requires : goal.options_good-requires
 options_good-requires c = tt
 
 pub returns-then-not-options_good : goal.returns-then-not-options_good
-returns-then-not-options_good c os H = wire-options _ _ os H (sym c.options_good.ensures ∙ not-true _ c.if-not-options_good.true-raw)
+returns-then-not-options_good c os H = wire-options _ _ os H (sym c.options_good.ensures ∙ c.if-not-options_good.true)
 
 pub word_or-width-requires : goal.word_or-width-requires
 word_or-width-requires c = tt
@@ -20,7 +19,7 @@ pub between-requires : goal.between-requires
 between-requires c = tt
 
 pub returns-then-not-between : goal.returns-then-not-between
-returns-then-not-between c os H = wire-width _ _ os H (sym c.options_good.ensures ∙ not-false _ c.if-not-options_good.false-raw) _ c.word_or-width.ensures (sym c.between.ensures ∙ not-true _ c.if-not-between.true-raw)
+returns-then-not-between c os H = wire-width _ _ os H (sym c.options_good.ensures ∙ c.if-not-options_good.false) _ c.word_or-width.ensures (sym c.between.ensures ∙ c.if-not-between.true)
 
 pub port_of-requires : goal.port_of-requires
 port_of-requires c = tt
@@ -33,8 +32,8 @@ returns-in_default c os H =
     let between = c.between in
     let if2 = c.if-not-between in
     let port-of = c.port_of in
-    wire-ports _ _ os H (sym options-good.ensures ∙ not-false _ if1.false-raw) _ word-or.ensures
-    (sym between.ensures ∙ not-false _ if2.false-raw) (rw c.in_default.is at port-of.ensures)
+    wire-ports _ _ os H (sym options-good.ensures ∙ if1.false) _ word-or.ensures
+    (sym between.ensures ∙ if2.false) (rw c.in_default.is at port-of.ensures)
 
 pub word_or-offset-requires : goal.word_or-offset-requires
 word_or-offset-requires c = tt
@@ -52,10 +51,10 @@ returns-then-not-offset_fits c os H =
     let port-of = c.port_of in
     let word-or2 = c.word_or-offset in
     let p = rw c.in-Good.is at port-of.ensures in
-    wire-offset _ _ os H (sym options-good.ensures ∙ not-false _ if1.false-raw) _ word-or.ensures _
-    word-or2.ensures (sym between.ensures ∙ not-false _ if2.false-raw) p.0
+    wire-offset _ _ os H (sym options-good.ensures ∙ if1.false) _ word-or.ensures _
+    word-or2.ensures (sym between.ensures ∙ if2.false) p.0
     ∙ sym c.offset_fits.ensures
-    ∙ not-true _ c.if-not-offset_fits.true-raw
+    ∙ c.if-not-offset_fits.true
 
 pub flag_bits-requires : goal.flag_bits-requires
 flag_bits-requires c = tt
@@ -74,10 +73,10 @@ returns c os H =
     let word-or2 = c.word_or-offset in
     let offset-fits = c.offset_fits in
     let p = rw c.in-Good.is at port-of.ensures in
-    let g = (sym options-good.ensures ∙ not-false _ if1.false-raw) in
-    let h = (sym between.ensures ∙ not-false _ if2.false-raw) in
+    let g = (sym options-good.ensures ∙ if1.false) in
+    let h = (sym between.ensures ∙ if2.false) in
     let o = wire-offset _ _ os H g _ word-or.ensures _ word-or2.ensures h p.0
     ∙ sym offset-fits.ensures
-    ∙ not-false _ c.if-not-offset_fits.false-raw in
+    ∙ c.if-not-offset_fits.false in
     wire-good _ _ os H g _ word-or.ensures _ word-or2.ensures h p.0 _ _ _ o c.flag_bits.ensures p.1
     p.2

@@ -1,7 +1,6 @@
 -- The invariant: the options so far are held, and what the rest of the line gives with them is what the whole line gives.
 -- Assumes nothing.
 use mathlib.Core.Path.{◌∙◌}
-use Prim.Native.Nat.{◌-◌}
 use native.Mathlib.Omega.{arith}
 use Rattle.options.proofs.Held.{counts, counts-flag, option-number}
 use Rattle.options.proofs.Rest.{start, next}

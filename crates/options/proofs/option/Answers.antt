@@ -2,7 +2,6 @@
 -- Assumes nothing.
 use mathlib.Core.Path.{sym, ◌∙◌}
 use native.Mathlib.Omega.{arith}
-use borrow.Author.Tests.{not-true, not-false}
 use Rattle.tokens.specs.Rows.{front}
 use Rattle.tokens.specs.Parts.{integer_gives}
 use Rattle.tokens.proofs.TokenLaws.{below}
@@ -20,7 +19,7 @@ offered-requires c = tt
 
 pub returns-then-not-offered : goal.returns-then-not-offered
 unfolding front
-returns-then-not-offered c = decides _ _ _ _ (sym c.in-Word.is ∙ c.token_at.ensures) tt _ (λ f j os. rest-other _ j os _ _ (sym c.offered.ensures ∙ not-true _ c.if-not-offered.true-raw))
+returns-then-not-offered c = decides _ _ _ _ (sym c.in-Word.is ∙ c.token_at.ensures) tt _ (λ f j os. rest-other _ j os _ _ (sym c.offered.ensures ∙ c.if-not-offered.true))
 
 pub flag-requires : goal.flag-requires
 flag-requires c = tt
@@ -28,7 +27,7 @@ flag-requires c = tt
 pub returns-then-flag : goal.returns-then-flag
 returns-then-flag c =
     let g = sym c.flag.ensures ∙ c.if-flag.true in
-    (g, flag-next _ _ _ _ (sym c.in-Word.is ∙ c.token_at.ensures) (sym c.offered.ensures ∙ not-false _ c.if-not-offered.false-raw) g)
+    (g, flag-next _ _ _ _ (sym c.in-Word.is ∙ c.token_at.ensures) (sym c.offered.ensures ∙ c.if-not-offered.false) g)
 
 pub overflow_add-i-in-Word : goal.overflow_add-i-in-Word
 overflow_add-i-in-Word c = omega (arith, below _ _ _ (sym c.in-Word.is ∙ c.token_at.ensures) tt)
@@ -47,7 +46,7 @@ returns-in_default c =
     let integer-at = c.integer_at in
     let g = sym flag.ensures ∙ if3.false in
     decides _ _ _ _ (sym c.in-Word.is ∙ token-at.ensures) tt _
-    (λ f j os. rest-short _ j os _ _ (sym offered.ensures ∙ not-false _ if2.false-raw) g (integer-at.ensures f ∙ rw c.in_default.is))
+    (λ f j os. rest-short _ j os _ _ (sym offered.ensures ∙ if2.false) g (integer-at.ensures f ∙ rw c.in_default.is))
 
 pub returns-then-tokens-i : goal.returns-then-tokens-i
 returns-then-tokens-i c = ends _ _ _ _ _ (sym c.in-Name.is ∙ c.token_at.ensures) c.if-tokens-i.true
@@ -67,7 +66,7 @@ returns-in-Given c =
     let g = sym flag.ensures ∙ if3.false in (
       g,
       number-next _ _ _ _ (sym c.in-Word.is ∙ token-at.ensures)
-          (sym offered.ensures ∙ not-false _ if2.false-raw) _ g
+          (sym offered.ensures ∙ if2.false) _ g
           (λ f. integer-at.ensures f ∙ rw c.in-Given.is),
     )
 

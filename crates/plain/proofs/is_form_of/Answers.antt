@@ -2,7 +2,7 @@
 use mathlib.Core.Path.{sym, ◌∙◌}
 use native.Mathlib.Omega.{arith}
 use borrow.Author.Tests.{not-true, not-false}
-use Rattle.plain.specs.Put.{put-part}
+use Rattle.plain.specs.Put.{put-part, put-kept}
 use Rattle.plain.specs.FormLaws.{form-length}
 use Rattle.plain.proofs.is_form_of.Goals as goal
 
@@ -11,6 +11,14 @@ returns-then-not-legal c = rw (sym c.legal.ensures ∙ not-true _ c.if-not-legal
 
 pub put_form-end-requires : goal.put_form-end-requires
 put_form-end-requires c = omega (arith, form-length c.args.name.now (sym c.legal.ensures ∙ not-false _ c.if-not-legal.false-raw))
+
+pub slice_bounds-same_bytes-end : goal.slice_bounds-same_bytes-end
+slice_bounds-same_bytes-end c =
+    omega (
+      arith,
+      c.put_form-end.ensures.place,
+      form-length c.args.name.now (sym c.legal.ensures ∙ not-false _ c.if-not-legal.false-raw),
+    )
 
 pub returns : goal.returns
 returns c =

@@ -8,6 +8,9 @@ use Rattle.plain.proofs.name_of.Goals as goal
 pub returns-then-form-gt-LONGEST_FORM : goal.returns-then-form-gt-LONGEST_FORM
 returns-then-form-gt-LONGEST_FORM c = back_long c.args.form.now c.args.out.now c.if-form-gt-LONGEST_FORM.true
 
+pub slice_bounds-is_form_of-end : goal.slice_bounds-is_form_of-end
+slice_bounds-is_form_of-end c = omega (arith, name-end c.args.form.now c.put_name-end.ensures c.if-form-gt-LONGEST_FORM.false (search rules))
+
 pub returns-then-not-is_form_of : goal.returns-then-not-is_form_of
 returns-then-not-is_form_of c =
     let args = c.args in

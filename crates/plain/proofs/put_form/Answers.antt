@@ -34,4 +34,4 @@ returns c =
     first_then (form-some args.name.now if1.false) ((elim if2.branch [ then-name-eq92 w ↦ rw (eq-eqb _ _ w.if-name-eq92.true) w.first-is | else-name-eq92 w ↦ rw (ne_eqb _ _ w.if-name-eq92.false) w.first-is ])) put-later.ensures
 
 pub shape_of-out : goal.shape_of-out
-shape_of-out c = put-kept (returns-2 c)
+shape_of-out c = put-kept (returns c)

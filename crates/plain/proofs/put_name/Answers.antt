@@ -32,4 +32,4 @@ returns c =
     first_then (name-some args.form.now if1.false) ((elim if2.branch [ then-form-eq112 w ↦ rw (eq-eqb _ _ w.if-form-eq112.true) w.first-is | else-form-eq112 w ↦ rw (ne_eqb _ _ w.if-form-eq112.false) w.first-is ])) put-taken.ensures
 
 pub shape_of-out : goal.shape_of-out
-shape_of-out c = put-kept (returns-2 c)
+shape_of-out c = put-kept (returns c)

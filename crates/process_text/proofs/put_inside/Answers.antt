@@ -1,6 +1,6 @@
 -- The loop's invariant: the rows before k are written, but for attributes that wait, and no level is too deep.
 -- Assumes nothing.
-use Prim.Native.Nat.{◌-◌, ◌<◌}
+use Prim.Native.Nat.{◌<◌}
 use native.Mathlib.Omega.{arith}
 use Rattle.text.specs.Written.{written-most}
 use Rattle.text.specs.Reaches.{reaches-start, reaches-next, reaches_end}
@@ -22,7 +22,7 @@ unfolding closes
 returns-then-kind-opened c = reaches_end c.loop-k.invariant.1 (inside-closed _ _ c.loop-k.z _ _ _ _ c.row_kind-kind.ensures (omega arith) c.if-kind-opened.true)
 
 pub shape_of-out-then-kind-opened : goal.shape_of-out-then-kind-opened
-shape_of-out-then-kind-opened c = (returns c).kept
+shape_of-out-then-kind-opened c = (returns-then-kind-opened c).kept
 
 pub level_of-level-requires : goal.level_of-level-requires
 level_of-level-requires c = tt

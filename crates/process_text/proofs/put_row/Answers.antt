@@ -24,4 +24,4 @@ returns c =
     written_as c.put_rows.ensures (row_written _ _ _ _ _ _ if2.from e c.if-kind-eq-ATTRIBUTE_KIND.false)
 
 pub shape_of-out : goal.shape_of-out
-shape_of-out c = (returns-2 c).kept
+shape_of-out c = (returns c).kept

@@ -1,6 +1,5 @@
 -- The loop's invariant: the lines of the rows before k are written.
 -- Assumes nothing.
-use Prim.Native.Nat.{◌-◌}
 use native.Mathlib.Omega.{arith}
 use Rattle.text.specs.Written.{written-most}
 use Rattle.text.specs.Reaches.{reaches-start, reaches-next, reaches_end}

@@ -1,4 +1,3 @@
-
 use mathlib.Core.Path.{refl}
 use Rattle.file_reader.proofs.ZeroLaws.{zero-tables}
 use Rattle.reader.proofs.HalfLaws.{checked-long, checked-accepted, checked_refused}

@@ -1,4 +1,3 @@
-
 use Rattle.reader.proofs.HalfLaws.{cleared}
 use Rattle.reader.proofs.clear_tables.Goals as goal
 

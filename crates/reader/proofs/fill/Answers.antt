@@ -1,4 +1,3 @@
-
 use mathlib.Core.Path.{◌∙◌, sym}
 use Rattle.reader.proofs.HalfLaws.{right-sized, into-right, into-wrong}
 use Rattle.reader.proofs.fill.Goals as goal

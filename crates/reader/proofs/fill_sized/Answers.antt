@@ -1,4 +1,3 @@
-
 use mathlib.Core.Path.{◌∙◌, sym, ap}
 use Rattle.reader.specs.Fill.{leaves}
 use Rattle.reader.proofs.HalfLaws.{left-accepted, left-refused, left-long, read-any, still-sized}
@@ -14,9 +13,9 @@ returns-then-f-gt-MOST_FILE_BYTES c =
 pub read_file-requires : goal.read_file-requires
 read_file-requires c =
     record {
-  f_len_bound = c.if-f-gt-MOST_FILE_BYTES.false;
-  rows_value = c.clear_tables.ensures;
-}
+      f_len_bound = c.if-f-gt-MOST_FILE_BYTES.false;
+      rows_value = c.clear_tables.ensures;
+    }
 
 pub clear_tables-requires-in-Refused : goal.clear_tables-requires-in-Refused
 clear_tables-requires-in-Refused c =

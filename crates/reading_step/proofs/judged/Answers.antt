@@ -1,4 +1,3 @@
-
 use Prim.Native.Nat.{zero-le}
 use mathlib.Core.Path.{sym, ap}
 use native.Mathlib.Omega.{arith}

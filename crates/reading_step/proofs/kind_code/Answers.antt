@@ -1,4 +1,3 @@
-
 use mathlib.Core.Path.{sym, ap}
 use Rattle.rules.specs.Statements.{code}
 use Rattle.syntax.specs.Statements.{kind_in}

@@ -1,4 +1,3 @@
-
 use Prim.Native.Nat.{zero-le}
 use native.Mathlib.Omega.{arith}
 use Rattle.reading_step.proofs.LineLaws.{bad-low, outcome-bad, outcome-none, outcome-open, outcome-shaped, rows_few, rows-ready, answer-judged, storable-judged, answer-refused, storable-refused}
@@ -22,9 +21,9 @@ returns-then-n-eq0 c =
     let args = c.args in
     let lex-line = c.lex_line in
     record {
-  storable = tt;
-  answer_as = λ ss st. outcome-none ss _ _ _ args.line _ lex-line.ensures _ c.in-Tokens.is c.if-n-eq0.true;
-}
+      storable = tt;
+      answer_as = λ ss st. outcome-none ss _ _ _ args.line _ lex-line.ensures _ c.in-Tokens.is c.if-n-eq0.true;
+    }
 
 pub judged-requires : goal.judged-requires
 judged-requires c =
@@ -37,11 +36,11 @@ returns-then-not-line c =
     let pre = c.requires in
     let lex-line = c.lex_line in
     let if1 = c.if-n-eq0 in record {
-  storable = storable-refused _ args.line _ _ c.judged.ensures;
-  answer_as = λ ss st. answer-refused _ args.line _ _ c.judged.ensures ss _
+      storable = storable-refused _ args.line _ _ c.judged.ensures;
+      answer_as = λ ss st. answer-refused _ args.line _ _ c.judged.ensures ss _
           (outcome-open ss _ _ _ args.line _ lex-line.ensures _ c.in-Tokens.is pre.line_fits.0.high pre.line_fits.0.file
           pre.line_fits.1 if1.false c.if-not-line.true);
-}
+    }
 
 pub overflow_mul-stop : goal.overflow_mul-stop
 overflow_mul-stop c =
@@ -60,12 +59,12 @@ judge_line-requires c =
     let pre = c.requires in
     let lex-line = c.lex_line in
     let if1 = c.if-n-eq0 in record {
-  ready = rows-ready _ _ _ args.line _ lex-line.ensures _ c.in-Tokens.is pre.line_fits.0.high pre.line_fits.0.file
+      ready = rows-ready _ _ _ args.line _ lex-line.ensures _ c.in-Tokens.is pre.line_fits.0.high pre.line_fits.0.file
           pre.line_fits.1 _ _ pre.line_fits.0.scratch-long pre.place_fits.few if1.false;
-  within = pre.place_fits.within;
-  bounds = pre.place_fits.bounds;
-  lines_indexed = pre.lines_indexed;
-}
+      within = pre.place_fits.within;
+      bounds = pre.place_fits.bounds;
+      lines_indexed = pre.lines_indexed;
+    }
 
 pub judged-requires-in-Tokens : goal.judged-requires-in-Tokens
 judged-requires-in-Tokens c =
@@ -77,9 +76,9 @@ returns-in-Bad c =
     let args = c.args in
     let pre = c.requires in
     let lex-line = c.lex_line in record {
-  storable = tt;
-  answer_as = λ ss st. outcome-bad ss _ _ _ args.line _ lex-line.ensures _ c.in-Bad.is pre.line_fits.0.high;
-}
+      storable = tt;
+      answer_as = λ ss st. outcome-bad ss _ _ _ args.line _ lex-line.ensures _ c.in-Bad.is pre.line_fits.0.high;
+    }
 
 pub returns-else-not-line : goal.returns-else-not-line
 returns-else-not-line c =
@@ -89,8 +88,8 @@ returns-else-not-line c =
     let if1 = c.if-n-eq0 in
     let if2 = c.if-not-line in
     let judge-line = c.judge_line in record {
-  storable = storable-judged _ _ _ _ c.judged-in-Tokens.ensures judge-line.ensures.storable;
-  answer_as = λ ss st. answer-judged ss _ _ _ _ _ _ c.judged-in-Tokens.ensures
+      storable = storable-judged _ _ _ _ c.judged-in-Tokens.ensures judge-line.ensures.storable;
+      answer_as = λ ss st. answer-judged ss _ _ _ _ _ _ c.judged-in-Tokens.ensures
           (outcome-shaped ss _ _ _ args.line _ lex-line.ensures _ c.in-Tokens.is pre.line_fits.0.high pre.line_fits.0.file
           pre.line_fits.1 if1.false if2.false) (judge-line.ensures.judged_as ss st);
-}
+    }

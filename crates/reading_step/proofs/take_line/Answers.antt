@@ -1,4 +1,3 @@
-
 use mathlib.Core.Path.{refl, ap, ◌∙◌}
 use native.Mathlib.Omega.{arith}
 use Rattle.context.proofs.PlaceLaws.{after_is}
@@ -13,10 +12,10 @@ pub line_answer-answer-requires : goal.line_answer-answer-requires
 line_answer-answer-requires c =
     let pre = c.requires in
     record {
-  line_fits = pre.line_fits;
-  place_fits = done-fits pre.some_done.done;
-  lines_indexed = pre.lines_indexed;
-}
+      line_fits = pre.line_fits;
+      place_fits = done-fits pre.some_done.done;
+      lines_indexed = pre.lines_indexed;
+    }
 
 pub used_from-u-requires : goal.used_from-u-requires
 used_from-u-requires c =
@@ -46,27 +45,27 @@ index_line-requires c =
     let line-answer = c.line_answer-answer in
     let used-from = c.used_from-u in
     let put-statement = c.put_statement in record {
-  lines_indexed = step-indexed pre.some_done.done (line_of args.f.now args.line) _ _ _ _ _ c.in-Stated.is _ _
+      lines_indexed = step-indexed pre.some_done.done (line_of args.f.now args.line) _ _ _ _ _ c.in-Stated.is _ _
           (line-answer.ensures.answer_as _ (done-stands pre.some_done.done)) line-answer.ensures.storable _ _ used-from.ensures
           put-statement.ensures _ _ pre.lines_indexed;
-  row_lt_row_room = (omega (arith, done-few pre.some_done.done), done-wires pre.some_done.done);
-}
+      row_lt_row_room = (omega (arith, done-few pre.some_done.done), done-wires pre.some_done.done);
+    }
 
 pub after-requires : goal.after-requires
 after-requires c =
     let pre = c.requires in
     record {
-  rows_bound = done-rows pre.some_done.done;
-  bounds = (done-fits pre.some_done.done).bounds;
-}
+      rows_bound = done-rows pre.some_done.done;
+      bounds = (done-fits pre.some_done.done).bounds;
+    }
 
 pub returns-in-Skipped : goal.returns-in-Skipped
 returns-in-Skipped c =
     let pre = c.requires in
     let line-answer = c.line_answer-answer in record {
-  step_as = λ ss d. step-skipped d _ _ _ _ _ _ (line-answer.ensures.answer_as ss (done-stands d)) c.in-Skipped.is;
-  step_indexed = pre.lines_indexed;
-}
+      step_as = λ ss d. step-skipped d _ _ _ _ _ _ (line-answer.ensures.answer_as ss (done-stands d)) c.in-Skipped.is;
+      step_indexed = pre.lines_indexed;
+    }
 
 pub returns-in_default-outcome : goal.returns-in_default-outcome
 returns-in_default-outcome c = record {
@@ -82,9 +81,9 @@ returns c =
     let put-statement = c.put_statement in
     let kind-code = c.kind_code-kind in
     let index-line = c.index_line in record {
-  step_as = λ ss d. step-stated d _ _ _ _ _ _ c.in-Stated.is _ _ (line-answer.ensures.answer_as ss (done-stands d))
+      step_as = λ ss d. step-stated d _ _ _ _ _ _ c.in-Stated.is _ _ (line-answer.ensures.answer_as ss (done-stands d))
           line-answer.ensures.storable _ _ _ _ _ used-from.ensures put-statement.ensures kind-code.ensures
           c.step_code.ensures (after_is _ _ _ _ c.after.ensures);
-  step_indexed = lines-upto (ap (λ (p : Place). p.rows) c.after.ensures) (ap (λ (p : Place). p.wires) c.after.ensures)
+      step_indexed = lines-upto (ap (λ (p : Place). p.rows) c.after.ensures) (ap (λ (p : Place). p.wires) c.after.ensures)
           index-line.ensures;
-}
+    }

@@ -17,9 +17,9 @@ indexed_kept-requires c =
     let renamed-to = c.renamed_to in
     let e : renamed-to.result ≡ args.m.wires = omega (arith, renamed-to.ensures.below, c.if-renamed_to-m.false) in
     record {
-  module_indexed = pre.module_indexed;
-  renamed = rw e at renamed-to.ensures;
-}
+      module_indexed = pre.module_indexed;
+      renamed = rw e at renamed-to.ensures;
+    }
 
 pub returns-then-indexed_kept : goal.returns-then-indexed_kept
 unfolding name_taken

@@ -10,10 +10,10 @@ pub indexed_is_taken-taken-requires : goal.indexed_is_taken-taken-requires
 indexed_is_taken-taken-requires c =
     let pre = c.requires in
     let args = c.args in record {
-  indexed = indexed-upto (ap (λ (x : Module). x.from) c.module_of-module.ensures) pre.indexed;
-  module_indexed = module-indexed _ _ args.rows.now args.place args.standing args.m.0 _ c.module_of-module.ensures
+      indexed = indexed-upto (ap (λ (x : Module). x.from) c.module_of-module.ensures) pre.indexed;
+      module_indexed = module-indexed _ _ args.rows.now args.place args.standing args.m.0 _ c.module_of-module.ensures
           pre.indexed_2;
-}
+    }
 
 pub returns : goal.returns
 returns c = c.rename_number.ensures ∙ number-judged _ _ _ _ _ _ _ c.module_of-module.ensures _ _ _ _ c.indexed_is_taken-taken.ensures

@@ -50,10 +50,10 @@ returns-then-is_closed c =
     let word = c.word in
     let is-statement = c.is_statement in
     let if1 = c.if-not-is_statement in record {
-  replays = done-closed _ _ _ _ loop.invariant.0 _ word.ensures (sym is-statement.ensures ∙ not-true _ if1.true-raw)
+      replays = done-closed _ _ _ _ loop.invariant.0 _ word.ensures (sym is-statement.ensures ∙ not-true _ if1.true-raw)
           (sym c.is_closed.ensures ∙ c.if-is_closed.true);
-  index_left = loop.invariant.1;
-}
+      index_left = loop.invariant.1;
+    }
 
 pub shape_of-heads-then-not-is_statement : goal.shape_of-heads-then-not-is_statement
 shape_of-heads-then-not-is_statement c = c.loop-place.invariant.2
@@ -79,9 +79,9 @@ index_row-requires c =
     let loop = c.loop-place in
     let few = (done-ready _ _ _ _ loop.invariant.0).few in
     record {
-  indexed = loop.invariant.1;
-  row_in_bounds = (omega (arith, few, loop.invariant.4), omega (arith, few));
-}
+      indexed = loop.invariant.1;
+      row_in_bounds = (omega (arith, few, loop.invariant.4), omega (arith, few));
+    }
 
 pub loop-place-smaller : goal.loop-place-smaller
 loop-place-smaller c =
@@ -110,7 +110,7 @@ loop-place-preserved c =
       indexed-upto
           (next-rows _ _ _ _ loop.invariant.0 _ word.ensures (sym is-statement.ensures ∙ not-false _ if1.false-raw) _ _ _
           one_more.ensures c.in-Next.is) index-row.ensures.indexed_2,
-      index-row.auto.1.1.0 ∙ loop.invariant.2,
+      index-row.auto.heads ∙ loop.invariant.2,
       index-row.ensures.chain_len_unchanged ∙ loop.invariant.3,
       omega (arith, index-row.ensures.chain_len_unchanged, loop.invariant.4),
     )
@@ -129,7 +129,7 @@ returns-in-Nothing c =
     let is-statement = c.is_statement in
     let if1 = c.if-not-is_statement in
     let one_more = c.one_more-t in record {
-  replays = done_stuck _ _ _ _ loop.invariant.0 _ word.ensures (sym is-statement.ensures ∙ not-false _ if1.false-raw) _
+      replays = done_stuck _ _ _ _ loop.invariant.0 _ word.ensures (sym is-statement.ensures ∙ not-false _ if1.false-raw) _
           one_more.ensures c.in-Nothing.is;
-  index_left = tt;
-}
+      index_left = tt;
+    }

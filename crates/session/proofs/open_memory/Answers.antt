@@ -1,4 +1,3 @@
-
 use mathlib.Core.Path.{refl, sym, ◌∙◌}
 use borrow.Author.Tests.{not-true, not-false}
 use Rattle.netlist.specs.Results.{lent}

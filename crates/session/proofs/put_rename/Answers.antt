@@ -1,4 +1,3 @@
-
 use Rattle.rules.specs.Layout.{padded, row, rename_row}
 use Rattle.tables.specs.Row.{words}
 use Rattle.session.proofs.put_rename.Goals as goal

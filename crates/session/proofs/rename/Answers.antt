@@ -1,4 +1,3 @@
-
 use Rattle.netlist.specs.Results.{result, lent}
 use Rattle.session.proofs.OpenLaws.{opened, not_opened}
 use Rattle.session.proofs.CallLaws.{not-open}
@@ -13,10 +12,10 @@ rename_open-requires c =
     _ open-memory.ensures _ c.in-Open.is
 
 pub shape_of-names-in-Open : goal.shape_of-names-in-Open
-shape_of-names-in-Open c = c.rename_open.auto.0
+shape_of-names-in-Open c = c.rename_open.auto.names
 
 pub shape_of-rows-in-Open : goal.shape_of-rows-in-Open
-shape_of-rows-in-Open c = c.rename_open.auto.1.1.1.1.0
+shape_of-rows-in-Open c = c.rename_open.auto.rows
 
 pub returns-in-Open : goal.returns-in-Open
 returns-in-Open c = c.rename_open.ensures

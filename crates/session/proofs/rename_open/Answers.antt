@@ -1,4 +1,3 @@
-
 use native.Mathlib.Omega.{arith}
 use Rattle.session.proofs.CallLaws.{rename-refused, rename-fits, rename-done}
 use Rattle.session.proofs.rename_open.Goals as goal

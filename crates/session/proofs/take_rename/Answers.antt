@@ -1,4 +1,3 @@
-
 use native.Mathlib.Omega.{arith}
 use Rattle.tables.specs.Row.{words}
 use Rattle.wires.specs.Rows.{word_at, column}
@@ -15,7 +14,7 @@ returns c =
     let zero-bytes = c.zero_bytes in
     let put-row = c.put_row in
     record {
-  r_value = word.ensures;
-  names_after = rw (← word.ensures) zero-bytes.ensures;
-  rows_after = put-row.ensures;
-}
+      r_value = word.ensures;
+      names_after = rw (← word.ensures) zero-bytes.ensures;
+      rows_after = put-row.ensures;
+    }

@@ -1,4 +1,3 @@
-
 use native.Mathlib.Omega.{arith}
 use Rattle.session.proofs.CallLaws.{undo-refused, undo-fits, undo-done}
 use Rattle.session.proofs.undo_open.Goals as goal

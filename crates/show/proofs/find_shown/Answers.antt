@@ -8,14 +8,16 @@ use Rattle.show.proofs.ShowLaws.{shown-there, shown-missing, shown-refused}
 use Rattle.show.proofs.find_shown.Goals as goal
 
 pub returns-then-own-number : goal.returns-then-own-number
-returns-then-own-number c = CLAUSES shown_at in_range shown_as 
+returns-then-own-number c =
     let args = c.args in
     let open-memory = c.open_memory in
     let module-wires = c.module_wires-own in
+    let all =
     shown-missing
     (opened
     (lent args.names.now args.strings.now args.bits.now args.wires.now args.rows.now args.renames args.room)
-    _ open-memory.ensures _ c.in-Open.is) _ _ _ module-wires.ensures c.if-own-number.true
+    _ open-memory.ensures _ c.in-Open.is) _ _ _ module-wires.ensures c.if-own-number.true in
+    record { shown_at = all.0; in_range = all.1.0; shown_as = all.1.1 }
 
 pub overflow_add-own : goal.overflow_add-own
 overflow_add-own c =
@@ -32,24 +34,28 @@ overflow_add-own c =
     )
 
 pub returns-else-own-number : goal.returns-else-own-number
-returns-else-own-number c = CLAUSES shown_at in_range shown_as 
+returns-else-own-number c =
     let args = c.args in
     let open-memory = c.open_memory in
     let module-wires = c.module_wires-own in
     let if1 = c.if-own-number in
+    let all =
     shown-there
     (opened
     (lent args.names.now args.strings.now args.bits.now args.wires.now args.rows.now args.renames args.room)
     _ open-memory.ensures _ c.in-Open.is) args.m.0 args.w.0 _ module-wires.ensures if1.false
-    _ c.shown_wire.ensures
+    _ c.shown_wire.ensures in
+    record { shown_at = all.0; in_range = all.1.0; shown_as = all.1.1 }
 
 pub returns-in-Refused : goal.returns-in-Refused
-returns-in-Refused c = CLAUSES shown_at in_range shown_as 
+returns-in-Refused c =
     let args = c.args in
     let open-memory = c.open_memory in
+    let all =
     shown-refused
     (lent args.names.now args.strings.now args.bits.now args.wires.now args.rows.now args.renames args.room)
     args.m.0 args.w.0 _
     (not_opened
     (lent args.names.now args.strings.now args.bits.now args.wires.now args.rows.now args.renames args.room)
-    _ open-memory.ensures _ c.in-Refused.is)
+    _ open-memory.ensures _ c.in-Refused.is) in
+    record { shown_at = all.0; in_range = all.1.0; shown_as = all.1.1 }

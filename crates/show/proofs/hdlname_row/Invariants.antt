@@ -1,7 +1,7 @@
 -- The loop's invariant: the search from row k on, with what is found, is the whole search.
 -- Assumes nothing.
 use mathlib.Core.Path.{◌≡◌}
-use Prim.Native.Nat.{◌-◌, ◌≤◌}
+use Prim.Native.Nat.{◌≤◌}
 use Rattle.show.specs.Rows.{hdlname_row}
 use Rattle.show.proofs.hdlname_row.Given as goal
 

@@ -14,13 +14,15 @@ slice_bounds-result-count c =
     find-shown.ensures.in_range).0
 
 pub returns-in-Name : goal.returns-in-Name
-returns-in-Name c = CLAUSES shown_as lies_at 
+returns-in-Name c =
     let args = c.args in
-    let find-shown = c.find_shown-place in
+    let found = c.find_shown-place.ensures in
+    let all =
     shown-name
     (lent args.names.now args.strings.now args.bits.now args.wires.now args.rows.now args.renames args.room)
-    args.m.0 args.w.0 args.names.ref_ptr args.strings.ref_ptr _ find-shown.ensures _ _
-    c.in-Name.is
+    args.m.0 args.w.0 args.names.ref_ptr args.strings.ref_ptr _ (found.shown_at, (found.in_range, found.shown_as)) _ _
+    c.in-Name.is in
+    record { shown_as = all.0; lies_at = all.1 }
 
 pub slice_bounds-result-count-in-Text : goal.slice_bounds-result-count-in-Text
 slice_bounds-result-count-in-Text c =
@@ -30,19 +32,23 @@ slice_bounds-result-count-in-Text c =
     find-shown.ensures.in_range).0
 
 pub returns-in-Text : goal.returns-in-Text
-returns-in-Text c = CLAUSES shown_as lies_at 
+returns-in-Text c =
     let args = c.args in
-    let find-shown = c.find_shown-place in
+    let found = c.find_shown-place.ensures in
+    let all =
     shown-text
     (lent args.names.now args.strings.now args.bits.now args.wires.now args.rows.now args.renames args.room)
-    args.m.0 args.w.0 args.names.ref_ptr args.strings.ref_ptr _ find-shown.ensures _ _
-    c.in-Text.is
+    args.m.0 args.w.0 args.names.ref_ptr args.strings.ref_ptr _ (found.shown_at, (found.in_range, found.shown_as)) _ _
+    c.in-Text.is in
+    record { shown_as = all.0; lies_at = all.1 }
 
 pub returns-in-Refused : goal.returns-in-Refused
-returns-in-Refused c = CLAUSES shown_as lies_at 
+returns-in-Refused c =
     let args = c.args in
-    let find-shown = c.find_shown-place in
+    let found = c.find_shown-place.ensures in
+    let all =
     shown-none
     (lent args.names.now args.strings.now args.bits.now args.wires.now args.rows.now args.renames args.room)
-    args.m.0 args.w.0 args.names.ref_ptr args.strings.ref_ptr _ find-shown.ensures _
-    c.in-Refused.is
+    args.m.0 args.w.0 args.names.ref_ptr args.strings.ref_ptr _ (found.shown_at, (found.in_range, found.shown_as)) _
+    c.in-Refused.is in
+    record { shown_as = all.0; lies_at = all.1 }

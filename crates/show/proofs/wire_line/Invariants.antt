@@ -1,7 +1,7 @@
 -- The loop's invariant: the last such row of the first k is the last of all.
 -- Assumes nothing.
 use mathlib.Core.Path.{◌≡◌}
-use Prim.Native.Nat.{◌-◌, ◌≤◌}
+use Prim.Native.Nat.{◌≤◌}
 use Rattle.show.specs.Rows.{wire_line}
 use Rattle.show.proofs.wire_line.Given as goal
 

@@ -1,6 +1,5 @@
 -- `signals_from` meets its contract. The loop's invariant: the signals from row `from` on are those that were read and those from row `at` on.
 -- Assumes nothing.
-use Prim.Native.Nat.{◌-◌}
 use mathlib.Core.Path.{◌≡◌, ◌∙◌}
 use mathlib.Core.Bool.{◌&&◌}
 use native.Mathlib.Omega.{arith}
@@ -18,9 +17,9 @@ next_signal-requires c =
     let pre = c.requires in
     let loop = c.loop-at in
     record {
-  readable = readable-on _ _ _ _ pre.readable loop.invariant.within;
-  scratch_length_in_bounds = (omega (arith, pre.scratch_length_in_bounds, loop.invariant.long), pre.scratch_length_in_bounds.1, pre.scratch_length_in_bounds.2);
-}
+      readable = readable-on _ _ _ _ pre.readable loop.invariant.within;
+      scratch_length_in_bounds = (omega (arith, pre.scratch_length_in_bounds, loop.invariant.long), pre.scratch_length_in_bounds.1, pre.scratch_length_in_bounds.2);
+    }
 
 pub shape_of-scratch-in_default : goal.shape_of-scratch-in_default
 shape_of-scratch-in_default c = c.next_signal.ensures.kept.long ∙ c.loop-at.invariant.long
@@ -32,7 +31,7 @@ returns-in_default c =
     let if1 = c.if-comma in
     let loop-test = c.loop-at-test in
     let loop = c.loop-at in
-    let due : if1.next-signal ≡ (args.comma && ltb 0 loop.sum.count) = (elim if1.branch [ then-comma w ↦ w.next_signal-is ∙ rw w.if-comma.true | else-comma w ↦ w.next_signal-is ∙ rw w.if-comma.false ]) in
+    let due : if1.next_signal ≡ (args.comma && ltb 0 loop.sum.count) = (elim if1.branch [ then-comma w ↦ w.next_signal-is ∙ rw w.if-comma.true | else-comma w ↦ w.next_signal-is ∙ rw w.if-comma.false ]) in
     list-broken _ _ _ _ _ _ _ _ _ loop.invariant _ due (omega (arith, loop-test.true)) _ (rw c.in_default.is at next-signal.ensures)
 
 pub added-sum-requires : goal.added-sum-requires
@@ -52,7 +51,7 @@ loop-at-preserved c =
     let if1 = c.if-comma in
     let loop-test = c.loop-at-test in
     let loop = c.loop-at in
-    let due : if1.next-signal ≡ (args.comma && ltb 0 loop.sum.count) = (elim if1.branch [ then-comma w ↦ w.next_signal-is ∙ rw w.if-comma.true | else-comma w ↦ w.next_signal-is ∙ rw w.if-comma.false ]) in
+    let due : if1.next_signal ≡ (args.comma && ltb 0 loop.sum.count) = (elim if1.branch [ then-comma w ↦ w.next_signal-is ∙ rw w.if-comma.true | else-comma w ↦ w.next_signal-is ∙ rw w.if-comma.false ]) in
     list_on_lem _ _ _ _ _ _ _ _ _ loop.invariant _ due (omega (arith, loop-test.true)) _ _ _ _ (rw c.in-Read.is at next-signal.ensures) c.added-sum.ensures
 
 pub shape_of-scratch : goal.shape_of-scratch

@@ -11,6 +11,6 @@ pub returns : goal.returns
 unfolding uneven_fault total_fault
 returns c =
     told_is _ _ _ _ _
-    ((elim c.if-sum.branch [ then-sum w ↦ w.XX-is ∙ rw w.if-sum.true | else-sum w ↦ w.XX-is ∙ rw w.if-sum.false ]))
-    ((elim c.if-sum-gt-MOST_SIGNAL_BITS.branch [ then-sum-gt-MOST_SIGNAL_BITS w ↦ w.XX-is ∙ rw (lt-ltb _ _ w.if-sum-gt-MOST_SIGNAL_BITS.true) | else-sum-gt-MOST_SIGNAL_BITS w ↦ w.XX-is ∙ rw (le-ltb _ _ w.if-sum-gt-MOST_SIGNAL_BITS.false) ]))
+    ((elim c.if-sum.branch [ then-sum w ↦ w.uneven-is ∙ rw w.if-sum.true | else-sum w ↦ w.uneven-is ∙ rw w.if-sum.false ]))
+    ((elim c.if-sum-gt-MOST_SIGNAL_BITS.branch [ then-sum-gt-MOST_SIGNAL_BITS w ↦ w.over-is ∙ rw (lt-ltb _ _ w.if-sum-gt-MOST_SIGNAL_BITS.true) | else-sum-gt-MOST_SIGNAL_BITS w ↦ w.over-is ∙ rw (le-ltb _ _ w.if-sum-gt-MOST_SIGNAL_BITS.false) ]))
     c.merge.ensures c.merge-2.ensures

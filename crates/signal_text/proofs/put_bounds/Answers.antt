@@ -22,7 +22,7 @@ returns-then-count-eq1 c =
     (bounds-one args.low args.count _ refl if1.true)
 
 pub shape_of-out-then-count-eq1 : goal.shape_of-out-then-count-eq1
-shape_of-out-then-count-eq1 c = (returns c).kept
+shape_of-out-then-count-eq1 c = (returns-then-count-eq1 c).kept
 
 pub put_byte-colon-requires : goal.put_byte-colon-requires
 put_byte-colon-requires c = written-most c.put_decimal-high.ensures
@@ -48,4 +48,4 @@ returns c =
     (bounds-two args.low args.count _ refl if1.false)
 
 pub shape_of-out : goal.shape_of-out
-shape_of-out c = (returns-2 c).kept
+shape_of-out c = (returns c).kept

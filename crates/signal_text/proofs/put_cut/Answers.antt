@@ -17,7 +17,7 @@ returns-then-many-eq0 c =
     (cut-none _ a.low a.count (none_in a.names.now a.wires.now a.rows.now a.m (a.m.wires - (a.wire.0 + 1)) c.if-many-eq0.true))
 
 pub shape_of-out-then-many-eq0 : goal.shape_of-out-then-many-eq0
-shape_of-out-then-many-eq0 c = (returns c).kept
+shape_of-out-then-many-eq0 c = (returns-then-many-eq0 c).kept
 
 pub put_token-end-requires : goal.put_token-end-requires
 put_token-end-requires c = c.requires.0
@@ -32,7 +32,7 @@ returns-then-count-column c =
     written_as c.put_token-end.ensures (cut-whole _ _ _ c.name_now.ensures _ _ a.low a.count at_n (c.if-count-column.true ∙ c.column.ensures))
 
 pub shape_of-out-then-count-column : goal.shape_of-out-then-count-column
-shape_of-out-then-count-column c = (returns-2 c).kept
+shape_of-out-then-count-column c = (returns-then-count-column c).kept
 
 pub put_bounds-requires : goal.put_bounds-requires
 put_bounds-requires c = (written-most c.put_token-end.ensures, omega arith, omega arith, omega arith)
@@ -56,4 +56,4 @@ returns c =
     (cut-part _ _ _ name-now.ensures _ _ args.low args.count at_n (λ q. if3.false (q ∙ sym column.ensures)))
 
 pub shape_of-out : goal.shape_of-out
-shape_of-out c = (returns-3 c).kept
+shape_of-out c = (returns c).kept

@@ -17,9 +17,9 @@ pub put_value-requires : goal.put_value-requires
 put_value-requires c =
     let a = c.args in
     record {
-  at_le_past_text = written-most c.put_byte-behind.ensures;
-  bits_len_bound = omega (arith, length-take (a.i - a.j) (drop a.j a.s.now));
-}
+      at_le_past_text = written-most c.put_byte-behind.ensures;
+      bits_len_bound = omega (arith, length-take (a.i - a.j) (drop a.j a.s.now));
+    }
 
 pub put_cut-requires : goal.put_cut-requires
 put_cut-requires c = (c.requires.0, narrow _ c.decode.ensures c.in-Wire.is, omega arith, omega arith)
@@ -35,7 +35,7 @@ returns-in-Digit c =
     (run-digits args.s.now args.i args.j ws _ decode.ensures _ c.in-Digit.is)
 
 pub shape_of-out-in-Digit : goal.shape_of-out-in-Digit
-shape_of-out-in-Digit c = (returns c).kept
+shape_of-out-in-Digit c = (returns-in-Digit c).kept
 
 pub returns-in-Wire : goal.returns-in-Wire
 returns-in-Wire c =
@@ -45,4 +45,4 @@ returns-in-Wire c =
     written_as c.put_cut.ensures (ap (λ x. spread (sig_tokens x)) (run-wire a.s.now a.i a.j ws _ c.decode.ensures _ _ a.m.wires c.in-Wire.is many))
 
 pub shape_of-out-in-Wire : goal.shape_of-out-in-Wire
-shape_of-out-in-Wire c = (returns-2 c).kept
+shape_of-out-in-Wire c = (returns-in-Wire c).kept

@@ -17,7 +17,7 @@ returns-then-n-eq0 c =
     (sym (signal-none (wires_in args.names.now args.wires.now args.rows.now args.m) args.s.now if1.true))
 
 pub shape_of-out-then-n-eq0 : goal.shape_of-out-then-n-eq0
-shape_of-out-then-n-eq0 c = (returns c).kept
+shape_of-out-then-n-eq0 c = (returns-then-n-eq0 c).kept
 
 pub run_low-requires : goal.run_low-requires
 run_low-requires c = record {
@@ -37,7 +37,7 @@ returns-then-run_low-eq0 c =
     (rw if2.true at run-low.ensures)))
 
 pub shape_of-out-then-run_low-eq0 : goal.shape_of-out-then-run_low-eq0
-shape_of-out-then-run_low-eq0 c = (returns-2 c).kept
+shape_of-out-then-run_low-eq0 c = (returns-then-run_low-eq0 c).kept
 
 pub put_runs-end-requires : goal.put_runs-end-requires
 put_runs-end-requires c = (written-most c.put_bytes-open.ensures, c.requires.1)
@@ -57,4 +57,4 @@ returns c =
     _ (omega arith) run-low.ensures)
 
 pub shape_of-out : goal.shape_of-out
-shape_of-out c = (returns-3 c).kept
+shape_of-out c = (returns c).kept

@@ -21,10 +21,9 @@ pub literal_bits-bits-requires : goal.literal_bits-bits-requires
 literal_bits-bits-requires c =
     let pre = c.requires in
     let args = c.args in
-    let token-at = c.token_at in
-    (
+    let token-at = c.token_at in (
       pre.readable.file,
-      pre.most_width_in_bounds,
+      pre.most_width_in_bounds.0,
       subst (WholeToken args.f.now) (sym token-at.ensures ∙ c.in-Constant.is)
           (pre.readable.closed.whole args.i),
     )

@@ -2,7 +2,6 @@
 -- Assumes nothing.
 use mathlib.Core.Path.{sym, ◌∙◌}
 use native.Mathlib.Omega.{arith}
-use borrow.Author.Tests.{not-true, not-false}
 use Rattle.tokens.specs.Parts.{integer_gives}
 use Rattle.signals.specs.Reads.{slot_in}
 use Rattle.signals.proofs.Parses.{mark-below, bounds-no-high, bounds-one, bounds-open, bounds-no-low, bounds-unclosed, bounds-two}
@@ -30,7 +29,7 @@ is_mark-requires-2 c = tt
 
 pub returns-then-not-is_mark : goal.returns-then-not-is_mark
 unfolding integer_gives
-returns-then-not-is_mark c f = bounds-open f _ _ _ (rw c.in-Given.is at (c.integer_at.ensures f)) (sym c.is_mark.ensures ∙ c.if-is_mark.false) (sym c.is_mark-2.ensures ∙ not-true _ c.if-not-is_mark.true-raw)
+returns-then-not-is_mark c f = bounds-open f _ _ _ (rw c.in-Given.is at (c.integer_at.ensures f)) (sym c.is_mark.ensures ∙ c.if-is_mark.false) (sym c.is_mark-2.ensures ∙ c.if-not-is_mark.true)
 
 pub integer_at-requires-2 : goal.integer_at-requires-2
 integer_at-requires-2 c = tt
@@ -43,7 +42,7 @@ returns-in_default-integer_at c f =
     let if2 = c.if-not-is_mark in
     let integer-at2 = c.integer_at-2 in
     bounds-no-low f _ _ _ (rw c.in-Given.is at (integer-at.ensures f))
-    (sym is-mark2.ensures ∙ not-false _ if2.false-raw) (rw c.in_default-integer_at.is at (integer-at2.ensures f))
+    (sym is-mark2.ensures ∙ if2.false) (rw c.in_default-integer_at.is at (integer-at2.ensures f))
 
 pub is_mark-requires-3 : goal.is_mark-requires-3
 is_mark-requires-3 c = tt
@@ -56,8 +55,8 @@ returns-then-not-is_mark-2 c f =
     let if2 = c.if-not-is_mark in
     let integer-at2 = c.integer_at-2 in
     bounds-unclosed f _ _ _ (rw c.in-Given.is at (integer-at.ensures f))
-    (sym is-mark2.ensures ∙ not-false _ if2.false-raw) _ (rw c.in-Given-integer_at.is at (integer-at2.ensures f))
-    (sym c.is_mark-3.ensures ∙ not-true _ c.if-not-is_mark-2.true-raw)
+    (sym is-mark2.ensures ∙ if2.false) _ (rw c.in-Given-integer_at.is at (integer-at2.ensures f))
+    (sym c.is_mark-3.ensures ∙ c.if-not-is_mark-2.true)
 
 pub returns : goal.returns
 unfolding integer_gives slot_in
@@ -66,10 +65,10 @@ returns c =
     let is-mark2 = c.is_mark-2 in
     let if2 = c.if-not-is_mark in
     let integer-at2 = c.integer_at-2 in
-    let m = sym c.is_mark-3.ensures ∙ not-false _ c.if-not-is_mark-2.false-raw in
+    let m = sym c.is_mark-3.ensures ∙ c.if-not-is_mark-2.false in
     let b = mark-below _ _ _ m in (
       omega arith,
       omega arith,
       λ f. bounds-two f _ _ _ (rw c.in-Given.is at (integer-at.ensures f))
-          (sym is-mark2.ensures ∙ not-false _ if2.false-raw) _ (rw c.in-Given-integer_at.is at (integer-at2.ensures f)) m,
+          (sym is-mark2.ensures ∙ if2.false) _ (rw c.in-Given-integer_at.is at (integer-at2.ensures f)) m,
     )

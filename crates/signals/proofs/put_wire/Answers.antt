@@ -1,7 +1,6 @@
 -- The invariant: the first k codes, from the top, are stored.
 -- Assumes nothing.
 use mathlib.Core.Path.{refl, sym}
-use Prim.Native.Nat.{◌-◌}
 use native.Mathlib.Omega.{arith}
 use lib.ListN.{length-set}
 use Rattle.rules.specs.Signals.{wire_bits}

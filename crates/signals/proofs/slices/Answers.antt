@@ -2,14 +2,13 @@
 -- of those that were read are as many as the part's width, from the sum of their low bounds on. The table is written behind the last.
 -- Assumes nothing.
 use mathlib.Core.Path.{sym, ◌∙◌}
-use Prim.Native.Nat.{◌-◌}
 use native.Mathlib.Omega.{arith}
 use Rattle.signals.proofs.Parses.{mark-below}
 use Rattle.signals.proofs.SliceLaws.{slices-start, slices-read, slices-broken, slices-on}
 use Rattle.signals.proofs.slices.Goals as goal
 
 pub loop-at-init : goal.loop-at-init
-loop-at-init c = slices-start _ _ _ _ _ _ c.requires.most_width_in_bounds c.requires.tokens_len_bound.1
+loop-at-init c = slices-start _ _ _ _ _ _ c.requires.most_width_in_bounds.0 c.requires.tokens_len_bound.1
 
 pub is_mark-requires : goal.is_mark-requires
 is_mark-requires c = tt
@@ -27,7 +26,7 @@ returns-in_default c =
     let is-mark = c.is_mark in
     let if1 = c.loop-at-test in
     let bounds-at = c.bounds_at in
-    slices-broken _ _ _ _ _ _ pre.most_width_in_bounds _ _ loop.invariant (sym is-mark.ensures ∙ if1.true)
+    slices-broken _ _ _ _ _ _ pre.most_width_in_bounds.0 _ _ loop.invariant (sym is-mark.ensures ∙ if1.true)
     (rw c.in_default.is at bounds-at.ensures)
 
 pub slice-part-requires : goal.slice-part-requires
@@ -45,7 +44,7 @@ loop-at-preserved c =
     let is-mark = c.is_mark in
     let if1 = c.loop-at-test in
     let bounds-at = c.bounds_at in
-    slices-on _ _ _ _ _ _ pre.most_width_in_bounds _ _ loop.invariant (sym is-mark.ensures ∙ if1.true) _ _ _
+    slices-on _ _ _ _ _ _ pre.most_width_in_bounds.0 _ _ loop.invariant (sym is-mark.ensures ∙ if1.true) _ _ _
     (rw c.in-Read.is at bounds-at.ensures) _ c.slice-part.ensures
 
 pub move_part-requires : goal.move_part-requires
@@ -53,7 +52,7 @@ move_part-requires c =
     let pre = c.requires in
     let loop = c.loop-at in (
       omega (arith, loop.invariant.inside.within),
-      λ e. omega (arith, pre.most_width_in_bounds, pre.most_width_in_bounds.1 (loop.invariant.inside.none e)),
+      λ e. omega (arith, pre.most_width_in_bounds.0, pre.most_width_in_bounds.1 (loop.invariant.inside.none e)),
     )
 
 pub shape_of-scratch : goal.shape_of-scratch
@@ -66,4 +65,4 @@ returns c =
     let is-mark = c.is_mark in
     let if1 = c.loop-at-test in
     let move-part = c.move_part in
-    slices-read _ _ _ _ _ _ pre.most_width_in_bounds _ _ loop.invariant _ (sym is-mark.ensures ∙ if1.false) move-part.ensures
+    slices-read _ _ _ _ _ _ pre.most_width_in_bounds.0 _ _ loop.invariant _ (sym is-mark.ensures ∙ if1.false) move-part.ensures

@@ -14,11 +14,11 @@ unfolding gap_text
 returns-then-comma c = written_as (written_then c.put_signal-end.ensures c.put_bytes.ensures) (rw c.if-comma.true)
 
 pub shape_of-out-then-comma : goal.shape_of-out-then-comma
-shape_of-out-then-comma c = (returns c).kept
+shape_of-out-then-comma c = (returns-then-comma c).kept
 
 pub returns : goal.returns
 unfolding gap_text
 returns c = written_as c.put_signal-end.ensures (rw c.if-comma.false (sym (append-nil _)))
 
 pub shape_of-out : goal.shape_of-out
-shape_of-out c = (returns-2 c).kept
+shape_of-out c = (returns c).kept

@@ -1,6 +1,6 @@
 -- The loop's invariant: what is left is the text of the signals from word `start` of the bits on.
 -- Assumes nothing.
-use Prim.Native.Nat.{◌+◌, ◌-◌, ◌≤◌}
+use Prim.Native.Nat.{◌+◌, ◌≤◌}
 use native.Mathlib.Omega.{arith}
 use lib.ListN.{length}
 use Rattle.text.specs.Written.{written-most, written_as}

@@ -32,4 +32,4 @@ returns c =
     (row_step _ _ _ _ _ column.ensures (sym names-step.ensures ∙ not-false _ if1.false-raw))
 
 pub shape_of-out : goal.shape_of-out
-shape_of-out c = (returns-2 c).kept
+shape_of-out c = (returns c).kept

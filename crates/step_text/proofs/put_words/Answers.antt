@@ -44,4 +44,4 @@ returns c =
     put-event.ensures (ne_eqb _ _ if1.false) (ne_eqb _ _ if2.false) (ne_eqb _ _ if3.false) (ne_eqb _ _ if4.false)
 
 pub shape_of-out : goal.shape_of-out
-shape_of-out c = (returns-5 c).kept
+shape_of-out c = (returns c).kept

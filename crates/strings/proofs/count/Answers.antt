@@ -1,4 +1,3 @@
-
 use Rattle.strings.specs.Machine.{given_of}
 use Rattle.strings.proofs.count.Goals as goal
 

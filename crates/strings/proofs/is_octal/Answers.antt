@@ -1,4 +1,3 @@
-
 use borrow.Author.Tests.{le-leb, lt-leb}
 use Rattle.rules.specs.Bytes.{is_octal, within}
 use Rattle.strings.proofs.is_octal.Goals as goal

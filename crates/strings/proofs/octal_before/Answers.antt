@@ -1,4 +1,3 @@
-
 use borrow.Author.Tests.{eq-eqb, ne_eqb}
 use Rattle.rules.specs.Tokens.{octal_byte, onto, plain_turn}
 use Rattle.rules.specs.Bytes.{within}

@@ -1,4 +1,3 @@
-
 use Rattle.rules.specs.Tokens.{octal_byte, onto}
 use Rattle.rules.specs.Bytes.{within}
 use Rattle.strings.specs.Machine.{machine_open}

@@ -1,4 +1,3 @@
-
 use borrow.Author.Tests.{eq-eqb, ne_eqb}
 use Rattle.rules.specs.Tokens.{plain_turn}
 use Rattle.strings.specs.Machine.{machine_open}

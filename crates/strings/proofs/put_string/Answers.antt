@@ -1,4 +1,3 @@
-
 use mathlib.Core.Path.{refl, ap, ◌∙◌}
 use Prim.Native.Nat.{◌-◌}
 use native.Mathlib.Omega.{arith}
@@ -77,8 +76,8 @@ loop-i-preserved c =
     let p = put-given.ensures in (
       _,
       r,
-      simp length-append (omega (arith, loop.invariant.2, p.0)),
-      (λ x e. store_then _ _ _ _ _ _ _ (loop.invariant.3 x e) loop.invariant.2 p.1),
+      simp length-append (omega (arith, loop.invariant.2, p.value)),
+      (λ x e. store_then _ _ _ _ _ _ _ (loop.invariant.3 x e) loop.invariant.2 p.out_after),
       search rules,
     )
 
@@ -106,7 +105,7 @@ put_given-requires c =
 
 pub returns-in-Ends : goal.returns-in-Ends
 unfolding turn_of
-returns-in-Ends c = CLAUSES value out_after 
+returns-in-Ends c =
     let part = c.part in
     let put-bytes = c.put_bytes in
     let loop = c.loop-i in
@@ -116,21 +115,22 @@ returns-in-Ends c = CLAUSES value out_after
     let q = reached-ends _ _ _ _ _ loop.invariant.1 _ loop-test.true (rw c.in-Ends.is at turn_on.ensures) in
     let e = closed-decoded _ _ _ q in
     let p = put-given2.ensures in
-    rw e (
-      simp length-append (omega (arith, loop.invariant.2, p.0)),
-      store_then _ _ _ _ _ _ _ (loop.invariant.3 _ (put-bytes.ensures ∙ ap (store _ _) part.ensures))
-          loop.invariant.2 p.1,
-    )
+    record {
+      value = rw e (simp length-append (omega (arith, loop.invariant.2, p.value)));
+      out_after =
+          rw e
+          (store_then _ _ _ _ _ _ _ (loop.invariant.3 _ (put-bytes.ensures ∙ ap (store _ _) part.ensures)) loop.invariant.2 p.out_after);
+    }
 
 pub returns-in-Breaks : goal.returns-in-Breaks
 unfolding turn_of
-returns-in-Breaks c = CLAUSES value out_after 
+returns-in-Breaks c =
     let l = c.loop-i in
     let q = reached-breaks _ _ _ _ _ l.invariant.1 c.loop-i-test.true (rw c.in-Breaks.is at c.turn_on.ensures) in
     absurd (never-broken _ c.requires.s_value q)
 
 pub returns : goal.returns
-returns c = CLAUSES value out_after 
+returns c =
     let l = c.loop-i in
     let q = reached-end _ _ _ _ _ l.invariant.1 c.loop-i-test.false in
     absurd (never-broken _ c.requires.s_value q)

@@ -1,4 +1,3 @@
-
 use mathlib.Core.Path.{sym, ◌∙◌}
 use Rattle.rules.specs.Tokens.{octal_turn}
 use Rattle.strings.specs.Machine.{machine_open}

@@ -1,4 +1,3 @@
-
 use Rattle.rules.specs.Tokens.{turn}
 use Rattle.strings.specs.Machine.{inside_of}
 use Rattle.strings.proofs.turn_on.Goals as goal

@@ -19,9 +19,9 @@ signal-requires c =
     let pre = c.requires in
     let id-at = c.id_at in
     record {
-  readable = readable-on _ _ _ _ pre.ready.rows (id_below _ _ _ _ _ id-at.ensures c.in-Span.is);
-  depth_in_bounds = (omega (arith, pre.ready.room), pre.ready.few, pre.wires_indexed);
-}
+      readable = readable-on _ _ _ _ pre.ready.rows (id_below _ _ _ _ _ id-at.ensures c.in-Span.is);
+      depth_in_bounds = (omega (arith, pre.ready.room), pre.ready.few, pre.wires_indexed);
+    }
 
 pub returns-in_default-signal : goal.returns-in_default-signal
 unfolding id_gives

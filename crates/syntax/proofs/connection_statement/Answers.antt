@@ -12,9 +12,9 @@ pub signal-requires : goal.signal-requires
 signal-requires c =
     let pre = c.requires in
     record {
-  readable = pre.ready.rows;
-  depth_in_bounds = (omega (arith, pre.ready.room), pre.ready.few, pre.wires_indexed);
-}
+      readable = pre.ready.rows;
+      depth_in_bounds = (omega (arith, pre.ready.room), pre.ready.few, pre.wires_indexed);
+    }
 
 pub returns-in_default : goal.returns-in_default
 returns-in_default c = no-shape (no-left _ _ (rw c.in_default.is at c.signal.ensures.read))
@@ -24,9 +24,9 @@ signal-requires-2 c =
     let pre = c.requires in
     let signal = c.signal in
     let a = rw c.in-Read.is at signal.ensures.read in record {
-  readable = readable-on _ _ _ _ pre.ready.rows a.1;
-  depth_in_bounds = (omega (arith, signal.ensures.kept.long, pre.ready.room), pre.ready.few, pre.wires_indexed);
-}
+      readable = readable-on _ _ _ _ pre.ready.rows a.1;
+      depth_in_bounds = (omega (arith, signal.ensures.kept.long, pre.ready.room), pre.ready.few, pre.wires_indexed);
+    }
 
 pub returns-in_default-signal : goal.returns-in_default-signal
 returns-in_default-signal c =

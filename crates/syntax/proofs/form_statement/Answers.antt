@@ -2,7 +2,7 @@
 use mathlib.Core.Path.{refl, sym, ◌∙◌}
 use Rattle.numbers.specs.SignedLaws.{number-back}
 use Rattle.syntax.proofs.ShapeLaws.{plain_open, bad-number, stated}
-use Rattle.syntax.specs.declared.Statement.TheVariants.{Autoidx, Attribute, CellParameter}
+use Rattle.syntax.specs.declared.Statement.TheVariants.{Autoidx, Attribute, CellParameter, End}
 use Rattle.syntax.specs.Statements.{no-shape, judged}
 use Rattle.syntax.proofs.form_statement.Goals as goal
 
@@ -50,7 +50,7 @@ returns-in-Process c w ws s = rw c.in-Process.is (judged (stated ws _ s _ refl r
 
 pub returns-in-End : goal.returns-in-End
 unfolding plain_open
-returns-in-End c w ws s = rw c.in-End.is (judged (stated ws _ s _ refl refl refl refl refl refl refl refl tt refl))
+returns-in-End c w ws s = rw c.in-End.is (judged {r = End} (stated ws _ s End refl refl refl refl refl refl refl refl tt refl))
 
 pub returns-in-NoShape : goal.returns-in-NoShape
 unfolding plain_open

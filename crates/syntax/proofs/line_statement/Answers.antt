@@ -45,10 +45,10 @@ process_statement-requires c =
     let if2 = c.if-place-eq-IN_MODULE in
     let if3 = c.if-place-eq-IN_CELL in
     record {
-  ready = pre.ready;
-  wires_indexed = pre.wires_indexed;
-  inside = omega (arith, if1.false, if2.false, if3.false);
-}
+      ready = pre.ready;
+      wires_indexed = pre.wires_indexed;
+      inside = omega (arith, if1.false, if2.false, if3.false);
+    }
 
 pub returns : goal.returns
 returns c = c.process_statement.ensures

@@ -8,10 +8,10 @@ pub step_statement-requires : goal.step_statement-requires
 step_statement-requires c =
     let pre = c.requires in
     record {
-  ready = pre.ready;
-  wires_indexed = pre.wires_indexed;
-  step_from = rw c.in-Step.is at c.process_line_kind.ensures.1;
-}
+      ready = pre.ready;
+      wires_indexed = pre.wires_indexed;
+      step_from = rw c.in-Step.is at c.process_line_kind.ensures.1;
+    }
 
 pub returns-in-Form : goal.returns-in-Form
 unfolding context_of process_kind_of

@@ -17,4 +17,4 @@ returns c =
     one_byte a.out.now c.if-at-out.out a.at a.b e c.if-at-ge-TEXT_LENGTH.false
 
 pub shape_of-out : goal.shape_of-out
-shape_of-out c = (returns-2 c).kept
+shape_of-out c = (returns c).kept

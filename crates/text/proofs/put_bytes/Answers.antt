@@ -20,7 +20,7 @@ returns-then-end-out c =
     all-bytes args.out.now _ args.s.now args.at put-bytes.ensures if1.false
 
 pub shape_of-out-then-end-out : goal.shape_of-out-then-end-out
-shape_of-out-then-end-out c = (returns-2 c).kept
+shape_of-out-then-end-out c = (returns-then-end-out c).kept
 
 pub returns-then-out-at : goal.returns-then-out-at
 returns-then-out-at c =

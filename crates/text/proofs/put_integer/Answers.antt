@@ -13,7 +13,7 @@ unfolding integer_text signed_of
 returns-then-word-lt-FIRST_NEGATIVE c = rw (lt-ltb _ _ c.if-word-lt-FIRST_NEGATIVE.true) c.put_decimal.ensures
 
 pub shape_of-out-then-word-lt-FIRST_NEGATIVE : goal.shape_of-out-then-word-lt-FIRST_NEGATIVE
-shape_of-out-then-word-lt-FIRST_NEGATIVE c = (returns c).kept
+shape_of-out-then-word-lt-FIRST_NEGATIVE c = (returns-then-word-lt-FIRST_NEGATIVE c).kept
 
 pub put_byte-end-requires : goal.put_byte-end-requires
 put_byte-end-requires c = c.requires
@@ -26,4 +26,4 @@ unfolding integer_text signed_of
 returns c = rw (le-ltb _ _ c.if-word-lt-FIRST_NEGATIVE.false) (written_then c.put_byte-end.ensures c.put_decimal-2.ensures)
 
 pub shape_of-out : goal.shape_of-out
-shape_of-out c = (returns-2 c).kept
+shape_of-out c = (returns c).kept

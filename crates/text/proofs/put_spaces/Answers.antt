@@ -1,6 +1,5 @@
 -- The loop's invariant: i spaces are written.
 use mathlib.Core.Path.{◌≡◌}
-use Prim.Native.Nat.{◌-◌}
 use native.Mathlib.Omega.{arith}
 use Rattle.text.specs.Written.{written_none, written-most, written_then, written_as}
 use Rattle.text.proofs.TextLaws.{spaces-more}

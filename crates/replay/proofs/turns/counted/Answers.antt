@@ -28,10 +28,10 @@ pub plus-sums-requires : goal.plus-sums-requires
 plus-sums-requires c =
     let pre = c.requires in
     let small-parts = c.small_parts in record {
-  at_most = within-small _ 2147483647 (omega arith) pre.ready.within;
-  at_most_2 = told-small _ _ _ _ _ _ _ pre.told (kind-sizes-are _ _ _ _ _ _ _ c.kind_sizes.ensures)
+      at_most = within-small _ 2147483647 (omega arith) pre.ready.within;
+      at_most_2 = told-small _ _ _ _ _ _ _ pre.told (kind-sizes-are _ _ _ _ _ _ _ c.kind_sizes.ensures)
           (sym small-parts.ensures ∙ not-false _ c.if-not-small_parts.false-raw);
-}
+    }
 
 pub returns-then-not-within : goal.returns-then-not-within
 returns-then-not-within c =
@@ -47,9 +47,9 @@ pub after-requires : goal.after-requires
 after-requires c =
     let pre = c.requires in
     record {
-  rows_bound = omega (arith, pre.ready.few);
-  bounds = pre.ready.bounds;
-}
+      rows_bound = omega (arith, pre.ready.few);
+      bounds = pre.ready.bounds;
+    }
 
 pub returns : goal.returns
 returns c =

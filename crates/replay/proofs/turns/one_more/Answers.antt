@@ -1,4 +1,3 @@
-
 use Rattle.netlist.specs.Used.{used_of}
 use borrow.Author.Tests.{not-true, not-false}
 use Rattle.row_statements.specs.Reads.{part_tables}
@@ -18,9 +17,9 @@ pub statement_at-f-requires : goal.statement_at-f-requires
 statement_at-f-requires c =
     let args = c.args in
     let pre = c.requires in record {
-  small = small-used (used_of c.used_from-x.result) args.p args.u c.used_from-x.ensures pre.ready.within;
-  first_le_wires = wires-fit (used_of c.used_from-x.result) args.p args.u c.used_from-x.ensures pre.ready.bounds;
-}
+      small = small-used (used_of c.used_from-x.result) args.p args.u c.used_from-x.ensures pre.ready.within;
+      first_le_wires = wires-fit (used_of c.used_from-x.result) args.p args.u c.used_from-x.ensures pre.ready.bounds;
+    }
 
 pub counted-requires : goal.counted-requires
 counted-requires c =
@@ -29,12 +28,12 @@ counted-requires c =
     let get-row = c.get_row-r in
     let used-from = c.used_from-x in
     let statement-at = c.statement_at-f in record {
-  ready = pre.ready;
-  told = turn-told (part_tables args.names.now args.strings.now args.bits.now args.wires.now)
-            args.rows.now args.p args.u get-row.result get-row.ensures (used_of used-from.result)
-            used-from.ensures statement-at.result statement-at.ensures _ _ _ _ _ c.in-Statement.is;
-  indexed = pre.indexed;
-}
+      ready = pre.ready;
+      told = turn-told (part_tables args.names.now args.strings.now args.bits.now args.wires.now)
+          args.rows.now args.p args.u get-row.result get-row.ensures (used_of used-from.result)
+          used-from.ensures statement-at.result statement-at.ensures _ _ _ _ _ c.in-Statement.is;
+      indexed = pre.indexed;
+    }
 
 pub returns-in-Statement : goal.returns-in-Statement
 returns-in-Statement c =

@@ -80,7 +80,7 @@ returns c =
     let if6 = c.if-x-y-6 in
     let if7 = c.if-x-y-7 in
     rw (
-      eq-eqb _ _ if1.left,
+      eq-eqb _ _ if1.false,
       eq-eqb _ _ if2.false,
       eq-eqb _ _ if3.false,
       eq-eqb _ _ if4.false,
