@@ -1,4 +1,4 @@
-//! Links the two comparisons of names, which `rt staticlib compare_bench` writes.
+//! Links the two comparisons of names, which `bash tests/bench/library.sh` writes.
 
 use std::path::Path;
 

@@ -1,6 +1,6 @@
 #!/usr/bin/env bash
 # Instructions of one call on one file, counted by callgrind, so that figures of two machines compare: a Markdown table over the files of
-# src/files.rs, or over the files given, and how they grow. After include/library.sh and `rt staticlib compare_bench`; not part of the gate, since valgrind need not be installed.
+# src/files.rs, or over the files given, and how they grow. After include/library.sh and `bash tests/bench/library.sh`; not part of the gate, since valgrind need not be installed.
 # `count.sh --parts CALL FILE [RENAMES]` says what a call's instructions go into: check, read, judge, write, rename, first_wire, last_wire or listing. A call on a file without a wire
 # that takes renames has none to count, and a number in brackets is that of a refusal.
 set -euo pipefail

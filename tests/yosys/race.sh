@@ -1,6 +1,6 @@
 #!/usr/bin/env bash
 # CPU time of read and write beside Yosys's read_rtlil and write_rtlil, in one run: a Markdown table over some files of tests/bench, or over
-# the files given. After include/library.sh and `rt staticlib compare_bench`; not part of the gate, since Yosys need not be installed; tried with 0.23.
+# the files given. After include/library.sh and `bash tests/bench/library.sh`; not part of the gate, since Yosys need not be installed; tried with 0.23.
 #
 # Each is timed in its own process, a few calls subtracted from many, so that starting up counts for neither. They take turns, and the shortest of
 # ROUNDS rounds counts (8 if not given), so that what else the machine does falls on both. Each round runs fresh copies of both programs,

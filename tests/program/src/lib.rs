@@ -1,4 +1,4 @@
-//! Runs target/bin/skytassel, which `rt check` and `rt ci` build.
+//! Runs target/bin/skytassel, which tests/program/build.sh writes.
 
 use std::io::Write;
 use std::path::{Path, PathBuf};
@@ -14,7 +14,7 @@ pub fn answer(file: &[u8]) -> Vec<u8> {
         .stdin(Stdio::piped())
         .stdout(Stdio::piped())
         .spawn()
-        .expect("target/bin/skytassel is there: rt check skytassel");
+        .expect("target/bin/skytassel is there: bash tests/program/build.sh");
     let mut input = program.stdin.take().expect("a pipe");
     let _ = input.write_all(file);
     drop(input);
