@@ -1,5 +1,3 @@
-use mathlib.Core.Path.{refl, ◌∙◌}
-use Rattle.file_lines.proofs.FileLaws.{ended, longer}
 use Rattle.file_reader.proofs.read_longer.Goals as goal
 
 pub read_lines-requires : goal.read_lines-requires
@@ -10,15 +8,14 @@ read_lines-requires c = record {
 
 pub read_longest-requires : goal.read_longest-requires
 read_longest-requires c =
-    let x = longer _ _ _ _ _ _ _ _ c.read_lines.ensures _ _ _ c.in-Longer.is in
+    let x = rw c.in-Longer.is at c.read_lines.ensures in
     record {
       before = x.0;
       lines_indexed = x.1;
     }
 
 pub returns-in-Ended : goal.returns-in-Ended
-returns-in-Ended c =
-    ended _ _ _ _ _ _ _ _ c.read_lines.ensures _ c.in-Ended.is
+returns-in-Ended c = rw c.in-Ended.is at c.read_lines.ensures
 
 pub returns-in-Longer : goal.returns-in-Longer
 returns-in-Longer c = c.read_longest.ensures

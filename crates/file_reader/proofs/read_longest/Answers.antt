@@ -1,5 +1,5 @@
-use mathlib.Core.Path.{refl}
-use Rattle.file_lines.proofs.FileLaws.{ended, no_longer}
+use native.Mathlib.Omega.{arith}
+use Rattle.file_lines.proofs.FileLaws.{reached-fits}
 use Rattle.file_reader.proofs.read_longest.Goals as goal
 
 pub read_lines-requires : goal.read_lines-requires
@@ -9,9 +9,10 @@ read_lines-requires c = record {
 }
 
 pub returns-in-Ended : goal.returns-in-Ended
-returns-in-Ended c =
-    ended _ _ _ _ _ _ _ _ c.read_lines.ensures _ c.in-Ended.is
+returns-in-Ended c = rw c.in-Ended.is at c.read_lines.ensures
 
 pub returns-in-Longer : goal.returns-in-Longer
 returns-in-Longer c =
-    absurd (no_longer _ _ _ _ _ _ _ _ c.read_lines.ensures _ _ _ c.in-Longer.is refl)
+    let x = rw c.in-Longer.is at c.read_lines.ensures in
+    let fits = reached-fits x.0.reached _ x.0.is in
+    absurd (omega (arith, x.2, fits.high, fits.file))
