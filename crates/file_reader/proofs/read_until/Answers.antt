@@ -1,4 +1,4 @@
-use mathlib.Core.Path.{refl, sym, ap, ◌∙◌}
+use mathlib.Core.Path.{refl, ap}
 use Rattle.rules.specs.Judgement.{sum}
 use Rattle.context.specs.Place.{place_of, wires_in}
 use Rattle.context.specs.declared.place.Place.{Place}

@@ -10,7 +10,6 @@ use Rattle.judgement.specs.declared.Parts.{Parts}
 use Rattle.judgement.specs.Judged.{Accepts}
 use Rattle.judgement.proofs.PartLaws.{no_number, parts-coded, merged-none}
 use Rattle.judgement.proofs.Verdicts.{number-refused, taken_refused, fault-is, fault-refused, sizes-refused, accepted}
-use Rattle.judgement.proofs.judge_statement.Statement.{statement}
 use Rattle.judgement.proofs.judge_statement.Goals as goal
 
 pub returns-then-parts-ne0 : goal.returns-then-parts-ne0

@@ -1,7 +1,6 @@
 use Rattle.netlist.specs.Tables.{tabled}
 use Rattle.layout.proofs.Stored.{valued-room, plain-room, valued-put}
 use Rattle.layout.proofs.StepLaws.{step_room, step-put}
-use Rattle.layout.proofs.put_statement.Statement.{statement}
 use Rattle.layout.proofs.put_statement.Goals as goal
 
 pub put_valued-requires : goal.put_valued-requires

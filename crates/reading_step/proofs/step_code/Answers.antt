@@ -1,7 +1,6 @@
 -- `step_code` meets its contract.
 use Rattle.reading_step.specs.Steps.{step_in}
 use Rattle.reading_step.proofs.StepLaws.{no_step}
-use Rattle.reading_step.proofs.step_code.Statement.{statement}
 use Rattle.reading_step.proofs.step_code.Goals as goal
 
 pub returns-in_default : goal.returns-in_default

@@ -1,5 +1,4 @@
 use Rattle.layout.proofs.Stored.{attribute-valued, parameter-valued, cell-parameter-valued, module-valued, process-valued, plain-rest}
-use Rattle.layout.proofs.put.as_valued.Statement.{statement}
 use Rattle.layout.proofs.put.as_valued.Goals as goal
 
 pub returns-in-Attribute : goal.returns-in-Attribute

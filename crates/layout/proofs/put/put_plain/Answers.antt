@@ -1,7 +1,6 @@
 -- By the kind.
 use native.Mathlib.Omega.{arith}
 use Rattle.layout.proofs.Stored.{autoidx-room, end-room, wire-room, memory-room, cell_room, cell-connection-room, connection-room, autoidx-put, end-put, wire-puts, memory-put, cell-put, cell-connection-put, connection-put, refusal-put}
-use Rattle.layout.proofs.put.put_plain.Statement.{statement}
 use Rattle.layout.proofs.put.put_plain.Goals as goal
 
 pub put_columns-requires : goal.put_columns-requires

@@ -1,5 +1,4 @@
 -- The loop's invariant: the first k signals are stored, and the next one stands from k widths on.
-use Prim.Native.Nat.{◌-◌}
 use mathlib.Core.Path.{◌≡◌, refl, sym}
 use mathlib.Core.List.{flat_map}
 use native.Mathlib.Omega.{arith}
