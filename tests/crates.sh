@@ -50,7 +50,7 @@ counts() {
     at=crates/$crate
     seconds=$(sed -nE "s/^\| $crate \| ([0-9]+) \|.*/\1/p" docs/PROVING.md)
     functions=$(find "$at/src" -name '*.rt' -exec cat {} + | grep -cE '^ *(pub )?(extern "C" )?fn ' || true)
-    edits=$(find "$at/must-fail" -name '*.edit' 2> /dev/null | wc -l)
+    edits=$(find "$at" -path '*/must-fail/*.edit' -not -path '*/out/*' | wc -l)
     echo "| $crate | ${seconds:-0} | $functions | $(lines "$at/src" rt) | $(lines "$at/specs" antt) | $(lines "$at/proofs" antt) | $edits |"
   done | awk -F'|' '{ print; for (i = 3; i <= 8; i++) sum[i] += $i } END { printf "| all |"; for (i = 3; i <= 8; i++) printf " %d |", sum[i]; print "" }'
 }
