@@ -4,13 +4,12 @@
 -- Assumes nothing.
 use Prim.Native.Nat.{ℕ, zero, suc, ◌+◌, ◌-◌, ◌≤◌, ◌<◌}
 use native.Mathlib.Omega.{arith}
-use Rattle.std.specs.Prelude.{◌≡◌, Bool, true, ltb, ℤ, pos, negsuc, drop}
+use Rattle.std.specs.Prelude.{◌≡◌, Bool, true, ltb, ℤ, pos, drop}
 use Rattle.std.proofs.Math.Path.{refl, ap, ap₂}
 use Rattle.std.proofs.Common.{sym, ◌∙◌, drop-drop}
 use mathlib.Core.List.{List, [], ◌∷◌, Option-to_list}
 use Rattle.std.proofs.Math.Option.{Option, none, some}
 use Rattle.std.proofs.Math.Bool.{◌&&◌, and-false}
-use Rattle.std.proofs.lemmas.Bool.{false≢true}
 use Rattle.std.proofs.Math.Dec.{leb}
 use Rattle.std.proofs.Math.IntN.{nat_abs}
 use Rattle.std.proofs.Math.ListN.{take}
@@ -72,14 +71,6 @@ module _ (ws : Wires) (s : Sig) where
   pub one_bit : (i : ℕ) → (bits ws (slice s (pos i) none) ≡ bits ws (taking s i i)) × (width ws (slice s (pos i) none) ≡ width ws (taking s i i)) × (good_slice ws (slice s (pos i) none) ≡ good_slice ws (taking s i i))
   unfolding bits width good_slice lower
   one_bit i = (refl, refl, refl)
-
-  pub slice-bit : (h l i : ℕ) → l + i ≤ h → bits ws (slice (taking s h l) (pos i) none) ≡ bits ws (slice s (pos (l + i)) none)
-  unfolding bits span lower
-  slice-bit h l i b = slice-slice h l i i (omega arith) b
-
-  pub bit-bit : (i : ℕ) → bits ws (slice (slice s (pos i) none) (pos 0) none) ≡ bits ws (slice s (pos i) none)
-  unfolding bits span lower
-  bit-bit i = slice-slice i i 0 0 (omega arith) (omega arith) ∙ ap (λ (n : ℕ). bits ws (taking s n n)) (let z : i + 0 ≡ i = omega arith in z)
 
   -- "whenever 0 <= l, 0 <= j <= k <= h-l and h is inside the signal": that is, where the rules' own test finds both slices inside
   pub slice_inside : (h l : ℕ) → good_slice ws (taking s h l) ≡ true → (l ≤ h) × (h < width ws s)
@@ -143,28 +134,7 @@ module _ (ws : Wires) (s : Sig) where
 
 -- ---- over all slices that a text may have, with any integers as bounds and the low ones given or not
 
--- bounds that are inside are not negative
-bounds-natural : (w : ℕ) (h l : ℤ) → inside w h l ≡ true → inside w (pos (nat_abs h)) (pos (nat_abs l)) ≡ true
-unfolding inside
-bounds-natural w (pos h) (pos l) e = e
-bounds-natural w (pos h) (negsuc l) e = absurd (false≢true e)
-bounds-natural w (negsuc h) (pos l) e = absurd (false≢true e)
-bounds-natural w (negsuc h) (negsuc l) e = absurd (false≢true e)
-
 module _ (ws : Wires) (s : Sig) (h : ℤ) (l : Option ℤ) (k : ℤ) (j : Option ℤ) where
   -- [l+k:l+j]
   abbrev pub one-slice : Sig
   one-slice = taking s (nat_abs (lower h l) + nat_abs k) (nat_abs (lower h l) + nat_abs (lower k j))
-
-  -- where both slices are inside, the one is inside and has their bits
-  pub slices-joined : good_slice ws (slice s h l) ≡ true → good_slice ws (slice (slice s h l) k j) ≡ true → (good_slice ws one-slice ≡ true) × (bits ws (slice (slice s h l) k j) ≡ bits ws one-slice)
-  unfolding good_slice width bits span lower
-  slices-joined p q =
-      let a : ℕ = nat_abs h in
-      let b : ℕ = nat_abs (lower h l) in
-      let c : ℕ = nat_abs k in
-      let d : ℕ = nat_abs (lower k j) in
-      let o = inside-has (width ws s) a b (bounds-natural (width ws s) h (lower h l) p) in
-      let i = inside-has (a + 1 - b) c d (bounds-natural (a + 1 - b) k (lower k j) q) in
-      let f : b + c ≤ a = omega (arith, o.0, i.1) in
-      (joined-inside ws s a b c d i.0 f o.1, slice-slice ws s a b c d i.0 f)

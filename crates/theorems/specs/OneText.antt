@@ -7,14 +7,14 @@ use Rattle.std.proofs.Common.{◌∙◌}
 use mathlib.Core.List.{List}
 use Rattle.rules.specs.Statements.{Statement}
 use Rattle.rules.specs.Judgement.{Verdict}
-use Rattle.rules.specs.Reading.{Answer, accepted, refused, read_any, read}
+use Rattle.rules.specs.Reading.{Answer, accepted, refused, read_any}
 use Rattle.rules.specs.Design.{Design, design, flatten}
 use Rattle.rules.specs.Session.{Rename, now}
 use Rattle.rules.specs.Layout.{Memory}
 use Rattle.rules.specs.Text.{text, write_text, write}
 use Rattle.admitted.specs.Holds.{Holds}
 use Rattle.admitted.specs.JudgeLaws.{no-tests}
-use Rattle.theorems.specs.ReadingBack.{text-back, same-design, write_read}
+use Rattle.theorems.specs.ReadingBack.{text-back, same-design}
 
 pub written-text : (room : ℕ) (d : Design) (t : List ℕ) → write room d ≡ Verdict.accepted t → text d ≡ t
 unfolding write write_text
@@ -24,20 +24,11 @@ pub one-text : (room more : ℕ) (d e : Design) (t u : List ℕ) → write room 
 one-text room more d e t u w v q = sym (written-text room d t w) ∙ ap text q ∙ written-text more e u v
 
 -- the statements of an accepted file
-stated : Answer → List Statement → List Statement
+unfoldable pub stated : Answer → List Statement → List Statement
 stated (accepted ss) d = ss
 stated (refused n p) d = d
 
 module _ {m : Memory} {ss : List Statement} {rs : List Rename} (h : Holds m ss rs) where
-  -- the text of what the text is read as
-  pub written-again :
-      (room : ℕ) (t : List ℕ) → write room (now (design ss) rs) ≡ Verdict.accepted t → (us : List Statement) → read t ≡ accepted us → write room (design us) ≡ Verdict.accepted t
-  unfolding stated
-  written-again room t e us r =
-      let b = write_read h room t e in
-      let q : us ≡ b.statements = ap (λ (a : Answer). stated a us) (sym r ∙ b.reads) in
-      ap (λ (l : List Statement). write room (design l)) q ∙ ap (write room) b.defines ∙ e
-
   -- different designs have different texts
   pub one-design :
       {n : Memory} {ts : List Statement} {qs : List Rename} → Holds n ts qs → text (now (design ss) rs) ≡ text (now (design ts) qs) → now (design ss) rs ≡ now (design ts) qs

@@ -16,8 +16,8 @@ use Rattle.rules.specs.Text.{write, printed, program_by, program}
 use Rattle.admitted.specs.Holds.{Holds, no-renames}
 use Rattle.soundness.specs.ReadLaws.{read-admitted}
 use Rattle.theorems.specs.StandingLaws.{allowed-session}
-use Rattle.theorems.specs.ReadingBack.{read-any, write_read}
-use Rattle.theorems.specs.OneText.{written-text, one-text, one-design, written-again}
+use Rattle.theorems.specs.ReadingBack.{read-any}
+use Rattle.theorems.specs.OneText.{written-text, one-text, one-design}
 
 -- the renames that stand after any calls, refused ones included
 abbrev pub standing_after : List Statement → List Call → List Rename
@@ -27,13 +27,13 @@ standing_after ss cs = (plain_session (design ss) [] cs).1
 abbrev pub after : List Statement → List Call → Design
 after ss cs = now (design ss) (standing_after ss cs)
 
-after_holds : (f : List ℕ) {ss : List Statement} → read f ≡ accepted ss → (cs : List Call) → Holds (layout ss (standing_after ss cs)) ss (standing_after ss cs)
+pub after_holds : (f : List ℕ) {ss : List Statement} → read f ≡ accepted ss → (cs : List Call) → Holds (layout ss (standing_after ss cs)) ss (standing_after ss cs)
 after_holds f {ss} a cs =
     let q = read-admitted f ss (read-any f ss a) in
     record { admitted = q.0; closes = q.1; allowed = allowed-session (design ss) cs [] no-renames; is = refl }
 
 -- what the program writes for a file that is accepted, and whose text it can write
-program-text : (f : List ℕ) {ss : List Statement} {t : List ℕ} → read f ≡ accepted ss → write longest_file (design ss) ≡ Verdict.accepted t → program f ≡ t
+pub program-text : (f : List ℕ) {ss : List Statement} {t : List ℕ} → read f ≡ accepted ss → write longest_file (design ss) ≡ Verdict.accepted t → program f ≡ t
 unfolding program program_by printed
 program-text f a w = ap program_by a ∙ ap printed w
 
@@ -49,43 +49,8 @@ module _ (f g : List ℕ) {ss ts : List Statement} (a : read f ≡ accepted ss) 
       λ e. one-design (after_holds f a cs) (after_holds g b es) (written-text room (after ss cs) t w ∙ e ∙ sym (written-text more (after ts es) u v)),
     )
 
-  -- as they were read
-  module _ {t u : List ℕ} where
-    pub same-files : (room more : ℕ) → write room (design ss) ≡ Verdict.accepted t → write more (design ts) ≡ Verdict.accepted u → (design ss ≡ design ts) ↔ (t ≡ u)
-    unfolding plain_session now
-    same-files room more w v = same_bytes [] [] room more w v
-
-    -- and by the program's two outputs
-    pub same-outputs :
-        write longest_file (design ss) ≡ Verdict.accepted t → write longest_file (design ts) ≡ Verdict.accepted u → (design ss ≡ design ts) ↔ (program f ≡ program g)
-    same-outputs w v =
-        let s = same-files longest_file longest_file w v in
-        let p = program-text f a w in
-        let q = program-text g b v in
-        (λ e. p ∙ s.0 e ∙ sym q, λ e. s.1 (sym p ∙ e ∙ q))
-
 -- "WRITING, READING AND WRITING AGAIN GIVES THE FIRST TEXT": a text that is accepted and written as itself
 pub record Again (room : ℕ) (t : List ℕ) : Type 0 where
   pub statements : List Statement
   pub reads : read t ≡ accepted statements
   pub writes : write room (design statements) ≡ Verdict.accepted t
-
-module _ (f : List ℕ) {ss : List Statement} (a : read f ≡ accepted ss) where
-  -- after any calls
-  pub again-after : (cs : List Call) (room : ℕ) (t : List ℕ) → write room (after ss cs) ≡ Verdict.accepted t → Again room t
-  again-after cs room t w =
-      let h = after_holds f a cs in
-      let r = write_read h room t w in
-      record { statements = r.statements; reads = r.reads; writes = written-again h room t w r.statements r.reads }
-
-  -- of the file as it was read
-  pub again : (room : ℕ) (t : List ℕ) → write room (design ss) ≡ Verdict.accepted t → Again room t
-  unfolding plain_session now
-  again room t w = again-after [] room t w
-
-  -- the program on its own output
-  pub program-again : (t : List ℕ) → write longest_file (design ss) ≡ Verdict.accepted t → program (program f) ≡ program f
-  program-again t w =
-      let k = again longest_file t w in
-      let p = program-text f a w in
-      ap program p ∙ program-text t k.reads k.writes ∙ sym p

@@ -22,16 +22,14 @@ put_later-requires c =
     let args = c.args in
     let pre = c.requires in
     let if1 = c.if-name-eq0 in
-    let if2 = c.if-name-eq92 in
-    omega (arith, pre, length-set args.out.now args.at if2.first, ap length (form-some args.name.now if1.false))
+    omega (arith, pre, length-set args.out.now args.at c.if-name-eq92.first, ap length (form-some args.name.now if1.false))
 
 pub returns : goal.returns
 returns c =
     let args = c.args in
     let if1 = c.if-name-eq0 in
-    let if2 = c.if-name-eq92 in
     let put-later = c.put_later in
-    first_then (form-some args.name.now if1.false) ((elim if2.branch [ then-name-eq92 w ↦ rw (eq-eqb _ _ w.if-name-eq92.true) w.first-is | else-name-eq92 w ↦ rw (ne_eqb _ _ w.if-name-eq92.false) w.first-is ])) put-later.ensures
+    first_then (form-some args.name.now if1.false) (elim c.if-name-eq92.branch [ then-name-eq92 w ↦ rw (eq-eqb _ _ w.if-name-eq92.true) w.first-is | else-name-eq92 w ↦ rw (ne_eqb _ _ w.if-name-eq92.false) w.first-is ]) put-later.ensures
 
 pub shape_of-out : goal.shape_of-out
 shape_of-out c = put-kept (returns c)

@@ -1,0 +1,4 @@
+pub mod WireBits
+pub mod LongestRuns
+pub mod SameFiles
+pub mod Again
