@@ -1,6 +1,6 @@
--- What a statement that may stand keeps, and the wires of statements that may stand after one another.
+-- What a statement that may stand keeps: with its wire, sound wires stay sound.
 -- Assumes nothing.
-use Rattle.std.specs.Prelude.{◌≤◌, ◌≡◌, refl, true, false}
+use Rattle.std.specs.Prelude.{◌≤◌, ◌≡◌, refl, false}
 use mathlib.Core.List.{List, [], ◌∷◌, map, flat_map, zip}
 use Rattle.std.proofs.Math.Option.{none}
 use Rattle.rules.specs.Bytes.{same, any}
@@ -9,11 +9,11 @@ use Rattle.rules.specs.Statements.{Constant, Signal, Wire, Memory, Statement, wi
 use Rattle.rules.specs.Signals.{Wires, find}
 use Rattle.rules.specs.Judgement.{Past, until, only, of_module, wires, among, space, names_in, name_spaces, takes_name}
 use Rattle.context.specs.Forms.{by_form}
-use Rattle.admitted.specs.Admitted.{own_wire, admitted}
+use Rattle.admitted.specs.Admitted.{own_wire}
 use Rattle.lists.specs.Tests.{or-false-left, or-false-right}
 use Rattle.lists.specs.Bytes.{same-sym}
 use Rattle.lists.specs.Elements.{all_first}
-use Rattle.admitted.specs.AdmitLaws.{FineParts, fine-parts, Admits, admitted-before, admitted-last}
+use Rattle.admitted.specs.AdmitLaws.{FineParts, fine-parts, Admits}
 use Rattle.meaning.specs.Wires.{Sound, no-wire, one_more}
 use Rattle.meaning.specs.Settings.{wire-width}
 
@@ -41,7 +41,7 @@ wire-narrow : (ws : Wires) (w : Wire) (n : Name) → FineParts ws (wire-stmt w n
 unfolding statements_open
 wire-narrow ws w n f = wire-width w (all_first own_wire w [] f.wires)
 
-sound_more : (ss : Past) (s : Statement) → Admits ss s → Sound (wires ss) → Sound (wires (s ∷ ss))
+pub sound_more : (ss : Past) (s : Statement) → Admits ss s → Sound (wires ss) → Sound (wires (s ∷ ss))
 unfolding wires of_module until flat_map zip statements_open
 sound_more ss =
     by_form (λ s. Admits ss s → Sound (wires ss) → Sound (wires (s ∷ ss)))
@@ -49,10 +49,6 @@ sound_more ss =
     (λ w m a. one_more (wire-new ss w m a.new-name) (wire-narrow (wires ss) w m (fine-parts (wires ss) (wire-stmt w m) a.parts)))
     (λ y m a h. h) (λ t m a h. h) (λ o m c a h. h) (λ m g a h. h) (λ x y a h. h) (λ m a h. h) (λ p gs a h. h) (λ a h. h)
 
-no-past : Sound (wires [])
+pub no-past : Sound (wires [])
 unfolding wires of_module until flat_map
 no-past = no-wire
-
-pub admitted-sound : (ss : Past) → admitted ss ≡ true → Sound (wires ss)
-admitted-sound [] h = no-past
-admitted-sound (s ∷ ss) h = sound_more ss s (admitted-last s ss h) (admitted-sound ss (admitted-before s ss h))

@@ -10,7 +10,7 @@ use Rattle.rules.specs.Judgement.{Past, scope}
 use Rattle.rules.specs.Text.{indent, object, line_text, text_from}
 use Rattle.rules.specs.Reading.{states, judged, outcome, accepted, finish, next, read_lines, read_any, read}
 use Rattle.admitted.specs.Admitted.{admits, admitted, closes}
-use Rattle.meaning.specs.Judged.{shaped-written}
+use Rattle.meaning.proofs.Judged.{shaped-written}
 use Rattle.scanner.proofs.LineLaws.{last_line}
 use Rattle.admitted.specs.AdmitLaws.{admits-all, admits-last, admitted-past}
 use Rattle.written.specs.LineLaws.{line_at}

@@ -1,0 +1,3 @@
+pub mod Parts
+pub mod Kept
+pub mod Judged
