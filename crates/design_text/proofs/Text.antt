@@ -12,7 +12,8 @@ use Rattle.context.specs.Place.{wires_in}
 use Rattle.netlist.specs.Laid.{rooms_of}
 use Rattle.admitted.specs.Holds.{Holds}
 use Rattle.canonical.specs.Canonical.{now-fine}
-use Rattle.module_text.specs.PassLaws.{fine-leads, text-file}
+use Rattle.module_text.specs.PassLaws.{fine-leads}
+use Rattle.module_text.proofs.FileText.{text-file}
 use Rattle.design_text.specs.declared.Counts.{Counts}
 use Rattle.design_text.specs.Rows.{text_rows}
 use Rattle.netlist.specs.RoomLaws.{rooms-file}

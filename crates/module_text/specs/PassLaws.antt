@@ -1,4 +1,4 @@
--- The passes over the statements of a file write the text of its design with the names now.
+-- What the passes over the statements of a file print for each part of its design; the whole text is proofs/FileText's.
 -- Assumes nothing.
 use Prim.Native.Nat.{ℕ, zero, suc, ◌+◌}
 use Rattle.std.proofs.Common.{arith, ◌∙◌}
@@ -9,28 +9,28 @@ use Rattle.std.proofs.Math.Bool.{cond}
 use Rattle.std.proofs.lemmas.Bool.{false≢true}
 use mathlib.Core.List.{List, [], ◌∷◌, ◌++◌, map, map-append, flat_map, head?, reverse, reverse_aux, reverse_aux-append, Option-to_list, append-nil}
 use Rattle.rules.specs.Tokens.{Name}
-use Rattle.rules.specs.Statements.{Sort, Constant, Signal, Wire, Statement, autoidx-stmt, attr-stmt, module-stmt, param-stmt, wire-stmt, memory-stmt, cell-stmt, cell-param-stmt, cell-conn-stmt, conn-stmt, proc-stmt, step-stmt, end-stmt, switch, Kind, an_autoidx, an_attribute, a_module, a_parameter, a_wire, a_memory, a_cell, a_cell_parameter, a_cell_connection, a_connection, a_process, is, contents, statements_open}
+use Rattle.rules.specs.Statements.{Sort, Constant, Signal, Wire, Statement, autoidx-stmt, attr-stmt, module-stmt, param-stmt, wire-stmt, cell-stmt, cell-param-stmt, cell-conn-stmt, conn-stmt, proc-stmt, step-stmt, end-stmt, switch, Kind, an_autoidx, an_attribute, a_parameter, a_cell, a_cell_parameter, a_cell_connection, a_connection, a_process, is, contents, statements_open}
 use Rattle.rules.specs.Signals.{Wires}
 use Rattle.rules.specs.Bytes.{any}
-use Rattle.rules.specs.Shapes.{Scope, in_process}
+use Rattle.rules.specs.Shapes.{Scope}
 use Rattle.rules.specs.Judgement.{Past, until, only, outer, behind_step, scope, steps}
-use Rattle.rules.specs.Design.{Setting, setting_in, Object, object, Cell, Line, step_line, end_line, Module, Design, Item, items, blocks, objects_in, parameter_in, port_in, connection_in, cell_parameter_in, each, cell_of, step_in, shut, lines_in, process_of, module_of, design, line_statements, process_lines, design_open}
-use Rattle.rules.specs.Session.{Rename, now}
-use Rattle.rules.specs.Text.{level, holder, text}
+use Rattle.rules.specs.Design.{Setting, setting_in, Object, object, Cell, Line, step_line, end_line, Module, Design, Item, items, blocks, objects_in, parameter_in, port_in, connection_in, cell_parameter_in, each, cell_of, step_in, shut, lines_in, process_of, line_statements, process_lines, design_open}
+use Rattle.rules.specs.Session.{Rename}
+use Rattle.rules.specs.Text.{level, holder}
 use Rattle.lists.specs.Tests.{by-test}
 use Rattle.lists.specs.Lists.{flat_map-same, flat_map-map}
 use Rattle.context.specs.Forms.{by_form, by-attribute}
 use Rattle.modules.specs.DesignLaws.{only-attribute, items-until, wires-pairs}
-use Rattle.modules.specs.Now.{numbered, name_now, wire_now, module_now, design_now}
-use Rattle.modules.specs.NowLaws.{numbered-same, map-numbered, now-is}
+use Rattle.modules.specs.Now.{numbered, name_now, wire_now}
+use Rattle.modules.specs.NowLaws.{numbered-same, map-numbered}
 use Rattle.canonical.specs.Nesting.{settings}
 use Rattle.lists.specs.Elements.{Each, each_map}
 use Rattle.canonical.specs.Fine.{wires_in, FineProcess, FineModule, FineDesign}
 use Rattle.canonical.specs.Following.{process-leaves}
-use Rattle.module_text.specs.Blocks.{line_of, plain_line, attributes_text, wire_text, memory_text, cell_text, lines_text, process_text, body_text, module_text, design_text}
-use Rattle.module_text.specs.BlockLaws.{behind_line, behind_lines, Leaves, text-modules}
+use Rattle.module_text.specs.Blocks.{line_of, plain_line, attributes_text, wire_text, cell_text, lines_text}
+use Rattle.module_text.specs.BlockLaws.{behind_line, behind_lines, Leaves}
 use Rattle.module_text.specs.LineLaws.{plain-line}
-use Rattle.module_text.specs.Passes.{declared_now, named, wires_now, lines_of, kind_lines, first_line, Print, object_lines, print_wire, print_memory, cell_block, print_cell, shut_lines, step_lines, print_process, body_lines, print_module, file_text}
+use Rattle.module_text.specs.Passes.{declared_now, named, wires_now, lines_of, kind_lines, first_line, Print, object_lines, print_wire, cell_block, print_cell, shut_lines, step_lines}
 use Rattle.module_text.specs.StatementLaws.{parameters-are, connections-are, cell-parameters-are, ports-are}
 
 -- ---- the lines of a kind
@@ -48,19 +48,19 @@ module _ (l : ℕ) (ws : Wires) where
   lines-kind : {A : Type 0} (f : A → Statement) (g : A → List ℕ) → ((x : A) → g x ≡ line_of l ws (f x)) → (k : Kind) (xs : List A) (ss : List Statement) → map f xs ≡ only (is k) ss → kind_lines k l ws ss ≡ flat_map g xs
   lines-kind f g h k xs ss e = sym (lines-map f g h xs ∙ ap (flat_map (line_of l ws)) e ∙ lines-only k ss)
 
-  attributes-lines : (at : List Setting) → lines_of l ws (settings at) ≡ attributes_text l at
+  pub attributes-lines : (at : List Setting) → lines_of l ws (settings at) ≡ attributes_text l at
   unfolding lines_of attributes_text statements_open
   attributes-lines at = sym (lines-map (λ (a : Setting). attr-stmt a.0 a.1) (λ a. plain_line l (attr-stmt a.0 a.1)) (λ a. sym (plain-line l ws (attr-stmt a.0 a.1) refl)) at)
 
 -- ---- objects
 
 -- the texts of objects, each with its number, from n on
-unfoldable texts : {A : Type 0} → (ℕ → A → List ℕ) → ℕ → List A → List ℕ
+unfoldable pub texts : {A : Type 0} → (ℕ → A → List ℕ) → ℕ → List A → List ℕ
 texts t n [] = []
 texts t n (x ∷ xs) = t n x ++ texts t (n + 1) xs
 
 module _ {A : Type 0} where
-  texts-each : (t : A → List ℕ) (n : ℕ) (xs : List A) → texts (λ i. t) n xs ≡ flat_map t xs
+  pub texts-each : (t : A → List ℕ) (n : ℕ) (xs : List A) → texts (λ i. t) n xs ≡ flat_map t xs
   unfolding texts flat_map
   texts-each t n [] = refl
   texts-each t n (x ∷ xs) = ap (λ (l : List ℕ). t x ++ l) (texts-each t (n + 1) xs)
@@ -72,23 +72,23 @@ module _ {A : Type 0} where
       ap₂ ◌++◌ (ap (λ (j : ℕ). t (f j x)) (omega arith))
       (texts-numbered t f (n + 1) xs ∙ ap (flat_map t) (numbered-same (λ i. f (n + 1 + i)) (λ i. f (n + suc i)) (λ i y. ap (λ (j : ℕ). f j y) (omega arith)) xs))
 
-  texts-first : (t : A → List ℕ) (f : ℕ → A → A) (xs : List A) → texts (λ i x. t (f i x)) 0 xs ≡ flat_map t (numbered f xs)
+  pub texts-first : (t : A → List ℕ) (f : ℕ → A → A) (xs : List A) → texts (λ i x. t (f i x)) 0 xs ≡ flat_map t (numbered f xs)
   texts-first t f xs = texts-numbered t f 0 xs ∙ ap (flat_map t) (numbered-same (λ i. f (0 + i)) f (λ i x. ap (λ (j : ℕ). f j x) (omega arith)) xs)
 
 -- an attribute statement is the line of its setting
-is-attribute : (s : Statement) → is an_attribute s ≡ true → s ∷ [] ≡ settings (setting_in s)
+pub is-attribute : (s : Statement) → is an_attribute s ≡ true → s ∷ [] ≡ settings (setting_in s)
 unfolding design_open statements_open
 is-attribute = by-attribute _ (λ n c. refl)
 
 -- A PASS prints the objects that the items give, if it does so at each item
-abbrev Steps : {A : Type 0} → Kind → Print → (List Item → List A) → (ℕ → A → List ℕ) → ℕ → List Setting → Statement → Type 0
+abbrev pub Steps : {A : Type 0} → Kind → Print → (List Item → List A) → (ℕ → A → List ℕ) → ℕ → List Setting → Statement → Type 0
 Steps k print given t n at s =
     (ss : List Statement) →
     cond (is k s) (print n (settings at) s ss ++ texts t (n + 1) (given (items [] ss))) (texts t n (given (items [] ss)))
     ≡ texts t n (given (record { attributes = at; statement = s } ∷ items [] ss))
 
 module _ {A : Type 0} (k : Kind) (print : Print) (given : List Item → List A) (t : ℕ → A → List ℕ) (none : given [] ≡ []) (step : (n : ℕ) (at : List Setting) (s : Statement) → Steps k print given t n at s) where
-  objects-text : (n : ℕ) (at : List Setting) (ss : List Statement) → object_lines k print n (settings at) ss ≡ texts t n (given (items at ss))
+  pub objects-text : (n : ℕ) (at : List Setting) (ss : List Statement) → object_lines k print n (settings at) ss ≡ texts t n (given (items at ss))
   unfolding object_lines items texts
   objects-text n at [] = rw none
   objects-text n at (s ∷ ss) =
@@ -96,34 +96,12 @@ module _ {A : Type 0} (k : Kind) (print : Print) (given : List Item → List A) 
       (λ e. rw (e, is-attribute s e, ← map-append) (objects-text n (at ++ setting_in s) ss))
       (λ e. rw e (ap₂ (λ (a b : List ℕ). cond (is k s) (print n (settings at) s ss ++ a) b) (objects-text (n + 1) [] ss) (objects-text n [] ss) ∙ step n at s ss))
 
--- ---- memories
-
-pub memories-text : (ws : Wires) (n : ℕ) (at : List Setting) (ss : List Statement) → object_lines a_memory (print_memory ws) n (settings at) ss ≡ flat_map memory_text (flat_map (objects_in (λ c. c.memories)) (items at ss))
-unfolding texts print_memory memory_text statements_open design_open
-memories-text ws n at ss =
-    objects-text a_memory (print_memory ws) (flat_map (objects_in (λ c. c.memories))) (λ i. memory_text) refl
-    (λ n at. by_form (Steps a_memory (print_memory ws) (flat_map (objects_in (λ c. c.memories))) (λ i. memory_text) n at)
-    (λ i ss. refl) (λ x c ss. refl) (λ x ss. refl) (λ x c ss. refl) (λ w x ss. refl)
-    (λ m x ss. ap (λ (l : List ℕ). l ++ texts (λ i. memory_text) (n + 1) (flat_map (objects_in (λ c. c.memories)) (items [] ss))) (ap₂ ◌++◌ (attributes-lines 1 ws at) (plain-line 1 ws (memory-stmt m x) refl)))
-    (λ t x ss. refl) (λ o x c ss. refl) (λ x g ss. refl) (λ g h ss. refl) (λ x ss. refl) (λ p xs ss. refl) (λ ss. refl)) n at ss
-    ∙ texts-each memory_text n (flat_map (objects_in (λ c. c.memories)) (items at ss))
-
 -- ---- wires, each with its number and its name now
 
-wire-text : (rs : List Rename) (m : ℕ) (ws : Wires) (n : ℕ) (at : List Setting) (w : Wire) (x : Name) (more : List Statement) → print_wire rs m ws n (settings at) (wire-stmt w x) more ≡ wire_text (wire_now rs m n (object at x w))
+pub wire-text : (rs : List Rename) (m : ℕ) (ws : Wires) (n : ℕ) (at : List Setting) (w : Wire) (x : Name) (more : List Statement) → print_wire rs m ws n (settings at) (wire-stmt w x) more ≡ wire_text (wire_now rs m n (object at x w))
 unfolding print_wire named wire_text wire_now statements_open
 wire-text rs m ws n at w x more =
     ap₂ ◌++◌ (attributes-lines 1 ws at) (plain-line 1 ws (wire-stmt w (name_now rs m n x)) refl)
-
-pub wires-text : (rs : List Rename) (m : ℕ) (ws : Wires) (ss : List Statement) → object_lines a_wire (print_wire rs m ws) 0 [] ss ≡ flat_map wire_text (numbered (wire_now rs m) (flat_map (objects_in (λ c. c.wires)) (items [] ss)))
-unfolding texts statements_open design_open
-wires-text rs m ws ss =
-    objects-text a_wire (print_wire rs m ws) (flat_map (objects_in (λ c. c.wires))) (λ i o. wire_text (wire_now rs m i o)) refl
-    (λ n at. by_form (Steps a_wire (print_wire rs m ws) (flat_map (objects_in (λ c. c.wires))) (λ i o. wire_text (wire_now rs m i o)) n at)
-    (λ i ss. refl) (λ x c ss. refl) (λ x ss. refl) (λ x c ss. refl)
-    (λ w x ss. ap (λ (l : List ℕ). l ++ texts (λ i o. wire_text (wire_now rs m i o)) (n + 1) (flat_map (objects_in (λ c. c.wires)) (items [] ss))) (wire-text rs m ws n at w x ss))
-    (λ y x ss. refl) (λ t x ss. refl) (λ o x c ss. refl) (λ x g ss. refl) (λ g h ss. refl) (λ x ss. refl) (λ p xs ss. refl) (λ ss. refl)) 0 [] ss
-    ∙ texts-first wire_text (wire_now rs m) (flat_map (objects_in (λ c. c.wires)) (items [] ss))
 
 -- ---- cells
 
@@ -143,7 +121,7 @@ ports-text ws at ss =
     lines-kind 2 ws (λ (k : Name × Signal). cell-conn-stmt k.0 k.1) (λ k. line_of 2 ws (cell-conn-stmt k.0 k.1)) (λ k. refl)
     a_cell_connection (each port_in (items at ss)) ss (ports-are at ss)
 
-cell-text : (ws : Wires) (n : ℕ) (at : List Setting) (t x : Name) (ss : List Statement) → print_cell ws n (settings at) (cell-stmt t x) ss ≡ cell_text ws (object at x (cell_in t (until (λ j. is a_cell j.statement) (items [] ss))))
+pub cell-text : (ws : Wires) (n : ℕ) (at : List Setting) (t x : Name) (ss : List Statement) → print_cell ws n (settings at) (cell-stmt t x) ss ≡ cell_text ws (object at x (cell_in t (until (λ j. is a_cell j.statement) (items [] ss))))
 unfolding print_cell cell_block cell_text statements_open
 cell-text ws n at t x ss =
     ap₂ ◌++◌
@@ -154,16 +132,6 @@ cell-text ws n at t x ss =
     (ports-text ws [] (until (is a_cell) ss)))
     (plain-line 1 ws end-stmt refl)
     ∙ ap (λ (is' : List Item). cell_text ws (object at x (cell_in t is'))) (sym (items-until (is a_cell) (λ s h. (only-attribute s h).no_cell) [] ss))
-
-pub cells-text : (ws : Wires) (n : ℕ) (at : List Setting) (ss : List Statement) → object_lines a_cell (print_cell ws) n (settings at) ss ≡ flat_map (cell_text ws) (flat_map cell_of (blocks (is a_cell) (items at ss)))
-unfolding texts statements_open design_open
-cells-text ws n at ss =
-    objects-text a_cell (print_cell ws) (λ is'. flat_map cell_of (blocks (is a_cell) is')) (λ i. cell_text ws) refl
-    (λ n at. by_form (Steps a_cell (print_cell ws) (λ is'. flat_map cell_of (blocks (is a_cell) is')) (λ i. cell_text ws) n at)
-    (λ i ss. refl) (λ x c ss. refl) (λ x ss. refl) (λ x c ss. refl) (λ w x ss. refl) (λ m x ss. refl)
-    (λ t x ss. ap (λ (l : List ℕ). l ++ texts (λ i. cell_text ws) (n + 1) (flat_map cell_of (blocks (is a_cell) (items [] ss)))) (cell-text ws n at t x ss))
-    (λ o x c ss. refl) (λ x g ss. refl) (λ g h ss. refl) (λ x ss. refl) (λ p xs ss. refl) (λ ss. refl)) n at ss
-    ∙ texts-each (cell_text ws) n (flat_map cell_of (blocks (is a_cell) (items at ss)))
 
 -- ---- processes
 
@@ -179,7 +147,7 @@ LinesAt ws p k at ss s =
     is an_attribute s ≡ false →
     step_lines ws p k (settings at) (s ∷ ss) ≡ lines_text p ws (lines_in k (record { attributes = at; statement = s } ∷ items [] ss))
 
-lines-here : (ws : Wires) (p : Scope) (k : ℕ) (at : List Setting) (ss : List Statement) → ((p : Scope) (k : ℕ) → step_lines ws p k [] ss ≡ lines_text p ws (lines_in k (items [] ss))) → (s : Statement) → LinesAt ws p k at ss s
+pub lines-here : (ws : Wires) (p : Scope) (k : ℕ) (at : List Setting) (ss : List Statement) → ((p : Scope) (k : ℕ) → step_lines ws p k [] ss ≡ lines_text p ws (lines_in k (items [] ss))) → (s : Statement) → LinesAt ws p k at ss s
 unfolding step_lines lines_in lines_text step_in steps any statements_open
 lines-here ws p k at ss onward =
     by_form (LinesAt ws p k at ss)
@@ -189,35 +157,6 @@ lines-here ws p k at ss onward =
     let l : ℕ = level (holder p q) in
     ap₂ ◌++◌ (ap (λ (x : List ℕ). x ++ line_of l ws (step-stmt q xs)) (attributes-lines l ws at)) (onward (behind_step p q) (cond (steps switch (step-stmt q xs)) (k + 1) k)))
     (λ e. shut-text p ws k (λ j. step_lines ws (outer p) j [] ss) (λ j. lines_in j (items [] ss)) (λ j. onward (outer p) j))
-
-steps-text : (ws : Wires) (ss : List Statement) (p : Scope) (k : ℕ) (at : List Setting) → step_lines ws p k (settings at) ss ≡ lines_text p ws (lines_in k (items at ss))
-unfolding step_lines items lines_in lines_text
-steps-text ws [] p k at = refl
-steps-text ws (s ∷ ss) p k at =
-    by-test (is an_attribute s)
-    (λ e. rw (e, is-attribute s e, ← map-append) (steps-text ws ss p k (at ++ setting_in s)))
-    (λ e. rw e (rw e at (lines-here ws p k at ss (λ p k. steps-text ws ss p k []) s e)))
-
-process-text : (ws : Wires) (n : ℕ) (at : List Setting) (x : Name) (ss : List Statement) → print_process ws n (settings at) (proc-stmt x) ss ≡ process_text ws (object at x (lines_in 0 (until (λ j. is a_process j.statement) (items [] ss))))
-unfolding print_process process_text statements_open
-process-text ws n at x ss =
-    ap₂ ◌++◌
-    (ap₂ ◌++◌
-    (ap₂ ◌++◌ (attributes-lines 1 ws at) (plain-line 1 ws (proc-stmt x) refl))
-    (steps-text ws (until (is a_process) ss) in_process 0 []))
-    (plain-line 1 ws end-stmt refl)
-    ∙ ap (λ (is' : List Item). process_text ws (object at x (lines_in 0 is'))) (sym (items-until (is a_process) (λ s h. (only-attribute s h).no-process) [] ss))
-
-pub processes-text : (ws : Wires) (n : ℕ) (at : List Setting) (ss : List Statement) → object_lines a_process (print_process ws) n (settings at) ss ≡ flat_map (process_text ws) (map process_of (blocks (is a_process) (items at ss)))
-unfolding texts statements_open design_open
-processes-text ws n at ss =
-    objects-text a_process (print_process ws) (λ is'. map process_of (blocks (is a_process) is')) (λ i. process_text ws) refl
-    (λ n at. by_form (Steps a_process (print_process ws) (λ is'. map process_of (blocks (is a_process) is')) (λ i. process_text ws) n at)
-    (λ i ss. refl) (λ x c ss. refl) (λ x ss. refl) (λ x c ss. refl) (λ w x ss. refl) (λ m x ss. refl) (λ t x ss. refl)
-    (λ o x c ss. refl) (λ x g ss. refl) (λ g h ss. refl)
-    (λ x ss. ap (λ (l : List ℕ). l ++ texts (λ i. process_text ws) (n + 1) (map process_of (blocks (is a_process) (items [] ss)))) (process-text ws n at x ss))
-    (λ p xs ss. refl) (λ ss. refl)) n at ss
-    ∙ texts-each (process_text ws) n (map process_of (blocks (is a_process) (items at ss)))
 
 -- ---- modules
 
@@ -244,28 +183,17 @@ body_now rs m b =
       connections = b.connections;
     }
 
-parameters-text : (ws : Wires) (at : List Setting) (ss : List Statement) → kind_lines a_parameter 1 ws ss ≡ flat_map (λ p. plain_line 1 (param-stmt p.0 p.1)) (each parameter_in (items at ss))
+pub parameters-text : (ws : Wires) (at : List Setting) (ss : List Statement) → kind_lines a_parameter 1 ws ss ≡ flat_map (λ p. plain_line 1 (param-stmt p.0 p.1)) (each parameter_in (items at ss))
 unfolding statements_open
 parameters-text ws at ss =
     lines-kind 1 ws (λ (p : Name × Option Constant). param-stmt p.0 p.1) (λ p. plain_line 1 (param-stmt p.0 p.1))
     (λ p. sym (plain-line 1 ws (param-stmt p.0 p.1) refl))
     a_parameter (each parameter_in (items at ss)) ss (parameters-are at ss)
 
-connections-text : (ws : Wires) (at : List Setting) (ss : List Statement) → kind_lines a_connection 1 ws ss ≡ flat_map (λ k. line_of 1 ws (conn-stmt k.0 k.1)) (each connection_in (items at ss))
+pub connections-text : (ws : Wires) (at : List Setting) (ss : List Statement) → kind_lines a_connection 1 ws ss ≡ flat_map (λ k. line_of 1 ws (conn-stmt k.0 k.1)) (each connection_in (items at ss))
 connections-text ws at ss =
     lines-kind 1 ws (λ (k : Signal × Signal). conn-stmt k.0 k.1) (λ k. line_of 1 ws (conn-stmt k.0 k.1)) (λ k. refl)
     a_connection (each connection_in (items at ss)) ss (connections-are at ss)
-
-pub body-text : (rs : List Rename) (m : ℕ) (ws : Wires) (ss : List Statement) → body_lines rs m ws ss ≡ body_text ws (body_now rs m (module_in (items [] ss)))
-unfolding body_lines body_text
-body-text rs m ws ss =
-    ap₂ ◌++◌
-    (ap₂ ◌++◌
-    (ap₂ ◌++◌
-    (ap₂ ◌++◌ (ap₂ ◌++◌ (parameters-text ws [] ss) (wires-text rs m ws ss)) (memories-text ws 0 [] ss))
-    (cells-text ws 0 [] ss))
-    (processes-text ws 0 [] ss))
-    (connections-text ws [] ss)
 
 -- its wires by their names now
 pub wires-seen : (rs : List Rename) (m : ℕ) (ss : List Statement) → wires_now rs m ss ≡ wires_in (body_now rs m (module_in (items [] ss)))
@@ -276,28 +204,7 @@ wires-seen rs m ss =
     (ap (numbered (declared_now rs m)) (sym (wires-pairs [] ss))
     ∙ sym (map-numbered (λ (o : Object Wire). (o.name, o.body)) (wire_now rs m) (declared_now rs m) (λ i o. refl) os))
 
-module-text : (rs : List Rename) (m : ℕ) (at : List Setting) (x : Name) (ss : List Statement) → print_module rs m (settings at) (module-stmt x) ss ≡ module_text (module_now rs m (object at x (module_in (until (λ j. is a_module j.statement) (items [] ss)))))
-unfolding print_module module_text module_now plain_line
-module-text rs m at x ss =
-    let b : List Statement = until (is a_module) ss in
-    ap₂ ◌++◌
-    (ap₂ ◌++◌
-    (ap₂ ◌++◌ (attributes-lines 0 [] at) refl)
-    (ap (λ (ws : Wires). body_lines rs m ws b) (wires-seen rs m b) ∙ body-text rs m (wires_in (body_now rs m (module_in (items [] b)))) b))
-    refl
-    ∙ ap (λ (is' : List Item). module_text (module_now rs m (object at x (module_in is')))) (sym (items-until (is a_module) (λ s h. (only-attribute s h).no-module) [] ss))
-
-pub modules-text : (rs : List Rename) (ss : List Statement) → object_lines a_module (print_module rs) 0 [] ss ≡ flat_map module_text (numbered (module_now rs) (map module_of (blocks (is a_module) (items [] ss))))
-unfolding texts statements_open design_open
-modules-text rs ss =
-    objects-text a_module (print_module rs) (λ is'. map module_of (blocks (is a_module) is')) (λ i o. module_text (module_now rs i o)) refl
-    (λ m at. by_form (Steps a_module (print_module rs) (λ is'. map module_of (blocks (is a_module) is')) (λ i o. module_text (module_now rs i o)) m at)
-    (λ i ss. refl) (λ x c ss. refl)
-    (λ x ss. ap (λ (l : List ℕ). l ++ texts (λ i o. module_text (module_now rs i o)) (m + 1) (map module_of (blocks (is a_module) (items [] ss)))) (module-text rs m at x ss))
-    (λ x c ss. refl) (λ w x ss. refl) (λ y x ss. refl) (λ t x ss. refl) (λ o x c ss. refl) (λ x g ss. refl) (λ g h ss. refl) (λ x ss. refl) (λ p xs ss. refl) (λ ss. refl)) 0 [] ss
-    ∙ texts-first module_text (module_now rs) (map module_of (blocks (is a_module) (items [] ss)))
-
-autoidx-text : (ss : List Statement) → first_line an_autoidx ss ≡ flat_map (λ i. plain_line 0 (autoidx-stmt i)) (Option-to_list (head? (flat_map (λ s. (contents s).integers) ss)))
+pub autoidx-text : (ss : List Statement) → first_line an_autoidx ss ≡ flat_map (λ i. plain_line 0 (autoidx-stmt i)) (Option-to_list (head? (flat_map (λ s. (contents s).integers) ss)))
 unfolding first_line plain_line statements_open flat_map
 autoidx-text [] = refl
 autoidx-text (s ∷ ss) =
@@ -305,9 +212,8 @@ autoidx-text (s ∷ ss) =
     (λ i. sym (append-nil (line_of 0 [] (autoidx-stmt i)))) (λ x c. autoidx-text ss) (λ x. autoidx-text ss) (λ x c. autoidx-text ss) (λ w x. autoidx-text ss) (λ m x. autoidx-text ss)
     (λ t x. autoidx-text ss) (λ o x c. autoidx-text ss) (λ x g. autoidx-text ss) (λ g h. autoidx-text ss) (λ x. autoidx-text ss) (λ p xs. autoidx-text ss) (autoidx-text ss) s
 
--- ---- the whole
+-- ---- a fine process leads back to its module
 
--- a fine process leads back to its module
 settings-behind : (at : List Setting) (q : Past) → scope (reverse_aux (settings at) q) ≡ scope q
 unfolding scope statements_open
 settings-behind [] q = refl
@@ -338,11 +244,3 @@ Lead d = Each (λ o. Each Leaves o.body.processes) d.modules
 pub fine-leads : (d : Design) → FineDesign d → Lead d
 fine-leads d f =
     each_map FineModule _ (λ o m. each_map FineProcess Leaves process-leads o.body.processes m.processes) d.modules f.modules
-
--- THE WRITTEN TEXT of what a file's statements define, with the names now
-pub text-file : (ss : List Statement) (rs : List Rename) → Lead (now (design ss) rs) → text (now (design ss) rs) ≡ file_text rs ss
-unfolding file_text design_text design_now design
-text-file ss rs h =
-    text-modules (now (design ss) rs) h
-    ∙ ap design_text (now-is (design ss) rs)
-    ∙ ap₂ ◌++◌ (sym (autoidx-text ss)) (sym (modules-text rs ss))
