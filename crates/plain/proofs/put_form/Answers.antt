@@ -3,7 +3,7 @@ use mathlib.Core.Path.{sym, ap}
 use native.Mathlib.Omega.{arith}
 use lib.ListN.{length, length-set}
 use borrow.Author.Tests.{eq-eqb, ne_eqb}
-use Rattle.plain.specs.Put.{put-none, put_as, put-kept}
+use Rattle.plain.specs.Put.{put-none, put_as}
 use Rattle.plain.proofs.AnswerLaws.{form-none, form-some, first_then}
 use Rattle.plain.proofs.put_form.Goals as goal
 use Rattle.plain.proofs.put_form.Goals.{else-name-eq92, then-name-eq92}
@@ -30,6 +30,3 @@ returns c =
     let if1 = c.if-name-eq0 in
     let put-later = c.put_later in
     first_then (form-some args.name.now if1.false) (elim c.if-name-eq92.branch [ then-name-eq92 w ↦ rw (eq-eqb _ _ w.if-name-eq92.true) w.first-is | else-name-eq92 w ↦ rw (ne_eqb _ _ w.if-name-eq92.false) w.first-is ]) put-later.ensures
-
-pub shape_of-out : goal.shape_of-out
-shape_of-out c = put-kept (returns c)
