@@ -6,6 +6,7 @@ use crate::kinds::{
     ATTRIBUTE_KIND, CELL_CONNECTION_KIND, CELL_KIND, CELL_PARAMETER_KIND, CONNECTION_KIND,
     MEMORY_KIND, MODULE_KIND, PARAMETER_KIND, PROCESS_KIND, STEP_KIND, WIRE_KIND,
 };
+use crate::place::Place;
 
 // The most of each that a design has (document 01, "Sizes").
 pub const MOST_MODULES: u32 = 32;
@@ -62,6 +63,13 @@ pub struct Sizes {
     pub value_bits: u32,
     pub string_bytes: u32,
     pub name_bytes: u32,
+}
+
+// What the statements so far leave: where the next line stands, and the sums of each size.
+#[derive(Clone, Copy)]
+pub struct Standing {
+    pub place: Place,
+    pub sums: Sizes,
 }
 
 pub fn none() -> Sizes

@@ -7,6 +7,13 @@ pub struct CallResult {
     pub room: u32,
 }
 
+// A refusal: its number, and its place in the file or 0.
+#[derive(Clone, Copy)]
+pub struct Refused {
+    pub number: u32,
+    pub place: u32,
+}
+
 // The numbers of refusals (document 01, "Numbers given back").
 pub const WRONG_LENGTH: u32 = 1;
 

@@ -2,6 +2,13 @@
 ghost use Rattle.std.specs.Prelude.{◌≡◌};
 ghost use Rattle.std.proofs.Math.Seq.{slice};
 
+// Where something lies: from a place up to one behind its last.
+#[derive(Clone, Copy)]
+pub struct Span {
+    pub start: usize,
+    pub end: usize,
+}
+
 // The bytes from start up to end, cut to those that are there.
 pub fn part<'a>(s: &'a [u8], start: usize, end: usize) -> &'a [u8]
     ensures { result.now ≡ slice start end s.now }
