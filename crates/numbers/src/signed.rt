@@ -16,13 +16,6 @@ const ALL_WORDS: i64 = 4294967296;
 // The first integer past those that have a word.
 const PAST_WORDS: i64 = 2147483648;
 
-// An author's index, which may be negative; or the bit is past the wire.
-#[derive(Clone, Copy)]
-pub enum Index {
-    At(i64),
-    Past,
-}
-
 // The integer that a word stands for.
 fn signed_of(w: u32) -> i64
     ensures { result ≡ signed_of w }
@@ -70,15 +63,16 @@ pub fn offset_fits(offset: u32, width: u32) -> bool
     last < PAST_WORDS
 }
 
-// The index that the author of a wire gave its bit: offset + bit, or with `upto` offset + width - 1 - bit.
-pub fn author_index(offset: u32, width: u32, upto: bool, bit: u32) -> Index
+// The index that the author of a wire gave its bit: offset + bit, or with `upto` offset + width - 1 - bit; it may be negative. None if the bit is
+// past the wire.
+pub fn author_index(offset: u32, width: u32, upto: bool, bit: u32) -> Option<i64>
     ensures { IndexIs offset width upto bit result }
 {
     if width <= bit {
-        return Index::Past;
+        return None;
     }
     let above = if upto { width - 1 - bit } else { bit };
-    Index::At(signed_of(offset) + (above as i64))
+    Some(signed_of(offset) + (above as i64))
 }
 
 // Bit k of a word, from the lowest.

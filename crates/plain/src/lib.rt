@@ -42,9 +42,9 @@ pub struct Turned {
 
 // The byte that the bytes of a form from a place on stand for first, and where those behind it start.
 #[derive(Clone, Copy)]
-enum Taken {
-    Byte { value: u8, next: usize },
-    Nothing,
+struct Taken {
+    value: u8,
+    next: usize,
 }
 
 // A-Z, a-z or 0-9: the bytes that are kept.
@@ -173,25 +173,25 @@ fn hex_value(b: u8) -> u32
 }
 
 // The byte at a place, or that of the two digits behind an underline; fewer than two stand for nothing.
-fn take_byte(form: &[u8], i: usize) -> Taken
+fn take_byte(form: &[u8], i: usize) -> Option<Taken>
     requires { i < length form.now }
     ensures { TakenIs form.now i result }
 {
     let b = form[i];
     if b != b'_' {
-        return Taken::Byte {
+        return Some(Taken {
             value: b,
             next: i + 1,
-        };
+        });
     }
     if form.len() - i < HEX_ESCAPE {
-        return Taken::Nothing;
+        return None;
     }
     let value = (16 * hex_value(form[i + 1]) + hex_value(form[i + 2])) % 256;
-    Taken::Byte {
+    Some(Taken {
         value: value as u8,
         next: i + HEX_ESCAPE,
-    }
+    })
 }
 
 // What the bytes of a form behind its first stand for.
@@ -202,16 +202,12 @@ fn put_taken(out: &mut [u8], at: usize, form: &[u8]) -> usize
     let mut end = at;
     let mut i = 0;
     while i < form.len() {
-        match take_byte(form, i) {
-            Taken::Byte { value, next } => {
-                out[end] = value;
-                end += 1;
-                i = next;
-            }
-            Taken::Nothing => {
-                return end;
-            }
-        }
+        let Some(taken) = take_byte(form, i) else {
+            return end;
+        };
+        out[end] = taken.value;
+        end += 1;
+        i = taken.next;
     }
     end
 }
