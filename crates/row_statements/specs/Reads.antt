@@ -1,5 +1,6 @@
 -- The statement of a row and of the parts that stand behind what is used of the tables.
-use Rattle.std.specs.Prelude.{ℕ, ◌+◌, ◌-◌, ◌*◌, ◌≤◌, ◌≡◌, List, [], ◌∷◌, ◌++◌, map, Bool, true, false, cond, ◌&&◌, eqb, leb, length, drop}
+use Rattle.std.specs.Prelude.{ℕ, ◌+◌, ◌-◌, ◌*◌, ◌≤◌, ◌≡◌, List, [], ◌∷◌, ◌++◌, map, Bool, true, false, cond, ◌&&◌, eqb, leb, length, drop, Some, None}
+use Rattle.std.specs.Prelude.{Option as Optional}
 use Rattle.std.proofs.Math.Option.{Option, none, some, Option-elim}
 use Rattle.rules.specs.Limits.{names_length, bits_length, most_width, most_step_signals}
 use Rattle.rules.specs.Tokens.{Name}
@@ -18,7 +19,7 @@ use Rattle.netlist.specs.Fronts.{Parts}
 use Rattle.netlist.specs.Steps.{step_named, pieces}
 use Rattle.row_statements.specs.Parts.{span}
 use Rattle.row_statements.specs.declared.statements.Found.{Found}
-use Rattle.row_statements.specs.declared.statements.Held.{Held}
+use Rattle.row_statements.specs.declared.statements.HeldConstant.{HeldConstant}
 
 -- the tables of parts
 pub record PartTables : Type 0 where
@@ -48,10 +49,10 @@ pub record ReadsConstant (strings bits : List ℕ) (u : Used) (kind a b : ℕ) (
   pub fine : fine_constant c ≡ true
 
 -- how many bits and bytes it holds; or that it isn't there
-unfoldable pub TellsConstant : (strings bits : List ℕ) → Used → (kind a b : ℕ) → Constant → Held → Type 0
-TellsConstant strings bits u kind a b c (Held.Constant v x) =
-    ReadsConstant strings bits u kind a b c × (v ≡ length (digits_of c)) × (x ≡ length (bytes_of c))
-TellsConstant strings bits u kind a b c Held.Nothing = ReadsConstant strings bits u kind a b c → ⊥
+unfoldable pub TellsConstant : (strings bits : List ℕ) → Used → (kind a b : ℕ) → Constant → Optional HeldConstant → Type 0
+TellsConstant strings bits u kind a b c (Some h) =
+    ReadsConstant strings bits u kind a b c × (h.values ≡ length (digits_of c)) × (h.strings ≡ length (bytes_of c))
+TellsConstant strings bits u kind a b c None = ReadsConstant strings bits u kind a b c → ⊥
 
 -- ---- a statement
 
@@ -118,17 +119,17 @@ pub record Counts (s : Statement) (c g v x n : ℕ) : Type 0 where
   pub names : n ≡ name_size s
 
 -- how many bits and bytes it holds; or that it isn't there
-unfoldable pub Tells : PartTables → Used → Wires → Row → Statement → Found → Type 0
-Tells t u ws r s (Found.Statement c g v x n) = Reads t u ws r s × Counts s c g v x n
-Tells t u ws r s Found.Nothing = Reads t u ws r s → ⊥
+unfoldable pub Tells : PartTables → Used → Wires → Row → Statement → Optional Found → Type 0
+Tells t u ws r s (Some f) = Reads t u ws r s × Counts s f.count f.signals f.values f.strings f.names
+Tells t u ws r s None = Reads t u ws r s → ⊥
 
 -- for any other tables, and for each statement that has these contents and this row
-abbrev pub TellsNamed : (names : List ℕ) → Used → Row → (kind : ℕ) → Found → Type 0
+abbrev pub TellsNamed : (names : List ℕ) → Used → Row → (kind : ℕ) → Optional Found → Type 0
 TellsNamed names u r kind f =
     (strings bits wires : List ℕ) (ws : Wires) (s : Statement) (k : Kind) → let n = span names u.names r.b in
     contents s ≡ holds k (n ∷ []) [] [] [] [] [] [] [] → statement_row u s ≡ row (kind ∷ u.names ∷ length n ∷ []) → Tells (part_tables names strings bits wires) u ws r s f
 
-abbrev pub TellsValued : (names strings bits : List ℕ) → Used → Row → (kind sort : ℕ) → Found → Type 0
+abbrev pub TellsValued : (names strings bits : List ℕ) → Used → Row → (kind sort : ℕ) → Optional Found → Type 0
 TellsValued names strings bits u r kind sort f =
     (wires : List ℕ) (ws : Wires) (s : Statement) (k : Kind) (os : List Sort) →
     let n = span names u.names r.b in
@@ -137,49 +138,49 @@ TellsValued names strings bits u r kind sort f =
     Tells (part_tables names strings bits wires) u ws r s f
 
 -- for any other tables, the statement of this kind
-abbrev pub TellsAutoidx : Used → Row → Found → Type 0
+abbrev pub TellsAutoidx : Used → Row → Optional Found → Type 0
 TellsAutoidx u r f = (t : PartTables) (ws : Wires) → Tells t u ws r (autoidx-stmt (signed_of r.a)) f
 
-abbrev pub TellsEnd : Used → Row → Found → Type 0
+abbrev pub TellsEnd : Used → Row → Optional Found → Type 0
 TellsEnd u r f = (t : PartTables) (ws : Wires) → Tells t u ws r end-stmt f
 
-abbrev pub TellsMemory : (names : List ℕ) → Used → Row → Found → Type 0
+abbrev pub TellsMemory : (names : List ℕ) → Used → Row → Optional Found → Type 0
 TellsMemory names u r f =
     (strings bits wires : List ℕ) (ws : Wires) → Tells (part_tables names strings bits wires) u ws r (memory-stmt (memory_of r) (span names u.names r.b)) f
 
-abbrev pub TellsCell : (names : List ℕ) → Used → Row → Found → Type 0
+abbrev pub TellsCell : (names : List ℕ) → Used → Row → Optional Found → Type 0
 TellsCell names u r f =
     (strings bits wires : List ℕ) (ws : Wires) →
     Tells (part_tables names strings bits wires) u ws r (cell-stmt (span names u.names r.b) (span names (u.names + r.b) r.d)) f
 
-abbrev pub TellsParameter : (names strings bits : List ℕ) → Used → Row → Found → Type 0
+abbrev pub TellsParameter : (names strings bits : List ℕ) → Used → Row → Optional Found → Type 0
 TellsParameter names strings bits u r f =
     (wires : List ℕ) (ws : Wires) →
     Tells (part_tables names strings bits wires) u ws r (param-stmt (span names u.names r.b) (optional_of strings bits u r.c r.d r.e)) f
 
-abbrev pub TellsCellParameter : (names strings bits : List ℕ) → Used → Row → Found → Type 0
+abbrev pub TellsCellParameter : (names strings bits : List ℕ) → Used → Row → Optional Found → Type 0
 TellsCellParameter names strings bits u r f =
     (wires : List ℕ) (ws : Wires) →
     Tells (part_tables names strings bits wires) u ws r (cell-param-stmt (sort_of r.f) (span names u.names r.b) (constant_of strings bits u r.c r.d r.e)) f
 
-abbrev pub TellsWire : (names wires : List ℕ) → Used → ℕ → Row → Found → Type 0
+abbrev pub TellsWire : (names wires : List ℕ) → Used → ℕ → Row → Optional Found → Type 0
 TellsWire names wires u first r f =
     (strings bits : List ℕ) →
     Tells (part_tables names strings bits wires) u (wires_from names wires first (u.wires - first)) r (wire-stmt (wire_of wires u.wires) (span names u.names r.b)) f
 
-abbrev pub TellsCellConnection : (names bits wires : List ℕ) → Used → ℕ → Row → Found → Type 0
+abbrev pub TellsCellConnection : (names bits wires : List ℕ) → Used → ℕ → Row → Optional Found → Type 0
 TellsCellConnection names bits wires u first r f =
     (strings : List ℕ) →
     Tells (part_tables names strings bits wires) u (wires_from names wires first (u.wires - first)) r
     (cell-conn-stmt (span names u.names r.b) (signal_of (span bits u.bits r.d))) f
 
-abbrev pub TellsConnection : (bits wires : List ℕ) → Used → ℕ → Row → Found → Type 0
+abbrev pub TellsConnection : (bits wires : List ℕ) → Used → ℕ → Row → Optional Found → Type 0
 TellsConnection bits wires u first r f =
     (names strings : List ℕ) →
     Tells (part_tables names strings bits wires) u (wires_from names wires first (u.wires - first)) r
     (conn-stmt (signal_of (span bits u.bits r.b)) (signal_of (span bits (u.bits + r.b) r.d))) f
 
-abbrev pub TellsStep : (bits wires : List ℕ) → Used → ℕ → Row → Found → Type 0
+abbrev pub TellsStep : (bits wires : List ℕ) → Used → ℕ → Row → Optional Found → Type 0
 TellsStep bits wires u first r f =
     (names strings : List ℕ) →
     Tells (part_tables names strings bits wires) u (wires_from names wires first (u.wires - first)) r (step-stmt (step_or r.a) (signals_of bits u.bits r.c r.d)) f

@@ -1,5 +1,5 @@
 // A statement found: its row is the one that its parts make.
-ghost use Rattle.std.specs.Prelude.{◌≡◌, cond};
+ghost use Rattle.std.specs.Prelude.{◌≡◌, cond, Some, None};
 ghost use Rattle.rules.specs.Bytes.{same};
 ghost use Rattle.tables.specs.Row.{words};
 
@@ -34,25 +34,8 @@ pub fn same_row(x: Row, y: Row) -> bool
 }
 
 // A statement whose row has to be this one.
-pub fn settle(
-    r: Row,
-    x: Row,
-    count: u32,
-    signals: u32,
-    values: u32,
-    strings: u32,
-    names: u32,
-) -> Found
-    ensures { result ≡ cond (same (words r) (words x)) (Found.Statement count signals values strings names) Found.Nothing }
+pub fn settle(r: Row, x: Row, found: Found) -> Option<Found>
+    ensures { result ≡ cond (same (words r) (words x)) (Some found) None }
 {
-    if same_row(r, x) {
-        return Found::Statement {
-            count,
-            signals,
-            values,
-            strings,
-            names,
-        };
-    }
-    Found::Nothing
+    same_row(r, x).then_some(found)
 }

@@ -30,56 +30,60 @@ const MOST_FLAGS: u32 = 15;
 
 // What a statement holds: signals, bits of them and of values, bytes of strings and of names.
 #[derive(Clone, Copy)]
-pub enum Found {
-    Statement {
-        count: u32,
-        signals: u32,
-        values: u32,
-        strings: u32,
-        names: u32,
-    },
-    Nothing,
+pub struct Found {
+    pub count: u32,
+    pub signals: u32,
+    pub values: u32,
+    pub strings: u32,
+    pub names: u32,
 }
 
 // What a constant holds: bits of a value, bytes of a string.
 #[derive(Clone, Copy)]
-pub enum Held {
-    Constant { values: u32, strings: u32 },
-    Nothing,
+pub struct HeldConstant {
+    pub values: u32,
+    pub strings: u32,
 }
 
-fn value_at(strings: &[u8], bits: &[u32], u: Used, a: u32, b: u32) -> Held
+fn value_at(strings: &[u8], bits: &[u32], u: Used, a: u32, b: u32) -> Option<HeldConstant>
     ensures { TellsConstant strings.now bits.now (used_of u) 1 a b (constant_of strings.now bits.now (used_of u) 1 a b) result }
 {
     if a != u.bits {
-        return Held::Nothing;
+        return None;
     }
     if !digits_stand(bits, u.bits, b) {
-        return Held::Nothing;
+        return None;
     }
-    Held::Constant {
+    Some(HeldConstant {
         values: b,
         strings: 0,
-    }
+    })
 }
 
-fn text_at(strings: &[u8], bits: &[u32], u: Used, a: u32, b: u32) -> Held
+fn text_at(strings: &[u8], bits: &[u32], u: Used, a: u32, b: u32) -> Option<HeldConstant>
     ensures { TellsConstant strings.now bits.now (used_of u) 3 a b (constant_of strings.now bits.now (used_of u) 3 a b) result }
 {
     if a != u.strings {
-        return Held::Nothing;
+        return None;
     }
     if !text_stands(strings, u.strings, b) {
-        return Held::Nothing;
+        return None;
     }
-    Held::Constant {
+    Some(HeldConstant {
         values: 0,
         strings: b,
-    }
+    })
 }
 
 // A constant by its three columns.
-fn constant_at(strings: &[u8], bits: &[u32], u: Used, kind: u32, a: u32, b: u32) -> Held
+fn constant_at(
+    strings: &[u8],
+    bits: &[u32],
+    u: Used,
+    kind: u32,
+    a: u32,
+    b: u32,
+) -> Option<HeldConstant>
     ensures { TellsConstant strings.now bits.now (used_of u) kind a b (constant_of strings.now bits.now (used_of u) kind a b) result }
 {
     if kind == VALUE_CONSTANT {
@@ -89,23 +93,23 @@ fn constant_at(strings: &[u8], bits: &[u32], u: Used, kind: u32, a: u32, b: u32)
         return text_at(strings, bits, u, a, b);
     }
     if kind != INTEGER_CONSTANT {
-        return Held::Nothing;
+        return None;
     }
     if b != 0 {
-        return Held::Nothing;
+        return None;
     }
-    Held::Constant {
+    Some(HeldConstant {
         values: 0,
         strings: 0,
-    }
+    })
 }
 
 // A name and nothing else.
-fn named(names: &[u8], u: Used, r: Row, kind: u32) -> Found
+fn named(names: &[u8], u: Used, r: Row, kind: u32) -> Option<Found>
     ensures { TellsNamed names.now (used_of u) r kind result }
 {
     if !name_stands(names, u.names, r.b) {
-        return Found::Nothing;
+        return None;
     }
     let x = Row {
         kind,
@@ -117,7 +121,17 @@ fn named(names: &[u8], u: Used, r: Row, kind: u32) -> Found
         f: 0,
         g: 0,
     };
-    settle(r, x, 0, 0, 0, 0, r.b)
+    settle(
+        r,
+        x,
+        Found {
+            count: 0,
+            signals: 0,
+            values: 0,
+            strings: 0,
+            names: r.b,
+        },
+    )
 }
 
 // A name and a constant.
@@ -129,36 +143,38 @@ fn valued(
     r: Row,
     kind: u32,
     sort: u32,
-) -> Found
+) -> Option<Found>
     ensures { TellsValued names.now strings.now bits.now (used_of u) r kind sort result }
 {
     if !name_stands(names, u.names, r.b) {
-        return Found::Nothing;
+        return None;
     }
-    let h = constant_at(strings, bits, u, r.c, r.d, r.e);
-    match h {
-        Held::Constant {
-            values,
-            strings: bytes,
-        } => {
-            let x = Row {
-                kind,
-                a: u.names,
-                b: r.b,
-                c: r.c,
-                d: r.d,
-                e: r.e,
-                f: sort,
-                g: 0,
-            };
-            settle(r, x, 0, 0, values, bytes, r.b)
-        }
-        Held::Nothing => Found::Nothing,
-    }
+    let held = constant_at(strings, bits, u, r.c, r.d, r.e)?;
+    let x = Row {
+        kind,
+        a: u.names,
+        b: r.b,
+        c: r.c,
+        d: r.d,
+        e: r.e,
+        f: sort,
+        g: 0,
+    };
+    settle(
+        r,
+        x,
+        Found {
+            count: 0,
+            signals: 0,
+            values: held.values,
+            strings: held.strings,
+            names: r.b,
+        },
+    )
 }
 
 // A parameter of a module has a constant or none.
-fn parameter_at(names: &[u8], strings: &[u8], bits: &[u32], u: Used, r: Row) -> Found
+fn parameter_at(names: &[u8], strings: &[u8], bits: &[u32], u: Used, r: Row) -> Option<Found>
     ensures { TellsParameter names.now strings.now bits.now (used_of u) r result }
 {
     if r.c == 0 {
@@ -167,7 +183,7 @@ fn parameter_at(names: &[u8], strings: &[u8], bits: &[u32], u: Used, r: Row) -> 
     valued(names, strings, bits, u, r, PARAMETER_KIND, 0)
 }
 
-fn autoidx_at(u: Used, r: Row) -> Found
+fn autoidx_at(u: Used, r: Row) -> Option<Found>
     ensures { TellsAutoidx (used_of u) r result }
 {
     let x = Row {
@@ -180,10 +196,20 @@ fn autoidx_at(u: Used, r: Row) -> Found
         f: 0,
         g: 0,
     };
-    settle(r, x, 0, 0, 0, 0, 0)
+    settle(
+        r,
+        x,
+        Found {
+            count: 0,
+            signals: 0,
+            values: 0,
+            strings: 0,
+            names: 0,
+        },
+    )
 }
 
-fn end_at(u: Used, r: Row) -> Found
+fn end_at(u: Used, r: Row) -> Option<Found>
     ensures { TellsEnd (used_of u) r result }
 {
     let x = Row {
@@ -196,23 +222,33 @@ fn end_at(u: Used, r: Row) -> Found
         f: 0,
         g: 0,
     };
-    settle(r, x, 0, 0, 0, 0, 0)
+    settle(
+        r,
+        x,
+        Found {
+            count: 0,
+            signals: 0,
+            values: 0,
+            strings: 0,
+            names: 0,
+        },
+    )
 }
 
-fn memory_at(names: &[u8], u: Used, r: Row) -> Found
+fn memory_at(names: &[u8], u: Used, r: Row) -> Option<Found>
     ensures { TellsMemory names.now (used_of u) r result }
 {
     if !name_stands(names, u.names, r.b) {
-        return Found::Nothing;
+        return None;
     }
     if r.c == 0 {
-        return Found::Nothing;
+        return None;
     }
     if MOST_WIDTH < r.c {
-        return Found::Nothing;
+        return None;
     }
     if MOST_MEMORY_SIZE < r.d {
-        return Found::Nothing;
+        return None;
     }
     let x = Row {
         kind: MEMORY_KIND,
@@ -224,20 +260,30 @@ fn memory_at(names: &[u8], u: Used, r: Row) -> Found
         f: 0,
         g: 0,
     };
-    settle(r, x, 0, 0, 0, 0, r.b)
+    settle(
+        r,
+        x,
+        Found {
+            count: 0,
+            signals: 0,
+            values: 0,
+            strings: 0,
+            names: r.b,
+        },
+    )
 }
 
 // A cell's type stands before its name.
-fn cell_at(names: &[u8], u: Used, r: Row) -> Found
+fn cell_at(names: &[u8], u: Used, r: Row) -> Option<Found>
     requires { Small (used_of u) }
     ensures { TellsCell names.now (used_of u) r result }
 {
     if !name_stands(names, u.names, r.b) {
-        return Found::Nothing;
+        return None;
     }
     let second = u.names + r.b;
     if !name_stands(names, second, r.d) {
-        return Found::Nothing;
+        return None;
     }
     let x = Row {
         kind: CELL_KIND,
@@ -249,14 +295,24 @@ fn cell_at(names: &[u8], u: Used, r: Row) -> Found
         f: 0,
         g: 0,
     };
-    settle(r, x, 0, 0, 0, 0, r.b + r.d)
+    settle(
+        r,
+        x,
+        Found {
+            count: 0,
+            signals: 0,
+            values: 0,
+            strings: 0,
+            names: r.b + r.d,
+        },
+    )
 }
 
-fn cell_parameter_at(names: &[u8], strings: &[u8], bits: &[u32], u: Used, r: Row) -> Found
+fn cell_parameter_at(names: &[u8], strings: &[u8], bits: &[u32], u: Used, r: Row) -> Option<Found>
     ensures { TellsCellParameter names.now strings.now bits.now (used_of u) r result }
 {
     if LAST_SORT < r.f {
-        return Found::Nothing;
+        return None;
     }
     valued(names, strings, bits, u, r, CELL_PARAMETER_KIND, r.f)
 }
@@ -269,15 +325,15 @@ fn cell_connection_at(
     u: Used,
     first: u32,
     r: Row,
-) -> Found
+) -> Option<Found>
     requires { first ≤ u.wires }
     ensures { TellsCellConnection names.now bits.now wires.now (used_of u) first r result }
 {
     if !name_stands(names, u.names, r.b) {
-        return Found::Nothing;
+        return None;
     }
     if !signal_stands(wires, first, u.wires - first, bits, u.bits, r.d) {
-        return Found::Nothing;
+        return None;
     }
     let x = Row {
         kind: CELL_CONNECTION_KIND,
@@ -289,24 +345,34 @@ fn cell_connection_at(
         f: 0,
         g: 0,
     };
-    settle(r, x, 1, r.d, 0, 0, r.b)
+    settle(
+        r,
+        x,
+        Found {
+            count: 1,
+            signals: r.d,
+            values: 0,
+            strings: 0,
+            names: r.b,
+        },
+    )
 }
 
-fn connection_at(bits: &[u32], wires: &[u32], u: Used, first: u32, r: Row) -> Found
+fn connection_at(bits: &[u32], wires: &[u32], u: Used, first: u32, r: Row) -> Option<Found>
     requires small { Small (used_of u) }
     requires first_le_wires { first ≤ u.wires }
     ensures { TellsConnection bits.now wires.now (used_of u) first r result }
 {
     let count = u.wires - first;
     if !signal_stands(wires, first, count, bits, u.bits, r.b) {
-        return Found::Nothing;
+        return None;
     }
     let second = u.bits + r.b;
     if !signal_stands(wires, first, count, bits, second, r.d) {
-        return Found::Nothing;
+        return None;
     }
     if r.b != r.d {
-        return Found::Nothing;
+        return None;
     }
     let x = Row {
         kind: CONNECTION_KIND,
@@ -318,7 +384,17 @@ fn connection_at(bits: &[u32], wires: &[u32], u: Used, first: u32, r: Row) -> Fo
         f: 0,
         g: 0,
     };
-    settle(r, x, 2, r.b + r.d, 0, 0, 0)
+    settle(
+        r,
+        x,
+        Found {
+            count: 2,
+            signals: r.b + r.d,
+            values: 0,
+            strings: 0,
+            names: 0,
+        },
+    )
 }
 
 // A wire that is no port has no port number.
@@ -358,18 +434,18 @@ fn wire_row_stands(wires: &[u32], u: Used, size: u32) -> bool
     same_row(q, x)
 }
 
-fn wire_at(names: &[u8], wires: &[u32], u: Used, first: u32, r: Row) -> Found
+fn wire_at(names: &[u8], wires: &[u32], u: Used, first: u32, r: Row) -> Option<Found>
     requires { first ≤ u.wires }
     ensures { TellsWire names.now wires.now (used_of u) first r result }
 {
     if !name_stands(names, u.names, r.b) {
-        return Found::Nothing;
+        return None;
     }
     if !wire_row_stands(wires, u, r.b) {
-        return Found::Nothing;
+        return None;
     }
     if !wire_fits(wires, first, u.wires) {
-        return Found::Nothing;
+        return None;
     }
     let x = Row {
         kind: WIRE_KIND,
@@ -381,7 +457,17 @@ fn wire_at(names: &[u8], wires: &[u32], u: Used, first: u32, r: Row) -> Found
         f: 0,
         g: 0,
     };
-    settle(r, x, 0, 0, 0, 0, r.b)
+    settle(
+        r,
+        x,
+        Found {
+            count: 0,
+            signals: 0,
+            values: 0,
+            strings: 0,
+            names: r.b,
+        },
+    )
 }
 
 // The statement of a row, by the row's kind.
@@ -393,7 +479,7 @@ pub fn statement_at(
     u: Used,
     first: u32,
     r: Row,
-) -> Found
+) -> Option<Found>
     requires small { Small (used_of u) }
     requires first_le_wires { first ≤ u.wires }
     ensures { Tells (part_tables names.now strings.now bits.now wires.now) (used_of u) (wires_from names.now wires.now first (u.wires - first)) r (statement_of (part_tables names.now strings.now bits.now wires.now) (used_of u) r) result }

@@ -24,19 +24,19 @@ fn even_fits(width: u32, count: u32) -> bool
 }
 
 // All bits of the row are looked at at once, since no signal of it is narrower than another.
-pub fn step_at(bits: &[u32], wires: &[u32], u: Used, first: u32, r: Row) -> Found
+pub fn step_at(bits: &[u32], wires: &[u32], u: Used, first: u32, r: Row) -> Option<Found>
     requires { first ≤ u.wires }
     ensures { TellsStep bits.now wires.now (used_of u) first r result }
 {
     if !arity_fits(r.a, r.d) {
-        return Found::Nothing;
+        return None;
     }
     if !even_fits(r.c, r.d) {
-        return Found::Nothing;
+        return None;
     }
     let size = r.c * r.d;
     if !bits_stand(wires, first, u.wires - first, bits, u.bits, size) {
-        return Found::Nothing;
+        return None;
     }
     let x = Row {
         kind: STEP_KIND,
@@ -48,5 +48,15 @@ pub fn step_at(bits: &[u32], wires: &[u32], u: Used, first: u32, r: Row) -> Foun
         f: 0,
         g: 0,
     };
-    settle(r, x, r.d, size, 0, 0, 0)
+    settle(
+        r,
+        x,
+        Found {
+            count: r.d,
+            signals: size,
+            values: 0,
+            strings: 0,
+            names: 0,
+        },
+    )
 }
