@@ -1,5 +1,5 @@
 -- The shape that a form stands for, over a file's bytes.
-use Rattle.std.specs.Prelude.{ℕ, ◌≤◌, ◌≡◌, List, Bool}
+use Rattle.std.specs.Prelude.{ℕ, ◌≤◌, ◌≡◌, List, Bool, Option as Optional, Some, None}
 use Rattle.std.proofs.Math.Option.{Option, none, some}
 use Rattle.std.proofs.Math.Seq.{slice}
 use Rattle.rules.specs.Tokens as rules
@@ -10,10 +10,8 @@ use Rattle.numbers.specs.Kinds.{sort_of}
 use Rattle.tokens.specs.Rows.{integer_in, literal_in, line, token_at}
 use Rattle.tokens.specs.declared.ConstantSpan.{ConstantSpan}
 use Rattle.tokens.specs.declared.Token.TheVariants.{Constant as Constantly}
-use Rattle.tokens.specs.declared.ConstantSlot.{ConstantSlot}
-use Rattle.tokens.specs.declared.ConstantSlot.TheVariants as literal
 use Rattle.line_forms.specs.Words.{announced}
-use Rattle.line_forms.specs.declared.Span.{Span}
+use Rattle.scanner.specs.declared.parts.Span.{Span}
 use Rattle.line_forms.specs.declared.Form.{Form}
 use Rattle.line_forms.specs.declared.Form.TheVariants.{Autoidx, Attribute, Module, Parameter, Cell, CellParameter, Process, End, NoShape}
 use Rattle.line_forms.specs.declared.Kind.{Kind}
@@ -26,9 +24,9 @@ unfoldable pub name_in : List ℕ → Span → rules.Name
 name_in f s = slice s.start s.end f
 
 -- a parameter's constant, if it has one
-unfoldable pub value_in : List ℕ → ConstantSlot → Option rules.Literal
-value_in f (literal.Read c) = some (literal_in f c)
-value_in f literal.Nothing = none
+unfoldable pub value_in : List ℕ → Optional ConstantSpan → Option rules.Literal
+value_in f (Some c) = some (literal_in f c)
+value_in f None = none
 
 unfoldable pub form_of : List ℕ → Form → Option Shape
 form_of f (Autoidx z) = some (autoidx-stmt (integer_in f z))
@@ -59,9 +57,9 @@ ended none ts = none
 ended (some s) ts = whole_by s ts
 
 -- what holds of a parameter's constant, if it has one; of a form's constant, and its sort is one of three
-abbrev pub ValueHolds : (ConstantSpan → Type 0) → ConstantSlot → Type 0
-ValueHolds P (literal.Read c) = P c
-ValueHolds P literal.Nothing = Unit {0}
+abbrev pub ValueHolds : (ConstantSpan → Type 0) → Optional ConstantSpan → Type 0
+ValueHolds P (Some c) = P c
+ValueHolds P None = Unit {0}
 
 abbrev pub FormHolds : (ConstantSpan → Type 0) → Form → Type 0
 FormHolds P (Autoidx z) = Unit {0}

@@ -12,14 +12,12 @@ ghost use Rattle.context.specs.Place.{scope_of};
 ghost use Rattle.line_forms.specs.Processes.{root_words, Inside, process_forms, SyncIs, BegunIs, ProcessIs};
 
 use context::place::{IN_PROCESS, IN_SWITCH, IN_SYNC, IN_TAIL};
+use scanner::parts::Span;
 use scanner::words::{
     ASSIGN, ATTRIBUTE, AUTOIDX, CASE, CELL, CONNECT, EDGE, END, GLOBAL, MEMORY, MODULE, NO_KEYWORD,
     PARAMETER, PROCESS, REAL, SIGNED, SWITCH, SYNC, UPDATE, WIRE,
 };
-use tokens::{
-    ConstantSlot, ConstantSpan, Id, Integer, ROW_WORDS, Slot, Token, id_at, integer_at, literal_at,
-    token_at,
-};
+use tokens::{ConstantSpan, Integer, ROW_WORDS, Token, id_at, integer_at, literal_at, token_at};
 
 // The sorts of a cell parameter; an attribute is plain.
 const PLAIN_SORT: u32 = 0;
@@ -31,14 +29,7 @@ const REAL_SORT: u32 = 2;
 // The most switches around one inside which another may stand.
 const MOST_AROUND: u32 = 15;
 
-// A name's place in the file.
-#[derive(Clone, Copy)]
-pub struct Span {
-    pub start: usize,
-    pub end: usize,
-}
-
-// A line of fixed shape. A module parameter without a constant has Nothing for its value. Sort: 0 plain, 1 signed, 2 real.
+// A line of fixed shape. A module parameter may have no constant. Sort: 0 plain, 1 signed, 2 real.
 #[derive(Clone, Copy)]
 pub enum Form {
     Autoidx(Integer),
@@ -49,7 +40,7 @@ pub enum Form {
     Module(Span),
     Parameter {
         name: Span,
-        value: ConstantSlot,
+        value: Option<ConstantSpan>,
     },
     Cell {
         kind: Span,
@@ -101,7 +92,7 @@ fn finished(tokens: &[u32], i: usize, form: Form) -> Form
 fn autoidx_line(tokens: &[u32], i: usize) -> Form
     ensures { LineIs (of₁ autoidx-stmt int) tokens.now i result }
 {
-    let Slot::Given(z) = integer_at(tokens, i) else {
+    let Some(z) = integer_at(tokens, i) else {
         return Form::NoShape;
     };
     finished(tokens, i + 1, Form::Autoidx(z))
@@ -111,14 +102,13 @@ fn autoidx_line(tokens: &[u32], i: usize) -> Form
 fn valued_line(tokens: &[u32], i: usize, attribute: bool, sort: u32) -> Form
     ensures { SortedIs sort (of₂ (cond attribute attr-stmt (cell-param-stmt (sort_of sort))) id const) tokens.now i result }
 {
-    let Id::Span { start, end } = id_at(tokens, i) else {
+    let Some(name) = id_at(tokens, i) else {
         return Form::NoShape;
     };
     let j = i + 1;
-    let ConstantSlot::Read(value) = literal_at(tokens, j) else {
+    let Some(value) = literal_at(tokens, j) else {
         return Form::NoShape;
     };
-    let name = Span { start, end };
     let form = if attribute {
         Form::Attribute { name, value }
     } else {
@@ -131,10 +121,9 @@ fn valued_line(tokens: &[u32], i: usize, attribute: bool, sort: u32) -> Form
 fn named_line(tokens: &[u32], i: usize, process: bool) -> Form
     ensures { LineIs (of₁ (cond process proc-stmt module-stmt) id) tokens.now i result }
 {
-    let Id::Span { start, end } = id_at(tokens, i) else {
+    let Some(name) = id_at(tokens, i) else {
         return Form::NoShape;
     };
-    let name = Span { start, end };
     let form = if process {
         Form::Process(name)
     } else {
@@ -146,40 +135,29 @@ fn named_line(tokens: &[u32], i: usize, process: bool) -> Form
 fn parameter_line(tokens: &[u32], i: usize) -> Form
     ensures { LineIs (of₂ param-stmt id (or_end const)) tokens.now i result }
 {
-    let Id::Span { start, end } = id_at(tokens, i) else {
+    let Some(name) = id_at(tokens, i) else {
         return Form::NoShape;
     };
     let j = i + 1;
-    let name = Span { start, end };
     if tokens.len() / ROW_WORDS <= j {
-        let value = ConstantSlot::Nothing;
-        return Form::Parameter { name, value };
+        return Form::Parameter { name, value: None };
     }
-    let ConstantSlot::Read(c) = literal_at(tokens, j) else {
+    let Some(c) = literal_at(tokens, j) else {
         return Form::NoShape;
     };
-    let value = ConstantSlot::Read(c);
+    let value = Some(c);
     finished(tokens, j + 1, Form::Parameter { name, value })
 }
 
 fn cell_line(tokens: &[u32], i: usize) -> Form
     ensures { LineIs (of₂ cell-stmt id id) tokens.now i result }
 {
-    let Id::Span { start, end } = id_at(tokens, i) else {
+    let Some(kind) = id_at(tokens, i) else {
         return Form::NoShape;
     };
     let j = i + 1;
-    let Id::Span {
-        start: name_start,
-        end: name_end,
-    } = id_at(tokens, j)
-    else {
+    let Some(name) = id_at(tokens, j) else {
         return Form::NoShape;
-    };
-    let kind = Span { start, end };
-    let name = Span {
-        start: name_start,
-        end: name_end,
     };
     finished(tokens, j + 1, Form::Cell { kind, name })
 }
@@ -189,11 +167,8 @@ fn word_at(tokens: &[u32], i: usize) -> usize
     ensures { WordIs tokens.now i result }
 {
     match token_at(tokens, i) {
-        Token::Name { start: _, end: _ } => NO_KEYWORD,
         Token::Word(c) => c,
-        Token::Constant(_) => NO_KEYWORD,
-        Token::Mark(_) => NO_KEYWORD,
-        Token::End => NO_KEYWORD,
+        _ => NO_KEYWORD,
     }
 }
 

@@ -6,10 +6,10 @@ ghost use Rattle.rules.specs.Bytes.{within};
 ghost use Rattle.option_rules.specs.Numbers.{WordIs, slot_fits, options_good};
 ghost use Rattle.option_rules.specs.Limits.{ports_in, JoinedIs, PortIs, flag_bits, WireIs, MemoryIs};
 
-use literal_rules::{Number, integer_of};
+use literal_rules::integer_of;
 use numbers::signed::offset_fits;
 use options::Options;
-use tokens::Slot;
+use tokens::Integer;
 
 // The most bits of a wire or a memory's word, the highest number of a port, the most words of a memory.
 const MOST_WIDTH: u32 = 2048;
@@ -32,130 +32,92 @@ const SIGNED_FLAG: u32 = 2;
 
 const BOTH_FLAGS: u32 = 3;
 
-// A wire's columns in the table of wires, where its options are good.
+// A wire's columns in the table of wires.
 #[derive(Clone, Copy)]
-pub enum WireRules {
-    Good {
-        width: u32,
-        offset: u32,
-        flags: u32,
-        port: u32,
-    },
-    Bad,
+pub struct WireRules {
+    pub width: u32,
+    pub offset: u32,
+    pub flags: u32,
+    pub port: u32,
 }
 
-// A memory's columns, where its options are good.
+// A memory's columns.
 #[derive(Clone, Copy)]
-pub enum MemoryRules {
-    Good { width: u32, size: u32, offset: u32 },
-    Bad,
+pub struct MemoryRules {
+    pub width: u32,
+    pub size: u32,
+    pub offset: u32,
 }
 
 // The code of a port's direction and its number, both 0 for no port.
 #[derive(Clone, Copy)]
-enum Port {
-    Good { code: u32, number: u32 },
-    Bad,
+struct Port {
+    code: u32,
+    number: u32,
 }
 
 fn between(lo: u32, hi: u32, n: u32) -> bool
     ensures { result ≡ within lo hi n }
 {
-    if n < lo {
-        return false;
-    }
-    n <= hi
+    lo <= n && n <= hi
 }
 
-fn slot_fits(f: &[u8], s: Slot) -> bool
+fn slot_fits(f: &[u8], s: Option<Integer>) -> bool
     ensures { result ≡ slot_fits f.now s }
 {
     match s {
-        Slot::Given(z) => match integer_of(f, z) {
-            Number::Fits(_) => true,
-            Number::Outside => false,
-        },
-        Slot::Absent => true,
+        Some(z) => integer_of(f, z).is_some(),
+        None => true,
     }
-}
-
-fn all_fit(f: &[u8], a: Slot, b: Slot, c: Slot) -> bool
-    ensures { result ≡ (slot_fits f.now a && (slot_fits f.now b && slot_fits f.now c)) }
-{
-    if !slot_fits(f, a) {
-        return false;
-    }
-    if !slot_fits(f, b) {
-        return false;
-    }
-    slot_fits(f, c)
 }
 
 // An option stands once, and every number is within 32 bits.
 fn options_good(f: &[u8], o: Options) -> bool
     ensures { result ≡ options_good f.now o }
 {
-    if o.twice {
-        return false;
-    }
-    let width = o.width;
-    let offset = o.offset;
-    let size = o.size;
-    if !all_fit(f, width, offset, size) {
-        return false;
-    }
-    let input = o.input;
-    let output = o.output;
-    let inout = o.inout;
-    all_fit(f, input, output, inout)
+    !o.twice
+        && slot_fits(f, o.width)
+        && slot_fits(f, o.offset)
+        && slot_fits(f, o.size)
+        && slot_fits(f, o.input)
+        && slot_fits(f, o.output)
+        && slot_fits(f, o.inout)
 }
 
 // The word of an option's number, or else d.
-fn word_or(f: &[u8], s: Slot, d: u32) -> u32
+fn word_or(f: &[u8], s: Option<Integer>, d: u32) -> u32
     ensures { WordIs f.now s d result }
 {
     match s {
-        Slot::Given(z) => match integer_of(f, z) {
-            Number::Fits(w) => w,
-            Number::Outside => d,
-        },
-        Slot::Absent => d,
+        Some(z) => integer_of(f, z).unwrap_or(d),
+        None => d,
     }
 }
 
 // The port of an option, or else of those behind it: at most one is given.
-fn joined(f: &[u8], s: Slot, code: u32, behind: Port) -> Port
+fn joined(f: &[u8], s: Option<Integer>, code: u32, behind: Option<Port>) -> Option<Port>
     ensures { JoinedIs f.now s code behind result }
 {
-    let Slot::Given(z) = s else {
+    let Some(z) = s else {
         return behind;
     };
-    let Port::Good { code: k, number: _ } = behind else {
-        return Port::Bad;
-    };
-    if k != 0 {
-        return Port::Bad;
+    if behind?.code != 0 {
+        return None;
     }
-    let Number::Fits(n) = integer_of(f, z) else {
-        return Port::Bad;
-    };
-    if between(1, MOST_PORT, n) {
-        Port::Good { code, number: n }
-    } else {
-        Port::Bad
+    let number = integer_of(f, z)?;
+    if !between(1, MOST_PORT, number) {
+        return None;
     }
+    Some(Port { code, number })
 }
 
-fn port_of(f: &[u8], o: Options) -> Port
+fn port_of(f: &[u8], o: Options) -> Option<Port>
     ensures { PortIs (ports_in f.now o) result }
 {
-    let input = o.input;
-    let output = o.output;
-    let inout = o.inout;
-    let none = Port::Good { code: 0, number: 0 };
-    let last = joined(f, inout, INOUT_CODE, none);
-    let behind = joined(f, output, OUTPUT_CODE, last);
-    joined(f, input, INPUT_CODE, behind)
+    let none = Some(Port { code: 0, number: 0 });
+    let last = joined(f, o.inout, INOUT_CODE, none);
+    let behind = joined(f, o.output, OUTPUT_CODE, last);
+    joined(f, o.input, INPUT_CODE, behind)
 }
 
 fn flag_bits(upto: bool, signed: bool) -> u32
@@ -168,54 +130,46 @@ fn flag_bits(upto: bool, signed: bool) -> u32
     }
 }
 
-pub fn wire_rules(f: &[u8], o: Options) -> WireRules
+pub fn wire_rules(f: &[u8], o: Options) -> Option<WireRules>
     ensures { WireIs f.now o result }
 {
     if !options_good(f, o) {
-        return WireRules::Bad;
+        return None;
     }
-    let w = o.width;
-    let width = word_or(f, w, 1);
+    let width = word_or(f, o.width, 1);
     if !between(0, MOST_WIDTH, width) {
-        return WireRules::Bad;
+        return None;
     }
-    let Port::Good { code, number } = port_of(f, o) else {
-        return WireRules::Bad;
-    };
-    let t = o.offset;
-    let offset = word_or(f, t, 0);
+    let port = port_of(f, o)?;
+    let offset = word_or(f, o.offset, 0);
     if !offset_fits(offset, width) {
-        return WireRules::Bad;
+        return None;
     }
-    WireRules::Good {
+    Some(WireRules {
         width,
         offset,
-        flags: flag_bits(o.upto, o.signed) + code,
-        port: number,
-    }
+        flags: flag_bits(o.upto, o.signed) + port.code,
+        port: port.number,
+    })
 }
 
-pub fn memory_rules(f: &[u8], o: Options) -> MemoryRules
+pub fn memory_rules(f: &[u8], o: Options) -> Option<MemoryRules>
     ensures { MemoryIs f.now o result }
 {
     if !options_good(f, o) {
-        return MemoryRules::Bad;
+        return None;
     }
-    let w = o.width;
-    let width = word_or(f, w, 1);
+    let width = word_or(f, o.width, 1);
     if !between(1, MOST_WIDTH, width) {
-        return MemoryRules::Bad;
+        return None;
     }
-    let s = o.size;
-    let size = word_or(f, s, 0);
+    let size = word_or(f, o.size, 0);
     if !between(0, MOST_SIZE, size) {
-        return MemoryRules::Bad;
+        return None;
     }
-    let t = o.offset;
-    let offset = word_or(f, t, 0);
-    MemoryRules::Good {
+    Some(MemoryRules {
         width,
         size,
-        offset,
-    }
+        offset: word_or(f, o.offset, 0),
+    })
 }

@@ -1,5 +1,5 @@
 -- What the options that the code holds say of those that are written, over a file's bytes.
-use Rattle.std.specs.Prelude.{ℕ, ◌≡◌, Bool, true, false, cond, not, ◌||◌, ℤ, eqb}
+use Rattle.std.specs.Prelude.{ℕ, ◌≡◌, Bool, true, false, cond, not, ◌||◌, ℤ, eqb, Option as Optional, Some, None, is_some as is_given}
 use mathlib.Core.List.{List, [], ◌∷◌, Option-to_list}
 use Rattle.std.proofs.Math.Option.{Option, none, some}
 use Rattle.rules.specs.Bytes.{same, all}
@@ -8,8 +8,6 @@ use Rattle.rules.specs.Numbers.{once, int32}
 use Rattle.scanner.specs.Words.{keyword_at}
 use Rattle.tokens.specs.Rows.{integer_in}
 use Rattle.tokens.specs.declared.Integer.{Integer}
-use Rattle.tokens.specs.declared.Slot.{Slot}
-use Rattle.tokens.specs.declared.Slot.TheVariants.{Given, Absent}
 use Rattle.options.specs.Forms.{number_codes, is_option}
 use Rattle.options.specs.declared.Options.{Options}
 
@@ -18,26 +16,22 @@ unfoldable pub first : List ℕ → List Opt → Option (Option ℤ)
 first w [] = none
 first w (o ∷ os) = let r = first w os in cond (same o.0 w) (some o.1) r
 
-unfoldable pub is_given : Slot → Bool
-is_given (Given z) = true
-is_given Absent = false
-
-unfoldable pub slot_of : List ℕ → Slot → Option (Option ℤ)
-slot_of f (Given z) = some (some (integer_in f z))
-slot_of f Absent = none
+unfoldable pub slot_of : List ℕ → Optional Integer → Option (Option ℤ)
+slot_of f (Some z) = some (some (integer_in f z))
+slot_of f None = none
 
 unfoldable pub flag_of : Bool → Option (Option ℤ)
 flag_of true = some none
 flag_of false = none
 
-unfoldable pub slot_at : Options → ℕ → Slot
+unfoldable pub slot_at : Options → ℕ → Optional Integer
 slot_at o c =
     cond (eqb c 7) o.width
     (cond (eqb c 8) o.offset
     (cond (eqb c 9) o.input
     (cond (eqb c 10) o.output
     (cond (eqb c 11) o.inout
-    (cond (eqb c 15) o.size Absent)))))
+    (cond (eqb c 15) o.size None)))))
 
 -- the option with a keyword's number
 unfoldable pub at : List ℕ → Options → ℕ → Option (Option ℤ)
@@ -67,12 +61,12 @@ pub record Holds (f : List ℕ) (o : Options) (os : List Opt) : Type 0 where
 abbrev pub no_options : Options
 no_options =
     record {
-      width = Absent;
-      offset = Absent;
-      size = Absent;
-      input = Absent;
-      output = Absent;
-      inout = Absent;
+      width = None;
+      offset = None;
+      size = None;
+      input = None;
+      output = None;
+      inout = None;
       upto = false;
       signed = false;
       twice = false;

@@ -1,5 +1,5 @@
 -- What the readers of options and of lines answer, as the grammar's parse of the line's tokens.
-use Rattle.std.specs.Prelude.{ℕ, suc, ◌+◌, ◌-◌, ◌/◌, ◌≤◌, ◌<◌, ◌≡◌, List, ◌∷◌, Bool, true, false, length, ℤ}
+use Rattle.std.specs.Prelude.{ℕ, suc, ◌+◌, ◌-◌, ◌/◌, ◌≤◌, ◌<◌, ◌≡◌, List, ◌∷◌, Bool, true, false, length, ℤ, Option as Optional, Some, None}
 use Prim.Native.String.{String}
 use Rattle.std.proofs.Math.Option.{Option, none, some}
 use Rattle.std.proofs.Math.Seq.{slice}
@@ -11,7 +11,6 @@ use Rattle.tokens.specs.Rows.{integer_in, line}
 use Rattle.options.specs.Forms.{forms, statement, is_flag, is_option}
 use Rattle.options.specs.Holds.{Holds}
 use Rattle.options.specs.declared.Line.{Line}
-use Rattle.options.specs.declared.Line.TheVariants as answer
 use Rattle.options.specs.declared.Turn.{Turn}
 use Rattle.options.specs.declared.Turn.TheVariants as turn
 
@@ -26,16 +25,16 @@ pub record Next (m : Bool) (t : List ℕ) (i c : ℕ) (v : List ℕ → Option �
   pub more : (f : List ℕ) (k : ℕ) (os : List Opt) → rest m (suc k) os (line f t i) ≡ rest m k ((keyword_at c, v f) ∷ os) (line f t j)
 
 -- (for every file)
-abbrev pub TurnIs : Bool → List ℕ → ℕ → Turn → Type 0
-TurnIs m t i (turn.Flag c) = (is_flag c ≡ true) × Next m t i c (λ f. none) (i + 1)
-TurnIs m t i (turn.Number c z) = (is_flag c ≡ false) × Next m t i c (λ f. some (integer_in f z)) (i + 2)
-TurnIs m t i (turn.Done a b) = (f : List ℕ) (k : ℕ) (os : List Opt) → length t / 4 - i ≤ k → rest m k os (line f t i) ≡ some (statement m os (slice a b f))
-TurnIs m t i turn.NoShape = (f : List ℕ) (k : ℕ) (os : List Opt) → length t / 4 - i ≤ k → rest m k os (line f t i) ≡ none
+abbrev pub TurnIs : Bool → List ℕ → ℕ → Optional Turn → Type 0
+TurnIs m t i (Some (turn.Flag c)) = (is_flag c ≡ true) × Next m t i c (λ f. none) (i + 1)
+TurnIs m t i (Some (turn.Number c z)) = (is_flag c ≡ false) × Next m t i c (λ f. some (integer_in f z)) (i + 2)
+TurnIs m t i (Some (turn.Done n)) = (f : List ℕ) (k : ℕ) (os : List Opt) → length t / 4 - i ≤ k → rest m k os (line f t i) ≡ some (statement m os (slice n.start n.end f))
+TurnIs m t i None = (f : List ℕ) (k : ℕ) (os : List Opt) → length t / 4 - i ≤ k → rest m k os (line f t i) ≡ none
 
 -- a line's shape, with options that the answer holds and the name of its span
-abbrev pub Gives : (List Opt → Name → Shape) → List ℕ → Option Shape → Line → Type 0
-Gives g f s (answer.Read o a b) = (os : List Opt) × (s ≡ some (g os (slice a b f))) × Holds f o os
-Gives g f s answer.NoShape = s ≡ none
+abbrev pub Gives : (List Opt → Name → Shape) → List ℕ → Option Shape → Optional Line → Type 0
+Gives g f s (Some l) = (os : List Opt) × (s ≡ some (g os (slice l.name.start l.name.end f))) × Holds f l.options os
+Gives g f s None = s ≡ none
 
-abbrev pub LineIs : List (String × Parse Opt) → (List Opt → Name → Shape) → List ℕ → ℕ → Line → Type 0
+abbrev pub LineIs : List (String × Parse Opt) → (List Opt → Name → Shape) → List ℕ → ℕ → Optional Line → Type 0
 LineIs fs g t i r = (f : List ℕ) → Gives g f (whole (of₂ g (options fs) id (line f t i))) r
