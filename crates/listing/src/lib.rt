@@ -14,7 +14,7 @@ use netlist::results::NOT_THERE;
 use numbers::kinds::{ModuleNumber, WireNumber};
 use plain::{ROOM_TOO_SHORT, form_size, put_form, put_shown, shown_size};
 use rename_rules::module_of;
-use session::{Opened, open_memory};
+use session::open_memory;
 use show::{Shown, shown_wire};
 use wire_names::{Module, name_now};
 
@@ -63,9 +63,8 @@ fn shown_part_size(
     ensures { result ≡ length (flat_map low (shown_at names.now strings.now wires.now rows.now m w)) }
 {
     match shown_place(names, strings, wires, rows, m, w) {
-        Shown::Name { start, end } => shown_size(&names[start..end]),
-        Shown::Text { start, end } => shown_size(&strings[start..end]),
-        Shown::Refused(_) => 0,
+        Shown::Name(name) => shown_size(&names[name.start..name.end]),
+        Shown::Text(text) => shown_size(&strings[text.start..text.end]),
     }
 }
 
@@ -84,9 +83,8 @@ fn put_shown_part(
     ensures { PutAt at (flat_map low (shown_at names.now strings.now wires.now rows.now m w)) out.old out.new result }
 {
     match shown_place(names, strings, wires, rows, m, w) {
-        Shown::Name { start, end } => put_shown(out, at, &names[start..end]),
-        Shown::Text { start, end } => put_shown(out, at, &strings[start..end]),
-        Shown::Refused(_) => at,
+        Shown::Name(name) => put_shown(out, at, &names[name.start..name.end]),
+        Shown::Text(text) => put_shown(out, at, &strings[text.start..text.end]),
     }
 }
 
@@ -200,24 +198,22 @@ pub fn listing(
 ) -> Listed
     ensures { ListedAs (lent names.now strings.now bits.now wires.now rows.now renames room) m.0 out.old out.new result }
 {
-    match open_memory(names, strings, bits, wires, rows, renames, room) {
-        Opened::Open(place) => {
-            let number = m.0;
-            if place.modules <= number {
-                return Listed {
-                    number: NOT_THERE,
-                    length: 0,
-                };
-            }
-            list_module(
-                names,
-                strings,
-                wires,
-                rows,
-                module_of(wires, place, renames, m),
-                out,
-            )
-        }
-        Opened::Refused(number) => Listed { number, length: 0 },
+    let place = match open_memory(names, strings, bits, wires, rows, renames, room) {
+        Ok(place) => place,
+        Err(number) => return Listed { number, length: 0 },
+    };
+    if place.modules <= m.0 {
+        return Listed {
+            number: NOT_THERE,
+            length: 0,
+        };
     }
+    list_module(
+        names,
+        strings,
+        wires,
+        rows,
+        module_of(wires, place, renames, m),
+        out,
+    )
 }

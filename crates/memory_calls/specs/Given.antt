@@ -1,5 +1,5 @@
 -- What the exported calls that only ask answer.
-use Rattle.std.specs.Prelude.{ℕ, ◌-◌, ◌≤◌, ◌≡◌}
+use Rattle.std.specs.Prelude.{ℕ, ◌-◌, ◌≤◌, ◌≡◌, Result, Ok, Err}
 use Rattle.rules.specs.Layout.{Memory}
 use Rattle.card.specs.declared.LengthAnswer.{LengthAnswer}
 use Rattle.listing.specs.declared.Listed.{Listed}
@@ -26,18 +26,18 @@ abbrev pub listed_by : LengthAnswer → Listed
 listed_by a = record { number = a.number; length = a.length }
 
 -- a part by its table, 1 the names and 2 the strings, its start and its length; a refusal is zero but for its number
-unfoldable pub part_of : Shown → PartAnswer
-part_of (Shown.Name s e) = record { number = 0; table = 1; start = s; length = e - s }
-part_of (Shown.Text s e) = record { number = 0; table = 2; start = s; length = e - s }
-part_of (Shown.Refused n) = record { number = n; table = 0; start = 0; length = 0 }
+unfoldable pub part_of : Result Shown ℕ → PartAnswer
+part_of (Ok (Shown.Name p)) = record { number = 0; table = 1; start = p.start; length = p.end - p.start }
+part_of (Ok (Shown.Text p)) = record { number = 0; table = 2; start = p.start; length = p.end - p.start }
+part_of (Err n) = record { number = n; table = 0; start = 0; length = 0 }
 
 -- its end is not before its start
-abbrev pub Ordered : Shown → Type 0
-Ordered (Shown.Name s e) = s ≤ e
-Ordered (Shown.Text s e) = s ≤ e
-Ordered (Shown.Refused n) = Unit {0}
+abbrev pub Ordered : Result Shown ℕ → Type 0
+Ordered (Ok (Shown.Name p)) = p.start ≤ p.end
+Ordered (Ok (Shown.Text p)) = p.start ≤ p.end
+Ordered (Err n) = Unit {0}
 
 -- of the one part that show gives
 abbrev pub PartGiven : Memory → (k w : ℕ) → PartAnswer → Type 0
 PartGiven m k w a =
-    (s : Shown) × ShownAt m k w s × InRange m.names m.strings s × ShownAs m k w (number_of s) (bytes_in m.names m.strings s) × (a ≡ part_of s)
+    (s : Result Shown ℕ) × ShownAt m k w s × InRange m.names m.strings s × ShownAs m k w (number_of s) (bytes_in m.names m.strings s) × (a ≡ part_of s)

@@ -174,24 +174,24 @@ pub extern "C" fn skytassel_listing(
 }
 
 // The table, the start and the length of what is shown.
-fn part_of(shown: Shown) -> PartAnswer
+fn part_of(shown: Result<Shown, u32>) -> PartAnswer
     requires { Ordered shown }
     ensures { result ≡ part_of shown }
 {
     match shown {
-        Shown::Name { start, end } => PartAnswer {
+        Ok(Shown::Name(name)) => PartAnswer {
             number: 0,
             table: 1,
-            start,
-            length: end - start,
+            start: name.start,
+            length: name.end - name.start,
         },
-        Shown::Text { start, end } => PartAnswer {
+        Ok(Shown::Text(text)) => PartAnswer {
             number: 0,
             table: 2,
-            start,
-            length: end - start,
+            start: text.start,
+            length: text.end - text.start,
         },
-        Shown::Refused(number) => PartAnswer {
+        Err(number) => PartAnswer {
             number,
             table: 0,
             start: 0,

@@ -14,7 +14,8 @@ use names::same_bytes;
 use netlist::results::NOT_THERE;
 use netlist::rows::{row_kind, row_name};
 use numbers::kinds::{ModuleNumber, WireNumber};
-use session::{Opened, open_memory};
+use scanner::parts::Span;
+use session::open_memory;
 use wire_names::last_rename;
 use wires::{WIRE_NAME, column};
 
@@ -31,37 +32,26 @@ const RENAME_NAME: usize = 1;
 // The kind of a constant that is a string.
 const CONSTANT_STRING: u32 = 3;
 
-// Where a shown name lies: a part of the names, a part of the strings, or neither, with the refusal's number.
+// Where a shown name lies: a part of the names or a part of the strings.
 #[derive(Clone, Copy)]
 pub enum Shown {
-    Name { start: usize, end: usize },
-    Text { start: usize, end: usize },
-    Refused(u32),
-}
-
-// A part of a table by its ends.
-#[derive(Clone, Copy)]
-struct Part {
-    start: usize,
-    end: usize,
+    Name(Span),
+    Text(Span),
 }
 
 // The bytes from start up to end, cut to those that are there.
-fn cut(s: &[u8], start: usize, end: usize) -> Part
+fn cut(s: &[u8], start: usize, end: usize) -> Span
     ensures { result ≡ cut_of s.now start end }
 {
     let stop = if end < s.len() { end } else { s.len() };
     if stop <= start {
-        return Part { start: 0, end: 0 };
+        return Span { start: 0, end: 0 };
     }
-    Part {
-        start: start,
-        end: stop,
-    }
+    Span { start, end: stop }
 }
 
 // The bytes whose start stands in column c, and their number behind it.
-fn span(s: &[u8], t: &[u32], row: usize, c: usize) -> Part
+fn span(s: &[u8], t: &[u32], row: usize, c: usize) -> Span
     requires { (row < many_rows) × (c < 7) }
     ensures { result ≡ span_part s.now t.now row c }
 {
@@ -123,15 +113,15 @@ fn hdlname_row(names: &[u8], rows: &[u32], line: u32) -> u32
 }
 
 // The string of the attribute in the row before this one; none if it has no string, or if this is row 0.
-fn text_part(strings: &[u8], rows: &[u32], behind: u32) -> Part
+fn text_part(strings: &[u8], rows: &[u32], behind: u32) -> Span
     ensures { result ≡ text_part strings.now rows.now behind }
 {
     if behind == 0 {
-        return Part { start: 0, end: 0 };
+        return Span { start: 0, end: 0 };
     }
     let row = (behind - 1) as usize;
     if column(rows, row, ROW_CONSTANT) != CONSTANT_STRING {
-        return Part { start: 0, end: 0 };
+        return Span { start: 0, end: 0 };
     }
     span(strings, rows, row, ROW_STRING)
 }
@@ -146,7 +136,7 @@ fn name_part(
     m: ModuleNumber,
     w: WireNumber,
     k: u32,
-) -> Part
+) -> Span
     ensures { result ≡ name_part names.now wires.now rows.now from count m.0 w.0 k }
 {
     let last = last_rename(rows, from, count, m, w);
@@ -162,14 +152,14 @@ fn name_part(
 }
 
 // Without the `\` of a public name.
-fn plain_part(names: &[u8], p: Part) -> Part
+fn plain_part(names: &[u8], p: Span) -> Span
     requires { p.end ≤ length names.now }
     ensures { result ≡ plain_part names.now p }
 {
     let start = p.start;
     if start < p.end {
         if names[start] == b'\\' {
-            return Part {
+            return Span {
                 start: start + 1,
                 end: p.end,
             };
@@ -195,17 +185,10 @@ pub fn shown_wire(
     let line = wire_line(rows, from, k);
     let text = text_part(strings, rows, hdlname_row(names, rows, line));
     if text.start < text.end {
-        return Shown::Text {
-            start: text.start,
-            end: text.end,
-        };
+        return Shown::Text(text);
     }
     let now = name_part(names, wires, rows, from, count, m, w, k);
-    let name = plain_part(names, now);
-    Shown::Name {
-        start: name.start,
-        end: name.end,
-    }
+    Shown::Name(plain_part(names, now))
 }
 
 pub fn find_shown(
@@ -218,32 +201,19 @@ pub fn find_shown(
     room: u32,
     m: ModuleNumber,
     w: WireNumber,
-) -> Shown
+) -> Result<Shown, u32>
     ensures shown_at { ShownAt (lent names.now strings.now bits.now wires.now rows.now renames room) m.0 w.0 result }
     ensures in_range { InRange names.now strings.now result }
     ensures shown_as { ShownAs (lent names.now strings.now bits.now wires.now rows.now renames room) m.0 w.0 (number_of result) (bytes_in names.now strings.now result) }
 {
-    match open_memory(names, strings, bits, wires, rows, renames, room) {
-        Opened::Open(place) => {
-            let own = module_wires(wires, place.wires, m);
-            let number = w.0;
-            if own.count <= number {
-                return Shown::Refused(NOT_THERE);
-            }
-            shown_wire(
-                names,
-                strings,
-                wires,
-                rows,
-                place.rows,
-                renames,
-                m,
-                w,
-                own.first + number,
-            )
-        }
-        Opened::Refused(number) => Shown::Refused(number),
+    let place = open_memory(names, strings, bits, wires, rows, renames, room)?;
+    let own = module_wires(wires, place.wires, m);
+    let number = w.0;
+    if own.count <= number {
+        return Err(NOT_THERE);
     }
+    let row = own.first + number;
+    Ok(shown_wire(names, strings, wires, rows, place.rows, renames, m, w, row))
 }
 
 // Number 0 is none; a refusal answers the empty part.
@@ -262,19 +232,18 @@ pub fn show<'a>(
     ensures shown_as { ShownAs (lent names.now strings.now bits.now wires.now rows.now renames room) m.0 w.0 number.new result.now }
     ensures lies_at { LiesAt (lent names.now strings.now bits.now wires.now rows.now renames room) m.0 w.0 names.entry.ref_ptr strings.entry.ref_ptr result.ref_ptr }
 {
-    let place = find_shown(names, strings, bits, wires, rows, renames, room, m, w);
-    match place {
-        Shown::Name { start, end } => {
+    match find_shown(names, strings, bits, wires, rows, renames, room, m, w) {
+        Ok(Shown::Name(name)) => {
             *number = 0;
-            return &names[start..end];
+            &names[name.start..name.end]
         }
-        Shown::Text { start, end } => {
+        Ok(Shown::Text(text)) => {
             *number = 0;
-            return &strings[start..end];
+            &strings[text.start..text.end]
         }
-        Shown::Refused(n) => {
-            *number = n;
-            return &names[0..0];
+        Err(refusal) => {
+            *number = refusal;
+            &names[0..0]
         }
     }
 }

@@ -14,7 +14,7 @@ ghost use Rattle.writer.specs.Write.{wrote, MeasuredAs, WrittenAs};
 use context::place::Place;
 use design_text::{Counts, put_text};
 use netlist::results::TEXT_TOO_LONG;
-use session::{Opened, open_memory};
+use session::open_memory;
 use tables::put_bytes;
 use text::TEXT_LENGTH;
 
@@ -122,18 +122,8 @@ pub fn measure(
     ensures { MeasuredAs (lent names.now strings.now bits.now wires.now rows.now renames room) result }
 {
     match open_memory(names, strings, bits, wires, rows, renames, room) {
-        Opened::Open(place) => measure_rows(
-            names,
-            strings,
-            bits,
-            wires,
-            rows,
-            counts_at(place, renames),
-        ),
-        Opened::Refused(n) => Written {
-            number: n,
-            length: 0,
-        },
+        Ok(place) => measure_rows(names, strings, bits, wires, rows, counts_at(place, renames)),
+        Err(number) => Written { number, length: 0 },
     }
 }
 
@@ -151,7 +141,7 @@ pub fn write(
     ensures { WrittenAs (lent names.now strings.now bits.now wires.now rows.now renames room) out.old out.new result }
 {
     match open_memory(names, strings, bits, wires, rows, renames, room) {
-        Opened::Open(place) => write_rows(
+        Ok(place) => write_rows(
             names,
             strings,
             bits,
@@ -160,9 +150,6 @@ pub fn write(
             counts_at(place, renames),
             out,
         ),
-        Opened::Refused(n) => Written {
-            number: n,
-            length: 0,
-        },
+        Err(number) => Written { number, length: 0 },
     }
 }
