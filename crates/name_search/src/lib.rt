@@ -16,7 +16,7 @@ use names::same_bytes;
 use netlist::rows::{Kinds, has_name};
 use netlist::spaces::{space_from, space_kinds};
 use numbers::kinds::WireNumber;
-use wires::{Found, WIRE_NAME, WIRE_WIDTH, bytes_at, column};
+use wires::{FoundWire, WIRE_NAME, WIRE_WIDTH, bytes_at, column};
 
 // Whether a statement of these kinds, in count rows from `from` on, has this name.
 pub fn indexed_taken(
@@ -85,7 +85,7 @@ pub fn indexed_wire(
     first: u32,
     count: u32,
     name: &[u8],
-) -> Found
+) -> Option<FoundWire>
     requires { WiresIndexed heads.now chain.now names.now wires.now (first + count) }
     ensures { FoundIs names.now wires.now first count name.now result }
 {
@@ -95,9 +95,12 @@ pub fn indexed_wire(
         let last = at - 1;
         let row = last as usize;
         if same_bytes(bytes_at(names, wires, row, WIRE_NAME), name) {
-            return Found::At(WireNumber(last - first), column(wires, row, WIRE_WIDTH));
+            return Some(FoundWire {
+                number: WireNumber(last - first),
+                width: column(wires, row, WIRE_WIDTH),
+            });
         }
         at = chain[ROW_CHAIN + row];
     }
-    Found::Nothing
+    None
 }

@@ -1,5 +1,5 @@
 -- What is promised of the signals of a line.
-use Rattle.std.specs.Prelude.{ℕ, ◌*◌, ◌/◌, ◌≤◌, ◌≡◌, List, map, Bool, true, length, replicate}
+use Rattle.std.specs.Prelude.{ℕ, ◌*◌, ◌/◌, ◌≤◌, ◌≡◌, List, map, Bool, true, length, replicate, Some, None, Option as Optional}
 use Rattle.std.proofs.Math.Option.{none, some}
 use Rattle.rules.specs.Limits.{most_width, most_signal_bits}
 use Rattle.rules.specs.Statements.{Sig}
@@ -13,10 +13,9 @@ use Rattle.signals.specs.declared.Answer.{Answer}
 use Rattle.signal_list.specs.Lists.{further, listed, list_fault}
 use Rattle.signal_list.specs.Sums.{place_of}
 use Rattle.signal_list.specs.declared.Listed.{Listed}
-use Rattle.signal_list.specs.declared.Listed.TheVariants.{Read, NoShape}
 
 -- the next signal, behind signals of so many bits
-abbrev pub NextIs : (f t : List ℕ) → Wires → ℕ → Bool → ℕ → (out out' : List ℕ) → Answer → Type 0
+abbrev pub NextIs : (f t : List ℕ) → Wires → ℕ → Bool → ℕ → (out out' : List ℕ) → Optional Answer → Type 0
 NextIs f t ws i comma total out out' r = AnswerIs f t ws (further comma (line f t i)) i (place_of total) out out' r
 
 -- so many signals, of one width: their number; their widths, if no rule is broken but that of the sizes; and if their number is 0, their bits'
@@ -37,11 +36,11 @@ pub record Lists (f t : List ℕ) (ws : Wires) (i : ℕ) (comma : Bool) (out : L
   pub few : n ≤ length t / 4
   pub held : ListHeld ws sigs out w n fault
 
-abbrev pub ListRead : (f t : List ℕ) → Wires → ℕ → Bool → (out : List ℕ) → Listed → Type 0
-ListRead f t ws i comma out (Read w n fault) = Lists f t ws i comma out w n fault
-ListRead f t ws i comma out NoShape = listed comma (line f t i) ≡ none
+abbrev pub ListRead : (f t : List ℕ) → Wires → ℕ → Bool → (out : List ℕ) → Optional Listed → Type 0
+ListRead f t ws i comma out (Some r) = Lists f t ws i comma out r.width r.count r.fault
+ListRead f t ws i comma out None = listed comma (line f t i) ≡ none
 
 -- the table's length stays
-pub record ListedIs (f t : List ℕ) (ws : Wires) (i : ℕ) (comma : Bool) (out out' : List ℕ) (r : Listed) : Type 0 where
+pub record ListedIs (f t : List ℕ) (ws : Wires) (i : ℕ) (comma : Bool) (out out' : List ℕ) (r : Optional Listed) : Type 0 where
   pub long : length out' ≡ length out
   pub read : ListRead f t ws i comma out' r

@@ -5,7 +5,6 @@ use Rattle.faults.specs.Faults.{merge}
 use Rattle.signals.specs.declared.Bits.{Bits}
 use Rattle.signal_list.specs.declared.Sum.{Sum}
 use Rattle.signal_list.specs.declared.Listed.{Listed}
-use Rattle.signal_list.specs.declared.Listed.TheVariants.{Read}
 
 -- where the bits of a signal go that stands behind so many bits
 unfoldable pub place_of : ℕ → ℕ
@@ -29,4 +28,4 @@ unfoldable pub total_fault : ℕ → ℕ
 total_fault total = cond (ltb most_signal_bits total) 11 0
 
 unfoldable pub listed_of : Sum → Listed
-listed_of l = Read l.width l.count (merge (total_fault l.total) (merge (uneven_fault l.even) l.fault))
+listed_of l = record { width = l.width; count = l.count; fault = merge (total_fault l.total) (merge (uneven_fault l.even) l.fault) }

@@ -40,13 +40,10 @@ struct Sum {
 
 // The signals of a line: the width of the first, 0 if there is none, how many they are, and the lowest number that they are refused with, or 0.
 #[derive(Clone, Copy)]
-pub enum Listed {
-    Read {
-        width: usize,
-        count: usize,
-        fault: u32,
-    },
-    NoShape,
+pub struct Listed {
+    pub width: usize,
+    pub count: usize,
+    pub fault: u32,
 }
 
 // Whether row i holds a comma.
@@ -84,7 +81,7 @@ fn next_signal(
     total: usize,
     heads: &[u32],
     chain: &[u32],
-) -> Answer
+) -> Option<Answer>
     requires readable { Readable f.now tokens.now i }
     requires scratch_length_in_bounds { (scratch_length ≤ length scratch.old) × (scope.count ≤ most_wires) × WiresIndexed heads.now chain.now names.now wires.now (scope.first + scope.count) }
     ensures { NextIs f.now tokens.now (wires_from names.now wires.now scope.first scope.count) i comma total scratch.old scratch.new result }
@@ -92,7 +89,7 @@ fn next_signal(
     let mut at = i;
     if comma {
         if !comma_at(tokens, i) {
-            return Answer::NoShape;
+            return None;
         }
         at = i + 1;
     }
@@ -148,7 +145,7 @@ fn told(sum: Sum) -> Listed
     } else {
         0
     };
-    Listed::Read {
+    Listed {
         width: sum.width,
         count: sum.count,
         fault: merge(over, merge(uneven, sum.fault)),
@@ -167,7 +164,7 @@ pub fn signals_from(
     scratch: &mut [u32],
     heads: &[u32],
     chain: &[u32],
-) -> Listed
+) -> Option<Listed>
     requires readable { Readable f.now tokens.now from }
     requires scratch_length_in_bounds { (scratch_length ≤ length scratch.old) × (scope.count ≤ most_wires) × WiresIndexed heads.now chain.now names.now wires.now (scope.first + scope.count) }
     ensures { ListedIs f.now tokens.now (wires_from names.now wires.now scope.first scope.count) from comma scratch.old scratch.new result }
@@ -182,7 +179,7 @@ pub fn signals_from(
         fault: 0,
     };
     while at < end {
-        let Answer::Read { next, bits } = next_signal(
+        let signal = next_signal(
             f,
             tokens,
             at,
@@ -194,11 +191,9 @@ pub fn signals_from(
             sum.total,
             heads,
             chain,
-        ) else {
-            return Listed::NoShape;
-        };
-        sum = added(sum, bits);
-        at = next;
+        )?;
+        sum = added(sum, signal.bits);
+        at = signal.next;
     }
-    told(sum)
+    Some(told(sum))
 }

@@ -17,12 +17,10 @@ ghost use Rattle.signals.specs.Held.{codes, Put, PutAny, InWord, CutIs, MovedIs}
 ghost use Rattle.signals.specs.Reads.{mark_at, slot_in, BoundsIs, SliceIs, SlicesIs, AtomIs, SignalIs, BundleIs, Readable};
 
 use faults::merge;
-use literal_rules::Number;
 use name_search::indexed_wire;
 use netlist::results::{BAD_NUMBER, BAD_WIDTH, NOT_THERE, TOO_MANY};
 use numbers::kinds::{SignalBit, WireNumber};
-use tokens::{ConstantSpan, Integer, Slot, Token};
-use wires::Found;
+use tokens::{ConstantSpan, Integer, Token};
 
 // The most bits of a part of a signal.
 const MOST_BITS: usize = 2048;
@@ -64,20 +62,17 @@ struct Part {
 
 // A signal with the row behind it.
 #[derive(Clone, Copy)]
-pub enum Answer {
-    Read { next: usize, bits: Bits },
-    NoShape,
+pub struct Answer {
+    pub next: usize,
+    pub bits: Bits,
 }
 
 // The bounds of a slice with the row behind them; a low bound that is not given is the high one.
 #[derive(Clone, Copy)]
-enum Bounds {
-    Read {
-        high: Integer,
-        low: Slot,
-        next: usize,
-    },
-    NoShape,
+struct Bounds {
+    high: Integer,
+    low: Option<Integer>,
+    next: usize,
 }
 
 // A part is at most 2,048 bits wide.
@@ -114,18 +109,18 @@ fn wire_bits(
     ensures { Put (wires_from names.now wires.now scope.first scope.count) (rules.wire name.now) o scratch.old scratch.new result }
 {
     match indexed_wire(names, wires, heads, chain, scope.first, scope.count, name) {
-        Found::At(number, w) => {
-            let width = w as usize;
+        Some(found) => {
+            let width = found.width as usize;
             if MOST_BITS < width {
                 return Bits {
                     width,
                     fault: TOO_MANY,
                 };
             }
-            put_wire(scratch, o, number, width);
+            put_wire(scratch, o, found.number, width);
             Bits { width, fault: 0 }
         }
-        Found::Nothing => Bits {
+        None => Bits {
             width: 0,
             fault: NOT_THERE,
         },
@@ -150,42 +145,35 @@ fn is_mark(tokens: &[u32], i: usize, b: usize) -> bool
 {
     match tokens::token_at(tokens, i) {
         Token::Mark(m) => m == b,
-        Token::Name { start: _, end: _ } => false,
-        Token::Word(_) => false,
-        Token::Constant(_) => false,
-        Token::End => false,
+        _ => false,
     }
 }
 
 // Behind `[`: the high bound, the low one if it is given, and `]`.
-fn bounds_at(tokens: &[u32], i: usize) -> Bounds
+fn bounds_at(tokens: &[u32], i: usize) -> Option<Bounds>
     requires { (length tokens.now ≤ tokens_length) × (i ≤ length tokens.now / 4) }
     ensures { BoundsIs tokens.now i result }
 {
-    let Slot::Given(high) = tokens::integer_at(tokens, i) else {
-        return Bounds::NoShape;
-    };
+    let high = tokens::integer_at(tokens, i)?;
     if is_mark(tokens, i + 1, SLICE_CLOSES) {
-        return Bounds::Read {
+        return Some(Bounds {
             high,
-            low: Slot::Absent,
+            low: None,
             next: i + 2,
-        };
+        });
     }
     if !is_mark(tokens, i + 1, COLON) {
-        return Bounds::NoShape;
+        return None;
     }
-    let Slot::Given(low) = tokens::integer_at(tokens, i + 2) else {
-        return Bounds::NoShape;
-    };
+    let low = tokens::integer_at(tokens, i + 2)?;
     if !is_mark(tokens, i + 3, SLICE_CLOSES) {
-        return Bounds::NoShape;
+        return None;
     }
-    Bounds::Read {
+    Some(Bounds {
         high,
-        low: Slot::Given(low),
+        low: Some(low),
         next: i + 4,
-    }
+    })
 }
 
 // A slice of this part by bounds that keep the number rules: a bound from 2 ^ 31 on is negative.
@@ -256,7 +244,7 @@ fn atom(
     o: usize,
     heads: &[u32],
     chain: &[u32],
-) -> Answer
+) -> Option<Answer>
     requires readable { Readable f.now tokens.now i }
     requires most_width_in_bounds { (o + most_width ≤ length scratch.old) × (scope.count ≤ most_wires) × WiresIndexed heads.now chain.now names.now wires.now (scope.first + scope.count) }
     ensures { AtomIs f.now tokens.now (wires_from names.now wires.now scope.first scope.count) i o scratch.old scratch.new result }
@@ -273,20 +261,18 @@ fn atom(
                 heads,
                 chain,
             );
-            Answer::Read { next: i + 1, bits }
+            Some(Answer { next: i + 1, bits })
         }
         Token::Constant(c) => {
             let bits = literal_bits(f, c, scratch, o);
-            Answer::Read { next: i + 1, bits }
+            Some(Answer { next: i + 1, bits })
         }
-        Token::Word(_) => Answer::NoShape,
-        Token::Mark(_) => Answer::NoShape,
-        Token::End => Answer::NoShape,
+        _ => None,
     }
 }
 
 // One slice of a part, by its bounds in the file.
-fn slice(f: &[u8], part: Part, high: Integer, low: Slot) -> Part
+fn slice(f: &[u8], part: Part, high: Integer, low: Option<Integer>) -> Part
     requires { InWord part }
     ensures { SliceIs part (integer_in f.now high) (slot_in f.now low) result }
 {
@@ -297,13 +283,13 @@ fn slice(f: &[u8], part: Part, high: Integer, low: Slot) -> Part
         },
         low: part.low,
     };
-    let Number::Fits(h) = literal_rules::integer_of(f, high) else {
+    let Some(h) = literal_rules::integer_of(f, high) else {
         return broken;
     };
     match low {
-        Slot::Absent => cut(part, h, h),
-        Slot::Given(z) => {
-            let Number::Fits(l) = literal_rules::integer_of(f, z) else {
+        None => cut(part, h, h),
+        Some(z) => {
+            let Some(l) = literal_rules::integer_of(f, z) else {
                 return broken;
             };
             cut(part, h, l)
@@ -326,7 +312,14 @@ fn move_part(scratch: &mut [u32], o: usize, width: usize, part: Part)
 }
 
 // Slices may follow any signal, also a slice. Each is judged by what it slices; their low bounds add up, and the bits are moved once.
-fn slices(f: &[u8], tokens: &[u32], i: usize, bits: Bits, scratch: &mut [u32], o: usize) -> Answer
+fn slices(
+    f: &[u8],
+    tokens: &[u32],
+    i: usize,
+    bits: Bits,
+    scratch: &mut [u32],
+    o: usize,
+) -> Option<Answer>
     requires tokens_len_bound { (length tokens.now ≤ tokens_length) × (i ≤ length tokens.now / 4) }
     requires most_width_in_bounds { (o + most_width ≤ length scratch.old) × (bits.fault ≡ 0 → bits.width ≤ most_width) }
     ensures { SlicesIs f.now tokens.now i o scratch.old bits scratch.new result }
@@ -335,18 +328,16 @@ fn slices(f: &[u8], tokens: &[u32], i: usize, bits: Bits, scratch: &mut [u32], o
     let mut at = i;
     let mut part = Part { bits, low: 0 };
     while is_mark(tokens, at, SLICE_OPENS) {
-        let Bounds::Read { high, low, next } = bounds_at(tokens, at + 1) else {
-            return Answer::NoShape;
-        };
-        part = slice(f, part, high, low);
-        at = next;
+        let bounds = bounds_at(tokens, at + 1)?;
+        part = slice(f, part, bounds.high, bounds.low);
+        at = bounds.next;
     }
     move_part(scratch, o, width, part);
     let left = part.bits;
-    Answer::Read {
+    Some(Answer {
         next: at,
         bits: left,
-    }
+    })
 }
 
 // A signal whose bundles are at most depth deep, from row i on; its bits go to the scratch table from o on.
@@ -363,14 +354,14 @@ pub fn signal(
     o: usize,
     heads: &[u32],
     chain: &[u32],
-) -> Answer
+) -> Option<Answer>
     requires readable { Readable f.now tokens.now i }
     requires depth_in_bounds { (o + most_width * (depth + 1) ≤ length scratch.old) × (scope.count ≤ most_wires) × WiresIndexed heads.now chain.now names.now wires.now (scope.first + scope.count) }
     ensures { SignalIs f.now tokens.now (wires_from names.now wires.now scope.first scope.count) i depth o scratch.old scratch.new result }
 {
     if is_mark(tokens, i, BUNDLE_OPENS) {
         if depth == 0 {
-            return Answer::NoShape;
+            return None;
         }
         let b = bundle(
             f,
@@ -384,17 +375,11 @@ pub fn signal(
             o,
             heads,
             chain,
-        );
-        let Answer::Read { next, bits } = b else {
-            return Answer::NoShape;
-        };
-        return slices(f, tokens, next, bits, scratch, o);
+        )?;
+        return slices(f, tokens, b.next, b.bits, scratch, o);
     }
-    let a = atom(f, tokens, i, names, wires, scope, scratch, o, heads, chain);
-    let Answer::Read { next, bits } = a else {
-        return Answer::NoShape;
-    };
-    slices(f, tokens, next, bits, scratch, o)
+    let a = atom(f, tokens, i, names, wires, scope, scratch, o, heads, chain)?;
+    slices(f, tokens, a.next, a.bits, scratch, o)
 }
 
 // The members of a bundle, behind its first mark, with its closing mark. Once the bundle is too wide its bits no longer matter, and the
@@ -412,7 +397,7 @@ fn bundle(
     o: usize,
     heads: &[u32],
     chain: &[u32],
-) -> Answer
+) -> Option<Answer>
     requires readable { Readable f.now tokens.now i }
     requires depth_in_bounds { (o + most_width * (depth + 2) ≤ length scratch.old) × (scope.count ≤ most_wires) × WiresIndexed heads.now chain.now names.now wires.now (scope.first + scope.count) }
     ensures { BundleIs f.now tokens.now (wires_from names.now wires.now scope.first scope.count) i depth o scratch.old scratch.new result }
@@ -428,19 +413,16 @@ fn bundle(
         };
         let m = signal(
             f, tokens, at, depth, names, wires, scope, scratch, put, heads, chain,
-        );
-        let Answer::Read { next, bits } = m else {
-            return Answer::NoShape;
-        };
-        width += bits.width;
-        fault = merge(bits.fault, fault);
-        at = next;
+        )?;
+        width += m.bits.width;
+        fault = merge(m.bits.fault, fault);
+        at = m.next;
     }
-    Answer::Read {
+    Some(Answer {
         next: at + 1,
         bits: Bits {
             width,
             fault: merge(too_wide(width), fault),
         },
-    }
+    })
 }

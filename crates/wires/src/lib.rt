@@ -9,7 +9,7 @@ ghost use Rattle.numbers.specs.Signed.{verdict_of};
 ghost use Rattle.wires.specs.Rows.{column, span_at, wire_of, has_port, TakenIs};
 
 use numbers::kinds::WireNumber;
-use numbers::signed::{Index, author_index};
+use numbers::signed::author_index;
 use scanner::parts::part;
 use tables::word;
 
@@ -25,11 +25,11 @@ pub const WIRE_FLAGS: usize = 5;
 
 pub const WIRE_PORT: usize = 6;
 
-// What the search for a wire by its name answers: its number in its module and its width.
+// A wire that a search by its name finds: its number in its module and its width.
 #[derive(Clone, Copy)]
-pub enum Found {
-    At(WireNumber, u32),
-    Nothing,
+pub struct FoundWire {
+    pub number: WireNumber,
+    pub width: u32,
 }
 
 // A column of a row in any table of rows. A row's number is the sum of two words at most, so that it may pass 32 bits.
@@ -80,7 +80,7 @@ pub fn port_taken(wires: &[u32], first: u32, count: u32, port: u32) -> bool
 }
 
 // The index that the author of row k's wire gave its bit.
-pub fn wire_index(wires: &[u32], k: u32, bit: u32) -> Index
+pub fn wire_index(wires: &[u32], k: u32, bit: u32) -> Option<i64>
     ensures { index_in (wire_of wires.now k) bit ≡ verdict_of result }
 {
     let row = k as usize;
