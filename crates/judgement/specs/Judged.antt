@@ -1,5 +1,5 @@
 -- The verdict on a line, in the rules' words.
-use Rattle.std.specs.Prelude.{ℕ, ◌-◌, ◌≤◌, ◌≡◌, List, ◌∷◌, length}
+use Rattle.std.specs.Prelude.{ℕ, ◌-◌, ◌≤◌, ◌≡◌, List, ◌∷◌, length, Result, Ok, Err}
 use Rattle.std.proofs.Math.Option.{Option, some}
 use Rattle.rules.specs.Limits.{most_signal_bits}
 use Rattle.rules.specs.Statements as rules
@@ -18,8 +18,7 @@ use Rattle.context.specs.Place.{place_of}
 use Rattle.context.specs.Sizes.{sums_of, Within}
 use Rattle.context.specs.declared.place.Place.{Place}
 use Rattle.context.specs.declared.sizes.Sizes.{Sizes}
-use Rattle.judgement.specs.declared.Judged.{Judged}
-use Rattle.judgement.specs.declared.Judged.TheVariants.{Stated, Refused}
+use Rattle.judgement.specs.declared.Stated.{Stated}
 
 -- the statements so far, as the code sees them
 pub record Stands (ss : Past) (p : Place) (u : Sizes) (names wires rows : List ℕ) : Type 0 where
@@ -37,22 +36,22 @@ pub record Accepts (ss : Past) (o : Option Shape) (f s : List ℕ) (a : Statemen
   pub sums-are : sums_of (statement ∷ ss) ≡ u
 
 -- the verdict on a shape, and on the line of these rows
-abbrev pub VerdictOn : Past → Option Shape → (f s : List ℕ) → Judged → Type 0
-VerdictOn ss o f s (Stated a u) = Accepts ss o f s a u
-VerdictOn ss o f s (Refused n) = shaped ss o ≡ Verdict.refused n
+abbrev pub VerdictOn : Past → Option Shape → (f s : List ℕ) → Result Stated ℕ → Type 0
+VerdictOn ss o f s (Ok x) = Accepts ss o f s x.statement x.sums
+VerdictOn ss o f s (Err n) = shaped ss o ≡ Verdict.refused n
 
-abbrev pub Verdicts : Past → (f t s : List ℕ) → Judged → Type 0
+abbrev pub Verdicts : Past → (f t s : List ℕ) → Result Stated ℕ → Type 0
 Verdicts ss f t s r = VerdictOn ss (shape (context ss) (line f t 0)) f s r
 
 -- what holds of an accepted one whatever stands before it
-abbrev pub Storable : List ℕ → Judged → Type 0
-Storable f (Stated a u) = Sound f a × (fault_of a ≡ 0) × Within u
-Storable f (Refused n) = Unit {0}
+abbrev pub Storable : List ℕ → Result Stated ℕ → Type 0
+Storable f (Ok x) = Sound f x.statement × (fault_of x.statement ≡ 0) × Within x.sums
+Storable f (Err n) = Unit {0}
 
 -- r is the verdict on each shape that the answer is about, and on the line, after any statements that stand so
-abbrev pub JudgesAs : (f names rows : List ℕ) → Place → Sizes → Statement → Judged → Type 0
+abbrev pub JudgesAs : (f names rows : List ℕ) → Place → Sizes → Statement → Result Stated ℕ → Type 0
 JudgesAs f names rows p u a r =
     (ss : Past) (wires s : List ℕ) (o : Option Shape) → Stands ss p u names wires rows → most_signal_bits ≤ length s → Says (judgement.wires ss) f s o a → VerdictOn ss o f s r
 
-abbrev pub JudgedAs : (f t : List ℕ) → Place → Sizes → (names wires rows s : List ℕ) → Judged → Type 0
+abbrev pub JudgedAs : (f t : List ℕ) → Place → Sizes → (names wires rows s : List ℕ) → Result Stated ℕ → Type 0
 JudgedAs f t p u names wires rows s r = (ss : Past) → Stands ss p u names wires rows → Verdicts ss f t s r

@@ -1,5 +1,5 @@
 -- What the tests of a statement go by, and the sizes of a statement.
-use Rattle.std.specs.Prelude.{ℕ, ◌+◌, ◌*◌, ◌≤◌, ◌≡◌, Bool, cond, eqb, length, replicate}
+use Rattle.std.specs.Prelude.{ℕ, ◌+◌, ◌*◌, ◌≤◌, ◌≡◌, Bool, cond, eqb, length, replicate, Option as Optional, Some, None}
 use mathlib.Core.List.{List, ◌++◌, flat_map, Option-to_list}
 use Rattle.std.proofs.Math.Option.{some, map}
 use Rattle.rules.specs.Limits.{most_signal_bits}
@@ -7,10 +7,9 @@ use Rattle.rules.specs.Statements as rules
 use Rattle.rules.specs.Statements.{digits_of, bytes_of}
 use Rattle.rules.specs.Signals.{kept}
 use Rattle.rules.specs.Judgement.{Past, sum, equal, step_widths}
-use Rattle.tokens.specs.declared.ConstantSlot.{ConstantSlot}
-use Rattle.tokens.specs.declared.ConstantSlot.TheVariants as literal
+use Rattle.tokens.specs.declared.ConstantSpan.{ConstantSpan}
 use Rattle.line_forms.specs.Forms.{name_in, value_in}
-use Rattle.line_forms.specs.declared.Span.{Span}
+use Rattle.scanner.specs.declared.parts.Span.{Span}
 use Rattle.syntax.specs.Statements.{statement_in, Named}
 use Rattle.syntax.specs.declared.Statement.{Statement}
 use Rattle.syntax.specs.declared.Statement.TheVariants.{Autoidx, Attribute, Module, Parameter, Wire, Memory, Cell, CellParameter, CellConnection, Connection, Step, End, NoShape, Process, BadNumber, MissingWire}
@@ -29,34 +28,34 @@ abbrev pub no_name : Span
 no_name = record { start = 0; end = 0 }
 
 -- the parts of a statement without signals, of a refusal, of a connection, of a line inside a process
-unfoldable pub named_parts : ℕ → Span → Span → ConstantSlot → Parts
+unfoldable pub named_parts : ℕ → Span → Span → Optional ConstantSpan → Parts
 named_parts k m n c = record { number = 0; kind = k; first = m; name = n; value = c; step = 0; count = 0; left = 0; right = 0; fault = 0 }
 
 unfoldable pub refusal_parts : ℕ → Parts
-refusal_parts x = record { number = x; kind = 11; first = no_name; name = no_name; value = literal.Nothing; step = 0; count = 0; left = 0; right = 0; fault = 0 }
+refusal_parts x = record { number = x; kind = 11; first = no_name; name = no_name; value = None; step = 0; count = 0; left = 0; right = 0; fault = 0 }
 
 unfoldable pub connection_parts : ℕ → Span → (count left right fault : ℕ) → Parts
-connection_parts k n c a b l = record { number = 0; kind = k; first = no_name; name = n; value = literal.Nothing; step = 0; count = c; left = a; right = b; fault = l }
+connection_parts k n c a b l = record { number = 0; kind = k; first = no_name; name = n; value = None; step = 0; count = c; left = a; right = b; fault = l }
 
 unfoldable pub step_parts : (step width count fault : ℕ) → Parts
-step_parts t w n l = record { number = 0; kind = 13; first = no_name; name = no_name; value = literal.Nothing; step = t; count = n; left = w; right = 0; fault = l }
+step_parts t w n l = record { number = 0; kind = 13; first = no_name; name = no_name; value = None; step = t; count = n; left = w; right = 0; fault = l }
 
 -- of each answer about a line, with its kind's code
 unfoldable pub parts_of : Statement → Parts
-parts_of (Autoidx w) = named_parts 1 no_name no_name literal.Nothing
-parts_of (Attribute n c) = named_parts 2 no_name n (literal.Read c)
-parts_of (Module n) = named_parts 3 no_name n literal.Nothing
+parts_of (Autoidx w) = named_parts 1 no_name no_name None
+parts_of (Attribute n c) = named_parts 2 no_name n (Some c)
+parts_of (Module n) = named_parts 3 no_name n None
 parts_of (Parameter n c) = named_parts 4 no_name n c
-parts_of (Wire n w t k p) = named_parts 5 no_name n literal.Nothing
-parts_of (Memory n w z t) = named_parts 6 no_name n literal.Nothing
-parts_of (Cell k n) = named_parts 7 k n literal.Nothing
-parts_of (CellParameter o n c) = named_parts 8 no_name n (literal.Read c)
+parts_of (Wire n w t k p) = named_parts 5 no_name n None
+parts_of (Memory n w z t) = named_parts 6 no_name n None
+parts_of (Cell k n) = named_parts 7 k n None
+parts_of (CellParameter o n c) = named_parts 8 no_name n (Some c)
 parts_of (CellConnection n w l) = connection_parts 9 n 1 w 0 l
 parts_of (Connection a b l) = connection_parts 10 no_name 2 a b l
 parts_of (Step p w n l) = step_parts p w n l
-parts_of End = named_parts 12 no_name no_name literal.Nothing
+parts_of End = named_parts 12 no_name no_name None
 parts_of NoShape = refusal_parts 5
-parts_of (Process n) = named_parts 11 no_name n literal.Nothing
+parts_of (Process n) = named_parts 11 no_name n None
 parts_of BadNumber = refusal_parts 7
 parts_of MissingWire = refusal_parts 8
 
@@ -69,13 +68,13 @@ unfoldable pub bits_in : Parts → ℕ
 bits_in p = cond (eqb p.kind rules.step_kind) (p.count * p.left) (p.left + p.right)
 
 -- the constant that a statement keeps, if it has one; how many digits and how many bytes it has
-unfoldable pub constants_in : List ℕ → ConstantSlot → List rules.Constant
+unfoldable pub constants_in : List ℕ → Optional ConstantSpan → List rules.Constant
 constants_in f c = Option-to_list (map kept (value_in f c))
 
-unfoldable pub digits_in : List ℕ → ConstantSlot → ℕ
+unfoldable pub digits_in : List ℕ → Optional ConstantSpan → ℕ
 digits_in f c = sum (λ d. length (digits_of d)) (constants_in f c)
 
-unfoldable pub bytes_in : List ℕ → ConstantSlot → ℕ
+unfoldable pub bytes_in : List ℕ → Optional ConstantSpan → ℕ
 bytes_in f c = sum (λ d. length (bytes_of d)) (constants_in f c)
 
 -- r is the sizes of the statement that an answer stands for, over any scratch table that has room for its signals

@@ -21,16 +21,15 @@ use context::place::Place;
 use context::sizes::{Sizes, kind_sizes, plus, within};
 use context::steps::NO_STEP;
 use faults::merge;
-use line_forms::Span;
 use literal_rules::literal_width;
 use name_search::indexed_found;
 use netlist::results::{BAD_NUMBER, BAD_WIDTH, NO_SHAPE, NOT_THERE, TAKEN_NAME, TOO_MANY};
-use scanner::parts::part;
+use scanner::parts::{Span, part};
 use signals::ModuleWires;
-use steps::{Asked, asked_width};
+use steps::asked_width;
 use strings::string_size;
 use syntax::{Statement, line_statement};
-use tokens::{ConstantSlot, ConstantSpan};
+use tokens::ConstantSpan;
 
 // What the tests of a statement go by: the number of its refusal, or 0; its kind by its code; a cell's type, and the own name, empty where there is
 // none; its constant; its step by its code; how many signals it has, the widths of the first two (those of a step are all as wide as its first), and
@@ -41,7 +40,7 @@ struct Parts {
     kind: u32,
     first: Span,
     name: Span,
-    value: ConstantSlot,
+    value: Option<ConstantSpan>,
     step: u32,
     count: usize,
     left: usize,
@@ -49,11 +48,11 @@ struct Parts {
     fault: u32,
 }
 
-// A line's statement, with the sums over it and all before it; or the number of its refusal.
+// A line's statement, with the sums over it and all before it.
 #[derive(Clone, Copy)]
-pub enum Judged {
-    Stated { statement: Statement, sums: Sizes },
-    Refused(u32),
+pub struct Stated {
+    pub statement: Statement,
+    pub sums: Sizes,
 }
 
 fn no_name() -> Span
@@ -63,7 +62,7 @@ fn no_name() -> Span
 }
 
 // A statement without signals.
-fn named(kind: u32, first: Span, name: Span, value: ConstantSlot) -> Parts
+fn named(kind: u32, first: Span, name: Span, value: Option<ConstantSpan>) -> Parts
     ensures { result ≡ named_parts kind first name value }
 {
     Parts {
@@ -90,7 +89,7 @@ fn refusing(number: u32) -> Parts
         kind: PROCESS_KIND,
         first: name,
         name,
-        value: ConstantSlot::Nothing,
+        value: None,
         step: NO_STEP,
         count: 0,
         left: 0,
@@ -108,7 +107,7 @@ fn connecting(kind: u32, name: Span, count: usize, left: usize, right: usize, fa
         kind,
         first: no_name(),
         name,
-        value: ConstantSlot::Nothing,
+        value: None,
         step: NO_STEP,
         count,
         left,
@@ -127,7 +126,7 @@ fn stepping(step: u32, width: usize, count: usize, fault: u32) -> Parts
         kind: STEP_KIND,
         first: name,
         name,
-        value: ConstantSlot::Nothing,
+        value: None,
         step,
         count,
         left: width,
@@ -141,23 +140,18 @@ fn parts_of(statement: Statement) -> Parts
 {
     let empty = no_name();
     match statement {
-        Statement::Autoidx(_) => named(AUTOIDX_KIND, empty, empty, ConstantSlot::Nothing),
-        Statement::Attribute { name, value } => named(
-            ATTRIBUTE_KIND,
-            empty,
-            name,
-            ConstantSlot::Read(value),
-        ),
-        Statement::Module(name) => named(MODULE_KIND, empty, name, ConstantSlot::Nothing),
+        Statement::Autoidx(_) => named(AUTOIDX_KIND, empty, empty, None),
+        Statement::Attribute { name, value } => named(ATTRIBUTE_KIND, empty, name, Some(value)),
+        Statement::Module(name) => named(MODULE_KIND, empty, name, None),
         Statement::Parameter { name, value } => named(PARAMETER_KIND, empty, name, value),
-        Statement::Wire { name, .. } => named(WIRE_KIND, empty, name, ConstantSlot::Nothing),
-        Statement::Memory { name, .. } => named(MEMORY_KIND, empty, name, ConstantSlot::Nothing),
-        Statement::Cell { kind, name } => named(CELL_KIND, kind, name, ConstantSlot::Nothing),
+        Statement::Wire { name, .. } => named(WIRE_KIND, empty, name, None),
+        Statement::Memory { name, .. } => named(MEMORY_KIND, empty, name, None),
+        Statement::Cell { kind, name } => named(CELL_KIND, kind, name, None),
         Statement::CellParameter { name, value, .. } => named(
             CELL_PARAMETER_KIND,
             empty,
             name,
-            ConstantSlot::Read(value),
+            Some(value),
         ),
         Statement::CellConnection { name, width, fault } => connecting(
             CELL_CONNECTION_KIND,
@@ -181,9 +175,9 @@ fn parts_of(statement: Statement) -> Parts
             count,
             fault,
         } => stepping(step, width, count, fault),
-        Statement::End => named(END_KIND, empty, empty, ConstantSlot::Nothing),
+        Statement::End => named(END_KIND, empty, empty, None),
         Statement::NoShape => refusing(NO_SHAPE),
-        Statement::Process(name) => named(PROCESS_KIND, empty, name, ConstantSlot::Nothing),
+        Statement::Process(name) => named(PROCESS_KIND, empty, name, None),
         Statement::BadNumber => refusing(BAD_NUMBER),
         Statement::MissingWire => refusing(NOT_THERE),
     }
@@ -197,11 +191,11 @@ fn span_size(f: &[u8], span: Span) -> u32
 }
 
 // The bits of a value; an integer and a string have none.
-fn value_bits(f: &[u8], value: ConstantSlot) -> u32
+fn value_bits(f: &[u8], value: Option<ConstantSpan>) -> u32
     requires { GoodOptional f.now value }
     ensures { result ≡ digits_in f.now value }
 {
-    let ConstantSlot::Read(c) = value else {
+    let Some(c) = value else {
         return 0;
     };
     match c {
@@ -212,11 +206,11 @@ fn value_bits(f: &[u8], value: ConstantSlot) -> u32
 }
 
 // The bytes of a string; an integer and a value have none.
-fn string_bytes(f: &[u8], value: ConstantSlot) -> u32
+fn string_bytes(f: &[u8], value: Option<ConstantSpan>) -> u32
     requires { length f.now ≤ longest_file }
     ensures { result ≡ bytes_in f.now value }
 {
-    let ConstantSlot::Read(c) = value else {
+    let Some(c) = value else {
         return 0;
     };
     match c {
@@ -294,7 +288,7 @@ fn uneven(rows: &[u32], place: Place, step: u32, width: usize, count: usize) -> 
     if (step == NO_STEP) | (count == 0) {
         return 0;
     }
-    let Asked::Width(asked) = asked_width(rows, place, step) else {
+    let Some(asked) = asked_width(rows, place, step) else {
         return 0;
     };
     if asked as usize == width {
@@ -314,7 +308,7 @@ fn judge_statement(
     statement: Statement,
     heads: &[u32],
     chain: &[u32],
-) -> Judged
+) -> Result<Stated, u32>
     requires f_len_bound { length f.now ≤ longest_file }
     requires sound { Sound f.now statement }
     requires within { Within sums }
@@ -325,23 +319,23 @@ fn judge_statement(
 {
     let parts = parts_of(statement);
     if parts.number != 0 {
-        return Judged::Refused(parts.number);
+        return Err(parts.number);
     }
     if name_is_taken(f, names, rows, place, statement, heads, chain) {
-        return Judged::Refused(TAKEN_NAME);
+        return Err(TAKEN_NAME);
     }
     let fault = merge(
         parts.fault,
         uneven(rows, place, parts.step, parts.left, parts.count),
     );
     if fault != 0 {
-        return Judged::Refused(fault);
+        return Err(fault);
     }
     let sums = plus(sums, statement_sizes(f, statement));
     if within(sums) {
-        return Judged::Stated { statement, sums };
+        return Ok(Stated { statement, sums });
     }
-    Judged::Refused(TOO_MANY)
+    Err(TOO_MANY)
 }
 
 // The verdict on a line that has a token.
@@ -356,7 +350,7 @@ pub fn judge_line(
     scratch: &mut [u32],
     heads: &[u32],
     chain: &[u32],
-) -> Judged
+) -> Result<Stated, u32>
     requires ready { Ready f.now tokens.now scratch.old (place.wires - place.wires_from) }
     requires within { Within sums }
     requires bounds { Bounds place }

@@ -1,5 +1,5 @@
 -- What a statement puts into each table, behind what is used of it, and the parts of statements as code holds them.
-use Rattle.std.specs.Prelude.{ℕ, ◌+◌, ◌*◌, ◌<◌, ◌≤◌, ◌≡◌, List, [], ◌∷◌, ◌++◌, true, length}
+use Rattle.std.specs.Prelude.{ℕ, ◌+◌, ◌*◌, ◌<◌, ◌≤◌, ◌≡◌, List, [], ◌∷◌, ◌++◌, true, length, Option as Optional}
 use Rattle.std.proofs.Math.Option.{Option, some, Option-elim, map}
 use Rattle.rules.specs.Limits.{most_wires, most_width, longest_file, names_length, strings_length, bits_length, most_rows}
 use Rattle.rules.specs.Tokens.{Name, Digit}
@@ -18,7 +18,6 @@ use Rattle.netlist.specs.Used.{used_of}
 use Rattle.netlist.specs.declared.used.Used.{Used}
 use Rattle.tokens.specs.Rows.{literal_in}
 use Rattle.tokens.specs.declared.ConstantSpan.{ConstantSpan}
-use Rattle.tokens.specs.declared.ConstantSlot.{ConstantSlot}
 use Rattle.literals.specs.Codes.{Whole}
 use Rattle.line_forms.specs.Forms.{value_in, ValueHolds}
 use Rattle.syntax.specs.Statements.{signals_in}
@@ -78,7 +77,7 @@ Fits at n t = (at + n ≤ length t) × (length t < 4294967296)
 abbrev pub constant_in : List ℕ → ConstantSpan → rules.Constant
 constant_in f c = kept (literal_in f c)
 
-abbrev pub optional_in : List ℕ → ConstantSlot → Option rules.Constant
+abbrev pub optional_in : List ℕ → Optional ConstantSpan → Option rules.Constant
 optional_in f c = map kept (value_in f c)
 
 -- the columns of such a constant, zeros where there is none; its string's bytes and its value's digits
@@ -102,7 +101,7 @@ pub record ConstantFits (f : List ℕ) (c : ConstantSpan) (u : Used) (strings bi
   pub strings-fit : Fits u.strings (length (bytes_of (constant_in f c))) strings
   pub bits_fit : Fits u.bits (length (digits_of (constant_in f c))) bits
 
-abbrev pub OptionalFits : List ℕ → ConstantSlot → Used → List ℕ → List ℕ → Type 0
+abbrev pub OptionalFits : List ℕ → Optional ConstantSpan → Used → List ℕ → List ℕ → Type 0
 OptionalFits f c u strings bits = ValueHolds (λ k. ConstantFits f k u strings bits) c
 
 -- the numbers of a wire

@@ -1,5 +1,5 @@
 -- What storing the answer about a line needs, and what it leaves in the tables.
-use Rattle.std.specs.Prelude.{ℕ, ◌*◌, ◌≤◌, ◌≡◌, length}
+use Rattle.std.specs.Prelude.{ℕ, ◌*◌, ◌≤◌, ◌≡◌, length, Option as Optional}
 use mathlib.Core.List.{List, [], ◌∷◌, Option-to_list}
 use Rattle.std.proofs.Math.Option.{Option, none, some}
 use Rattle.rules.specs.Limits.{names_length, strings_length, bits_length, wires_length, rows_length, scratch_length}
@@ -7,9 +7,9 @@ use Rattle.rules.specs.Statements as rules
 use Rattle.rules.specs.Statements.{contents}
 use Rattle.rules.specs.Layout as rooms
 use Rattle.rules.specs.Layout.{statement_row}
-use Rattle.tokens.specs.declared.ConstantSlot.{ConstantSlot}
+use Rattle.tokens.specs.declared.ConstantSpan.{ConstantSpan}
 use Rattle.line_forms.specs.Forms.{name_in}
-use Rattle.line_forms.specs.declared.Span.{Span}
+use Rattle.scanner.specs.declared.parts.Span.{Span}
 use Rattle.syntax.specs.Statements.{fault_of, statement_in, GoodOptional, Sound}
 use Rattle.syntax.specs.declared.Statement.{Statement}
 use Rattle.syntax.specs.declared.Statement.TheVariants.{Autoidx, Attribute, Module, Parameter, Wire as WireOf, Memory as MemoryOf, Cell, CellParameter, CellConnection, Connection, Step as StepOf, End, NoShape, Process, BadNumber, MissingWire}
@@ -45,7 +45,7 @@ abbrev pub PutIs : (f s : List ℕ) → Statement → Used → (t t' : Tables) �
 PutIs f s r u t t' = PutsAny (used_of u) (statement_in f s r) t t'
 
 -- an answer of a kind, a name, a constant if it has one, and a sort's column, over a file and the scratch table
-pub record ValuedHas (f s : List ℕ) (r : Statement) (kind : ℕ) (n : Span) (c : ConstantSlot) (sort : ℕ) : Type 0 where
+pub record ValuedHas (f s : List ℕ) (r : Statement) (kind : ℕ) (n : Span) (c : Optional ConstantSpan) (sort : ℕ) : Type 0 where
   pub x : rules.Statement
   pub is : statement_in f s r ≡ some x
   pub names-are : (contents x).names ≡ name_in f n ∷ []

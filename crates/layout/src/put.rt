@@ -1,5 +1,5 @@
 // The parts of a statement in design memory: names, string, bits and a wire's row behind what is used of their tables, and the statement's row of columns.
-ghost use Rattle.std.specs.Prelude.{◌≡◌, true, [], ◌∷◌, map, ◌+◌, ◌*◌, ◌≤◌, length, drop};
+ghost use Rattle.std.specs.Prelude.{◌≡◌, true, None, [], ◌∷◌, map, ◌+◌, ◌*◌, ◌≤◌, length, drop};
 ghost use Rattle.rules.specs.Limits.{most_width};
 ghost use Rattle.rules.specs.Statements.{digits_of, bytes_of, cell-stmt, cell-conn-stmt, conn-stmt};
 ghost use Rattle.rules.specs.Numbers.{int32, good_literal};
@@ -8,7 +8,6 @@ ghost use Rattle.rules.specs.Layout.{row, digit_code, constant_columns};
 ghost use Rattle.tables.specs.Store.{store};
 ghost use Rattle.strings.specs.Decoded.{decoded, closes};
 ghost use Rattle.tokens.specs.Rows.{integer_in, literal_in};
-ghost use Rattle.tokens.specs.declared.ConstantSlot.TheVariants as literal;
 ghost use Rattle.line_forms.specs.Forms.{name_in};
 ghost use Rattle.syntax.specs.Statements.{signal_in};
 ghost use Rattle.netlist.specs.Used.{used_of};
@@ -20,18 +19,17 @@ use context::kinds::{
     ATTRIBUTE_KIND, AUTOIDX_KIND, CELL_CONNECTION_KIND, CELL_KIND, CELL_PARAMETER_KIND,
     CONNECTION_KIND, END_KIND, MEMORY_KIND, MODULE_KIND, PARAMETER_KIND, PROCESS_KIND, WIRE_KIND,
 };
-use line_forms::Span;
 use literal_rules::literal_width;
 use literals::put_literal;
 use netlist::rows::{INTEGER_CONSTANT, STRING_CONSTANT, VALUE_CONSTANT};
 use netlist::used::{Used, last_module};
 use numbers::signed::word_of;
 use scanner::decimals::decimal;
-use scanner::parts::part;
+use scanner::parts::{Span, part};
 use strings::put_string;
 use syntax::{RIGHT_SIGNAL, Statement};
 use tables::{ROW_WORDS, Row, put_bytes, put_row, reverse_words};
-use tokens::{ConstantSlot, ConstantSpan, Integer};
+use tokens::{ConstantSpan, Integer};
 
 // The columns of a constant: its kind, where it starts and its length; or its kind and the integer.
 #[derive(Clone, Copy)]
@@ -48,7 +46,7 @@ pub enum Valued {
     Named {
         kind: u32,
         name: Span,
-        value: ConstantSlot,
+        value: Option<ConstantSpan>,
         sort: u32,
     },
     Step {
@@ -61,12 +59,12 @@ pub enum Valued {
 
 // A statement of a name only.
 fn only_named(kind: u32, name: Span) -> Valued
-    ensures { result ≡ valued.Named kind name literal.Nothing 0 }
+    ensures { result ≡ valued.Named kind name None 0 }
 {
     Valued::Named {
         kind,
         name,
-        value: ConstantSlot::Nothing,
+        value: None,
         sort: 0,
     }
 }
@@ -78,7 +76,7 @@ pub fn as_valued(statement: Statement) -> Valued
         Statement::Attribute { name, value } => Valued::Named {
             kind: ATTRIBUTE_KIND,
             name,
-            value: ConstantSlot::Read(value),
+            value: Some(value),
             sort: 0,
         },
         Statement::Parameter { name, value } => Valued::Named {
@@ -90,7 +88,7 @@ pub fn as_valued(statement: Statement) -> Valued
         Statement::CellParameter { sort, name, value } => Valued::Named {
             kind: CELL_PARAMETER_KIND,
             name,
-            value: ConstantSlot::Read(value),
+            value: Some(value),
             sort,
         },
         Statement::Module(name) => only_named(MODULE_KIND, name),
@@ -248,7 +246,7 @@ fn put_constant(
 // The constant, if there is one.
 fn put_optional(
     f: &[u8],
-    c: ConstantSlot,
+    c: Option<ConstantSpan>,
     u: Used,
     scratch: &mut [u32],
     strings: &mut [u8],
@@ -261,8 +259,8 @@ fn put_optional(
     ensures bits_after { bits.new ≡ store bits.old u.bits (map digit_code (optional_digits (optional_in f.now c))) }
 {
     match c {
-        ConstantSlot::Read(k) => put_constant(f, k, u, scratch, strings, bits),
-        ConstantSlot::Nothing => Columns {
+        Some(k) => put_constant(f, k, u, scratch, strings, bits),
+        None => Columns {
             kind: 0,
             a: 0,
             b: 0,
@@ -275,7 +273,7 @@ pub fn put_valued(
     f: &[u8],
     kind: u32,
     name: Span,
-    c: ConstantSlot,
+    c: Option<ConstantSpan>,
     sort: u32,
     u: Used,
     scratch: &mut [u32],

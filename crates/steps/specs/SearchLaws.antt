@@ -1,7 +1,7 @@
 -- Going back over the rows and counting `end`s finds the innermost open switch.
 -- Assumes nothing.
 use Prim.Native.Nat.{ℕ, zero, suc, ◌+◌, ◌-◌, ◌≤◌, ◌<◌}
-use Rattle.std.specs.Prelude.{◌≡◌, List, [], ◌∷◌, ◌++◌, map, Bool, cond, ◌&&◌, length, take, drop}
+use Rattle.std.specs.Prelude.{◌≡◌, List, [], ◌∷◌, ◌++◌, map, Bool, cond, ◌&&◌, length, take, drop, Option, Some, None}
 use Rattle.std.proofs.Math.Path.{refl, ap}
 use Rattle.std.proofs.Common.{sym, ◌∙◌, drop-drop, eqb-true, ne_eqb}
 use Rattle.std.proofs.Math.Bool.{true, false}
@@ -24,7 +24,6 @@ use Rattle.netlist.specs.LaidLaws.{laid-before, laid-last}
 use Rattle.context.specs.Place.{place_of}
 use Rattle.context.specs.declared.place.Place.{Place}
 use Rattle.steps.specs.Steps.{end_row, switch_row, open_width, widths, Single, none-single, one_single, AskedIs}
-use Rattle.steps.specs.declared.Asked.{Asked}
 
 -- ---- admitted switches have one signal
 
@@ -187,21 +186,21 @@ asked-of global o l = refl
 asked-of init o l = refl
 asked-of always o l = refl
 
-asked_is : (rows : List ℕ) (place : Place) (t : ℕ) (r : Asked) → widths r ≡ asked_of rows place.rows t → AskedIs rows place t r
+asked_is : (rows : List ℕ) (place : Place) (t : ℕ) (r : Option ℕ) → widths r ≡ asked_of rows place.rows t → AskedIs rows place t r
 unfolding place_of
 asked_is rows place t r e names ss p l o ep ec =
     asked-of p o l ∙ rw (ec, ← ap (λ (q : Place). q.rows) ep) (sym e)
 
 module _ (rows : List ℕ) (place : Place) (t : ℕ) where
-  pub asked-switch : t ≡ 21 → (r : Asked) → widths r ≡ open_width rows place.rows 0 → AskedIs rows place t r
+  pub asked-switch : t ≡ 21 → (r : Option ℕ) → widths r ≡ open_width rows place.rows 0 → AskedIs rows place t r
   unfolding asked_of
   asked-switch h r e = asked_is rows place t r (rw h e)
 
   module _ (h : t ≡ 21 → ⊥) {b : Bool} (q : b ≡ within 26 30 t) where
-    pub asked-bit : b ≡ true → AskedIs rows place t (Asked.Width 1)
+    pub asked-bit : b ≡ true → AskedIs rows place t (Some 1)
     unfolding asked_of widths
-    asked-bit e = asked_is rows place t (Asked.Width 1) (rw (ne_eqb t 21 h, ← q, e))
+    asked-bit e = asked_is rows place t (Some 1) (rw (ne_eqb t 21 h, ← q, e))
 
-    pub asked-nothing : b ≡ false → AskedIs rows place t Asked.Nothing
+    pub asked-nothing : b ≡ false → AskedIs rows place t None
     unfolding asked_of widths
-    asked-nothing e = asked_is rows place t Asked.Nothing (rw (ne_eqb t 21 h, ← q, e))
+    asked-nothing e = asked_is rows place t None (rw (ne_eqb t 21 h, ← q, e))

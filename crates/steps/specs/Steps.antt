@@ -1,5 +1,5 @@
 -- The steps of a process by their codes: how many signals each has, where it may stand, and how wide its signals have to be, as the rows before it tell.
-use Rattle.std.specs.Prelude.{ℕ, zero, suc, ◌+◌, ◌-◌, ◌≡◌, List, [], ◌∷◌, Bool, true, cond, ◌&&◌, eqb}
+use Rattle.std.specs.Prelude.{ℕ, zero, suc, ◌+◌, ◌-◌, ◌≡◌, List, [], ◌∷◌, Bool, true, cond, ◌&&◌, eqb, Option, Some, None}
 use Rattle.rules.specs.Bytes.{any}
 use Rattle.rules.specs.Statements.{Statement, Signal, Step, switch, step_code, contents, end_kind, step_kind, switch_step}
 use Rattle.rules.specs.Judgement.{Past, steps, step_widths}
@@ -9,7 +9,6 @@ use Rattle.context.specs.declared.place.Place.{Place}
 use Rattle.wires.specs.Rows.{column}
 use Rattle.netlist.specs.Rows.{kind_at}
 use Rattle.netlist.specs.Laid.{rooms_of, Laid}
-use Rattle.steps.specs.declared.Asked.{Asked}
 
 -- whether a code is that of one of some steps
 unfoldable pub of_steps : ℕ → List Step → Bool
@@ -43,9 +42,9 @@ open_width rows (suc k) c =
     let r = open_width rows k (cond (end_row rows k) (c + 1) (cond (switch_row rows k) (c - 1) c)) in
     cond (switch_row rows k && eqb c 0) (column rows k 3 ∷ []) r
 
-unfoldable pub widths : Asked → List ℕ
-widths Asked.Nothing = []
-widths (Asked.Width w) = w ∷ []
+unfoldable pub widths : Option ℕ → List ℕ
+widths None = []
+widths (Some w) = w ∷ []
 
 -- each switch has one signal
 pub data Single : Past → Type 0 where
@@ -53,6 +52,6 @@ pub data Single : Past → Type 0 where
   one_single : {s : Statement} {ss : Past} → (steps switch s ≡ true → (x : Signal) × ((contents s).signals ≡ x ∷ [])) → Single ss → Single (s ∷ ss)
 
 -- the widths that the rules ask of a step's signals, behind statements whose rows are these
-abbrev pub AskedIs : List ℕ → Place → ℕ → Asked → Type 0
+abbrev pub AskedIs : List ℕ → Place → ℕ → Option ℕ → Type 0
 AskedIs rows place t r =
     (names : List ℕ) (ss : Past) (p : Step) → Laid (rooms_of ss) names rows → Single ss → place ≡ place_of ss → step_code p ≡ t → step_widths ss p ≡ widths r

@@ -26,13 +26,6 @@ const EACH_WIDTH: usize = 3;
 // At most so many switches are open at a place.
 const MOST_SWITCHES: u32 = 16;
 
-// The width that the signals of a step have to have.
-#[derive(Clone, Copy)]
-pub enum Asked {
-    Nothing,
-    Width(u32),
-}
-
 // ---- how many signals
 
 fn within(from: u32, step: u32, to: u32) -> bool
@@ -150,7 +143,7 @@ fn closed_before(closed: u32, end: bool, switch: bool) -> u32
 }
 
 // The width of the innermost switch that is open behind so many rows: going back, as many switch lines are passed as `end`s.
-fn open_switch(rows: &[u32], count: u32) -> Asked
+fn open_switch(rows: &[u32], count: u32) -> Option<u32>
     ensures { widths result ≡ open_width rows.now count 0 }
 {
     let mut k = count;
@@ -159,23 +152,23 @@ fn open_switch(rows: &[u32], count: u32) -> Asked
         let row = (k - 1) as usize;
         let switch = is_switch(rows, row);
         if switch & (closed == 0) {
-            return Asked::Width(column(rows, row, EACH_WIDTH));
+            return Some(column(rows, row, EACH_WIDTH));
         }
         closed = closed_before(closed, is_end(rows, row), switch);
         k = k - 1;
     }
-    Asked::Nothing
+    None
 }
 
-// What a step at a place asks of its signals: a compare value is as wide as its switch, a sync's signal is one bit.
-pub fn asked_width(rows: &[u32], place: Place, step: u32) -> Asked
+// The width that a step at a place asks of its signals, if any: a compare value is as wide as its switch, a sync's signal is one bit.
+pub fn asked_width(rows: &[u32], place: Place, step: u32) -> Option<u32>
     ensures { AskedIs rows.now place step result }
 {
     if step == CASE_STEP {
         return open_switch(rows, place.rows);
     }
     if within(LOW_STEP, step, EDGE_STEP) {
-        return Asked::Width(1);
+        return Some(1);
     }
-    Asked::Nothing
+    None
 }

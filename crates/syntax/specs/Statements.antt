@@ -1,5 +1,5 @@
 -- What the answer about a line says of the rules: the line's shape, its first refusal of 5, 7 and 8, and what it means.
-use Rattle.std.specs.Prelude.{ℕ, ◌+◌, ◌*◌, ◌≤◌, ◌<◌, ◌≡◌, Bool, true, not, cond, ◌&&◌, ◌||◌, eqb, ltb, length, replicate}
+use Rattle.std.specs.Prelude.{ℕ, ◌+◌, ◌*◌, ◌≤◌, ◌<◌, ◌≡◌, Bool, true, not, cond, ◌&&◌, ◌||◌, eqb, ltb, length, replicate, Option as Optional}
 use mathlib.Core.List.{List, [], ◌∷◌, map, reverse, Option-to_list}
 use Rattle.std.proofs.Math.Option
 use Rattle.std.proofs.Math.Option.{Option, none, some, get_or}
@@ -19,7 +19,6 @@ use Rattle.context.specs.Place.{context_of}
 use Rattle.context.specs.declared.place.Place.{Place}
 use Rattle.tokens.specs.Rows.{literal_in, line}
 use Rattle.tokens.specs.declared.ConstantSpan.{ConstantSpan}
-use Rattle.tokens.specs.declared.ConstantSlot.{ConstantSlot}
 use Rattle.literals.specs.Codes.{Whole}
 use Rattle.wires.specs.Rows.{wire_of, wires_from}
 use Rattle.netlist.specs.Steps.{step_named, pieces}
@@ -201,7 +200,7 @@ pub record GoodConstant (f : List ℕ) (c : ConstantSpan) : Type 0 where
   pub good : good_literal (literal_in f c) ≡ true
   pub whole : Whole f c
 
-abbrev pub GoodOptional : List ℕ → ConstantSlot → Type 0
+abbrev pub GoodOptional : List ℕ → Optional ConstantSpan → Type 0
 GoodOptional f c = ValueHolds (GoodConstant f) c
 
 abbrev pub Sound : List ℕ → Statement → Type 0

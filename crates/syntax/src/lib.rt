@@ -17,17 +17,18 @@ use context::place::{IN_CELL, IN_MODULE, Place, TOP};
 use context::steps::CASE_STEP;
 use faults::merge;
 use line_forms::{
-    CellKind, Form, Kind, ProcessKind, Span, cell_line_kind, module_line_kind, process_line_kind,
+    CellKind, Form, Kind, ProcessKind, cell_line_kind, module_line_kind, process_line_kind,
     top_line,
 };
-use literal_rules::{Number, good_literal, integer_of};
+use literal_rules::{good_literal, integer_of};
 use netlist::results::{BAD_NUMBER, BAD_WIDTH, NOT_THERE};
-use option_rules::{MemoryRules, WireRules, memory_rules, wire_rules};
-use options::{Line, memory_line, wire_line};
-use signal_list::{Listed, signals_from};
-use signals::{Answer, Bits, ModuleWires, signal};
+use option_rules::{memory_rules, wire_rules};
+use options::{memory_line, wire_line};
+use scanner::parts::Span;
+use signal_list::signals_from;
+use signals::{Bits, ModuleWires, signal};
 use steps::arity_fits;
-use tokens::{ConstantSlot, ConstantSpan, Id, id_at};
+use tokens::{ConstantSpan, id_at};
 use wires::port_taken;
 
 // The words of a token's row.
@@ -53,7 +54,7 @@ pub enum Statement {
     Module(Span),
     Parameter {
         name: Span,
-        value: ConstantSlot,
+        value: Option<ConstantSpan>,
     },
     Wire {
         name: Span,
@@ -101,10 +102,10 @@ pub enum Statement {
     MissingWire,
 }
 
-fn parameter_statement(f: &[u8], name: Span, value: ConstantSlot) -> Statement
+fn parameter_statement(f: &[u8], name: Span, value: Option<ConstantSpan>) -> Statement
     ensures { FormIs f.now (form.Parameter name value) result }
 {
-    let ConstantSlot::Read(c) = value else {
+    let Some(c) = value else {
         return Statement::Parameter { name, value };
     };
     if good_literal(f, c) {
@@ -119,7 +120,7 @@ fn form_statement(f: &[u8], form: Form) -> Statement
 {
     match form {
         Form::Autoidx(z) => {
-            let Number::Fits(w) = integer_of(f, z) else {
+            let Some(w) = integer_of(f, z) else {
                 return Statement::BadNumber;
             };
             Statement::Autoidx(w)
@@ -148,28 +149,17 @@ fn form_statement(f: &[u8], form: Form) -> Statement
 fn memory_statement(f: &[u8], tokens: &[u32]) -> Statement
     ensures { PlainIs f.now (kind_of f.now tokens.now kind.Memory) result }
 {
-    let Line::Read {
-        options,
-        start,
-        end,
-    } = memory_line(tokens, 1)
-    else {
+    let Some(line) = memory_line(tokens, 1) else {
         return Statement::NoShape;
     };
-    let MemoryRules::Good {
-        width,
-        size,
-        offset,
-    } = memory_rules(f, options)
-    else {
+    let Some(rules) = memory_rules(f, line.options) else {
         return Statement::BadNumber;
     };
-    let name = Span { start, end };
     Statement::Memory {
-        name,
-        width,
-        size,
-        offset,
+        name: line.name,
+        width: rules.width,
+        size: rules.size,
+        offset: rules.offset,
     }
 }
 
@@ -177,35 +167,23 @@ fn memory_statement(f: &[u8], tokens: &[u32]) -> Statement
 fn wire_statement(f: &[u8], tokens: &[u32], wires: &[u32], first: u32, count: u32) -> Statement
     ensures { WireIs f.now tokens.now wires.now first count result }
 {
-    let Line::Read {
-        options,
-        start,
-        end,
-    } = wire_line(tokens, 1)
-    else {
+    let Some(line) = wire_line(tokens, 1) else {
         return Statement::NoShape;
     };
-    let WireRules::Good {
-        width,
-        offset,
-        flags,
-        port,
-    } = wire_rules(f, options)
-    else {
+    let Some(rules) = wire_rules(f, line.options) else {
         return Statement::BadNumber;
     };
-    if MOST_PLAIN_FLAGS < flags {
-        if port_taken(wires, first, count, port) {
+    if MOST_PLAIN_FLAGS < rules.flags {
+        if port_taken(wires, first, count, rules.port) {
             return Statement::BadNumber;
         }
     }
-    let name = Span { start, end };
     Statement::Wire {
-        name,
-        width,
-        offset,
-        flags,
-        port,
+        name: line.name,
+        width: rules.width,
+        offset: rules.offset,
+        flags: rules.flags,
+        port: rules.port,
     }
 }
 
@@ -258,7 +236,7 @@ fn connection_statement(
     requires wires_indexed { WiresIndexed heads.now chain.now names.now wires.now (scope.first + scope.count) }
     ensures { Says (wires_from names.now wires.now scope.first scope.count) f.now scratch.new (kind_of f.now tokens.now kind.Connect) result }
 {
-    let Answer::Read { next, bits: left } = signal(
+    let Some(left) = signal(
         f,
         tokens,
         1,
@@ -273,13 +251,10 @@ fn connection_statement(
     ) else {
         return Statement::NoShape;
     };
-    let Answer::Read {
-        next: end,
-        bits: right,
-    } = signal(
+    let Some(right) = signal(
         f,
         tokens,
-        next,
+        left.next,
         SIGNAL_DEPTH,
         names,
         wires,
@@ -288,14 +263,13 @@ fn connection_statement(
         RIGHT_SIGNAL,
         heads,
         chain,
-    )
-    else {
+    ) else {
         return Statement::NoShape;
     };
-    if end < tokens.len() / TOKEN_SIZE {
+    if right.next < tokens.len() / TOKEN_SIZE {
         return Statement::NoShape;
     }
-    connected(left, right)
+    connected(left.bits, right.bits)
 }
 
 fn cell_connection_statement(
@@ -312,10 +286,10 @@ fn cell_connection_statement(
     requires wires_indexed { WiresIndexed heads.now chain.now names.now wires.now (scope.first + scope.count) }
     ensures { Says (wires_from names.now wires.now scope.first scope.count) f.now scratch.new (cell_kind_of f.now tokens.now cell_kind.Connect) result }
 {
-    let Id::Span { start, end } = id_at(tokens, 1) else {
+    let Some(name) = id_at(tokens, 1) else {
         return Statement::NoShape;
     };
-    let Answer::Read { next, bits } = signal(
+    let Some(read) = signal(
         f,
         tokens,
         2,
@@ -330,10 +304,10 @@ fn cell_connection_statement(
     ) else {
         return Statement::NoShape;
     };
-    if next < tokens.len() / TOKEN_SIZE {
+    if read.next < tokens.len() / TOKEN_SIZE {
         return Statement::NoShape;
     }
-    let name = Span { start, end };
+    let bits = read.bits;
     refused(
         bits.fault,
         Statement::CellConnection {
@@ -410,26 +384,21 @@ fn step_statement(
     ensures { Says (wires_from names.now wires.now scope.first scope.count) f.now scratch.new (process_kind_of f.now tokens.now (process_kind.Step step from)) result }
 {
     let comma = step == CASE_STEP;
-    let Listed::Read {
-        width,
-        count,
-        fault,
-    } = signals_from(
+    let Some(list) = signals_from(
         f, tokens, from, comma, names, wires, scope, scratch, heads, chain,
-    )
-    else {
+    ) else {
         return Statement::NoShape;
     };
-    if !arity_fits(step, count as u32) {
+    if !arity_fits(step, list.count as u32) {
         return Statement::NoShape;
     }
     refused(
-        fault,
+        list.fault,
         Statement::Step {
             step,
-            width,
-            count,
-            fault,
+            width: list.width,
+            count: list.count,
+            fault: list.fault,
         },
     )
 }
