@@ -18,7 +18,7 @@ use scanner::class::{
 };
 use scanner::runs::run_end;
 use scanner::words::{NO_KEYWORD, keyword};
-use strings::{Close, string_end};
+use strings::string_end;
 use tokens::{ConstantSpan, Integer, Token, put_token};
 
 // What stands where a token could start: a token and the place behind it; nothing more; or a bad token, by its place.
@@ -29,11 +29,10 @@ pub enum Lexeme {
     Wrong(usize),
 }
 
-// The number of a line's tokens, or the place of its leftmost bad token.
+// The leftmost bad token of a line, by its place.
 #[derive(Clone, Copy)]
-pub enum Lexed {
-    Tokens(usize),
-    Bad(usize),
+pub struct BadToken {
+    pub at: usize,
 }
 
 // A blank, a mark, `#` or the end stands there.
@@ -174,8 +173,8 @@ fn string_step(class: &[u8; 256], s: &[u8], p: usize) -> Lexeme
 {
     let d = p + 1;
     match string_end(s, d) {
-        Close::At(e) => separate(class, s, p, Token::Constant(ConstantSpan::Text(d)), e),
-        Close::Broken => Lexeme::Wrong(p),
+        Some(e) => separate(class, s, p, Token::Constant(ConstantSpan::Text(d)), e),
+        None => Lexeme::Wrong(p),
     }
 }
 
@@ -217,8 +216,8 @@ fn step(class: &[u8; 256], s: &[u8], at: usize) -> Lexeme
     word_step(class, s, p)
 }
 
-// The line from start to end of the file f, each token in a row of the table. The table of classes is made here, once for the line.
-pub fn lex_line(f: &[u8], start: usize, end: usize, table: &mut [u32]) -> Lexed
+// The number of tokens of the line from start to end of the file f, each in a row of the table. The table of classes is made here, once for the line.
+pub fn lex_line(f: &[u8], start: usize, end: usize, table: &mut [u32]) -> Result<usize, BadToken>
     requires { (start ≤ end) × (end ≤ length f.now) × (length f.now ≤ longest_file) × (4 * (end - start) ≤ length table.old) }
     ensures { LexedIs f.now start end table.old table.new result }
 {
@@ -233,10 +232,10 @@ pub fn lex_line(f: &[u8], start: usize, end: usize, table: &mut [u32]) -> Lexed
                 i = next;
             }
             Lexeme::Done => {
-                return Lexed::Tokens(n);
+                return Ok(n);
             }
             Lexeme::Wrong(p) => {
-                return Lexed::Bad(p);
+                return Err(BadToken { at: p });
             }
         }
     }

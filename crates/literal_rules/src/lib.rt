@@ -29,22 +29,15 @@ const CAP: usize = 2147483649;
 
 const MOST_BYTES: usize = 268435456;
 
-// An integer's word of 32 bits in two's complement; or it lies outside of them.
-#[derive(Clone, Copy)]
-pub enum Number {
-    Fits(u32),
-    Outside,
-}
-
-// The word of an integer.
-pub fn integer_of(f: &[u8], z: Integer) -> Number
+// An integer's word of 32 bits in two's complement; none if it lies outside of them.
+pub fn integer_of(f: &[u8], z: Integer) -> Option<u32>
     ensures { NumberIs (integer_in f.now z) result }
 {
     let size = decimal(part(f, z.start, z.end));
     if fits(z.negative, size) {
-        return Number::Fits(word_of(z.negative, size));
+        return Some(word_of(z.negative, size));
     }
-    Number::Outside
+    None
 }
 
 // The digits of a value, from behind its quote mark on.

@@ -17,7 +17,7 @@ use Rattle.lists.specs.Lists.{onto-none}
 use Rattle.lists.specs.Tests.{by-test, and-true-left, and-true-right, or-false-left, or-false-right}
 use Rattle.scanner.specs.Runs.{end_of}
 use Rattle.scanner.proofs.RunLaws.{end_of-low, end_of-slice, end_of-rest}
-use Rattle.strings.specs.declared.Close.TheVariants.{At, Broken}
+use Rattle.std.specs.Prelude.{Some, None}
 use Rattle.strings.specs.Decoded.{is_plain, bytes_of, is_closed, decoded_by, decoded, closes, closing, CloseIs}
 use Rattle.strings.proofs.Turns.{held, Fine, turn-fine}
 use Rattle.strings.proofs.StringLaws.{closed-decoded}
@@ -103,10 +103,10 @@ module _ (s : List ℕ) (at i : ℕ) (j : Inside) (ds : List ℕ) (r : Reached s
   unfolding closes decoded decoded_by
   reached-room h = front (quoted plain (drop at s)) ds (quoted j (drop i s)) r.same h
 
-pub closed_is : (s : List ℕ) (at e : ℕ) (ds : List ℕ) → quoted plain (drop at s) ≡ closed ds (drop e s) → at < e → e ≤ length s → CloseIs s at (At e)
+pub closed_is : (s : List ℕ) (at e : ℕ) (ds : List ℕ) → quoted plain (drop at s) ≡ closed ds (drop e s) → at < e → e ≤ length s → CloseIs s at (Some e)
 unfolding closing
 closed_is s at e ds q h k = record { is = rw (closed-decoded (drop at s) ds (drop e s) q) q; between = (h, k) }
 
-pub broken-is : (s : List ℕ) (at : ℕ) → quoted plain (drop at s) ≡ broken → CloseIs s at Broken
+pub broken-is : (s : List ℕ) (at : ℕ) → quoted plain (drop at s) ≡ broken → CloseIs s at None
 unfolding closing
 broken-is s at q = record { is = q; between = tt }

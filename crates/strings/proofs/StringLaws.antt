@@ -8,8 +8,7 @@ use native.Mathlib.Omega.{arith}
 use lib.ListN.{length, drop, length-append, length-drop}
 use Rattle.rules.specs.Bytes.{within}
 use Rattle.rules.specs.Tokens.{Inside, plain, Turn, goes, ends, breaks, turn, Quoted, closed, broken, quoted_onto, quoted_by, quoted}
-use Rattle.strings.specs.declared.Close.{Close}
-use Rattle.strings.specs.declared.Close.TheVariants.{At, Broken}
+use Rattle.std.specs.Prelude.{Option, Some, None}
 use Rattle.strings.specs.Decoded.{bytes_of, is_closed, decoded_by, decoded, closes, closing, CloseIs}
 use Rattle.lists.specs.Elements.{all_append}
 use Rattle.strings.proofs.Turns.{held, AllBytes, Fine, turn-fine}
@@ -70,12 +69,12 @@ module _ (l : List ℕ) where
     closed-closes = rw e
 
 -- what the answer of `string_end` says
-module _ (s : List ℕ) (at : ℕ) (r : Close) (c : CloseIs s at r) where
-  pub close-broken : r ≡ Broken → quoted plain (drop at s) ≡ broken
+module _ (s : List ℕ) (at : ℕ) (r : Option ℕ) (c : CloseIs s at r) where
+  pub close-broken : r ≡ None → quoted plain (drop at s) ≡ broken
   unfolding closing
   close-broken e = rw e at c.is
 
-  module _ (end : ℕ) (e : r ≡ At end) where
+  module _ (end : ℕ) (e : r ≡ Some end) where
     pub close-closed : quoted plain (drop at s) ≡ closed (decoded (drop at s)) (drop end s)
     unfolding closing
     close-closed = rw e at c.is

@@ -1,9 +1,7 @@
 -- The decoded bytes of a string, and where it closes. `l` stands right behind the opening quote.
-use Rattle.std.specs.Prelude.{◌≡◌, Bool, true, false, not, ◌&&◌, ◌||◌, List, [], ℕ, ◌<◌, ◌≤◌, eqb, length, drop}
+use Rattle.std.specs.Prelude.{◌≡◌, Bool, true, false, not, ◌&&◌, ◌||◌, List, [], ℕ, ◌<◌, ◌≤◌, eqb, length, drop, Option, Some, None}
 use Rattle.rules.specs.Bytes.{byte, is_string_byte}
 use Rattle.rules.specs.Tokens.{Inside, plain, Quoted, closed, broken, quoted}
-use Rattle.strings.specs.declared.Close.{Close}
-use Rattle.strings.specs.declared.Close.TheVariants.{At, Broken}
 
 -- a byte that stands for itself
 unfoldable pub is_plain : ℕ → Bool
@@ -30,16 +28,16 @@ unfoldable pub closes : List ℕ → Bool
 closes l = is_closed (quoted plain l)
 
 -- what the machine says of the string at `at`, told by where it ends
-unfoldable pub closing : List ℕ → ℕ → Close → Quoted
-closing s at (At e) = closed (decoded (drop at s)) (drop e s)
-closing s at Broken = broken
+unfoldable pub closing : List ℕ → ℕ → Option ℕ → Quoted
+closing s at (Some e) = closed (decoded (drop at s)) (drop e s)
+closing s at None = broken
 
 -- an end lies behind the start and within the bytes
-abbrev pub Between : List ℕ → ℕ → Close → Type 0
-Between s at (At e) = (at < e) × (e ≤ length s)
-Between s at Broken = Unit {0}
+abbrev pub Between : List ℕ → ℕ → Option ℕ → Type 0
+Between s at (Some e) = (at < e) × (e ≤ length s)
+Between s at None = Unit {0}
 
 -- the answer is where the string at `at` ends
-pub record CloseIs (s : List ℕ) (at : ℕ) (r : Close) : Type 0 where
+pub record CloseIs (s : List ℕ) (at : ℕ) (r : Option ℕ) : Type 0 where
   pub is : quoted plain (drop at s) ≡ closing s at r
   pub between : Between s at r

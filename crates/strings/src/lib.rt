@@ -38,13 +38,6 @@ pub enum Turn {
     Breaks,
 }
 
-// The place behind a string's closing quote.
-#[derive(Clone, Copy)]
-pub enum Close {
-    At(usize),
-    Broken,
-}
-
 fn is_octal(b: u8) -> bool
     ensures { result ≡ is_octal b }
 {
@@ -193,8 +186,8 @@ fn plain_end(s: &[u8], at: usize) -> usize
     i
 }
 
-// Where the string ends whose first byte stands at `at`, behind the opening quote.
-pub fn string_end(s: &[u8], at: usize) -> Close
+// The place behind the closing quote of the string whose first byte stands at `at`, behind the opening one; none if the string is broken.
+pub fn string_end(s: &[u8], at: usize) -> Option<usize>
     ensures { CloseIs s.now at result }
 {
     let mut i = plain_end(s, at);
@@ -206,14 +199,14 @@ pub fn string_end(s: &[u8], at: usize) -> Close
                 i += 1;
             }
             Turn::Ends(_) => {
-                return Close::At(i + 1);
+                return Some(i + 1);
             }
             Turn::Breaks => {
-                return Close::Broken;
+                return None;
             }
         }
     }
-    Close::Broken
+    None
 }
 
 fn count(g: Given) -> usize

@@ -6,6 +6,7 @@ ghost use Rattle.tables.specs.Store.{store};
 ghost use Rattle.tokens.specs.Rows.{token_at, row_words, constant_words, Small, SmallConstant};
 ghost use Rattle.tokens.specs.Parts.{IdIs, IntegerIs, LiteralIs};
 
+use scanner::parts::Span;
 use tables::put_words;
 
 // The words of a row.
@@ -67,27 +68,6 @@ pub enum Token {
     Constant(ConstantSpan),
     Mark(usize),
     End,
-}
-
-// A name, by its span.
-#[derive(Clone, Copy)]
-pub enum Id {
-    Span { start: usize, end: usize },
-    Nothing,
-}
-
-// An integer, where one stands.
-#[derive(Clone, Copy)]
-pub enum Slot {
-    Given(Integer),
-    Absent,
-}
-
-// A constant, where one stands.
-#[derive(Clone, Copy)]
-pub enum ConstantSlot {
-    Read(ConstantSpan),
-    Nothing,
 }
 
 // The token of row i.
@@ -179,46 +159,32 @@ pub fn put_token(table: &mut [u32], i: usize, t: Token)
     }
 }
 
-pub fn id_at(tokens: &[u32], i: usize) -> Id
+// The span of the name in row i.
+pub fn id_at(tokens: &[u32], i: usize) -> Option<Span>
     ensures { IdIs tokens.now i result }
 {
     match token_at(tokens, i) {
-        Token::Name { start, end } => Id::Span { start, end },
-        Token::Word(_) => Id::Nothing,
-        Token::Constant(_) => Id::Nothing,
-        Token::Mark(_) => Id::Nothing,
-        Token::End => Id::Nothing,
+        Token::Name { start, end } => Some(Span { start, end }),
+        _ => None,
     }
 }
 
-pub fn literal_at(tokens: &[u32], i: usize) -> ConstantSlot
+// The constant in row i.
+pub fn literal_at(tokens: &[u32], i: usize) -> Option<ConstantSpan>
     ensures { LiteralIs tokens.now i result }
 {
     match token_at(tokens, i) {
-        Token::Name { start: _, end: _ } => ConstantSlot::Nothing,
-        Token::Word(_) => ConstantSlot::Nothing,
-        Token::Constant(c) => ConstantSlot::Read(c),
-        Token::Mark(_) => ConstantSlot::Nothing,
-        Token::End => ConstantSlot::Nothing,
+        Token::Constant(c) => Some(c),
+        _ => None,
     }
 }
 
-pub fn integer_at(tokens: &[u32], i: usize) -> Slot
+// The integer in row i.
+pub fn integer_at(tokens: &[u32], i: usize) -> Option<Integer>
     ensures { IntegerIs tokens.now i result }
 {
     match token_at(tokens, i) {
-        Token::Name { start: _, end: _ } => Slot::Absent,
-        Token::Word(_) => Slot::Absent,
-        Token::Constant(c) => match c {
-            ConstantSpan::Integer(z) => Slot::Given(z),
-            ConstantSpan::Value {
-                start: _,
-                quote: _,
-                end: _,
-            } => Slot::Absent,
-            ConstantSpan::Text(_) => Slot::Absent,
-        },
-        Token::Mark(_) => Slot::Absent,
-        Token::End => Slot::Absent,
+        Token::Constant(ConstantSpan::Integer(z)) => Some(z),
+        _ => None,
     }
 }
