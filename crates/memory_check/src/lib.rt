@@ -10,32 +10,18 @@ ghost use Rattle.memory_check.specs.Held.{memory_in, rest_zero, HeldIs};
 
 use context::kinds::RENAME_KIND;
 use context::place::Place;
-use context::sizes::Sizes;
+use context::sizes::{Sizes, Standing};
 use name_index::{ROW_CHAIN, ROW_HEADS, index_wires};
 use netlist::lengths::right_lengths;
 use numbers::kinds::{ModuleNumber, WireNumber};
 use rename_rules::indexed_rename;
-use replay::{Replayed, replay};
+use replay::replay;
 use scanner::parts::part;
 use tables::{ROW_WORDS, Row, get_row};
 use zeros::{zero_bytes_from, zero_from};
 
 // The chain of an index of wires: a place for each wire of a design.
 const WIRE_CHAIN: usize = 512;
-
-// The place and the sums behind the statements that the memory holds.
-#[derive(Clone, Copy)]
-pub enum Held {
-    Holding { place: Place, sums: Sizes },
-    Damaged,
-}
-
-// The bytes of names that are used behind the renames.
-#[derive(Clone, Copy)]
-enum Renamed {
-    Used(u32),
-    Nothing,
-}
 
 // A rename's row, whose name starts behind the bytes that are used.
 fn is_rename(x: Row, used: u32) -> bool
@@ -56,7 +42,7 @@ fn is_rename(x: Row, used: u32) -> bool
     x.g == 0
 }
 
-// One more rename, behind i of them.
+// One more rename, behind i of them: the bytes of names that are used behind it.
 fn one_rename(
     names: &[u8],
     wires: &[u32],
@@ -68,7 +54,7 @@ fn one_rename(
     place: Place,
     i: u32,
     used: u32,
-) -> Renamed
+) -> Option<u32>
     requires names_len_bound { length names.now ≤ names_length }
     requires indexed { Indexed heads.now chain.now (key_at names.now rows.now) place.rows }
     requires indexed_2 { Indexed wire_heads.now wire_chain.now (wire_key names.now wires.now) place.wires }
@@ -76,16 +62,16 @@ fn one_rename(
 {
     let at = ROW_WORDS * (place.rows as usize + i as usize);
     if rows.len() < at + ROW_WORDS {
-        return Renamed::Nothing;
+        return None;
     }
     let x = get_row(rows, at);
     if !is_rename(x, used) {
-        return Renamed::Nothing;
+        return None;
     }
     let start = used as usize;
     let end = start + x.b as usize;
     if names.len() < end {
-        return Renamed::Nothing;
+        return None;
     }
     let new = part(names, start, end);
     let number = indexed_rename(
@@ -104,12 +90,12 @@ fn one_rename(
         new,
     );
     if number != 0 {
-        return Renamed::Nothing;
+        return None;
     }
-    Renamed::Used(end as u32)
+    Some(end as u32)
 }
 
-// So many renames behind the statements, each of which may stand behind those before it.
+// So many renames behind the statements, each of which may stand behind those before it: the bytes of names that are used behind them.
 fn all_renames(
     names: &[u8],
     wires: &[u32],
@@ -121,7 +107,7 @@ fn all_renames(
     place: Place,
     renames: u32,
     used: u32,
-) -> Renamed
+) -> Option<u32>
     requires names_len_bound { length names.now ≤ names_length }
     requires indexed { Indexed heads.now chain.now (key_at names.now rows.now) place.rows }
     requires indexed_2 { Indexed wire_heads.now wire_chain.now (wire_key names.now wires.now) place.wires }
@@ -130,20 +116,12 @@ fn all_renames(
     let mut room = used;
     let mut i = 0;
     while i < renames {
-        let r = one_rename(
+        room = one_rename(
             names, wires, rows, heads, chain, wire_heads, wire_chain, place, i, room,
-        );
-        match r {
-            Renamed::Used(n) => {
-                room = n;
-                i = i + 1;
-            }
-            Renamed::Nothing => {
-                return Renamed::Nothing;
-            }
-        }
+        )?;
+        i = i + 1;
     }
-    Renamed::Used(room)
+    Some(room)
 }
 
 // The same, with an index of the wires where renames stand.
@@ -156,13 +134,13 @@ fn standing_renames(
     place: Place,
     renames: u32,
     used: u32,
-) -> Renamed
+) -> Option<u32>
     requires names_len_bound { (length names.now ≤ names_length) × (place.wires ≤ most_wires) }
     requires indexed { Indexed heads.now chain.now (key_at names.now rows.now) place.rows }
     ensures { RenamesAre names.now wires.now rows.now place renames used result }
 {
     if renames == 0 {
-        return Renamed::Used(used);
+        return Some(used);
     }
     let mut wire_heads = [0u32; ROW_HEADS];
     let mut wire_chain = [0u32; WIRE_CHAIN];
@@ -231,7 +209,7 @@ fn right_tables(names: &[u8], strings: &[u8], bits: &[u32], wires: &[u32], rows:
     )
 }
 
-// With an index of the names, of no row yet.
+// What `judge_memory` answers, with an index of the names, of no row yet.
 fn judge_indexed(
     names: &[u8],
     strings: &[u8],
@@ -242,43 +220,46 @@ fn judge_indexed(
     chain: &mut [u32],
     renames: u32,
     room: u32,
-) -> Held
+) -> Option<Standing>
     requires indexed { Indexed heads.old chain.old (key_at names.now rows.now) 0 }
     requires row_room_in_bounds { row_room ≤ length chain.old }
     ensures { HeldIs (memory_in names.now strings.now bits.now wires.now rows.now renames room) result }
 {
     if !right_tables(names, strings, bits, wires, rows) {
-        return Held::Damaged;
+        return None;
     }
-    let r = replay(names, strings, bits, wires, rows, heads, chain);
-    let Replayed::Holding { place, sums } = r else {
-        return Held::Damaged;
-    };
-    let s = standing_renames(
+    let behind = replay(names, strings, bits, wires, rows, heads, chain)?;
+    let used = standing_renames(
         names,
         wires,
         rows,
         heads,
         chain,
-        place,
+        behind.place,
         renames,
-        sums.name_bytes,
-    );
-    let Renamed::Used(used) = s else {
-        return Held::Damaged;
-    };
+        behind.sums.name_bytes,
+    )?;
     if used != room {
-        return Held::Damaged;
+        return None;
     }
     if rest_is_zero(
-        names, strings, bits, wires, rows, renames, room, place, sums,
+        names,
+        strings,
+        bits,
+        wires,
+        rows,
+        renames,
+        room,
+        behind.place,
+        behind.sums,
     ) {
-        return Held::Holding { place, sums };
+        return Some(behind);
     }
-    Held::Damaged
+    None
 }
 
-// Damaged is memory that no file read and no renames accepted after it leave: refusal 3.
+// The place and the sums behind the statements that the memory holds; nothing for damaged memory, which no file read and no renames accepted after it
+// leave.
 pub fn judge_memory(
     names: &[u8],
     strings: &[u8],
@@ -287,7 +268,7 @@ pub fn judge_memory(
     rows: &[u32],
     renames: u32,
     room: u32,
-) -> Held
+) -> Option<Standing>
     ensures { HeldIs (memory_in names.now strings.now bits.now wires.now rows.now renames room) result }
 {
     let mut heads = [0u32; ROW_HEADS];

@@ -15,13 +15,6 @@ use names::same_bytes;
 use numbers::kinds::WireNumber;
 use wire_names::{Module, name_now};
 
-// The wire that a search finds.
-#[derive(Clone, Copy)]
-pub enum Sought {
-    At(WireNumber),
-    Nothing,
-}
-
 // What is left of an index while it is halved.
 #[derive(Clone, Copy)]
 struct Halves {
@@ -102,20 +95,20 @@ pub fn find_sorted(
     m: Module,
     index: &[u32],
     name: &[u8],
-) -> Sought
+) -> Option<WireNumber>
     requires index_value { index.now ≡ index_up (name_in names.now wires.now rows.now m) m.wires 0 }
     requires apart { Apart (up (name_in names.now wires.now rows.now m) m.wires 0) }
     ensures { sought result ≡ scan_up (name_in names.now wires.now rows.now m) name.now m.wires 0 }
 {
     let at = place_among(names, wires, rows, m, index, name);
     if index.len() <= at {
-        return Sought::Nothing;
+        return None;
     }
     let wire = index[at];
     if same_bytes(name_in(names, wires, rows, m, wire), name) {
-        return Sought::At(WireNumber(wire));
+        return Some(WireNumber(wire));
     }
-    Sought::Nothing
+    None
 }
 
 // Whether entry k is a wire of the module, and the name of the entry in front of it comes before its name.

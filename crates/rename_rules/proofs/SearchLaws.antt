@@ -5,15 +5,16 @@ use mathlib.Core.Path.{◌≡◌, sym, ap, ◌∙◌}
 use mathlib.Core.List.{List}
 use mathlib.Core.Bool.{Bool, true, false, ◌||◌, or-false, or-true}
 use native.Mathlib.Omega.{arith}
+use Rattle.std.specs.Prelude.{Option as Optional}
 use Rattle.rules.specs.Bytes.{same, any}
 use Rattle.rules.specs.Tokens.{Name}
 use Rattle.rules.specs.Judgement.{accepted, refused}
 use Rattle.lists.specs.Tests.{by-test}
 use Rattle.lists.specs.Bytes.{same-sym}
+use Rattle.numbers.specs.declared.kinds.WireNumber.{WireNumber}
 use Rattle.wire_names.specs.Now.{name_now, wires_now, wires_in}
 use Rattle.wire_names.specs.declared.Module.{Module}
 use Rattle.rename_rules.specs.Search.{search_now, named, is_found}
-use Rattle.rename_rules.specs.declared.Named.{Named}
 
 -- l wires are left from number k on; b: whether wire k has the name
 module _ (names wires rows : List ℕ) (m : Module) (n own : Name) (l j k : ℕ) (b : Bool) (e : l ≡ suc j)
@@ -52,7 +53,7 @@ module _ (names wires rows : List ℕ) (m : Module) (n : Name) where
       ap taken e ∙ found-on l (k + 1) ∙ ap (λ (b : Bool). b || is_found (search_now names wires rows m n l (k + 1))) (taken_more k ∙ ap (λ (b : Bool). b || taken k) (same-sym n own)) in
       by-test (same own n) (λ t. h ∙ rw (t, or-true (taken k))) (λ t. h ∙ rw t)
 
-  pub taken-found : (r : Named) → named r ≡ search_now names wires rows m n m.wires 0 → any (λ x. same n x.0) (wires_in names wires rows m) ≡ is_found (named r)
+  pub taken-found : (r : Optional WireNumber) → named r ≡ search_now names wires rows m n m.wires 0 → any (λ x. same n x.0) (wires_in names wires rows m) ≡ is_found (named r)
   unfolding wires_in any wires_now
   taken-found r e =
       let z : 0 + m.wires ≡ m.wires = omega arith in

@@ -1,13 +1,13 @@
 -- The search for a wire of a module by its name now.
-use Rattle.std.specs.Prelude.{ℕ, zero, suc, ◌+◌, ◌-◌, ◌<◌, ◌≤◌, ◌≡◌, Bool, true, false, not, cond, ◌&&◌, List, eqb, leb}
+use Rattle.std.specs.Prelude.{ℕ, zero, suc, ◌+◌, ◌-◌, ◌<◌, ◌≤◌, ◌≡◌, Bool, true, false, not, cond, ◌&&◌, List, Some, None, eqb, leb}
+use Rattle.std.specs.Prelude.{Option as Optional}
 use Rattle.rules.specs.Bytes.{same}
 use Rattle.rules.specs.Tokens.{Name}
 use Rattle.rules.specs.Judgement.{Verdict, accepted, refused}
+use Rattle.numbers.specs.declared.kinds.WireNumber.{WireNumber}
 use Rattle.wires.specs.Rows.{span_at}
 use Rattle.wire_names.specs.Now.{last_rename, name_now}
 use Rattle.wire_names.specs.declared.Module.{Module}
-use Rattle.rename_rules.specs.declared.Named.{Named}
-use Rattle.rename_rules.specs.declared.Named.TheVariants.{At, Nothing}
 
 -- the number of the first wire of a module that has this name now, from number k on, among so many
 module _ (names wires rows : List ℕ) (m : Module) (n : Name) where
@@ -18,9 +18,9 @@ module _ (names wires rows : List ℕ) (m : Module) (n : Name) where
       cond (same (name_now names wires rows m.from m.renames m.number.0 k (m.first + k)) n) (accepted k) r
 
 -- a found wire's number
-unfoldable pub named : Named → Verdict ℕ
-named (At w) = accepted w.0
-named Nothing = refused 8
+unfoldable pub named : Optional WireNumber → Verdict ℕ
+named (Some w) = accepted w.0
+named None = refused 8
 
 unfoldable pub is_found : Verdict ℕ → Bool
 is_found (accepted k) = true

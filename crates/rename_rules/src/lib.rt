@@ -38,12 +38,6 @@ const DIRECTION_FLAG: u32 = 4;
 // The last direction of a port, `inout`.
 const LAST_DIRECTION: u32 = 3;
 
-#[derive(Clone, Copy)]
-pub enum Named {
-    At(WireNumber),
-    Nothing,
-}
-
 // Whether the wire in a row is a port.
 fn is_port(wires: &[u32], row: usize) -> bool
     requires { row < many_rows }
@@ -108,32 +102,34 @@ fn keeps_name(
 }
 
 // The first wire of the module that has this name now.
-pub fn find_named(names: &[u8], wires: &[u32], rows: &[u32], m: Module, name: &[u8]) -> Named
+pub fn find_named(
+    names: &[u8],
+    wires: &[u32],
+    rows: &[u32],
+    m: Module,
+    name: &[u8],
+) -> Option<WireNumber>
     ensures { named result ≡ search_now names.now wires.now rows.now m name.now m.wires 0 }
 {
     let least = renamed_to(names, rows, m, name);
     let mut k = 0;
     while k < least {
         if keeps_name(names, wires, rows, m, WireNumber(k), name) {
-            return Named::At(WireNumber(k));
+            return Some(WireNumber(k));
         }
         k = k + 1;
     }
     if least < m.wires {
-        return Named::At(WireNumber(least));
+        return Some(WireNumber(least));
     }
-    Named::Nothing
+    None
 }
 
 // Whether a wire of the module has this name now.
 fn wire_name_taken(names: &[u8], wires: &[u32], rows: &[u32], m: Module, name: &[u8]) -> bool
     ensures { result ≡ any (λ x. same name.now x.0) (wires_in names.now wires.now rows.now m) }
 {
-    let found = find_named(names, wires, rows, m, name);
-    match found {
-        Named::At(_wire) => true,
-        Named::Nothing => false,
-    }
+    find_named(names, wires, rows, m, name).is_some()
 }
 
 // Whether a memory, a cell or a process of the module has this name.

@@ -1,5 +1,6 @@
 -- Statements that tables begin with, one behind another, and nothing else of the kind behind them.
-use Rattle.std.specs.Prelude.{ℕ, ◌*◌, ◌≡◌, List, Bool, true, false, length}
+use Rattle.std.specs.Prelude.{ℕ, ◌*◌, ◌≡◌, List, Bool, true, false, length, Some, None}
+use Rattle.std.specs.Prelude.{Option as Optional}
 use Rattle.rules.specs.Bytes.{within}
 use Rattle.rules.specs.Statements.{step_kind}
 use Rattle.rules.specs.Judgement.{Past}
@@ -9,11 +10,11 @@ use Rattle.wires.specs.Rows.{word_at}
 use Rattle.netlist.specs.Laid.{rooms_of}
 use Rattle.context.specs.Place.{place_of}
 use Rattle.context.specs.Sizes.{sums_of}
+use Rattle.context.specs.declared.sizes.Standing.{Standing}
 use Rattle.netlist.specs.Tables as netlist
 use Rattle.netlist.specs.Fronts.{Fronts}
 use Rattle.name_index.specs.Index.{key_at, Indexed}
 use Rattle.row_statements.specs.Reads.{PartTables}
-use Rattle.replay.specs.declared.Replayed.{Replayed}
 
 -- the tables of parts and the table of rows
 abbrev pub with_rows : PartTables → List ℕ → netlist.Tables
@@ -35,12 +36,12 @@ pub record Stored (t : PartTables) (rows : List ℕ) (ss : Past) : Type 0 where
   pub begins : Begins (rooms_of ss) t rows
 
 -- the answer, both ways: there are such statements, with this place and these sums behind them; or there are none. There are no others (OneLaws)
-unfoldable pub Replays : PartTables → List ℕ → Replayed → Type 0
-Replays t rows (Replayed.Holding p u) =
-    (ss : Past) × Stored t rows ss × (place_of ss ≡ p) × (sums_of ss ≡ u)
-Replays t rows Replayed.Damaged = (ss : Past) → Stored t rows ss → ⊥
+unfoldable pub Replays : PartTables → List ℕ → Optional Standing → Type 0
+Replays t rows (Some x) =
+    (ss : Past) × Stored t rows ss × (place_of ss ≡ x.place) × (sums_of ss ≡ x.sums)
+Replays t rows None = (ss : Past) → Stored t rows ss → ⊥
 
 -- where there are such statements, their rows are indexed
-unfoldable pub IndexLeft : (heads chain names rows : List ℕ) → Replayed → Type 0
-IndexLeft heads chain names rows (Replayed.Holding p u) = Indexed heads chain (key_at names rows) p.rows
-IndexLeft heads chain names rows Replayed.Damaged = Unit {0}
+unfoldable pub IndexLeft : (heads chain names rows : List ℕ) → Optional Standing → Type 0
+IndexLeft heads chain names rows (Some x) = Indexed heads chain (key_at names rows) x.place.rows
+IndexLeft heads chain names rows None = Unit {0}

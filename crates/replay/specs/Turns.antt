@@ -1,5 +1,6 @@
 -- The statements replayed so far, and one more.
-use Rattle.std.specs.Prelude.{ℕ, ◌≤◌, ◌≡◌, List, ◌∷◌, ◌++◌, map, Bool, true, false, ◌&&◌, leb, length}
+use Rattle.std.specs.Prelude.{ℕ, ◌≤◌, ◌≡◌, List, ◌∷◌, ◌++◌, map, Bool, true, false, ◌&&◌, leb, length, Some, None}
+use Rattle.std.specs.Prelude.{Option as Optional}
 use Rattle.rules.specs.Limits.{most_signal_bits, most_value_bits, most_string_bytes, name_room, most_statements, most_step_signals}
 use Rattle.rules.specs.Statements.{Statement, Signal, Step, step_code, code, contents}
 use Rattle.rules.specs.Judgement.{Past, takes_name, equal, step_widths, fit_widths, exceeds_size}
@@ -12,6 +13,7 @@ use Rattle.context.specs.Place.{place_of, scope_of, step_of, Bounds}
 use Rattle.context.specs.Sizes.{sums_of, Within}
 use Rattle.context.specs.declared.place.Place.{Place}
 use Rattle.context.specs.declared.sizes.Sizes.{Sizes}
+use Rattle.context.specs.declared.sizes.Standing.{Standing}
 use Rattle.netlist.specs.Spans.{Has}
 use Rattle.tables.specs.Row.{words}
 use Rattle.tables.specs.declared.Row.{Row}
@@ -19,7 +21,6 @@ use Rattle.steps.specs.Steps.{Single}
 use Rattle.row_statements.specs.Reads.{PartTables, even_signals, Counts}
 use Rattle.netlist.specs.Fronts.{Fronts}
 use Rattle.replay.specs.Begins.{with_rows}
-use Rattle.replay.specs.declared.turns.Turn.{Turn}
 
 -- whether a statement of this kind has a form at a place
 unfoldable pub stands_at : Place → ℕ → Bool
@@ -51,10 +52,10 @@ pub record Reached (t : PartTables) (rows : List ℕ) (ss : Past) (p : Place) (u
   pub sums : sums_of ss ≡ u
 
 -- one statement more: the place and the sums behind it; or none can stand there
-unfoldable pub TurnIs : PartTables → List ℕ → Place → Sizes → Turn → Type 0
-TurnIs t rows p u (Turn.Next q v) =
-    (ss : Past) → Reached t rows ss p u → (s : Statement) × Reached t rows (s ∷ ss) q v
-TurnIs t rows p u Turn.Nothing =
+unfoldable pub TurnIs : PartTables → List ℕ → Place → Sizes → Optional Standing → Type 0
+TurnIs t rows p u (Some x) =
+    (ss : Past) → Reached t rows ss p u → (s : Statement) × Reached t rows (s ∷ ss) x.place x.sums
+TurnIs t rows p u None =
     (ss : Past) → Reached t rows ss p u → (x : Statement) → Fronts (rooms_of (x ∷ ss)) (with_rows t rows) → admits ss x ≡ true → ⊥
 
 -- there is a statement of this kind that holds so much
@@ -72,14 +73,14 @@ pub record Rowed (t : PartTables) (rows : List ℕ) (ss : Past) (s : Statement) 
   pub step : j ≡ step_of (contents s).steps
   pub counts : Counts s c g v x n
 
-unfoldable pub CountsAs : PartTables → List ℕ → Place → Sizes → (k j c g v x n : ℕ) → Turn → Type 0
-CountsAs t rows p u k j c g v x n (Turn.Next q w) =
+unfoldable pub CountsAs : PartTables → List ℕ → Place → Sizes → (k j c g v x n : ℕ) → Optional Standing → Type 0
+CountsAs t rows p u k j c g v x n (Some y) =
     (ss : Past) (s : Statement) → Reached t rows ss p u → Rowed t rows ss s k j c g v x n →
-    (takes_name ss s ≡ false) × (exceeds_size (s ∷ ss) ≡ false) × (place_of (s ∷ ss) ≡ q) × (sums_of (s ∷ ss) ≡ w)
-CountsAs t rows p u k j c g v x n Turn.Nothing =
+    (takes_name ss s ≡ false) × (exceeds_size (s ∷ ss) ≡ false) × (place_of (s ∷ ss) ≡ y.place) × (sums_of (s ∷ ss) ≡ y.sums)
+CountsAs t rows p u k j c g v x n None =
     (ss : Past) (s : Statement) → Reached t rows ss p u → Rowed t rows ss s k j c g v x n → takes_name ss s ≡ false → exceeds_size (s ∷ ss) ≡ false → ⊥
 
-abbrev pub Counted : (names rows : List ℕ) → Place → Sizes → (k j c g v x n : ℕ) → Turn → Type 0
+abbrev pub Counted : (names rows : List ℕ) → Place → Sizes → (k j c g v x n : ℕ) → Optional Standing → Type 0
 Counted names rows p u k j c g v x n r =
     (strings bits wires : List ℕ) → CountsAs (record { names = names; strings = strings; bits = bits; wires = wires }) rows p u k j c g v x n r
 

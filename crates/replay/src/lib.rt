@@ -3,8 +3,8 @@
 #![tactic(auto)]
 
 use context::kinds::STEP_KIND;
-use context::place::{Place, is_closed, start};
-use context::sizes::{Sizes, none};
+use context::place::{is_closed, start};
+use context::sizes::{Standing, none};
 use name_index::index_row;
 use tables::{ROW_WORDS, word};
 
@@ -15,14 +15,7 @@ ghost use Rattle.name_index.specs.Index.{key_at, row_room, Indexed};
 ghost use Rattle.row_statements.specs.Reads.{part_tables};
 ghost use Rattle.replay.specs.Begins.{is_statement, Replays, IndexLeft};
 
-use turns::{Turn, one_more};
-
-// The place and the sums behind the statements that the tables hold.
-#[derive(Clone, Copy)]
-pub enum Replayed {
-    Holding { place: Place, sums: Sizes },
-    Damaged,
-}
+use turns::one_more;
 
 fn is_statement(kind: u32) -> bool
     ensures { result ≡ is_statement kind }
@@ -33,7 +26,7 @@ fn is_statement(kind: u32) -> bool
     kind <= STEP_KIND
 }
 
-// It fills an index of its rows by their names, which stays with the caller.
+// The place and the sums behind the statements that the tables hold. It fills an index of their rows by their names, which stays with the caller.
 pub fn replay(
     names: &[u8],
     strings: &[u8],
@@ -42,7 +35,7 @@ pub fn replay(
     rows: &[u32],
     heads: &mut [u32],
     chain: &mut [u32],
-) -> Replayed
+) -> Option<Standing>
     requires indexed { Indexed heads.old chain.old (key_at names.now rows.now) 0 }
     requires row_room_in_bounds { row_room ≤ length chain.old }
     ensures replays { Replays (part_tables names.now strings.now bits.now wires.now) rows.now result }
@@ -53,20 +46,13 @@ pub fn replay(
     loop {
         if !is_statement(word(rows, ROW_WORDS * (place.rows as usize))) {
             if is_closed(place) {
-                return Replayed::Holding { place, sums };
+                return Some(Standing { place, sums });
             }
-            return Replayed::Damaged;
+            return None;
         }
-        let t = one_more(names, strings, bits, wires, rows, heads, chain, place, sums);
-        match t {
-            Turn::Next { place: p, sums: u } => {
-                index_row(names, rows, heads, chain, place.rows);
-                place = p;
-                sums = u;
-            }
-            Turn::Nothing => {
-                return Replayed::Damaged;
-            }
-        }
+        let next = one_more(names, strings, bits, wires, rows, heads, chain, place, sums)?;
+        index_row(names, rows, heads, chain, place.rows);
+        place = next.place;
+        sums = next.sums;
     }
 }

@@ -16,23 +16,16 @@ use context::kinds::{
 };
 use context::place::{IN_CELL, IN_MODULE, IN_SYNC, IN_TAIL, Place, TOP, after};
 use context::sizes::{
-    MOST_SIGNAL_BITS, MOST_STRING_BYTES, MOST_VALUE_BITS, NAME_ROOM, Sizes, kind_sizes, plus,
-    within,
+    MOST_SIGNAL_BITS, MOST_STRING_BYTES, MOST_VALUE_BITS, NAME_ROOM, Sizes, Standing, kind_sizes,
+    plus, within,
 };
 use context::steps::NO_STEP;
 use name_search::indexed_found;
 use netlist::rows::row_name;
 use netlist::used::used_from;
-use row_statements::statements::{Found, statement_at};
-use steps::{Asked, asked_width, step_stands};
+use row_statements::statements::statement_at;
+use steps::{asked_width, step_stands};
 use tables::{ROW_WORDS, Row, get_row};
-
-// The place and the sums behind the statement.
-#[derive(Clone, Copy)]
-pub enum Turn {
-    Next { place: Place, sums: Sizes },
-    Nothing,
-}
 
 // Kinds that attributes may stand before, in a module.
 fn is_object(kind: u32) -> bool
@@ -121,10 +114,9 @@ fn stands_at(p: Place, kind: u32) -> bool
 fn asked_fits(rows: &[u32], p: Place, step: u32, width: u32, count: u32) -> bool
     ensures { AskedFits rows.now p step width count result }
 {
-    let a = asked_width(rows, p, step);
-    match a {
-        Asked::Nothing => true,
-        Asked::Width(w) => (count == 0) | (w == width),
+    match asked_width(rows, p, step) {
+        None => true,
+        Some(w) => (count == 0) | (w == width),
     }
 }
 
@@ -169,7 +161,7 @@ fn small_parts(signals: u32, values: u32, strings: u32, names: u32) -> bool
     names <= NAME_ROOM
 }
 
-// A statement whose row stands there, with what it holds: its name is new, and no size is exceeded.
+// The place and the sums behind a statement whose row stands there, with what it holds: its name is new, and no size is exceeded.
 fn counted(
     names: &[u8],
     rows: &[u32],
@@ -184,7 +176,7 @@ fn counted(
     values: u32,
     strings: u32,
     bytes: u32,
-) -> Turn
+) -> Option<Standing>
     requires ready { Ready p u }
     requires told { Told kind count signals values strings bytes }
     requires indexed { Indexed heads.now chain.now (key_at names.now rows.now) p.rows }
@@ -199,22 +191,22 @@ fn counted(
         kind,
         row_name(names, rows, p.rows),
     ) {
-        return Turn::Nothing;
+        return None;
     }
     if !small_parts(signals, values, strings, bytes) {
-        return Turn::Nothing;
+        return None;
     }
     let sums = plus(u, kind_sizes(kind, count, signals, values, strings, bytes));
     if !within(sums) {
-        return Turn::Nothing;
+        return None;
     }
-    Turn::Next {
+    Some(Standing {
         place: after(p, kind, step),
         sums,
-    }
+    })
 }
 
-// The statement of the row at this place.
+// The place and the sums behind the statement of the row at this place.
 pub fn one_more(
     names: &[u8],
     strings: &[u8],
@@ -225,43 +217,34 @@ pub fn one_more(
     chain: &[u32],
     p: Place,
     u: Sizes,
-) -> Turn
+) -> Option<Standing>
     requires ready { Ready p u }
     requires indexed { Indexed heads.now chain.now (key_at names.now rows.now) p.rows }
     ensures { TurnIs (part_tables names.now strings.now bits.now wires.now) rows.now p u result }
 {
     let at = ROW_WORDS * (p.rows as usize);
     if rows.len() < at + ROW_WORDS {
-        return Turn::Nothing;
+        return None;
     }
     let r = get_row(rows, at);
     if !line_stands(rows, p, r) {
-        return Turn::Nothing;
+        return None;
     }
     let x = used_from(p, u);
-    let f = statement_at(names, strings, bits, wires, x, p.wires_from, r);
-    match f {
-        Found::Statement {
-            count,
-            signals,
-            values,
-            strings: text,
-            names: bytes,
-        } => counted(
-            names,
-            rows,
-            heads,
-            chain,
-            p,
-            u,
-            r.kind,
-            step_of(r.kind, r.a),
-            count,
-            signals,
-            values,
-            text,
-            bytes,
-        ),
-        Found::Nothing => Turn::Nothing,
-    }
+    let found = statement_at(names, strings, bits, wires, x, p.wires_from, r)?;
+    counted(
+        names,
+        rows,
+        heads,
+        chain,
+        p,
+        u,
+        r.kind,
+        step_of(r.kind, r.a),
+        found.count,
+        found.signals,
+        found.values,
+        found.strings,
+        found.names,
+    )
 }

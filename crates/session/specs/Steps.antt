@@ -1,5 +1,5 @@
 -- The steps of the calls: memory that is open to them, and why it is not.
-use Rattle.std.specs.Prelude.{ℕ, ◌≡◌, true, false, List, reverse}
+use Rattle.std.specs.Prelude.{ℕ, ◌≡◌, true, false, List, reverse, Result, Ok, Err}
 use Rattle.rules.specs.Statements.{Statement}
 use Rattle.rules.specs.Session.{Rename}
 use Rattle.rules.specs.Layout.{Memory}
@@ -8,8 +8,6 @@ use Rattle.context.specs.declared.place.Place.{Place}
 use Rattle.admitted.specs.Holds.{Holds}
 use Rattle.netlist.specs.Lengths.{right_lengths}
 use Rattle.session.specs.Called.{Damaged}
-use Rattle.session.specs.declared.Opened.{Opened}
-use Rattle.session.specs.declared.Opened.TheVariants.{Open, Refused}
 
 -- memory of the right lengths that holds a design, whose statements end at a place
 pub record Holding (m : Memory) (p : Place) : Type 0 where
@@ -23,6 +21,6 @@ pub data NotOpen (m : Memory) (n : ℕ) : Type 0 where
   wrong-sizes : right_lengths m ≡ false → n ≡ 1 → NotOpen m n
   none-held : right_lengths m ≡ true → Damaged m → n ≡ 3 → NotOpen m n
 
-abbrev pub OpenedIs : Memory → Opened → Type 0
-OpenedIs m (Open p) = Holding m p
-OpenedIs m (Refused n) = NotOpen m n
+abbrev pub OpenedIs : Memory → Result Place ℕ → Type 0
+OpenedIs m (Ok p) = Holding m p
+OpenedIs m (Err n) = NotOpen m n

@@ -14,7 +14,7 @@ ghost use Rattle.session.specs.Steps.{Holding, OpenedIs};
 
 use context::kinds::RENAME_KIND;
 use context::place::Place;
-use memory_check::{Held, judge_memory};
+use memory_check::judge_memory;
 use netlist::lengths::right_lengths;
 use netlist::results::{CallResult, DAMAGED, NOTHING_TO_UNDO, WRONG_LENGTH};
 use numbers::kinds::{ModuleNumber, WireNumber};
@@ -26,12 +26,6 @@ use zeros::zero_bytes;
 const RENAME_NAME: usize = 1;
 
 // Memory that holds a design, whose statements end at a place; or the refusal's number.
-#[derive(Clone, Copy)]
-pub enum Opened {
-    Open(Place),
-    Refused(u32),
-}
-
 pub fn open_memory(
     names: &[u8],
     strings: &[u8],
@@ -40,7 +34,7 @@ pub fn open_memory(
     rows: &[u32],
     renames: u32,
     room: u32,
-) -> Opened
+) -> Result<Place, u32>
     ensures { OpenedIs (lent names.now strings.now bits.now wires.now rows.now renames room) result }
 {
     if !right_lengths(
@@ -50,12 +44,10 @@ pub fn open_memory(
         wires.len(),
         rows.len(),
     ) {
-        return Opened::Refused(WRONG_LENGTH);
+        return Err(WRONG_LENGTH);
     }
-    match judge_memory(names, strings, bits, wires, rows, renames, room) {
-        Held::Holding { place, sums: _ } => Opened::Open(place),
-        Held::Damaged => Opened::Refused(DAMAGED),
-    }
+    let behind = judge_memory(names, strings, bits, wires, rows, renames, room).ok_or(DAMAGED)?;
+    Ok(behind.place)
 }
 
 // The new name behind the names, and the rename's row.
@@ -138,10 +130,10 @@ pub fn rename(
     ensures { CalledAs (lent names.old strings.now bits.now wires.now rows.old renames room) (Call.rename (record { module_number = m.0; wire_number = w.0; new_name = new.now })) (outcome result.number result.place (lent names.new strings.now bits.now wires.now rows.new result.renames result.room)) }
 {
     match open_memory(names, strings, bits, wires, rows, renames, room) {
-        Opened::Open(place) => rename_open(
+        Ok(place) => rename_open(
             names, strings, bits, wires, rows, place, renames, room, m, w, new,
         ),
-        Opened::Refused(number) => CallResult {
+        Err(number) => CallResult {
             number,
             place: 0,
             renames,
@@ -222,10 +214,8 @@ pub fn undo(
     ensures { CalledAs (lent names.old strings.now bits.now wires.now rows.old renames room) Call.undo (outcome result.number result.place (lent names.new strings.now bits.now wires.now rows.new result.renames result.room)) }
 {
     match open_memory(names, strings, bits, wires, rows, renames, room) {
-        Opened::Open(place) => {
-            undo_open(names, strings, bits, wires, rows, place, renames, room)
-        }
-        Opened::Refused(number) => CallResult {
+        Ok(place) => { undo_open(names, strings, bits, wires, rows, place, renames, room) }
+        Err(number) => CallResult {
             number,
             place: 0,
             renames,
