@@ -94,8 +94,8 @@ fn accepted(renames: u32, room: u32) -> CallResult
     CallResult {
         number: 0,
         place: 0,
-        renames: renames,
-        room: room,
+        renames,
+        room,
     }
 }
 
@@ -116,17 +116,15 @@ fn make_calls(
     ensures { MadeAs (lent names.old strings.now bits.now wires.now rows.old renames room) answers.old (calls_in calls.now texts.now) (outcome result.number result.place (lent names.new strings.now bits.now wires.now rows.new result.renames result.room)) answers.new }
 {
     let many = calls.len() / CALL_WORDS;
-    let mut i = 0;
     let mut standing = renames;
     let mut used = room;
-    while i < many {
+    for i in 0..many {
         let left = make_call(
             calls, texts, i, names, strings, bits, wires, rows, standing, used,
         );
         put_answer(answers, i, left.number, left.place);
         standing = left.renames;
         used = left.room;
-        i = i + 1;
     }
     accepted(standing, used)
 }

@@ -8,55 +8,43 @@ ghost use Rattle.netlist.specs.Tables.{tabled};
 ghost use Rattle.goal.specs.Settled.{stop_of};
 ghost use Rattle.file_lines.specs.Lines.{finish_of, Before, ReachAs};
 
-use context::place::{Place, is_closed};
-use context::sizes::Sizes;
+use context::place::is_closed;
+use context::sizes::Standing;
 use goal::{Goal, is_settled};
 use line_reader::line_at;
-use netlist::results::NO_SHAPE;
-use reading_step::{Step, take_line};
+use netlist::results::{NO_SHAPE, Refused};
+use reading_step::take_line;
 use scanner::lines::Line;
 
 // The words of a token's row.
 const TOKEN_SIZE: usize = 4;
 
-// What the lines of a file give: the place and the sums behind its statements; or a refusal.
-#[derive(Clone, Copy)]
-pub enum Answer {
-    Accepted { place: Place, sums: Sizes },
-    Refused { number: u32, place: u32 },
-}
-
 // How far a table of tokens reaches: to the file's end or a refusal; or to a line that is too long for it.
 #[derive(Clone, Copy)]
 pub enum Reach {
-    Ended(Answer),
-    Longer {
-        line: Line,
-        place: Place,
-        sums: Sizes,
-    },
+    Ended(Result<Standing, Refused>),
+    Longer { line: Line, standing: Standing },
 }
 
 // The file ends inside a module or after attributes: its length is the place.
-fn finish(size: usize, place: Place, sums: Sizes) -> Answer
+fn finish(size: usize, standing: Standing) -> Result<Standing, Refused>
     requires { size ≤ longest_file }
-    ensures { result ≡ finish_of size place sums }
+    ensures { result ≡ finish_of size standing }
 {
-    if is_closed(place) {
-        return Answer::Accepted { place, sums };
+    if is_closed(standing.place) {
+        return Ok(standing);
     }
-    Answer::Refused {
+    Err(Refused {
         number: NO_SHAPE,
         place: size as u32,
-    }
+    })
 }
 
 // The lines from this one on, up to the one that settles the goal or to one whose bytes are more than a quarter of the tokens' words.
 pub fn read_lines(
     f: &[u8],
     first: Line,
-    behind: Place,
-    summed: Sizes,
+    before: Standing,
     tokens: &mut [u32],
     scratch: &mut [u32],
     names: &mut [u8],
@@ -69,32 +57,27 @@ pub fn read_lines(
     goal: Goal,
     name: &[u8],
 ) -> Reach
-    requires before { Before (stop_of goal name.now) f.now scratch.old behind summed (tabled names.old strings.old bits.old wires.old rows.old) first }
-    requires lines_indexed { LinesIndexed heads.old chain.old names.old wires.old rows.old behind.rows behind.wires }
+    requires before { Before (stop_of goal name.now) f.now scratch.old before.place before.sums (tabled names.old strings.old bits.old wires.old rows.old) first }
+    requires lines_indexed { LinesIndexed heads.old chain.old names.old wires.old rows.old before.place.rows before.place.wires }
     ensures { ReachAs (stop_of goal name.now) f.now tokens.old scratch.new heads.new chain.new (tabled names.new strings.new bits.new wires.new rows.new) result }
 {
     let mut line = first;
-    let mut place = behind;
-    let mut sums = summed;
+    let mut standing = before;
     while line.start < f.len() {
         if tokens.len() / TOKEN_SIZE < line.end - line.start {
-            return Reach::Longer { line, place, sums };
+            return Reach::Longer { line, standing };
         }
-        match take_line(
-            f, line, place, sums, tokens, scratch, names, strings, bits, wires, rows, heads, chain,
+        let next = match take_line(
+            f, line, standing, tokens, scratch, names, strings, bits, wires, rows, heads, chain,
         ) {
-            Step::Next { place: p, sums: u } => {
-                if is_settled(names, rows, p, goal, name) {
-                    return Reach::Ended(Answer::Accepted { place: p, sums: u });
-                }
-                place = p;
-                sums = u;
-                line = line_at(f, line.next);
-            }
-            Step::Stop { number, place: at } => {
-                return Reach::Ended(Answer::Refused { number, place: at });
-            }
+            Ok(next) => next,
+            Err(refused) => return Reach::Ended(Err(refused)),
+        };
+        if is_settled(names, rows, next.place, goal, name) {
+            return Reach::Ended(Ok(next));
         }
+        standing = next;
+        line = line_at(f, line.next);
     }
-    Reach::Ended(finish(f.len(), place, sums))
+    Reach::Ended(finish(f.len(), standing))
 }

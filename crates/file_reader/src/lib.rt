@@ -11,12 +11,13 @@ ghost use Rattle.netlist.specs.Tables.{tabled};
 ghost use Rattle.goal.specs.Settled.{stop_of};
 ghost use Rattle.file_lines.specs.Lines.{read_to, Landed, Before};
 
-use context::place::{Place, start};
-use context::sizes::{Sizes, none};
-use file_lines::{Answer, Reach, read_lines};
+use context::place::start;
+use context::sizes::{Standing, none};
+use file_lines::{Reach, read_lines};
 use goal::Goal;
 use line_reader::line_at;
 use name_index::{ALL_CHAIN, ALL_HEADS};
+use netlist::results::Refused;
 use scanner::lines::Line;
 
 // The most bytes of a file that is read.
@@ -38,8 +39,7 @@ const SCRATCH: usize = 43008;
 fn read_longest(
     f: &[u8],
     line: Line,
-    place: Place,
-    sums: Sizes,
+    standing: Standing,
     scratch: &mut [u32],
     names: &mut [u8],
     strings: &mut [u8],
@@ -50,17 +50,16 @@ fn read_longest(
     chain: &mut [u32],
     goal: Goal,
     name: &[u8],
-) -> Answer
-    requires before { Before (stop_of goal name.now) f.now scratch.old place sums (tabled names.old strings.old bits.old wires.old rows.old) line }
-    requires lines_indexed { LinesIndexed heads.old chain.old names.old wires.old rows.old place.rows place.wires }
+) -> Result<Standing, Refused>
+    requires before { Before (stop_of goal name.now) f.now scratch.old standing.place standing.sums (tabled names.old strings.old bits.old wires.old rows.old) line }
+    requires lines_indexed { LinesIndexed heads.old chain.old names.old wires.old rows.old standing.place.rows standing.place.wires }
     ensures { Landed (read_to (stop_of goal name.now) f.now) (tabled names.new strings.new bits.new wires.new rows.new) result }
 {
     let mut tokens = [0u32; ALL_TOKENS];
     match read_lines(
         f,
         line,
-        place,
-        sums,
+        standing,
         &mut tokens,
         scratch,
         names,
@@ -73,12 +72,8 @@ fn read_longest(
         goal,
         name,
     ) {
-        Reach::Ended(a) => a,
-        Reach::Longer {
-            line: _,
-            place: p,
-            sums: u,
-        } => Answer::Accepted { place: p, sums: u },
+        Reach::Ended(answer) => answer,
+        Reach::Longer { line: _, standing } => Ok(standing),
     }
 }
 
@@ -86,8 +81,7 @@ fn read_longest(
 fn read_longer(
     f: &[u8],
     line: Line,
-    place: Place,
-    sums: Sizes,
+    standing: Standing,
     scratch: &mut [u32],
     names: &mut [u8],
     strings: &mut [u8],
@@ -98,17 +92,16 @@ fn read_longer(
     chain: &mut [u32],
     goal: Goal,
     name: &[u8],
-) -> Answer
-    requires before { Before (stop_of goal name.now) f.now scratch.old place sums (tabled names.old strings.old bits.old wires.old rows.old) line }
-    requires lines_indexed { LinesIndexed heads.old chain.old names.old wires.old rows.old place.rows place.wires }
+) -> Result<Standing, Refused>
+    requires before { Before (stop_of goal name.now) f.now scratch.old standing.place standing.sums (tabled names.old strings.old bits.old wires.old rows.old) line }
+    requires lines_indexed { LinesIndexed heads.old chain.old names.old wires.old rows.old standing.place.rows standing.place.wires }
     ensures { Landed (read_to (stop_of goal name.now) f.now) (tabled names.new strings.new bits.new wires.new rows.new) result }
 {
     let mut tokens = [0u32; LONGER_TOKENS];
     match read_lines(
         f,
         line,
-        place,
-        sums,
+        standing,
         &mut tokens,
         scratch,
         names,
@@ -121,13 +114,12 @@ fn read_longer(
         goal,
         name,
     ) {
-        Reach::Ended(a) => a,
+        Reach::Ended(answer) => answer,
         Reach::Longer {
             line: l,
-            place: p,
-            sums: u,
+            standing: behind,
         } => read_longest(
-            f, l, p, u, scratch, names, strings, bits, wires, rows, heads, chain, goal, name,
+            f, l, behind, scratch, names, strings, bits, wires, rows, heads, chain, goal, name,
         ),
     }
 }
@@ -143,7 +135,7 @@ pub fn read_until(
     rows: &mut [u32],
     goal: Goal,
     name: &[u8],
-) -> Answer
+) -> Result<Standing, Refused>
     requires f_len_bound { length f.now ≤ longest_file }
     requires rows_value { tabled names.old strings.old bits.old wires.old rows.old ≡ tables_of (memory empty 0) }
     ensures { Landed (read_to (stop_of goal name.now) f.now) (tabled names.new strings.new bits.new wires.new rows.new) result }
@@ -155,8 +147,10 @@ pub fn read_until(
     match read_lines(
         f,
         line_at(f, 0),
-        start(),
-        none(),
+        Standing {
+            place: start(),
+            sums: none(),
+        },
         &mut tokens,
         &mut scratch,
         names,
@@ -169,14 +163,13 @@ pub fn read_until(
         goal,
         name,
     ) {
-        Reach::Ended(a) => a,
-        Reach::Longer { line, place, sums } => {
+        Reach::Ended(answer) => answer,
+        Reach::Longer { line, standing } => {
             if LONGER_LINE < line.end - line.start {
                 return read_longest(
                     f,
                     line,
-                    place,
-                    sums,
+                    standing,
                     &mut scratch,
                     names,
                     strings,
@@ -192,8 +185,7 @@ pub fn read_until(
             read_longer(
                 f,
                 line,
-                place,
-                sums,
+                standing,
                 &mut scratch,
                 names,
                 strings,
@@ -217,7 +209,7 @@ pub fn read_file(
     bits: &mut [u32],
     wires: &mut [u32],
     rows: &mut [u32],
-) -> Answer
+) -> Result<Standing, Refused>
     requires f_len_bound { length f.now ≤ longest_file }
     requires rows_value { tabled names.old strings.old bits.old wires.old rows.old ≡ tables_of (memory empty 0) }
     ensures { Landed (read_any f.now) (tabled names.new strings.new bits.new wires.new rows.new) result }

@@ -13,8 +13,8 @@ ghost use Rattle.look_up.specs.Asked.{LookedUp, IndexGiven};
 use modules::module_wires;
 use netlist::results::{BAD_WIDTH, NOT_THERE};
 use numbers::kinds::{ModuleNumber, WireNumber};
-use rename_rules::{Named, find_named, module_of};
-use session::{Opened, open_memory};
+use rename_rules::{find_named, module_of};
+use session::open_memory;
 use wire_names::Module;
 use wires::wire_index;
 
@@ -35,10 +35,9 @@ pub struct Indexed {
 fn find(names: &[u8], wires: &[u32], rows: &[u32], m: Module, name: &[u8]) -> Found
     ensures { (result.number, result.wire.0) ≡ answer 0 (search_now names.now wires.now rows.now m name.now m.wires 0) }
 {
-    let named = find_named(names, wires, rows, m, name);
-    match named {
-        Named::At(wire) => Found { number: 0, wire },
-        Named::Nothing => Found {
+    match find_named(names, wires, rows, m, name) {
+        Some(wire) => Found { number: 0, wire },
+        None => Found {
             number: NOT_THERE,
             wire: WireNumber(0),
         },
@@ -59,14 +58,14 @@ pub fn look_up(
     ensures { LookedUp (lent names.now strings.now bits.now wires.now rows.now renames room) m.0 name.now result }
 {
     match open_memory(names, strings, bits, wires, rows, renames, room) {
-        Opened::Open(place) => find(
+        Ok(place) => find(
             names,
             wires,
             rows,
             module_of(wires, place, renames, m),
             name,
         ),
-        Opened::Refused(number) => Found {
+        Err(number) => Found {
             number,
             wire: WireNumber(0),
         },
@@ -78,8 +77,8 @@ fn row_index(wires: &[u32], row: u32, bit: u32) -> Indexed
     ensures { (result.number, result.index) ≡ answer (pos 0) (index_in (wire_of wires.now row) bit) }
 {
     match wire_index(wires, row, bit) {
-        numbers::signed::Index::At(index) => Indexed { number: 0, index },
-        numbers::signed::Index::Past => Indexed {
+        Some(index) => Indexed { number: 0, index },
+        None => Indexed {
             number: BAD_WIDTH,
             index: 0,
         },
@@ -101,7 +100,7 @@ pub fn index(
     ensures { IndexGiven (lent names.now strings.now bits.now wires.now rows.now renames room) m.0 w.0 bit result }
 {
     match open_memory(names, strings, bits, wires, rows, renames, room) {
-        Opened::Open(place) => {
+        Ok(place) => {
             let own = module_wires(wires, place.wires, m);
             let number = w.0;
             if own.count <= number {
@@ -112,6 +111,6 @@ pub fn index(
             }
             row_index(wires, own.first + number, bit)
         }
-        Opened::Refused(number) => Indexed { number, index: 0 },
+        Err(number) => Indexed { number, index: 0 },
     }
 }

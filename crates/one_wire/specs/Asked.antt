@@ -1,5 +1,5 @@
 -- What the calls on one wire of a file give back.
-use Rattle.std.specs.Prelude.{ℕ, zero, suc, ◌+◌, ◌≡◌, List, Bool, cond, ℤ, pos}
+use Rattle.std.specs.Prelude.{ℕ, zero, suc, ◌+◌, ◌≡◌, List, Bool, cond, ℤ, pos, Ok, Err, Result}
 use Rattle.std.proofs.Math.Option.{Option, none, some}
 use Rattle.rules.specs.Bytes.{same}
 use Rattle.rules.specs.Tokens.{Name}
@@ -9,9 +9,9 @@ use Rattle.rules.specs.Session.{index_in}
 use Rattle.rules.specs.Quick.{Sought, gives, stops, of_verdict, of_wire, seek}
 use Rattle.numbers.specs.Signed.{signed_of}
 use Rattle.wires.specs.Rows.{name_of, wire_of}
+use Rattle.netlist.specs.declared.results.Refused.{Refused}
 use Rattle.modules.specs.declared.Range.{Range}
 use Rattle.one_wire.specs.declared.Declared.{Declared}
-use Rattle.one_wire.specs.declared.Declared.TheVariants as declared
 
 -- number, place and answer; refused, the answer is that of nothing
 unfoldable pub told : {A : Type 0} → A → Sought A → ℕ × ℕ × A
@@ -31,9 +31,9 @@ unfoldable pub row_sought : (names wires : List ℕ) → Name → Range → Soug
 row_sought names wires n r = of_wire (λ w. Verdict.accepted w) (row_named names wires n r.count r.first)
 
 -- the wire of these numbers, whatever its other options; or the refusal
-abbrev pub DeclaredAs : Sought Wire → Declared → Type 0
-DeclaredAs x (declared.Wire w o u) = (signed : Bool) × (port : Option (Direction × ℕ)) × (x ≡ gives (record { width = w; offset = signed_of o; upto = u; signed = signed; port = port }))
-DeclaredAs x (declared.Refused n p) = x ≡ stops n p
+abbrev pub DeclaredAs : Sought Wire → Result Declared Refused → Type 0
+DeclaredAs x (Ok d) = (signed : Bool) × (port : Option (Direction × ℕ)) × (x ≡ gives (record { width = d.width; offset = signed_of d.offset; upto = d.upto; signed = signed; port = port }))
+DeclaredAs x (Err r) = x ≡ stops r.number r.place
 
 abbrev pub IndexTold : (offset width : ℕ) → Bool → ℕ → ℕ × ℕ × ℤ → Type 0
 IndexTold o w u i a = (signed : Bool) (port : Option (Direction × ℕ)) → a ≡ told (pos 0) (of_verdict (index_in (record { width = w; offset = signed_of o; upto = u; signed = signed; port = port }) i))

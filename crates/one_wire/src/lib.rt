@@ -9,15 +9,14 @@ ghost use Rattle.wires.specs.Rows.{wire_of};
 ghost use Rattle.modules.specs.Ranges.{wire_range};
 ghost use Rattle.one_wire.specs.Asked.{told, wire_sought, row_sought, DeclaredAs, IndexTold};
 
-use file_lines::Answer;
 use file_reader::{MOST_FILE_BYTES, read_until};
 use goal::Goal;
 use modules::module_wires;
 use names::same_bytes;
 use netlist::lengths::{BITS_LENGTH, NAMES_LENGTH, ROWS_LENGTH, STRINGS_LENGTH, WIRES_LENGTH};
-use netlist::results::{BAD_WIDTH, FILE_TOO_LONG, NOT_THERE};
+use netlist::results::{BAD_WIDTH, FILE_TOO_LONG, NOT_THERE, Refused};
 use numbers::kinds::ModuleNumber;
-use numbers::signed::{Index, author_index};
+use numbers::signed::author_index;
 use wires::{WIRE_FLAGS, WIRE_NAME, WIRE_OFFSET, WIRE_WIDTH, bytes_at, column};
 
 // Number 0 is none.
@@ -35,19 +34,20 @@ pub struct BitIndex {
     pub index: i64,
 }
 
-// What is asked of a declared wire; or a refusal.
+// What is asked of a declared wire.
 #[derive(Clone, Copy)]
-enum Declared {
-    Wire { width: u32, offset: u32, upto: bool },
-    Refused { number: u32, place: u32 },
+struct Declared {
+    width: u32,
+    offset: u32,
+    upto: bool,
 }
 
 // The wire in a row.
 fn wire_in(wires: &[u32], row: usize) -> Declared
     requires { row < many_rows }
-    ensures { DeclaredAs (gives (wire_of wires.now row)) result }
+    ensures { DeclaredAs (gives (wire_of wires.now row)) (Ok result) }
 {
-    Declared::Wire {
+    Declared {
         width: column(wires, row, WIRE_WIDTH),
         offset: column(wires, row, WIRE_OFFSET),
         upto: column(wires, row, WIRE_FLAGS) % 2 == 1,
@@ -55,33 +55,37 @@ fn wire_in(wires: &[u32], row: usize) -> Declared
 }
 
 // The first wire of a module that has this name, of `total` wires in all.
-fn find_wire(names: &[u8], wires: &[u32], total: u32, m: ModuleNumber, name: &[u8]) -> Declared
+fn find_wire(
+    names: &[u8],
+    wires: &[u32],
+    total: u32,
+    m: ModuleNumber,
+    name: &[u8],
+) -> Result<Declared, Refused>
     ensures { DeclaredAs (row_sought names.now wires.now name.now (wire_range wires.now total m.0)) result }
 {
     let own = module_wires(wires, total, m);
-    let mut k = 0;
-    while k < own.count {
+    for k in 0..own.count {
         let row = own.first as usize + k as usize;
         if same_bytes(bytes_at(names, wires, row, WIRE_NAME), name) {
-            return wire_in(wires, row);
+            return Ok(wire_in(wires, row));
         }
-        k = k + 1;
     }
-    Declared::Refused {
+    Err(Refused {
         number: NOT_THERE,
         place: 0,
-    }
+    })
 }
 
-fn seek_wire(f: &[u8], m: ModuleNumber, name: &[u8]) -> Declared
+fn seek_wire(f: &[u8], m: ModuleNumber, name: &[u8]) -> Result<Declared, Refused>
     ensures { DeclaredAs (wire_sought f.now m.0 name.now) result }
 {
     let size = f.len();
     if MOST_FILE_BYTES < size {
-        return Declared::Refused {
+        return Err(Refused {
             number: FILE_TOO_LONG,
             place: 0,
-        };
+        });
     }
     let mut names = [0u8; NAMES_LENGTH];
     let mut strings = [0u8; STRINGS_LENGTH];
@@ -92,7 +96,7 @@ fn seek_wire(f: &[u8], m: ModuleNumber, name: &[u8]) -> Declared
         some: true,
         module: m.0,
     };
-    match read_until(
+    let standing = read_until(
         f,
         &mut names,
         &mut strings,
@@ -101,26 +105,20 @@ fn seek_wire(f: &[u8], m: ModuleNumber, name: &[u8]) -> Declared
         &mut rows,
         goal,
         name,
-    ) {
-        Answer::Accepted { place, sums: _ } => find_wire(&names, &wires, place.wires, m, name),
-        Answer::Refused { number, place } => Declared::Refused { number, place },
-    }
+    )?;
+    find_wire(&names, &wires, standing.place.wires, m, name)
 }
 
 pub fn width_of(f: &[u8], m: ModuleNumber, name: &[u8]) -> Width
     ensures { (result.number, result.place, result.width) ≡ told 0 (quick_width f.now m.0 name.now) }
 {
     match seek_wire(f, m, name) {
-        Declared::Wire {
-            width,
-            offset: _,
-            upto: _,
-        } => Width {
+        Ok(wire) => Width {
             number: 0,
             place: 0,
-            width,
+            width: wire.width,
         },
-        Declared::Refused { number, place } => Width {
+        Err(Refused { number, place }) => Width {
             number,
             place,
             width: 0,
@@ -138,16 +136,16 @@ fn no_index(number: u32, place: u32) -> BitIndex
     }
 }
 
-fn index_in(offset: u32, width: u32, upto: bool, bit: u32) -> BitIndex
-    ensures { IndexTold offset width upto bit (result.number, result.place, result.index) }
+fn index_in(wire: Declared, bit: u32) -> BitIndex
+    ensures { IndexTold wire.offset wire.width wire.upto bit (result.number, result.place, result.index) }
 {
-    match author_index(offset, width, upto, bit) {
-        Index::At(index) => BitIndex {
+    match author_index(wire.offset, wire.width, wire.upto, bit) {
+        Some(index) => BitIndex {
             number: 0,
             place: 0,
             index,
         },
-        Index::Past => no_index(BAD_WIDTH, 0),
+        None => no_index(BAD_WIDTH, 0),
     }
 }
 
@@ -155,11 +153,7 @@ pub fn index_of(f: &[u8], m: ModuleNumber, name: &[u8], bit: u32) -> BitIndex
     ensures { (result.number, result.place, result.index) ≡ told (pos 0) (quick_index f.now m.0 name.now bit) }
 {
     match seek_wire(f, m, name) {
-        Declared::Wire {
-            width,
-            offset,
-            upto,
-        } => index_in(offset, width, upto, bit),
-        Declared::Refused { number, place } => no_index(number, place),
+        Ok(wire) => index_in(wire, bit),
+        Err(Refused { number, place }) => no_index(number, place),
     }
 }

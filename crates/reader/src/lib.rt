@@ -10,12 +10,11 @@ ghost use Rattle.netlist.specs.Tables.{tabled};
 ghost use Rattle.netlist.specs.Results.{result as outcome, lent};
 ghost use Rattle.reader.specs.Fill.{leaves, fill_into};
 
-use file_lines::Answer;
 use file_reader::{MOST_FILE_BYTES, read_file};
 use netlist::lengths::{
     BITS_LENGTH, NAMES_LENGTH, ROWS_LENGTH, STRINGS_LENGTH, WIRES_LENGTH, right_lengths,
 };
-use netlist::results::{CallResult, FILE_TOO_LONG, WRONG_LENGTH};
+use netlist::results::{CallResult, FILE_TOO_LONG, Refused, WRONG_LENGTH};
 use zeros::{clear_bytes, clear_words};
 
 // Number 0 is none.
@@ -49,11 +48,11 @@ pub fn check(f: &[u8]) -> Checked
         &mut wires,
         &mut rows,
     ) {
-        Answer::Accepted { place: _, sums: _ } => Checked {
+        Ok(_) => Checked {
             number: 0,
             place: 0,
         },
-        Answer::Refused { number, place } => Checked { number, place },
+        Err(Refused { number, place }) => Checked { number, place },
     }
 }
 
@@ -96,13 +95,13 @@ fn fill_sized(
         };
     }
     match read_file(f, names, strings, bits, wires, rows) {
-        Answer::Accepted { place: _, sums } => CallResult {
+        Ok(standing) => CallResult {
             number: 0,
             place: 0,
             renames: 0,
-            room: sums.name_bytes,
+            room: standing.sums.name_bytes,
         },
-        Answer::Refused { number, place } => {
+        Err(Refused { number, place }) => {
             clear_tables(names, strings, bits, wires, rows);
             CallResult {
                 number,

@@ -1,5 +1,5 @@
 -- What a step of reading promises: of one line, and of the statements so far.
-use Rattle.std.specs.Prelude.{ℕ, ◌-◌, ◌≤◌, ◌≡◌, true, List, ◌∷◌, length}
+use Rattle.std.specs.Prelude.{ℕ, ◌-◌, ◌≤◌, ◌≡◌, true, List, ◌∷◌, length, Some, None, Ok, Err, Result, Option as Optional}
 use Rattle.std.proofs.Math.Option.{some}
 use Rattle.std.proofs.Math.Seq.{slice}
 use Rattle.rules.specs.Limits.{most_wires, longest_file, scratch_length}
@@ -15,22 +15,18 @@ use Rattle.context.specs.Place.{place_of, Bounds}
 use Rattle.context.specs.Sizes.{sums_of, Within}
 use Rattle.context.specs.declared.place.Place.{Place}
 use Rattle.context.specs.declared.sizes.Sizes.{Sizes}
+use Rattle.context.specs.declared.sizes.Standing.{Standing}
 use Rattle.admitted.specs.Admitted.{admitted}
 use Rattle.netlist.specs.Laid.{rooms_of}
 use Rattle.syntax.specs.Statements.{fault_of, statement_in, Sound}
 use Rattle.syntax.specs.declared.Statement.{Statement}
 use Rattle.syntax.specs.declared.Statement.TheVariants.{Autoidx, Attribute, Module, Parameter, Wire, Memory, Cell, CellParameter, CellConnection, Connection, Step as StepOf, End, NoShape, Process, BadNumber, MissingWire}
 use Rattle.netlist.specs.Tables.{Tables}
+use Rattle.netlist.specs.declared.results.Refused.{Refused}
 use Rattle.layout.specs.Put.{tables_of}
 use Rattle.name_index.specs.Index.{LinesIndexed}
 use Rattle.judgement.specs.Judged.{Stands}
-use Rattle.judgement.specs.declared.Judged.{Judged}
-use Rattle.judgement.specs.declared.Judged.TheVariants as judged
-use Rattle.reading_step.specs.declared.Outcome.{Outcome}
-use Rattle.reading_step.specs.declared.Outcome.TheVariants.{Skipped, Stated, Refused}
-use Rattle.reading_step.specs.declared.LineAnswer.{LineAnswer}
-use Rattle.reading_step.specs.declared.Step.{Step}
-use Rattle.reading_step.specs.declared.Step.TheVariants.{Next, Stop}
+use Rattle.judgement.specs.declared.Stated.{Stated}
 
 -- the line of the rules
 unfoldable pub line_of : List ℕ → Line → rules.Line
@@ -69,9 +65,9 @@ step_in BadNumber = 0
 step_in MissingWire = 0
 
 -- ONE LINE. The verdict as an answer; a refusal is at the line
-unfoldable pub judged_as : List ℕ → Line → Judged → LineAnswer
-judged_as f l (judged.Stated r u) = record { outcome = Stated r u; number = 0; place = 0 }
-judged_as f l (judged.Refused n) = record { outcome = Refused; number = n; place = place (line_of f l) }
+unfoldable pub judged_as : List ℕ → Line → Result Stated ℕ → Result (Optional Stated) Refused
+judged_as f l (Ok x) = Ok (Some x)
+judged_as f l (Err n) = Err (record { number = n; place = place (line_of f l) })
 
 -- it states this statement, and these are the sums with it
 pub record States (ss : Past) (l : rules.Line) (f s : List ℕ) (r : Statement) (u : Sizes) : Type 0 where
@@ -80,24 +76,21 @@ pub record States (ss : Past) (l : rules.Line) (f s : List ℕ) (r : Statement) 
   pub stated : statement_in f s r ≡ some statement
   pub sums-are : sums_of (statement ∷ ss) ≡ u
 
--- the outcome, with the number and place of a refused one
-abbrev pub OutcomeIs : Past → rules.Line → (f s : List ℕ) → (n p : ℕ) → Outcome → Type 0
-OutcomeIs ss l f s n p Skipped = outcome ss l ≡ reading.skipped
-OutcomeIs ss l f s n p (Stated r u) = States ss l f s r u
-OutcomeIs ss l f s n p Refused = outcome ss l ≡ reading.Outcome.refused n p
-
-abbrev pub AnswerIs : Past → rules.Line → (f s : List ℕ) → LineAnswer → Type 0
-AnswerIs ss l f s r = OutcomeIs ss l f s r.number r.place r.outcome
+-- nothing where it has no token, its statement, or the refusal with its place
+abbrev pub AnswerIs : Past → rules.Line → (f s : List ℕ) → Result (Optional Stated) Refused → Type 0
+AnswerIs ss l f s (Ok None) = outcome ss l ≡ reading.skipped
+AnswerIs ss l f s (Ok (Some x)) = States ss l f s x.statement x.sums
+AnswerIs ss l f s (Err r) = outcome ss l ≡ reading.Outcome.refused r.number r.place
 
 -- the answer after any statements that stand so
-abbrev pub AnswerAs : (f s : List ℕ) → Line → Place → Sizes → (names wires rows : List ℕ) → LineAnswer → Type 0
+abbrev pub AnswerAs : (f s : List ℕ) → Line → Place → Sizes → (names wires rows : List ℕ) → Result (Optional Stated) Refused → Type 0
 AnswerAs f s l p u names wires rows r = (ss : Past) → Stands ss p u names wires rows → AnswerIs ss (line_of f l) f s r
 
 -- what holds of a stated one whatever stands before it
-abbrev pub Storable : List ℕ → Outcome → Type 0
-Storable f Skipped = Unit {0}
-Storable f (Stated r u) = Sound f r × (fault_of r ≡ 0) × Within u
-Storable f Refused = Unit {0}
+abbrev pub Storable : List ℕ → Result (Optional Stated) Refused → Type 0
+Storable f (Ok None) = Unit {0}
+Storable f (Ok (Some x)) = Sound f x.statement × (fault_of x.statement ≡ 0) × Within x.sums
+Storable f (Err r) = Unit {0}
 
 -- THE LINES SO FAR. These statements are admitted and lie in the tables; the next line stands behind them
 pub record Done (ss : Past) (p : Place) (u : Sizes) (t : Tables) : Type 0 where
@@ -116,14 +109,14 @@ pub record Goes (ss : Past) (l : rules.Line) (p : Place) (u : Sizes) (t : Tables
   pub done : Done past p u t
   pub goes : (more : Past → reading.Answer) → next more ss (outcome ss l) ≡ more past
 
-abbrev pub StepIs : Past → rules.Line → Tables → Step → Type 0
-StepIs ss l t (Next p u) = Goes ss l p u t
-StepIs ss l t (Stop n p) = outcome ss l ≡ reading.Outcome.refused n p
+abbrev pub StepIs : Past → rules.Line → Tables → Result Standing Refused → Type 0
+StepIs ss l t (Ok x) = Goes ss l x.place x.sums t
+StepIs ss l t (Err r) = outcome ss l ≡ reading.Outcome.refused r.number r.place
 
-abbrev pub StepAs : List ℕ → Line → Place → Sizes → (t t' : Tables) → Step → Type 0
+abbrev pub StepAs : List ℕ → Line → Place → Sizes → (t t' : Tables) → Result Standing Refused → Type 0
 StepAs f l p u t t' r = (ss : Past) → Done ss p u t → StepIs ss (line_of f l) t' r
 
 -- the names of the statements so far are indexed
-abbrev pub StepIndexed : (heads chain names wires rows : List ℕ) → Step → Type 0
-StepIndexed heads chain names wires rows (Next p u) = LinesIndexed heads chain names wires rows p.rows p.wires
-StepIndexed heads chain names wires rows (Stop n p) = Unit {0}
+abbrev pub StepIndexed : (heads chain names wires rows : List ℕ) → Result Standing Refused → Type 0
+StepIndexed heads chain names wires rows (Ok x) = LinesIndexed heads chain names wires rows x.place.rows x.place.wires
+StepIndexed heads chain names wires rows (Err r) = Unit {0}

@@ -14,14 +14,14 @@ use context::kinds::{
     CONNECTION_KIND, END_KIND, MEMORY_KIND, MODULE_KIND, PARAMETER_KIND, PROCESS_KIND, STEP_KIND,
     WIRE_KIND,
 };
-use context::place::{Place, after};
-use context::sizes::Sizes;
+use context::place::after;
+use context::sizes::Standing;
 use context::steps::NO_STEP;
-use judgement::{Judged, judge_line};
+use judgement::{Stated, judge_line};
 use layout::put_statement;
-use lexer::{Lexed, lex_line};
+use lexer::lex_line;
 use name_index::index_line;
-use netlist::results::{BAD_TOKEN, NO_SHAPE};
+use netlist::results::{BAD_TOKEN, NO_SHAPE, Refused};
 use netlist::used::used_from;
 use scanner::lines::Line;
 use scanner::runs::blanks_end;
@@ -30,60 +30,29 @@ use syntax::Statement;
 // The words of a token's row.
 const TOKEN_SIZE: usize = 4;
 
-// What a line gives: nothing, since it has no token; a statement, with the sums of each size over it and all before it; or a refusal.
-#[derive(Clone, Copy)]
-enum Outcome {
-    Skipped,
-    Stated { statement: Statement, more: Sizes },
-    Refused,
-}
-
-// A line's answer: what it gives, and of a refused line the number and the place.
-#[derive(Clone, Copy)]
-struct LineAnswer {
-    outcome: Outcome,
-    number: u32,
-    place: u32,
-}
-
-// Where the next line stands; or a refusal.
-#[derive(Clone, Copy)]
-pub enum Step {
-    Next { place: Place, sums: Sizes },
-    Stop { number: u32, place: u32 },
-}
-
 // A refused verdict's place is the line's first byte that is neither space nor tab.
-fn judged(f: &[u8], line: Line, j: Judged) -> LineAnswer
+fn judged(f: &[u8], line: Line, j: Result<Stated, u32>) -> Result<Option<Stated>, Refused>
     requires { (line.start ≤ line.end) × (line.end ≤ length f.now) × (length f.now ≤ longest_file) }
     ensures { result ≡ judged_as f.now line j }
 {
     match j {
-        Judged::Stated { statement, sums } => LineAnswer {
-            outcome: Outcome::Stated {
-                statement,
-                more: sums,
-            },
-            number: 0,
-            place: 0,
-        },
-        Judged::Refused(number) => {
+        Ok(stated) => Ok(Some(stated)),
+        Err(number) => {
             let end = line.end;
-            LineAnswer {
-                outcome: Outcome::Refused,
+            Err(Refused {
                 number,
                 place: blanks_end(&f[0..end], line.start) as u32,
-            }
+            })
         }
     }
 }
 
-// A bad token is 4 on any line, at the token; a line without its line end is 5.
+// What a line gives: its statement, or none where it has no token; or a refusal. A bad token is 4 on any line, at the token; a line without its line
+// end is 5.
 fn line_answer(
     f: &[u8],
     line: Line,
-    place: Place,
-    sums: Sizes,
+    standing: Standing,
     names: &[u8],
     wires: &[u32],
     rows: &[u32],
@@ -91,56 +60,52 @@ fn line_answer(
     scratch: &mut [u32],
     heads: &[u32],
     chain: &[u32],
-) -> LineAnswer
+) -> Result<Option<Stated>, Refused>
     requires line_fits { LineFits f.now line scratch.old × (4 * (line.end - line.start) ≤ length tokens.old) }
-    requires place_fits { PlaceFits place sums }
-    requires lines_indexed { LinesIndexed heads.now chain.now names.now wires.now rows.now place.rows place.wires }
-    ensures storable { Storable f.now result.outcome }
-    ensures answer_as { AnswerAs f.now scratch.new line place sums names.now wires.now rows.now result }
+    requires place_fits { PlaceFits standing.place standing.sums }
+    requires lines_indexed { LinesIndexed heads.now chain.now names.now wires.now rows.now standing.place.rows standing.place.wires }
+    ensures storable { Storable f.now result }
+    ensures answer_as { AnswerAs f.now scratch.new line standing.place standing.sums names.now wires.now rows.now result }
 {
-    match lex_line(f, line.start, line.end, tokens) {
-        Lexed::Bad(p) => LineAnswer {
-            outcome: Outcome::Refused,
-            number: BAD_TOKEN,
-            place: p as u32,
-        },
-        Lexed::Tokens(n) => {
-            if n == 0 {
-                return LineAnswer {
-                    outcome: Outcome::Skipped,
-                    number: 0,
-                    place: 0,
-                };
-            }
-            if !line.ended {
-                return judged(f, line, Judged::Refused(NO_SHAPE));
-            }
-            let stop = TOKEN_SIZE * n;
-            judged(
-                f,
-                line,
-                judge_line(
-                    f,
-                    &tokens[0..stop],
-                    place,
-                    sums,
-                    names,
-                    wires,
-                    rows,
-                    scratch,
-                    heads,
-                    chain,
-                ),
-            )
+    let n = match lex_line(f, line.start, line.end, tokens) {
+        Ok(n) => n,
+        Err(bad) => {
+            return Err(Refused {
+                number: BAD_TOKEN,
+                place: bad.at as u32,
+            });
         }
+    };
+    if n == 0 {
+        return Ok(None);
     }
+    if !line.ended {
+        return judged(f, line, Err(NO_SHAPE));
+    }
+    let stop = TOKEN_SIZE * n;
+    judged(
+        f,
+        line,
+        judge_line(
+            f,
+            &tokens[0..stop],
+            standing.place,
+            standing.sums,
+            names,
+            wires,
+            rows,
+            scratch,
+            heads,
+            chain,
+        ),
+    )
 }
 
+// Where the next line stands; or a refusal.
 pub fn take_line(
     f: &[u8],
     line: Line,
-    place: Place,
-    sums: Sizes,
+    standing: Standing,
     tokens: &mut [u32],
     scratch: &mut [u32],
     names: &mut [u8],
@@ -150,27 +115,22 @@ pub fn take_line(
     rows: &mut [u32],
     heads: &mut [u32],
     chain: &mut [u32],
-) -> Step
+) -> Result<Standing, Refused>
     requires line_fits { LineFits f.now line scratch.old × (4 * (line.end - line.start) ≤ length tokens.old) }
-    requires some_done { SomeDone place sums (tabled names.old strings.old bits.old wires.old rows.old) }
-    requires lines_indexed { LinesIndexed heads.old chain.old names.old wires.old rows.old place.rows place.wires }
-    ensures step_as { StepAs f.now line place sums (tabled names.old strings.old bits.old wires.old rows.old) (tabled names.new strings.new bits.new wires.new rows.new) result }
+    requires some_done { SomeDone standing.place standing.sums (tabled names.old strings.old bits.old wires.old rows.old) }
+    requires lines_indexed { LinesIndexed heads.old chain.old names.old wires.old rows.old standing.place.rows standing.place.wires }
+    ensures step_as { StepAs f.now line standing.place standing.sums (tabled names.old strings.old bits.old wires.old rows.old) (tabled names.new strings.new bits.new wires.new rows.new) result }
     ensures step_indexed { StepIndexed heads.new chain.new names.new wires.new rows.new result }
 {
     let answer = line_answer(
-        f, line, place, sums, names, wires, rows, tokens, scratch, heads, chain,
-    );
-    let outcome = answer.outcome;
-    if let Outcome::Skipped = outcome {
-        return Step::Next { place, sums };
-    }
-    let Outcome::Stated { statement, more } = outcome else {
-        return Step::Stop {
-            number: answer.number,
-            place: answer.place,
-        };
+        f, line, standing, names, wires, rows, tokens, scratch, heads, chain,
+    )?;
+    let Some(stated) = answer else {
+        return Ok(standing);
     };
-    let u = used_from(place, sums);
+    let statement = stated.statement;
+    let place = standing.place;
+    let u = used_from(place, standing.sums);
     put_statement(f, statement, u, scratch, names, strings, bits, wires, rows);
     let kind = kind_code(statement);
     index_line(
@@ -183,10 +143,10 @@ pub fn take_line(
         place.wires,
         kind,
     );
-    Step::Next {
+    Ok(Standing {
         place: after(place, kind, step_code(statement)),
-        sums: more,
-    }
+        sums: stated.sums,
+    })
 }
 
 // The code of a statement's kind.
