@@ -10,9 +10,10 @@ ghost use Rattle.file_lines.specs.Lines.{finish_of, Before, ReachAs};
 
 use context::place::is_closed;
 use context::sizes::Standing;
-use goal::{Goal, is_settled};
+use goal::is_settled;
 use line_reader::line_at;
 use netlist::results::{NO_SHAPE, Refused};
+use numbers::kinds::ModuleNumber;
 use reading_step::take_line;
 use scanner::lines::Line;
 
@@ -54,7 +55,7 @@ pub fn read_lines(
     rows: &mut [u32],
     heads: &mut [u32],
     chain: &mut [u32],
-    goal: Goal,
+    goal: Option<ModuleNumber>,
     name: &[u8],
 ) -> Reach
     requires before { Before (stop_of goal name.now) f.now scratch.old before.place before.sums (tabled names.old strings.old bits.old wires.old rows.old) first }

@@ -14,10 +14,10 @@ ghost use Rattle.file_lines.specs.Lines.{read_to, Landed, Before};
 use context::place::start;
 use context::sizes::{Standing, none};
 use file_lines::{Reach, read_lines};
-use goal::Goal;
 use line_reader::line_at;
 use name_index::{ALL_CHAIN, ALL_HEADS};
 use netlist::results::Refused;
+use numbers::kinds::ModuleNumber;
 use scanner::lines::Line;
 
 // The most bytes of a file that is read.
@@ -48,7 +48,7 @@ fn read_longest(
     rows: &mut [u32],
     heads: &mut [u32],
     chain: &mut [u32],
-    goal: Goal,
+    goal: Option<ModuleNumber>,
     name: &[u8],
 ) -> Result<Standing, Refused>
     requires before { Before (stop_of goal name.now) f.now scratch.old standing.place standing.sums (tabled names.old strings.old bits.old wires.old rows.old) line }
@@ -90,7 +90,7 @@ fn read_longer(
     rows: &mut [u32],
     heads: &mut [u32],
     chain: &mut [u32],
-    goal: Goal,
+    goal: Option<ModuleNumber>,
     name: &[u8],
 ) -> Result<Standing, Refused>
     requires before { Before (stop_of goal name.now) f.now scratch.old standing.place standing.sums (tabled names.old strings.old bits.old wires.old rows.old) line }
@@ -133,7 +133,7 @@ pub fn read_until(
     bits: &mut [u32],
     wires: &mut [u32],
     rows: &mut [u32],
-    goal: Goal,
+    goal: Option<ModuleNumber>,
     name: &[u8],
 ) -> Result<Standing, Refused>
     requires f_len_bound { length f.now ≤ longest_file }
@@ -214,9 +214,5 @@ pub fn read_file(
     requires rows_value { tabled names.old strings.old bits.old wires.old rows.old ≡ tables_of (memory empty 0) }
     ensures { Landed (read_any f.now) (tabled names.new strings.new bits.new wires.new rows.new) result }
 {
-    let none = Goal {
-        some: false,
-        module: 0,
-    };
-    read_until(f, names, strings, bits, wires, rows, none, f)
+    read_until(f, names, strings, bits, wires, rows, None, f)
 }

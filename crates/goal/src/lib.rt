@@ -1,4 +1,4 @@
-// A wire that reading may end at: whether the statements so far settle it.
+// A wire that reading may end at, by its module's number and its name: whether the statements so far settle it.
 #![tactic(auto)]
 
 ghost use Rattle.std.specs.Prelude.{◌≡◌};
@@ -8,28 +8,28 @@ use context::kinds::{END_KIND, WIRE_KIND};
 use context::place::{Place, TOP};
 use names::same_bytes;
 use netlist::rows::{row_kind, row_name};
+use numbers::kinds::ModuleNumber;
 
-// A wire of this module, whose name is lent beside; or none.
-#[derive(Clone, Copy)]
-pub struct Goal {
-    pub some: bool,
-    pub module: u32,
-}
-
-// Whether the last of the statements that lie in the tables declares the wire, or ends its module.
-pub fn is_settled(names: &[u8], rows: &[u32], place: Place, goal: Goal, name: &[u8]) -> bool
+// Whether the last of the statements that lie in the tables declares the wire, or ends its module. Without a module no wire is sought.
+pub fn is_settled(
+    names: &[u8],
+    rows: &[u32],
+    place: Place,
+    goal: Option<ModuleNumber>,
+    name: &[u8],
+) -> bool
     ensures { SettledAs names.now rows.now place goal name.now result }
 {
-    if !goal.some {
+    let Some(module) = goal else {
         return false;
-    }
+    };
     if place.rows == 0 {
         return false;
     }
     if place.modules == 0 {
         return false;
     }
-    if place.modules - 1 != goal.module {
+    if place.modules - 1 != module.0 {
         return false;
     }
     let last = place.rows - 1;

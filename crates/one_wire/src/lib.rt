@@ -10,7 +10,6 @@ ghost use Rattle.modules.specs.Ranges.{wire_range};
 ghost use Rattle.one_wire.specs.Asked.{told, wire_sought, row_sought, DeclaredAs, IndexTold};
 
 use file_reader::{MOST_FILE_BYTES, read_until};
-use goal::Goal;
 use modules::module_wires;
 use names::same_bytes;
 use netlist::lengths::{BITS_LENGTH, NAMES_LENGTH, ROWS_LENGTH, STRINGS_LENGTH, WIRES_LENGTH};
@@ -92,10 +91,6 @@ fn seek_wire(f: &[u8], m: ModuleNumber, name: &[u8]) -> Result<Declared, Refused
     let mut bits = [0u32; BITS_LENGTH];
     let mut wires = [0u32; WIRES_LENGTH];
     let mut rows = [0u32; ROWS_LENGTH];
-    let goal = Goal {
-        some: true,
-        module: m.0,
-    };
     let standing = read_until(
         f,
         &mut names,
@@ -103,7 +98,7 @@ fn seek_wire(f: &[u8], m: ModuleNumber, name: &[u8]) -> Result<Declared, Refused
         &mut bits,
         &mut wires,
         &mut rows,
-        goal,
+        Some(m),
         name,
     )?;
     find_wire(&names, &wires, standing.place.wires, m, name)
