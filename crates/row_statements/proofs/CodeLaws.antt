@@ -6,6 +6,8 @@ use mathlib.Core.List.{List, [], ◌∷◌, ◌++◌, map}
 use mathlib.Core.Bool.{true, false, ◌&&◌}
 use lib.Dec.{leb}
 use lib.ListN.{length, take, drop, length-map}
+use Rattle.std.specs.Prelude.{Some, None}
+use Rattle.std.specs.Prelude.{Option as Optional}
 use borrow.Author.Tests.{ltb-true, lt-ltb, ne_eqb}
 use Rattle.rules.specs.Bytes.{all, within}
 use Rattle.rules.specs.Tokens.{Digit}
@@ -23,7 +25,7 @@ use Rattle.lists.specs.Tests.{and-true-left, and-true-right, never}
 use Rattle.lists.specs.Elements.{all_map, all-each, each_of, map_back}
 use Rattle.row_statements.specs.Parts.{span, whole, is_digit, digits_stand, text_stands, signal_stands}
 use Rattle.row_statements.specs.Reads.{constant_of, TellsConstant}
-use Rattle.row_statements.specs.declared.statements.Held.{Held}
+use Rattle.row_statements.specs.declared.statements.HeldConstant.{HeldConstant}
 use Rattle.row_statements.proofs.Spans.{whole_long, long-whole, has-none, has_span, span-has, has-whole}
 
 -- codes of digits are those of the digits that they mean, and digits have such codes
@@ -53,8 +55,12 @@ signal-long bits at n e = long-whole bits at n (sym (e ∙ length-signal (span b
 
 -- ---- a constant
 
+-- what it holds
+abbrev pub held : (v x : ℕ) → HeldConstant
+held v x = record { values = v; strings = x }
+
 module _ (strings bits : List ℕ) (u : Used) (a b : ℕ) where
-  pub tells-value : a ≡ u.bits → digits_stand bits u.bits b ≡ true → TellsConstant strings bits u 1 a b (constant_of strings bits u 1 a b) (Held.Constant b 0)
+  pub tells-value : a ≡ u.bits → digits_stand bits u.bits b ≡ true → TellsConstant strings bits u 1 a b (constant_of strings bits u 1 a b) (Some (held b 0))
   unfolding TellsConstant constant_of digits_stand digits_of bytes_of constant_columns fine_constant
   tells-value ea h =
       let cs = span bits u.bits b in
@@ -71,11 +77,11 @@ module _ (strings bits : List ℕ) (u : Used) (a b : ℕ) where
         refl,
       )
 
-  pub value-start : (a ≡ u.bits → ⊥) → TellsConstant strings bits u 1 a b (constant_of strings bits u 1 a b) Held.Nothing
+  pub value-start : (a ≡ u.bits → ⊥) → TellsConstant strings bits u 1 a b (constant_of strings bits u 1 a b) None
   unfolding TellsConstant constant_of constant_columns
   value-start n r = n (sym (same_at 1 r.columns))
 
-  pub value_not : digits_stand bits u.bits b ≡ false → TellsConstant strings bits u 1 a b (constant_of strings bits u 1 a b) Held.Nothing
+  pub value_not : digits_stand bits u.bits b ≡ false → TellsConstant strings bits u 1 a b (constant_of strings bits u 1 a b) None
   unfolding TellsConstant constant_of constant_columns digits_of fine_constant digits_stand
   value_not h r =
       let cs = span bits u.bits b in
@@ -87,7 +93,7 @@ module _ (strings bits : List ℕ) (u : Used) (a b : ℕ) where
       let f : leb b 2048 ≡ true = ap (λ (n : ℕ). leb n 2048) l ∙ r.fine in
       never (whole bits u.bits b && (leb b 2048 && all is_digit cs)) (rw (w, f, e)) h
 
-  pub tells-text : a ≡ u.strings → text_stands strings u.strings b ≡ true → TellsConstant strings bits u 3 a b (constant_of strings bits u 3 a b) (Held.Constant 0 b)
+  pub tells-text : a ≡ u.strings → text_stands strings u.strings b ≡ true → TellsConstant strings bits u 3 a b (constant_of strings bits u 3 a b) (Some (held 0 b))
   unfolding TellsConstant constant_of text_stands digits_of bytes_of constant_columns fine_constant
   tells-text ea h =
       let l : length (span strings u.strings b) ≡ b = whole_long strings u.strings b (and-true-left _ _ h) in (
@@ -101,17 +107,17 @@ module _ (strings bits : List ℕ) (u : Used) (a b : ℕ) where
         sym l,
       )
 
-  pub text-start : (a ≡ u.strings → ⊥) → TellsConstant strings bits u 3 a b (constant_of strings bits u 3 a b) Held.Nothing
+  pub text-start : (a ≡ u.strings → ⊥) → TellsConstant strings bits u 3 a b (constant_of strings bits u 3 a b) None
   unfolding TellsConstant constant_of constant_columns
   text-start n r = n (sym (same_at 1 r.columns))
 
-  pub text-not : text_stands strings u.strings b ≡ false → TellsConstant strings bits u 3 a b (constant_of strings bits u 3 a b) Held.Nothing
+  pub text-not : text_stands strings u.strings b ≡ false → TellsConstant strings bits u 3 a b (constant_of strings bits u 3 a b) None
   unfolding TellsConstant constant_of constant_columns fine_constant text_stands
   text-not h r =
       let w : whole strings u.strings b ≡ true = long-whole strings u.strings b (same_at 2 r.columns) in
       never (whole strings u.strings b && all (within 1 255) (span strings u.strings b)) (rw (w, r.fine)) h
 
-  pub tells-integer : a < 4294967296 → b ≡ 0 → TellsConstant strings bits u 2 a b (constant_of strings bits u 2 a b) (Held.Constant 0 0)
+  pub tells-integer : a < 4294967296 → b ≡ 0 → TellsConstant strings bits u 2 a b (constant_of strings bits u 2 a b) (Some (held 0 0))
   unfolding TellsConstant constant_of digits_of bytes_of constant_columns fine_constant
   tells-integer h e = (
     record {
@@ -124,11 +130,11 @@ module _ (strings bits : List ℕ) (u : Used) (a b : ℕ) where
     refl,
   )
 
-  pub integer-not : (b ≡ 0 → ⊥) → TellsConstant strings bits u 2 a b (constant_of strings bits u 2 a b) Held.Nothing
+  pub integer-not : (b ≡ 0 → ⊥) → TellsConstant strings bits u 2 a b (constant_of strings bits u 2 a b) None
   unfolding TellsConstant constant_of constant_columns
   integer-not n r = n (sym (same_at 2 r.columns))
 
-  pub kind-not : (k : ℕ) → (k ≡ 1 → ⊥) → (k ≡ 3 → ⊥) → (k ≡ 2 → ⊥) → TellsConstant strings bits u k a b (constant_of strings bits u k a b) Held.Nothing
+  pub kind-not : (k : ℕ) → (k ≡ 1 → ⊥) → (k ≡ 3 → ⊥) → (k ≡ 2 → ⊥) → TellsConstant strings bits u k a b (constant_of strings bits u k a b) None
   unfolding TellsConstant constant_of constant_columns
   kind-not k x y z = rw (ne_eqb k 1 x, ne_eqb k 2 z) (λ r. y (sym (same_at 0 r.columns)))
 

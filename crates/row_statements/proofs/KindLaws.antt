@@ -8,6 +8,8 @@ use mathlib.Core.Bool.{true, false, cond}
 use native.Mathlib.Omega.{arith}
 use lib.Dec.{leb}
 use lib.ListN.{length, get_or}
+use Rattle.std.specs.Prelude.{Some, None}
+use Rattle.std.specs.Prelude.{Option as Optional}
 use borrow.Author.Tests.{eq-eqb, ne_eqb}
 use Rattle.rules.specs.Bytes.{same, all, within, legal}
 use Rattle.rules.specs.Statements.{Sort, plain, signed, real, Statement, contents, holds, code, attr-stmt, module-stmt, memory-stmt, proc-stmt, end-stmt}
@@ -30,11 +32,11 @@ use Rattle.row_statements.specs.Reads.{PartTables, part_tables, constant_of, opt
 use Rattle.row_statements.specs.declared.statements.Found.{Found}
 use Rattle.row_statements.proofs.Spans.{has-none, has_span, spans}
 use Rattle.row_statements.proofs.CodeLaws.{constant-read}
-use Rattle.row_statements.proofs.ReadLaws.{name-legal, name-long, name-not, first-not, laid}
+use Rattle.row_statements.proofs.ReadLaws.{found, name-legal, name-long, name-not, first-not, laid}
 
 -- ---- a statement without parts
 
-module _ (u : Used) (r x : Row) (f : Found) (ef : f ≡ cond (same (words r) (words x)) (Found.Statement 0 0 0 0 0) Found.Nothing) where
+module _ (u : Used) (r x : Row) (f : Optional Found) (ef : f ≡ cond (same (words r) (words x)) (Some (found 0 0 0 0 0)) None) where
   pub tells-autoidx : words x ≡ row (1 ∷ r.a ∷ []) → r.a < 4294967296 → TellsAutoidx u r f
   unfolding statement_row columns code contents holds fine_alone fine_parts even_signals equal all name_bytes wire_rows flat_map zip zip_with signal_size name_size sum
   tells-autoidx ex h t ws = laid t u ws r x _ refl (rw (word-signed r.a h) ex) (has-none _ _) (has-none _ _) (has-none _ _) (rw (signed-int32 r.a)) refl refl refl refl f ef
@@ -52,22 +54,22 @@ module _ (names : List ℕ) (u : Used) (r : Row) where
   unfolding contents holds all fine_memory memory_of
   memory-facts {ws = ws} d = test_at _ (_ ∷ []) (and-true-left _ _ (and-true-left _ _ (fine-parts ws _ d.fine).memories))
 
-  pub memory-name : name_stands names u.names r.b ≡ false → TellsMemory names u r Found.Nothing
+  pub memory-name : name_stands names u.names r.b ≡ false → TellsMemory names u r None
   unfolding Tells statement_row columns contents holds row padded
   memory-name h strings bits wires ws d = first-not d h refl refl
 
-  pub memory-width : within 1 2048 r.c ≡ false → TellsMemory names u r Found.Nothing
+  pub memory-width : within 1 2048 r.c ≡ false → TellsMemory names u r None
   unfolding Tells
   memory-width h strings bits wires ws d = never (within 1 2048 r.c) (memory-facts d 0) h
 
-  pub memory-size : leb r.d 2147483647 ≡ false → TellsMemory names u r Found.Nothing
+  pub memory-size : leb r.d 2147483647 ≡ false → TellsMemory names u r None
   unfolding Tells
   memory-size h strings bits wires ws d = never (leb r.d 2147483647) (memory-facts d 1) h
 
   pub memory-settled :
       name_stands names u.names r.b ≡ true → within 1 2048 r.c ≡ true → leb r.d 2147483647 ≡ true → r.e < 4294967296 →
-      (x : Row) → words x ≡ row (6 ∷ u.names ∷ r.b ∷ r.c ∷ r.d ∷ r.e ∷ []) → (f : Found) →
-      f ≡ cond (same (words r) (words x)) (Found.Statement 0 0 0 0 r.b) Found.Nothing → TellsMemory names u r f
+      (x : Row) → words x ≡ row (6 ∷ u.names ∷ r.b ∷ r.c ∷ r.d ∷ r.e ∷ []) → (f : Optional Found) →
+      f ≡ cond (same (words r) (words x)) (Some (found 0 0 0 0 r.b)) None → TellsMemory names u r f
   unfolding statement_row columns code contents holds fine_alone fine_parts even_signals equal all fine_memory memory_of name_bytes wire_rows flat_map zip zip_with signal_size name_size sum
   memory-settled h w z o x ex f ef strings bits wires ws =
       let l : r.b ≡ length (span names u.names r.b) = name-long names u.names r.b h in
@@ -77,19 +79,19 @@ module _ (names : List ℕ) (u : Used) (r : Row) where
 -- ---- a cell
 
 module _ (names : List ℕ) (u : Used) (r : Row) where
-  pub cell-type : name_stands names u.names r.b ≡ false → TellsCell names u r Found.Nothing
+  pub cell-type : name_stands names u.names r.b ≡ false → TellsCell names u r None
   unfolding Tells statement_row columns contents holds row padded
   cell-type h strings bits wires ws d = first-not d h refl refl
 
-  pub cell-name : name_stands names (u.names + r.b) r.d ≡ false → TellsCell names u r Found.Nothing
+  pub cell-name : name_stands names (u.names + r.b) r.d ≡ false → TellsCell names u r None
   unfolding Tells statement_row columns contents holds words row padded all
   cell-name h strings bits wires ws d =
       name-not names (u.names + r.b) r.d h (same_at 4 d.row) (and-true-left _ _ (and-true-right (legal (span names u.names r.b)) _ (fine-parts ws _ d.fine).names))
 
   pub cell-settled :
       name_stands names u.names r.b ≡ true → name_stands names (u.names + r.b) r.d ≡ true →
-      (x : Row) → words x ≡ row (7 ∷ u.names ∷ r.b ∷ (u.names + r.b) ∷ r.d ∷ []) → (f : Found) →
-      f ≡ cond (same (words r) (words x)) (Found.Statement 0 0 0 0 (r.b + r.d)) Found.Nothing → TellsCell names u r f
+      (x : Row) → words x ≡ row (7 ∷ u.names ∷ r.b ∷ (u.names + r.b) ∷ r.d ∷ []) → (f : Optional Found) →
+      f ≡ cond (same (words r) (words x)) (Some (found 0 0 0 0 (r.b + r.d))) None → TellsCell names u r f
   unfolding statement_row columns code contents holds fine_alone fine_parts even_signals equal all name_bytes wire_rows flat_map zip zip_with signal_size name_size sum
   cell-settled h k x ex f ef strings bits wires ws =
       let l : r.b ≡ length (span names u.names r.b) = name-long names u.names r.b h in
@@ -105,7 +107,7 @@ sort-few plain = omega arith
 sort-few signed = omega arith
 sort-few real = omega arith
 
-module _ (names strings bits : List ℕ) (u : Used) (r : Row) (f : Found) where
+module _ (names strings bits : List ℕ) (u : Used) (r : Row) (f : Optional Found) where
   pub attribute-told :
       TellsValued names strings bits u r 2 0 f → (wires : List ℕ) (ws : Wires) →
       Tells (part_tables names strings bits wires) u ws r (attr-stmt (span names u.names r.b) (constant_of strings bits u r.c r.d r.e)) f
@@ -126,7 +128,7 @@ module _ (names strings bits : List ℕ) (u : Used) (r : Row) (f : Found) where
   unfolding statement_row columns code contents holds
   cell-parameter-told e h wires ws = h wires ws _ _ _ refl (rw (sort-code r.f e))
 
-pub cell-parameter-not : (names strings bits : List ℕ) (u : Used) (r : Row) → 2 < r.f → TellsCellParameter names strings bits u r Found.Nothing
+pub cell-parameter-not : (names strings bits : List ℕ) (u : Used) (r : Row) → 2 < r.f → TellsCellParameter names strings bits u r None
 unfolding Tells statement_row columns code contents holds
 cell-parameter-not names strings bits u r h wires ws d =
     let e : r.f ≡ sort_code (sort_of r.f) = (constant-read u (constant_of strings bits u r.c r.d r.e) r 8 u.names (length (span names u.names r.b)) (sort_code (sort_of r.f)) d.row).1 in
@@ -134,7 +136,7 @@ cell-parameter-not names strings bits u r h wires ws d =
 
 -- ---- by the row's kind
 
-module _ (t : PartTables) (u : Used) (ws : Wires) (r : Row) (f : Found) where
+module _ (t : PartTables) (u : Used) (ws : Wires) (r : Row) (f : Optional Found) where
   pub by_kind : (k : ℕ) → r.kind ≡ k → Tells t u ws r (statement_by t u r k) f → Tells t u ws r (statement_of t u r) f
   unfolding statement_of
   by_kind k e h = subst (λ (s : Statement). Tells t u ws r s f) (ap (statement_by t u r) (sym e)) h
@@ -147,7 +149,7 @@ module _ (t : PartTables) (u : Used) (ws : Wires) (r : Row) (f : Found) where
   other-kind a b c d e g h i j k l m q =
       rw (ne_eqb r.kind 1 a, ne_eqb r.kind 2 b, ne_eqb r.kind 3 c, ne_eqb r.kind 4 d, ne_eqb r.kind 5 e, ne_eqb r.kind 6 g, ne_eqb r.kind 7 h, ne_eqb r.kind 8 i, ne_eqb r.kind 9 j, ne_eqb r.kind 10 k, ne_eqb r.kind 11 l, ne_eqb r.kind 13 m) q
 
-module _ (names : List ℕ) (u : Used) (r : Row) (f : Found) where
+module _ (names : List ℕ) (u : Used) (r : Row) (f : Optional Found) where
   pub module-told :
       TellsNamed names u r 3 f → (strings bits wires : List ℕ) (ws : Wires) → Tells (part_tables names strings bits wires) u ws r (module-stmt (span names u.names r.b)) f
   unfolding statement_row columns code contents holds

@@ -6,6 +6,8 @@ use mathlib.Core.List.{List, [], ◌∷◌, ◌++◌, map, flat_map, zip, zip_wi
 use mathlib.Core.Bool.{true, false, cond, ◌&&◌, and-true}
 use native.Mathlib.Omega.{arith}
 use lib.ListN.{length, get_or}
+use Rattle.std.specs.Prelude.{Some, None}
+use Rattle.std.specs.Prelude.{Option as Optional}
 use Rattle.rules.specs.Bytes.{same, all, legal}
 use Rattle.rules.specs.Tokens.{Name}
 use Rattle.rules.specs.Statements.{Sort, Statement, Constant, digits_of, bytes_of, Kind, contents, holds}
@@ -26,14 +28,18 @@ use Rattle.netlist.specs.Spans.{Has}
 use Rattle.netlist.specs.Fronts.{Parts}
 use Rattle.row_statements.specs.Reads.{PartTables, part_tables, constant_of, ReadsConstant, TellsConstant, even_signals, Reads, Counts, Tells, TellsNamed, TellsValued}
 use Rattle.row_statements.specs.declared.statements.Found.{Found}
-use Rattle.row_statements.specs.declared.statements.Held.{Held}
+use Rattle.row_statements.specs.declared.statements.HeldConstant.{HeldConstant}
 use Rattle.row_statements.proofs.Spans.{whole_long, long-whole, has-none, has_span}
-use Rattle.row_statements.proofs.CodeLaws.{constant-read}
+use Rattle.row_statements.proofs.CodeLaws.{held, constant-read}
+
+-- what a statement holds
+abbrev pub found : (c g v z n : ℕ) → Found
+found c g v z n = record { count = c; signals = g; values = v; strings = z; names = n }
 
 -- with the parts there, the row decides
 pub settled :
     {u : Used} {s : Statement} (t : PartTables) (ws : Wires) (r x : Row) {c g v z n : ℕ} → words x ≡ statement_row u s → Parts t.names t.strings t.bits t.wires u s → fine_parts ws s ≡ true → even_signals s ≡ true → Counts s c g v z n →
-    (f : Found) → f ≡ cond (same (words r) (words x)) (Found.Statement c g v z n) Found.Nothing → Tells t u ws r s f
+    (f : Optional Found) → f ≡ cond (same (words r) (words x)) (Some (found c g v z n)) None → Tells t u ws r s f
 unfolding Tells
 settled t ws r x ex p w v q f e =
     by-test (same (words r) (words x))
@@ -65,7 +71,7 @@ first-not {ws = ws} {s = s} d h e q =
 pub laid :
     (t : PartTables) (u : Used) (ws : Wires) (r x : Row) (s : Statement) → (contents s).constants ≡ [] → words x ≡ statement_row u s →
     Has t.names u.names (name_bytes s) → Has t.bits u.bits (flat_map (map bit_code) (contents s).signals) → Has t.wires (8 * u.wires) (flat (wire_rows u s)) →
-    fine_parts ws s ≡ true → even_signals s ≡ true → {c g n : ℕ} → c ≡ length (contents s).signals → g ≡ signal_size s → n ≡ name_size s → (f : Found) → f ≡ cond (same (words r) (words x)) (Found.Statement c g 0 0 n) Found.Nothing → Tells t u ws r s f
+    fine_parts ws s ≡ true → even_signals s ≡ true → {c g n : ℕ} → c ≡ length (contents s).signals → g ≡ signal_size s → n ≡ name_size s → (f : Optional Found) → f ≡ cond (same (words r) (words x)) (Some (found c g 0 0 n)) None → Tells t u ws r s f
 unfolding bytes_of_string bit_codes flat_map value_size string_size sum
 laid t u ws r x s e ex hn hb hw w v c g n f ef =
     settled t ws r x ex
@@ -77,13 +83,13 @@ laid t u ws r x s e ex hn hb hw w v c g n f ef =
 -- ---- a name and nothing else, by the statement's contents
 
 module _ (names : List ℕ) (u : Used) (r : Row) (kind : ℕ) where
-  pub named-not : name_stands names u.names r.b ≡ false → TellsNamed names u r kind Found.Nothing
+  pub named-not : name_stands names u.names r.b ≡ false → TellsNamed names u r kind None
   unfolding Tells holds row padded
   named-not h strings bits wires ws s k e q d = first-not d h (ap (λ c. c.names) e) (same_at 2 q)
 
   pub named-settled :
-      name_stands names u.names r.b ≡ true → (x : Row) → words x ≡ row (kind ∷ u.names ∷ r.b ∷ []) → (f : Found) →
-      f ≡ cond (same (words r) (words x)) (Found.Statement 0 0 0 0 r.b) Found.Nothing → TellsNamed names u r kind f
+      name_stands names u.names r.b ≡ true → (x : Row) → words x ≡ row (kind ∷ u.names ∷ r.b ∷ []) → (f : Optional Found) →
+      f ≡ cond (same (words r) (words x)) (Some (found 0 0 0 0 r.b)) None → TellsNamed names u r kind f
   unfolding fine_alone fine_parts even_signals equal all holds name_bytes wire_rows flat_map zip zip_with signal_size name_size sum
   named-settled h x ex f ef strings bits wires ws s k e q =
       let l : r.b ≡ length (span names u.names r.b) = name-long names u.names r.b h in
@@ -126,20 +132,20 @@ module _ (names strings bits : List ℕ) (u : Used) (r : Row) (kind sort : ℕ) 
     unfolding holds signal_size value_size string_size name_size sum
     valued-counts v z m ev ez em = record { count = rw e; signals = rw e; values = rw e (omega arith); strings = rw e (omega arith); names = rw e (omega arith) }
 
-  pub valued_not : name_stands names u.names r.b ≡ false → TellsValued names strings bits u r kind sort Found.Nothing
+  pub valued_not : name_stands names u.names r.b ≡ false → TellsValued names strings bits u r kind sort None
   unfolding Tells holds row padded
   valued_not h wires ws s k os e q d = first-not d h (ap (λ c. c.names) e) (same_at 2 q)
 
   pub valued-lacks :
-      (h : Held) → TellsConstant strings bits u r.c r.d r.e (constant_of strings bits u r.c r.d r.e) h → h ≡ Held.Nothing →
-      TellsValued names strings bits u r kind sort Found.Nothing
+      (h : Optional HeldConstant) → TellsConstant strings bits u r.c r.d r.e (constant_of strings bits u r.c r.d r.e) h → h ≡ None →
+      TellsValued names strings bits u r kind sort None
   unfolding Tells TellsConstant
   valued-lacks h d eh wires ws s k os e q w = let f = rw eh at d in f (read-constant wires ws s k os _ _ e q w)
 
   pub valued-settled :
-      name_stands names u.names r.b ≡ true → (h : Held) (v z : ℕ) → TellsConstant strings bits u r.c r.d r.e (constant_of strings bits u r.c r.d r.e) h →
-      h ≡ Held.Constant v z → (x : Row) → words x ≡ row (kind ∷ u.names ∷ r.b ∷ r.c ∷ r.d ∷ r.e ∷ sort ∷ []) → (f : Found) →
-      f ≡ cond (same (words r) (words x)) (Found.Statement 0 0 v z r.b) Found.Nothing → TellsValued names strings bits u r kind sort f
+      name_stands names u.names r.b ≡ true → (h : Optional HeldConstant) (v z : ℕ) → TellsConstant strings bits u r.c r.d r.e (constant_of strings bits u r.c r.d r.e) h →
+      h ≡ Some (held v z) → (x : Row) → words x ≡ row (kind ∷ u.names ∷ r.b ∷ r.c ∷ r.d ∷ r.e ∷ sort ∷ []) → (f : Optional Found) →
+      f ≡ cond (same (words r) (words x)) (Some (found 0 0 v z r.b)) None → TellsValued names strings bits u r kind sort f
   unfolding TellsConstant
   valued-settled h held v z d eh x ex f ef wires ws s k os e q =
       let n = span names u.names r.b in

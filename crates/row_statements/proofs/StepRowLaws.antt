@@ -9,6 +9,8 @@ use native.Mathlib.Omega.{arith}
 use native.Mathlib.Nat.{mul-le-mul}
 use lib.Dec.{eqb, leb}
 use lib.ListN.{length, length-map}
+use Rattle.std.specs.Prelude.{Some, None}
+use Rattle.std.specs.Prelude.{Option as Optional}
 use borrow.Author.Tests.{eq-eqb, eqb-true, le-leb, leb-true}
 use Rattle.rules.specs.Bytes.{same, all}
 use Rattle.rules.specs.Statements.{Statement, Signal, Step, step_code, contents, holds, code, step-stmt}
@@ -30,7 +32,7 @@ use Rattle.row_statements.specs.Parts.{whole, bits_stand}
 use Rattle.row_statements.specs.Reads.{part_tables, step_or, signals_of, even_fits, even_signals, Reads, Tells, TellsStep}
 use Rattle.row_statements.specs.declared.statements.Found.{Found}
 use Rattle.row_statements.proofs.Spans.{has-none, has_span, has-whole}
-use Rattle.row_statements.proofs.ReadLaws.{laid}
+use Rattle.row_statements.proofs.ReadLaws.{found, laid}
 use Rattle.row_statements.proofs.PieceLaws.{even-equal, even-each, even_sum, none_each, first-narrow, signals-count, signals-codes, signals-even, signals-fine}
 
 -- a code that a step has is that of the step that it names
@@ -109,7 +111,7 @@ module _ (bits wires : List ℕ) (u : Used) (first : ℕ) (r : Row) where
     unfolding bits_stand
     read-bits = rw (read_whole, ← signals-fine bits u.bits r.c r.d read_whole (inside names) read-narrow) read-fine
 
-  pub step-arity : {b : Bool} → ArityIs r.a r.d b → b ≡ false → TellsStep bits wires u first r Found.Nothing
+  pub step-arity : {b : Bool} → ArityIs r.a r.d b → b ≡ false → TellsStep bits wires u first r None
   unfolding Tells contents holds all
   step-arity {b} h e names strings d =
       never b
@@ -118,21 +120,21 @@ module _ (bits wires : List ℕ) (u : Used) (first : ℕ) (r : Row) where
       ∙ and-true-left (arity (step_or r.a) (length signals)) true (fine-parts (inside names) _ d.fine).arities)
       e
 
-  pub step-uneven : even_fits r.c r.d ≡ false → TellsStep bits wires u first r Found.Nothing
+  pub step-uneven : even_fits r.c r.d ≡ false → TellsStep bits wires u first r None
   unfolding Tells
   step-uneven e names strings d =
       never (even_fits r.c r.d)
       (passes r.c r.d (read-narrow d) (read-few d) (λ z. read-width d ∙ none_each signals (signals-count bits u.bits r.c r.d ∙ z)))
       e
 
-  pub step-bits : ((names : List ℕ) → bits_stand (inside names) bits u.bits (r.c * r.d) ≡ false) → TellsStep bits wires u first r Found.Nothing
+  pub step-bits : ((names : List ℕ) → bits_stand (inside names) bits u.bits (r.c * r.d) ≡ false) → TellsStep bits wires u first r None
   unfolding Tells
   step-bits h names strings d = never (bits_stand (inside names) bits u.bits (r.c * r.d)) (read-bits d) (h names)
 
   pub step-settled :
       {b : Bool} → ArityIs r.a r.d b → b ≡ true → even_fits r.c r.d ≡ true → ((names : List ℕ) → bits_stand (inside names) bits u.bits (r.c * r.d) ≡ true) →
-      (x : Row) → words x ≡ row (13 ∷ r.a ∷ u.bits ∷ r.c ∷ r.d ∷ []) → (f : Found) →
-      f ≡ cond (same (words r) (words x)) (Found.Statement r.d (r.c * r.d) 0 0 0) Found.Nothing → TellsStep bits wires u first r f
+      (x : Row) → words x ≡ row (13 ∷ r.a ∷ u.bits ∷ r.c ∷ r.d ∷ []) → (f : Optional Found) →
+      f ≡ cond (same (words r) (words x)) (Some (found r.d (r.c * r.d) 0 0 0)) None → TellsStep bits wires u first r f
   unfolding statement_row columns code contents holds fine_alone fine_parts bits_stand even_signals all name_bytes wire_rows flat_map zip zip_with signal_size name_size sum
   step-settled h q e k x ex f ef names strings =
       let p = h.step q in

@@ -8,6 +8,8 @@ use mathlib.Core.Bool.{Bool, true, false, cond, ◌&&◌, ◌||◌}
 use native.Mathlib.Omega.{arith}
 use lib.Dec.{eqb, leb}
 use lib.ListN.{length}
+use Rattle.std.specs.Prelude.{Some, None}
+use Rattle.std.specs.Prelude.{Option as Optional}
 use borrow.Author.Tests.{eq-eqb, eqb-true, leb-false, lt-leb}
 use Rattle.rules.specs.Bytes.{same, all}
 use Rattle.rules.specs.Tokens.{Name}
@@ -34,7 +36,7 @@ use Rattle.row_statements.specs.declared.statements.Found.{Found}
 use Rattle.row_statements.proofs.Spans.{whole_long, has-none, has_span, spans}
 use Rattle.numbers.specs.KindLaws.{codes-back, length-signal}
 use Rattle.row_statements.proofs.CodeLaws.{signal-fine, signal-whole, signal-long}
-use Rattle.row_statements.proofs.ReadLaws.{name-legal, name-long, first-not, laid}
+use Rattle.row_statements.proofs.ReadLaws.{found, name-legal, name-long, first-not, laid}
 
 -- a signal that stands there has as many bits as its row says, and keeps the rules
 module _ (ws : Wires) (bits : List ℕ) (at n : ℕ) where
@@ -53,18 +55,18 @@ module _ (names bits wires : List ℕ) (u : Used) (first : ℕ) (r : Row) where
   abbrev here : Wires
   here = wires_from names wires first (u.wires - first)
 
-  pub port-name : name_stands names u.names r.b ≡ false → TellsCellConnection names bits wires u first r Found.Nothing
+  pub port-name : name_stands names u.names r.b ≡ false → TellsCellConnection names bits wires u first r None
   unfolding Tells statement_row columns contents holds row padded
   port-name h strings d = first-not d h refl refl
 
-  pub port-signal : signal_stands here bits u.bits r.d ≡ false → TellsCellConnection names bits wires u first r Found.Nothing
+  pub port-signal : signal_stands here bits u.bits r.d ≡ false → TellsCellConnection names bits wires u first r None
   unfolding Tells statement_row columns contents holds words row padded all
   port-signal h strings d = signal-not here bits u.bits r.d h (same_at 4 d.row) (and-true-left _ _ (fine-parts here _ d.fine).signals)
 
   pub port-settled :
       name_stands names u.names r.b ≡ true → signal_stands here bits u.bits r.d ≡ true →
-      (x : Row) → words x ≡ row (9 ∷ u.names ∷ r.b ∷ u.bits ∷ r.d ∷ []) → (f : Found) →
-      f ≡ cond (same (words r) (words x)) (Found.Statement 1 r.d 0 0 r.b) Found.Nothing → TellsCellConnection names bits wires u first r f
+      (x : Row) → words x ≡ row (9 ∷ u.names ∷ r.b ∷ u.bits ∷ r.d ∷ []) → (f : Optional Found) →
+      f ≡ cond (same (words r) (words x)) (Some (found 1 r.d 0 0 r.b)) None → TellsCellConnection names bits wires u first r f
   unfolding statement_row columns code contents holds fine_alone fine_parts even_signals equal all name_bytes wire_rows flat_map zip zip_with signal_size name_size sum
   port-settled h k x ex f ef strings =
       let l : r.b ≡ length (span names u.names r.b) = name-long names u.names r.b h in
@@ -78,17 +80,17 @@ module _ (bits wires : List ℕ) (u : Used) (first : ℕ) (r : Row) where
   abbrev inside : List ℕ → Wires
   inside names = wires_from names wires first (u.wires - first)
 
-  pub connection-left : ((names : List ℕ) → signal_stands (inside names) bits u.bits r.b ≡ false) → TellsConnection bits wires u first r Found.Nothing
+  pub connection-left : ((names : List ℕ) → signal_stands (inside names) bits u.bits r.b ≡ false) → TellsConnection bits wires u first r None
   unfolding Tells statement_row columns contents holds words row padded all
   connection-left h names strings d =
       signal-not (inside names) bits u.bits r.b (h names) (same_at 2 d.row) (and-true-left _ _ (fine-parts (inside names) _ d.fine).signals)
 
-  pub connection-right : ((names : List ℕ) → signal_stands (inside names) bits (u.bits + r.b) r.d ≡ false) → TellsConnection bits wires u first r Found.Nothing
+  pub connection-right : ((names : List ℕ) → signal_stands (inside names) bits (u.bits + r.b) r.d ≡ false) → TellsConnection bits wires u first r None
   unfolding Tells statement_row columns contents holds words row padded all
   connection-right h names strings d =
       signal-not (inside names) bits (u.bits + r.b) r.d (h names) (same_at 4 d.row) (and-true-left _ _ (and-true-right (fine_signal (inside names) (signal_of (span bits u.bits r.b))) _ (fine-parts (inside names) _ d.fine).signals))
 
-  pub connection-widths : (r.b ≡ r.d → ⊥) → TellsConnection bits wires u first r Found.Nothing
+  pub connection-widths : (r.b ≡ r.d → ⊥) → TellsConnection bits wires u first r None
   unfolding Tells statement_row columns contents holds words row padded even_signals equal all
   connection-widths h names strings d =
       let m = length (signal_of (span bits u.bits r.b)) in
@@ -98,8 +100,8 @@ module _ (bits wires : List ℕ) (u : Used) (first : ℕ) (r : Row) where
 
   pub connection-settled :
       ((names : List ℕ) → signal_stands (inside names) bits u.bits r.b ≡ true) → ((names : List ℕ) → signal_stands (inside names) bits (u.bits + r.b) r.d ≡ true) → r.b ≡ r.d →
-      (x : Row) → words x ≡ row (10 ∷ u.bits ∷ r.b ∷ (u.bits + r.b) ∷ r.d ∷ []) → (f : Found) →
-      f ≡ cond (same (words r) (words x)) (Found.Statement 2 (r.b + r.d) 0 0 0) Found.Nothing → TellsConnection bits wires u first r f
+      (x : Row) → words x ≡ row (10 ∷ u.bits ∷ r.b ∷ (u.bits + r.b) ∷ r.d ∷ []) → (f : Optional Found) →
+      f ≡ cond (same (words r) (words x)) (Some (found 2 (r.b + r.d) 0 0 0)) None → TellsConnection bits wires u first r f
   unfolding statement_row columns code contents holds fine_alone fine_parts even_signals equal all name_bytes wire_rows flat_map zip zip_with signal_size name_size sum
   connection-settled h k e x ex f ef names strings =
       let l : r.b ≡ length (signal_of (span bits u.bits r.b)) = signal-bits (inside names) bits u.bits r.b (h names) in
@@ -116,17 +118,17 @@ module _ (names wires : List ℕ) (u : Used) (first : ℕ) (r : Row) where
   abbrev named : Name
   named = span names u.names r.b
 
-  pub wire-name : name_stands names u.names r.b ≡ false → TellsWire names wires u first r Found.Nothing
+  pub wire-name : name_stands names u.names r.b ≡ false → TellsWire names wires u first r None
   unfolding Tells statement_row columns contents holds row padded
   wire-name h strings bits d = first-not d h refl refl
 
-  pub wire-rules : fine_wire before (wire_of wires u.wires) ≡ false → TellsWire names wires u first r Found.Nothing
+  pub wire-rules : fine_wire before (wire_of wires u.wires) ≡ false → TellsWire names wires u first r None
   unfolding Tells contents holds all fine_wire
   wire-rules h strings bits d =
       let f = fine-parts before _ d.fine in
       never (fine_wire before (wire_of wires u.wires)) (rw (and-true-left (own_wire (wire_of wires u.wires)) _ f.wires) (and-true-left _ _ f.ports)) h
 
-  pub wire-row : (b : Bool) → WireRowStands wires u r.b b → b ≡ false → TellsWire names wires u first r Found.Nothing
+  pub wire-row : (b : Bool) → WireRowStands wires u r.b b → b ≡ false → TellsWire names wires u first r None
   unfolding Tells Decides statement_row columns contents holds wire_rows flat_map zip zip_with words row padded
   wire-row b h e strings bits d =
       let k = rw e at (h named (sym (same_at 2 d.row))) in
@@ -134,8 +136,8 @@ module _ (names wires : List ℕ) (u : Used) (first : ℕ) (r : Row) where
 
   pub wire-settled :
       name_stands names u.names r.b ≡ true → (b : Bool) → WireRowStands wires u r.b b → b ≡ true → fine_wire before (wire_of wires u.wires) ≡ true →
-      (x : Row) → words x ≡ row (5 ∷ u.names ∷ r.b ∷ u.wires ∷ []) → (f : Found) →
-      f ≡ cond (same (words r) (words x)) (Found.Statement 0 0 0 0 r.b) Found.Nothing → TellsWire names wires u first r f
+      (x : Row) → words x ≡ row (5 ∷ u.names ∷ r.b ∷ u.wires ∷ []) → (f : Optional Found) →
+      f ≡ cond (same (words r) (words x)) (Some (found 0 0 0 0 r.b)) None → TellsWire names wires u first r f
   unfolding Decides statement_row columns code contents holds fine_wire fine_alone fine_parts even_signals equal all name_bytes wire_rows flat_map zip zip_with signal_size name_size sum
   wire-settled h b q e k x ex f ef strings bits =
       let l : r.b ≡ length named = name-long names u.names r.b h in

@@ -1,10 +1,11 @@
--- By the test of the rows.
--- Assumes nothing.
-use mathlib.Core.Path.{sym, ◌∙◌}
+use Rattle.std.specs.Prelude.{◌≡◌, Bool, true, false, cond, Some, None}
+use Rattle.std.specs.Bool.{then_some}
+use Rattle.std.proofs.Common.{refl, ◌∙◌}
 use Rattle.row_statements.proofs.settled.settle.Goals as goal
 
-pub returns-then-same_row : goal.returns-then-same_row
-returns-then-same_row c = rw (sym c.same_row.ensures ∙ c.if-same_row.true)
+by_test : {A : Type 0} (b : Bool) (x : A) → then_some b x ≡ cond b (Some x) None
+by_test true x = refl
+by_test false x = refl
 
 pub returns : goal.returns
-returns c = rw (sym c.same_row.ensures ∙ c.if-same_row.false)
+returns c = rw (← c.same_row.ensures) (c.then_some.ensures ∙ by_test _ _)

@@ -10,9 +10,9 @@ use Rattle.row_statements.proofs.statements.valued.Goals as goal
 pub returns-then-not-name_stands : goal.returns-then-not-name_stands
 returns-then-not-name_stands c = valued_not _ _ _ _ _ _ _ (sym c.name_stands.ensures ∙ not-true _ c.if-not-name_stands.true-raw)
 
-pub returns-in-Constant : goal.returns-in-Constant
+pub returns : goal.returns
 unfolding words row padded
-returns-in-Constant c = valued-settled _ _ _ _ _ _ _ (sym c.name_stands.ensures ∙ not-false _ c.if-not-name_stands.false-raw) _ _ _ c.constant_at-h.ensures c.in-Constant.is _ refl _ c.settle.ensures
+returns c = valued-settled _ _ _ _ _ _ _ (sym c.name_stands.ensures ∙ not-false _ c.if-not-name_stands.false-raw) _ _ _ c.constant_at.ensures c.in_ok-held.was _ refl _ c.settle.ensures
 
-pub returns-in-Nothing : goal.returns-in-Nothing
-returns-in-Nothing c = valued-lacks _ _ _ _ _ _ _ _ c.constant_at-h.ensures c.in-Nothing.is
+pub returns-in_err-held : goal.returns-in_err-held
+returns-in_err-held c = rw c.from_residual.ensures (valued-lacks _ _ _ _ _ _ _ _ c.constant_at.ensures c.in_err-held.was)
