@@ -1,4 +1,4 @@
-// The session card and what several calls answer, laid out as C's. Each call that changes the card is proved by a walk of its MIR: proofs/ has what the walks share.
+// The session card and what several calls answer, laid out as C's. Calls that change the card share the laws in proofs/.
 #![tactic(auto)]
 
 // The session card: renames standing, name room used.

@@ -9,6 +9,7 @@ use lib.Dec.{ltb}
 use lib.ListN.{length, get_or, take, drop}
 use lib.Seq.{slice, length-slice, append_snoc}
 use borrow.Author.Tests.{ltb-true, ltb-false}
+use Rattle.std.specs.Prelude.{Ok, Err}
 use Rattle.rules.specs.Tokens as rules
 use Rattle.lists.specs.Tests.{by-test}
 use Rattle.lists.specs.Parts.{slice-part}
@@ -20,7 +21,6 @@ use Rattle.lexer.specs.Lexemes.{Held, step_of, StepIs}
 use Rattle.lexer.specs.Lines.{lexed_of, LexedIs}
 use Rattle.lexer.specs.declared.Lexeme.{Lexeme}
 use Rattle.lexer.specs.declared.Lexeme.TheVariants as lexeme
-use Rattle.lexer.specs.declared.Lexed.TheVariants as lexed
 use Rattle.lexer.proofs.Prefix.{length-prefix, held-file, token-file, held_small, held-present}
 
 -- tokens in front of what the rules say of the rest
@@ -92,7 +92,7 @@ module _ (f old t : List ℕ) (from end i n : ℕ) (k : end ≤ length f) (R : R
   ends_by zero e = refl
   ends_by (suc m) e = rw e
 
-  pub ended : StepIs (take end f) i lexeme.Done → LexedIs f from end old t (lexed.Tokens n)
+  pub ended : StepIs (take end f) i lexeme.Done → LexedIs f from end old t (Ok n)
   unfolding step_of lexed_of behind
   ended S =
       record {
@@ -101,7 +101,7 @@ module _ (f old t : List ℕ) (from end i n : ℕ) (k : end ≤ length f) (R : R
         kept = R.kept;
       }
 
-  pub broke : (p : ℕ) → StepIs (take end f) i (lexeme.Wrong p) → LexedIs f from end old t (lexed.Bad p)
+  pub broke : (p : ℕ) → StepIs (take end f) i (lexeme.Wrong p) → LexedIs f from end old t (Err (record { at = p }))
   unfolding step_of lexed_of behind rules.tokens_by
   broke p S =
       let l : p < end = omega (arith, S.lies.1, length-prefix f end k) in

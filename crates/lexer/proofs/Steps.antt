@@ -12,6 +12,7 @@ use lib.Seq.{slice, slice_empty, length-slice, drop-cons}
 use mir.Syntax.{w8}
 use mir.Val.{Fits}
 use borrow.Author.Tests.{lt-ltb, le-ltb, eq-eqb, ne_eqb}
+use Rattle.std.specs.Prelude.{Option, Some, None}
 use Rattle.rules.specs.Bytes.{within, run, legal, is_name_start, is_name_byte}
 use Rattle.rules.specs.Tokens as rules
 use Rattle.numbers.specs.Signed.{integer_of}
@@ -25,8 +26,6 @@ use Rattle.scanner.proofs.RunLaws.{end_of-low, end_of-high, end_of-slice, end_of
 use Rattle.scanner.proofs.WordLaws.{keyword-number, keyword-back}
 use Rattle.lists.specs.Parts.{slice-part}
 use Rattle.strings.specs.Decoded.{CloseIs}
-use Rattle.strings.specs.declared.Close.{Close}
-use Rattle.strings.specs.declared.Close.TheVariants.{At, Broken}
 use Rattle.strings.proofs.StringLaws.{close-broken, close-closed}
 use Rattle.tokens.specs.Rows.{front, token_in, literal_in, integer_in}
 use Rattle.tokens.specs.declared.ConstantSpan.TheVariants as constant
@@ -200,11 +199,11 @@ module _ (s : List ℕ) (p e : ℕ) where
         let z : slice (p + 1) e s ≡ [] = let y : p + 1 ≡ e = omega (arith, b.0) in rw y (slice_empty e s) in
         wrong-at s p _ c.inside (at-minus s p c e q ∙ rw z)
 
-module _ (s : List ℕ) (p : ℕ) (c : Starts s p 8 8) (r : Close) (q : CloseIs s (p + 1) r) where
-  pub string-token : (e : ℕ) → r ≡ At e → rules.step (drop p s) ≡ rules.separate (drop p s) (token_in s (token.Constant (constant.Text (p + 1)))) (drop e s)
+module _ (s : List ℕ) (p : ℕ) (c : Starts s p 8 8) (r : Option ℕ) (q : CloseIs s (p + 1) r) where
+  pub string-token : (e : ℕ) → r ≡ Some e → rules.step (drop p s) ≡ rules.separate (drop p s) (token_in s (token.Constant (constant.Text (p + 1)))) (drop e s)
   unfolding rules.string_step token_in front literal_in
   string-token e x = at-string s p c ∙ rw (close-closed s (p + 1) r q e x)
 
-  pub string-wrong : r ≡ Broken → StepIs s p (lexeme.Wrong p)
+  pub string-wrong : r ≡ None → StepIs s p (lexeme.Wrong p)
   unfolding rules.string_step
   string-wrong x = wrong-at s p _ c.inside (at-string s p c ∙ rw (close-broken s (p + 1) r q x))

@@ -32,7 +32,7 @@ pub fn next_line<'a>(r: LineReader<'a>) -> Line
     line_from(r.file, r.at)
 }
 
-// With plain parameters: whoever calls it needs no walk.
+// The line at a place, for a caller that has no reader.
 pub fn line_at(file: &[u8], at: usize) -> Line
     ensures { result ≡ line_from file.now at }
 {

@@ -183,8 +183,8 @@ pub fn literal_at(tokens: &[u32], i: usize) -> Option<ConstantSpan>
 pub fn integer_at(tokens: &[u32], i: usize) -> Option<Integer>
     ensures { IntegerIs tokens.now i result }
 {
-    match token_at(tokens, i) {
-        Token::Constant(ConstantSpan::Integer(z)) => Some(z),
+    match literal_at(tokens, i)? {
+        ConstantSpan::Integer(z) => Some(z),
         _ => None,
     }
 }
