@@ -1,6 +1,7 @@
 -- The parts of an answer are those of its statement, and so are the sizes that the code makes of them.
 -- Assumes nothing.
 use Prim.Native.Nat.{ℕ, zero, suc, ◌+◌, ◌*◌, ◌≤◌}
+use Rattle.std.specs.Prelude.{Option as Optional, Some, None}
 use mathlib.Core.Path.{◌≡◌, refl, sym, ap, ap₂, ◌∙◌}
 use mathlib.Core.Bool.{true, cond}
 use mathlib.Core.List.{List, [], ◌∷◌, reverse, Option-to_list}
@@ -27,11 +28,10 @@ use Rattle.netlist.specs.Steps.{step_named, pieces}
 use Rattle.strings.proofs.StringLaws.{decoded-length}
 use Rattle.tokens.specs.Rows.{literal_in}
 use Rattle.tokens.specs.declared.ConstantSpan.TheVariants as constant
-use Rattle.tokens.specs.declared.ConstantSlot.{ConstantSlot}
-use Rattle.tokens.specs.declared.ConstantSlot.TheVariants as literal
+use Rattle.tokens.specs.declared.ConstantSpan.{ConstantSpan}
 use Rattle.literal_rules.proofs.ReadLaws.{value-few, value-width}
 use Rattle.line_forms.specs.Forms.{name_in, value_in}
-use Rattle.line_forms.specs.declared.Span.{Span}
+use Rattle.scanner.specs.declared.parts.Span.{Span}
 use Rattle.syntax.specs.Statements.{number_of, fault_of, signals_in, statement_in, kind_in, names_in, steps_of, widths_in, Sound, GoodOptional}
 use Rattle.syntax.specs.declared.Statement.{Statement}
 use Rattle.syntax.specs.declared.Statement.TheVariants.{Autoidx, Attribute, Module, Parameter, Wire, Memory, Cell, CellParameter, CellConnection, Connection, Step, End, NoShape, Process, BadNumber, MissingWire}
@@ -171,28 +171,28 @@ pub name-few : (f : List ℕ) (n : Span) → length (name_in f n) ≤ length f
 unfolding name_in
 name-few f n = slice-le n.start n.end f
 
-digits_are : (f : List ℕ) (i j e : ℕ) → digits_in f (literal.Read (constant.Value i j e)) ≡ length (literal_bits (literal_in f (constant.Value i j e)))
+digits_are : (f : List ℕ) (i j e : ℕ) → digits_in f (Some (constant.Value i j e)) ≡ length (literal_bits (literal_in f (constant.Value i j e)))
 unfolding digits_in constants_in value_in literal_in literal_bits kept sum statements_open
 digits_are f i j e = omega arith
 
 pub value-digits :
     (f : List ℕ) (i j e : ℕ) → good_literal (literal_in f (constant.Value i j e)) ≡ true →
-    (n : ℕ) → n ≡ capped (literal_width (literal_in f (constant.Value i j e))) → n ≡ digits_in f (literal.Read (constant.Value i j e))
+    (n : ℕ) → n ≡ capped (literal_width (literal_in f (constant.Value i j e))) → n ≡ digits_in f (Some (constant.Value i j e))
 value-digits f i j e good n r = value-width f i j e good n r ∙ sym (digits_are f i j e)
 
-digits-few : (f : List ℕ) (c : ConstantSlot) → GoodOptional f c → digits_in f c ≤ 2048
+digits-few : (f : List ℕ) (c : Optional ConstantSpan) → GoodOptional f c → digits_in f c ≤ 2048
 unfolding digits_in constants_in value_in literal_in kept sum statements_open
-digits-few f literal.Nothing h = omega arith
-digits-few f (literal.Read (constant.Integer z)) h = omega arith
-digits-few f (literal.Read (constant.Value i j e)) h = omega (arith, digits_are f i j e, value-few f i j e h.good)
-digits-few f (literal.Read (constant.Text i)) h = omega arith
+digits-few f None h = omega arith
+digits-few f (Some (constant.Integer z)) h = omega arith
+digits-few f (Some (constant.Value i j e)) h = omega (arith, digits_are f i j e, value-few f i j e h.good)
+digits-few f (Some (constant.Text i)) h = omega arith
 
-bytes-few : (f : List ℕ) (c : ConstantSlot) → bytes_in f c ≤ length f
+bytes-few : (f : List ℕ) (c : Optional ConstantSpan) → bytes_in f c ≤ length f
 unfolding bytes_in constants_in value_in literal_in kept sum statements_open
-bytes-few f literal.Nothing = omega arith
-bytes-few f (literal.Read (constant.Integer z)) = omega arith
-bytes-few f (literal.Read (constant.Value i j e)) = omega arith
-bytes-few f (literal.Read (constant.Text i)) = omega (arith, decoded-length f i)
+bytes-few f None = omega arith
+bytes-few f (Some (constant.Integer z)) = omega arith
+bytes-few f (Some (constant.Value i j e)) = omega arith
+bytes-few f (Some (constant.Text i)) = omega (arith, decoded-length f i)
 
 -- ---- the signals of a step
 

@@ -1,6 +1,7 @@
 -- Signals of one width, held against what their step asks.
 -- Assumes nothing.
 use Prim.Native.Nat.{ℕ, zero, suc}
+use Rattle.std.specs.Prelude.{Option as Optional, Some, None}
 use mathlib.Core.Path.{◌≡◌, refl, sym, ap, ◌∙◌}
 use mathlib.Core.Bool.{Bool, true, false, cond, ◌||◌}
 use mathlib.Core.List.{List, [], ◌∷◌, ◌++◌, map, flat_map, Option-to_list}
@@ -17,7 +18,6 @@ use Rattle.context.specs.declared.place.Place.{Place}
 use Rattle.netlist.specs.Steps.{step_named}
 use Rattle.netlist.specs.StepLaws.{by-named}
 use Rattle.steps.specs.Steps.{widths, AskedIs}
-use Rattle.steps.specs.declared.Asked.{Asked}
 use Rattle.judgement.specs.Parts.{Coded, uneven_in, UnevenIs}
 
 -- ---- the code of a step by its name
@@ -82,21 +82,21 @@ module _ (rows : List ℕ) (place : Place) (t w n : ℕ) where
 
   module _ (coded : Coded t) (h : (eqb t 0 || eqb n 0) ≡ false) where
     -- the width that the step asks for, in the rules' words
-    asked-are : (r : Asked) → AskedIs rows place t r → {b : Bool} → equal ((widths r ++ []) ++ replicate n w) ≡ b → UnevenIs rows place t w n (cond b 0 10)
+    asked-are : (r : Optional ℕ) → AskedIs rows place t r → {b : Bool} → equal ((widths r ++ []) ++ replicate n w) ≡ b → UnevenIs rows place t w n (cond b 0 10)
     unfolding uneven_in flat_map Option-to_list
     asked-are r A e names ss l o ep =
         let q = coded (eqb-false t 0 (or-false-left (eqb t 0) (eqb n 0) h)) in
         rw (q.1, A names ss q.0 l o ep (named-code t q.0 q.1), e)
 
-    pub any_width : AskedIs rows place t Asked.Nothing → UnevenIs rows place t w n 0
+    pub any_width : AskedIs rows place t None → UnevenIs rows place t w n 0
     unfolding widths
-    any_width A = asked-are Asked.Nothing A (equal-same n w)
+    any_width A = asked-are None A (equal-same n w)
 
-    module _ (v : ℕ) (A : AskedIs rows place t (Asked.Width v)) where
+    module _ (v : ℕ) (A : AskedIs rows place t (Some v)) where
       pub same_width : v ≡ w → UnevenIs rows place t w n 0
       unfolding widths equal
-      same_width e = asked-are (Asked.Width v) A (all_same v w n (eq-eqb v w e))
+      same_width e = asked-are (Some v) A (all_same v w n (eq-eqb v w e))
 
       pub other_width : (v ≡ w → ⊥) → UnevenIs rows place t w n 10
       unfolding widths equal
-      other_width e = asked-are (Asked.Width v) A (all-other v w n (ne_eqb v w e) (eqb-false n 0 (or-false-right (eqb t 0) (eqb n 0) h)))
+      other_width e = asked-are (Some v) A (all-other v w n (ne_eqb v w e) (eqb-false n 0 (or-false-right (eqb t 0) (eqb n 0) h)))

@@ -1,6 +1,7 @@
 -- From what storing an answer needs to what its parts need, and from what the parts store to what the statement puts.
 -- Assumes nothing.
 use Prim.Native.Nat.{ℕ, ◌+◌, ◌*◌, ◌≤◌, ◌<◌}
+use Rattle.std.specs.Prelude.{Option as Optional, Some, None}
 use mathlib.Core.Path.{◌≡◌, refl, sym, ap, ◌∙◌}
 use mathlib.Core.List.{List, [], ◌∷◌, map, Option-to_list}
 use mathlib.Core.Option
@@ -16,14 +17,12 @@ use Rattle.tables.specs.Store.{store}
 use Rattle.numbers.specs.Signed.{signed_of}
 use Rattle.numbers.specs.SignedLaws.{word-signed}
 use Rattle.tokens.specs.declared.ConstantSpan.{ConstantSpan}
-use Rattle.tokens.specs.declared.ConstantSlot.{ConstantSlot}
-use Rattle.tokens.specs.declared.ConstantSlot.TheVariants as literal
 use Rattle.wires.specs.Rows.{word_at, column, wire_of}
 use Rattle.wires.specs.RowLaws.{flags-back, port-number-back}
 use Rattle.numbers.specs.Kinds.{sort_of}
 use Rattle.numbers.specs.KindLaws.{sort-code}
 use Rattle.line_forms.specs.Forms.{name_in, value_in}
-use Rattle.line_forms.specs.declared.Span.{Span}
+use Rattle.scanner.specs.declared.parts.Span.{Span}
 use Rattle.syntax.specs.Statements.{fault_of, wire_from, memory_from, signal_in, statement_in, GoodConstant, GoodOptional, Sound}
 use Rattle.syntax.specs.declared.Statement.{Statement}
 use Rattle.syntax.specs.declared.Statement.TheVariants.{Autoidx, Attribute, Module, Parameter, Wire as WireOf, Memory as MemoryOf, Cell, CellParameter, CellConnection, Connection, Step as StepOf, End, NoShape, Process, BadNumber, MissingWire}
@@ -225,7 +224,7 @@ module _ (f s : List ℕ) (u : Used) (names bits wires rows : List ℕ) where
   refusal-put MissingWire autoidx wire memory cell cell-connection connection end = λ k strings. refl
 
 pub plain-rest :
-    (r : Statement) → ((n : Span) (c : ConstantSpan) → r ≡ Attribute n c → ⊥) → ((n : Span) → r ≡ Module n → ⊥) → ((n : Span) (c : ConstantSlot) → r ≡ Parameter n c → ⊥) →
+    (r : Statement) → ((n : Span) (c : ConstantSpan) → r ≡ Attribute n c → ⊥) → ((n : Span) → r ≡ Module n → ⊥) → ((n : Span) (c : Optional ConstantSpan) → r ≡ Parameter n c → ⊥) →
     ((z : ℕ) (n : Span) (c : ConstantSpan) → r ≡ CellParameter z n c → ⊥) → ((p w n l : ℕ) → r ≡ StepOf p w n l → ⊥) → ((n : Span) → r ≡ Process n → ⊥) → Plain r
 plain-rest (Autoidx w) attribute block parameter cell-parameter step process = tt
 plain-rest (Attribute n c) attribute block parameter cell-parameter step process = absurd (attribute n c refl)
@@ -248,56 +247,56 @@ plain-rest MissingWire attribute block parameter cell-parameter step process = t
 
 module _ (f s : List ℕ) where
   valued :
-      {r : Statement} {kind : ℕ} {n : Span} {c : ConstantSlot} {sort : ℕ} (x : rules.Statement) → statement_in f s r ≡ some x → (contents x).names ≡ name_in f n ∷ [] →
+      {r : Statement} {kind : ℕ} {n : Span} {c : Optional ConstantSpan} {sort : ℕ} (x : rules.Statement) → statement_in f s r ≡ some x → (contents x).names ≡ name_in f n ∷ [] →
       (contents x).constants ≡ Option-to_list (optional_in f c) → (contents x).signals ≡ [] → (contents x).wires ≡ [] → GoodOptional f c →
       ((u : rooms.Used) → statement_row u x ≡ valued_row u kind (name_in f n) (optional_in f c) sort) → ValuedHas f s r kind n c sort
   valued x e n c k w g q = record { x = x; is = e; names-are = n; constants-are = c; no-signals = k; no-wires = w; good = g; row_is = q }
 
-  pub attribute-valued : (r : Statement) (n : Span) (c : ConstantSpan) → r ≡ Attribute n c → Sound f r → ValuedHas f s r 2 n (literal.Read c) 0
+  pub attribute-valued : (r : Statement) (n : Span) (c : ConstantSpan) → r ≡ Attribute n c → Sound f r → ValuedHas f s r 2 n (Some c) 0
   unfolding statement_in holds contents value_in Option-to_list Option-elim statement_row columns code valued_row optional_columns
   attribute-valued r n c e g =
       valued (attr-stmt (name_in f n) (constant_in f c)) (ap (statement_in f s) e) refl refl refl refl (rw e at g) (λ u. sym (row_zero u (constant_in f c) 2 u.names (length (name_in f n))))
 
-  pub cell-parameter-valued : (r : Statement) (z : ℕ) (n : Span) (c : ConstantSpan) → r ≡ CellParameter z n c → Sound f r → ValuedHas f s r 8 n (literal.Read c) z
+  pub cell-parameter-valued : (r : Statement) (z : ℕ) (n : Span) (c : ConstantSpan) → r ≡ CellParameter z n c → Sound f r → ValuedHas f s r 8 n (Some c) z
   unfolding statement_in holds contents value_in Option-to_list Option-elim statement_row columns code valued_row optional_columns
   cell-parameter-valued r z n c e g =
       let k : (z ≤ 2) × GoodConstant f c = rw e at g in
       valued (cell-param-stmt (sort_of z) (name_in f n) (constant_in f c)) (ap (statement_in f s) e) refl refl refl refl k.1 (λ u. rw (sort-code z k.0))
 
-  parameter-row : (u : rooms.Used) (n : Name) (c : ConstantSlot) → statement_row u (param-stmt n (optional_in f c)) ≡ valued_row u 4 n (optional_in f c) 0
+  parameter-row : (u : rooms.Used) (n : Name) (c : Optional ConstantSpan) → statement_row u (param-stmt n (optional_in f c)) ≡ valued_row u 4 n (optional_in f c) 0
   unfolding holds contents value_in Option.map Option-elim statement_row columns code valued_row optional_columns row padded
-  parameter-row u n (literal.Read c) = sym (row_zero u (constant_in f c) 4 u.names (length n))
-  parameter-row u n literal.Nothing = refl
+  parameter-row u n (Some c) = sym (row_zero u (constant_in f c) 4 u.names (length n))
+  parameter-row u n None = refl
 
-  pub parameter-valued : (r : Statement) (n : Span) (c : ConstantSlot) → r ≡ Parameter n c → Sound f r → ValuedHas f s r 4 n c 0
+  pub parameter-valued : (r : Statement) (n : Span) (c : Optional ConstantSpan) → r ≡ Parameter n c → Sound f r → ValuedHas f s r 4 n c 0
   unfolding statement_in holds contents
   parameter-valued r n c e g = valued (param-stmt (name_in f n) (optional_in f c)) (ap (statement_in f s) e) refl refl refl refl (rw e at g) (λ u. parameter-row u (name_in f n) c)
 
-  pub module-valued : (r : Statement) (n : Span) → r ≡ Module n → Sound f r → ValuedHas f s r 3 n literal.Nothing 0
+  pub module-valued : (r : Statement) (n : Span) → r ≡ Module n → Sound f r → ValuedHas f s r 3 n None 0
   unfolding statement_in holds contents value_in Option-to_list Option-elim statement_row columns code valued_row optional_columns row padded
   module-valued r n e g = valued (module-stmt (name_in f n)) (ap (statement_in f s) e) refl refl refl refl tt (λ u. refl)
 
-  pub process-valued : (r : Statement) (n : Span) → r ≡ Process n → Sound f r → ValuedHas f s r 11 n literal.Nothing 0
+  pub process-valued : (r : Statement) (n : Span) → r ≡ Process n → Sound f r → ValuedHas f s r 11 n None 0
   unfolding statement_in holds contents value_in Option-to_list Option-elim statement_row columns code valued_row optional_columns row padded
   process-valued r n e g = valued (proc-stmt (name_in f n)) (ap (statement_in f s) e) refl refl refl refl tt (λ u. refl)
 
 -- what they need
 module _ (f s : List ℕ) (r : Statement) (u : Used) (t : Tables) (h : Storable f s r u t) where
   constant-room :
-      (x : rules.Statement) (c : ConstantSlot) → statement_in f s r ≡ some x → (contents x).constants ≡ Option-to_list (optional_in f c) → (contents x).signals ≡ [] → GoodOptional f c →
+      (x : rules.Statement) (c : Optional ConstantSpan) → statement_in f s r ≡ some x → (contents x).constants ≡ Option-to_list (optional_in f c) → (contents x).signals ≡ [] → GoodOptional f c →
       OptionalFits f c u t.strings t.bits
   unfolding value_in Option-to_list
-  constant-room x (literal.Read c) e kc ks g =
+  constant-room x (Some c) e kc ks g =
       record {
         good = g.good;
         whole = g.whole;
         strings-fit = string-fits (used_of u) x (h.room x e) t.strings (constant_in f c) kc h.sized.strings;
         bits_fit = value-fits (used_of u) x (h.room x e) t.bits (constant_in f c) kc ks h.sized.bits;
       }
-  constant-room x literal.Nothing e kc ks g = tt
+  constant-room x None e kc ks g = tt
 
   pub valued-room :
-      (kind : ℕ) (n : Span) (c : ConstantSlot) (sort : ℕ) → ValuedHas f s r kind n c sort →
+      (kind : ℕ) (n : Span) (c : Optional ConstantSpan) (sort : ℕ) → ValuedHas f s r kind n c sort →
       (Fits u.names (length (name_in f n)) t.names) × ((OptionalFits f c u t.strings t.bits) × ((2048 ≤ length s) × (8 * u.rows + 8 ≤ length t.rows)))
   valued-room kind n c sort v =
       let room : RoomFor (used_of u) v.x = h.room v.x v.is in (
@@ -333,7 +332,7 @@ digits-put x t at none e g = ap (store t at) (sym (no_bits x e g))
 
 module _ (f s : List ℕ) (r : Statement) (u : Used) (names names' strings strings' bits bits' wires rows rows' : List ℕ) where
   pub valued-put :
-      (kind : ℕ) (n : Span) (c : ConstantSlot) (sort : ℕ) → ValuedHas f s r kind n c sort →
+      (kind : ℕ) (n : Span) (c : Optional ConstantSpan) (sort : ℕ) → ValuedHas f s r kind n c sort →
       names' ≡ store names u.names (name_in f n) → strings' ≡ store strings u.strings (optional_bytes (optional_in f c)) →
       bits' ≡ store bits u.bits (map digit_code (optional_digits (optional_in f c))) → rows' ≡ store rows (8 * u.rows) (valued_row (used_of u) kind (name_in f n) (optional_in f c) sort) →
       PutIs f s r u (tabled names strings bits wires rows) (tabled names' strings' bits' wires rows')

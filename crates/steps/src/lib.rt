@@ -146,16 +146,13 @@ fn closed_before(closed: u32, end: bool, switch: bool) -> u32
 fn open_switch(rows: &[u32], count: u32) -> Option<u32>
     ensures { widths result ≡ open_width rows.now count 0 }
 {
-    let mut k = count;
     let mut closed = 0;
-    while 0 < k {
-        let row = (k - 1) as usize;
+    for row in (0..count as usize).rev() {
         let switch = is_switch(rows, row);
         if switch & (closed == 0) {
             return Some(column(rows, row, EACH_WIDTH));
         }
         closed = closed_before(closed, is_end(rows, row), switch);
-        k = k - 1;
     }
     None
 }

@@ -16,7 +16,7 @@ use Rattle.rules.specs.Judgement.{sum, all_parts, breaks_number, lacks_wire, par
 use Rattle.lists.specs.Tests.{by_cond, and-true-left, and-true-right}
 use Rattle.lists.specs.Elements.{Each, all_left, all_right}
 use Rattle.line_forms.specs.Forms.{name_in}
-use Rattle.line_forms.specs.declared.Span.{Span}
+use Rattle.scanner.specs.declared.parts.Span.{Span}
 use Rattle.faults.specs.Faults.{faults, fault, merge, mild}
 use Rattle.signals.specs.Held.{Held}
 use Rattle.signals.specs.declared.Bits.{Bits}

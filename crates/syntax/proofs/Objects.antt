@@ -18,7 +18,7 @@ use Rattle.context.specs.Offsets.{good-offset, memory-offset}
 use Rattle.wires.specs.Rows.{column, word_at}
 use Rattle.wires.specs.RowLaws.{row-wire, flags-few}
 use Rattle.line_forms.specs.Forms.{name_in}
-use Rattle.line_forms.specs.declared.Span.{Span}
+use Rattle.scanner.specs.declared.parts.Span.{Span}
 use Rattle.option_rules.specs.Limits.{port_number, flag_bits, WireGood, MemoryGood}
 use Rattle.option_rules.proofs.Ports.{code-range}
 use Rattle.option_rules.proofs.Meaning.{bits_most}

@@ -1,6 +1,7 @@
 -- A shape without signals is judged by its numbers.
 -- Assumes nothing.
 use Prim.Native.Nat.{ℕ}
+use Rattle.std.specs.Prelude.{Some, None}
 use mathlib.Core.Path.{◌≡◌, refl}
 use mathlib.Core.List.{List, []}
 use mathlib.Core.Option.{none, some}
@@ -14,7 +15,6 @@ use Rattle.line_forms.specs.Forms.{form_of, value_in, InRows, FormFrom}
 use Rattle.line_forms.specs.declared.Form.{Form}
 use Rattle.line_forms.specs.declared.Form.TheVariants as form
 use Rattle.tokens.specs.declared.ConstantSpan.{ConstantSpan}
-use Rattle.tokens.specs.declared.ConstantSlot.TheVariants as literal
 use Rattle.literals.specs.Codes.{Whole}
 use Rattle.signals.specs.Reads.{Closed}
 use Rattle.syntax.specs.Statements.{number_of, fault_of, early, overfull, width_fault, statement_in, kind_in, names_in, steps_of, widths_in, Sound, WholeForm, Judged}
@@ -76,8 +76,8 @@ module _ (f t : List ℕ) (C : Closed f t) where
   form-whole (form.Autoidx z) h = tt
   form-whole (form.Attribute n c) h = in_rows c h
   form-whole (form.Module n) h = tt
-  form-whole (form.Parameter n (literal.Read c)) h = in_rows c h
-  form-whole (form.Parameter n literal.Nothing) h = tt
+  form-whole (form.Parameter n (Some c)) h = in_rows c h
+  form-whole (form.Parameter n None) h = tt
   form-whole (form.Cell k n) h = tt
   form-whole (form.CellParameter s n c) h = (h.0, in_rows c h.1)
   form-whole (form.Process n) h = tt

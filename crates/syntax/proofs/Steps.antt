@@ -1,6 +1,7 @@
 -- A line with a step, judged by the list of its signals.
 -- Assumes nothing.
 use Prim.Native.Nat.{ℕ, ◌≤◌}
+use Rattle.std.specs.Prelude.{Some, None}
 use mathlib.Core.Path.{◌≡◌, refl, sym, ap, ◌∙◌}
 use mathlib.Core.List.{List, [], ◌∷◌, map, flat_map, Option-to_list}
 use mathlib.Core.Option.{none, some, get_or}
@@ -27,7 +28,7 @@ use Rattle.faults.specs.Faults.{mild}
 use Rattle.signal_list.specs.Lists.{listed, step_with, list_fault}
 use Rattle.signal_list.specs.ListLaws.{none-taken, one-taken, two-taken, case-taken}
 use Rattle.signal_list.specs.Reads.{ListHeld, ListRead}
-use Rattle.signal_list.specs.declared.Listed.TheVariants as list
+use Rattle.signal_list.specs.declared.Listed.{Listed}
 use Rattle.syntax.specs.Statements.{number_of, fault_of, early, overfull, width_fault, signals_in, statement_in, kind_in, names_in, steps_of, widths_in, Says, no-shape, faulted}
 use Rattle.syntax.specs.declared.Statement.TheVariants as statement
 use Rattle.syntax.proofs.Bits.{signals-back}
@@ -132,18 +133,18 @@ module _ (ws : Wires) (f t s : List ℕ) (p i : ℕ) (q : Step) (code : step_cod
       ∙ rw (← code) (step-listed q (line f t i))
       ∙ ap (λ (b : Bool). step_with q (arity q) (listed b (line f t i))) (ap (λ (n : ℕ). eqb n case_step) code ∙ sym c)
 
-  pub step-broken : ListRead f t ws i comma s list.NoShape → Says ws f s (process_kind_of f t (process_kind.Step p i)) statement.NoShape
+  pub step-broken : ListRead f t ws i comma s None → Says ws f s (process_kind_of f t (process_kind.Step p i)) statement.NoShape
   unfolding step_with
   step-broken e = no-shape (step_line ∙ rw e)
 
-  module _ (w n l : ℕ) (L : ListRead f t ws i comma s (list.Read w n l)) where
-    counted : arity q (length L.sigs) ≡ arity q n
+  module _ (r : Listed) (L : ListRead f t ws i comma s (Some r)) where
+    counted : arity q (length L.sigs) ≡ arity q r.count
     counted = ap (arity q) L.held.many
 
-    pub step-miscounted : arity q n ≡ false → Says ws f s (process_kind_of f t (process_kind.Step p i)) statement.NoShape
+    pub step-miscounted : arity q r.count ≡ false → Says ws f s (process_kind_of f t (process_kind.Step p i)) statement.NoShape
     unfolding step_with
     step-miscounted h = no-shape (step_line ∙ rw (L.is, counted, h))
 
-    pub step-judged : arity q n ≡ true → n ≤ longest_file → Says ws f s (process_kind_of f t (process_kind.Step p i)) (faulted l (statement.Step p w n l))
+    pub step-judged : arity q r.count ≡ true → r.count ≤ longest_file → Says ws f s (process_kind_of f t (process_kind.Step p i)) (faulted r.fault (statement.Step p r.width r.count r.fault))
     unfolding step_with
-    step-judged h few = rw (step_line, L.is, counted, h) (step-said ws f s p q code L.sigs w n l L.held few)
+    step-judged h few = rw (step_line, L.is, counted, h) (step-said ws f s p q code L.sigs r.width r.count r.fault L.held few)

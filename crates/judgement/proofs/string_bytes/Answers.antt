@@ -18,12 +18,12 @@ overflow_cast-result c = omega (arith, c.string_size.ensures, decoded-length c.a
 
 pub returns-in-Integer : goal.returns-in-Integer
 unfolding bytes_in constants_in value_in literal_in kept sum statements_open
-returns-in-Integer c = rw (c.in-Read.is, c.in-Integer.is)
+returns-in-Integer c = rw (c.in-Some.is, c.in-Integer.is)
 
 pub returns-in-Value : goal.returns-in-Value
 unfolding bytes_in constants_in value_in literal_in kept sum statements_open
-returns-in-Value c = rw (c.in-Read.is, c.in-Value.is)
+returns-in-Value c = rw (c.in-Some.is, c.in-Value.is)
 
 pub returns-in-Text : goal.returns-in-Text
 unfolding bytes_in constants_in value_in literal_in kept sum statements_open
-returns-in-Text c = rw (c.in-Read.is, c.in-Text.is) (omega (arith, c.string_size.ensures))
+returns-in-Text c = rw (c.in-Some.is, c.in-Text.is) (omega (arith, c.string_size.ensures))

@@ -9,7 +9,7 @@ pub returns-in_default : goal.returns-in_default
 returns-in_default c = any_width _ _ _ _ _ c.requires c.if-step-count.false (rw c.in_default.is at c.asked_width.ensures)
 
 pub returns-then-asked-width : goal.returns-then-asked-width
-returns-then-asked-width c = same_width _ _ _ _ _ c.requires c.if-step-count.false _ (rw c.in-Width.is at c.asked_width.ensures) c.if-asked-width.true
+returns-then-asked-width c = same_width _ _ _ _ _ c.requires c.if-step-count.false _ (rw c.in-Some.is at c.asked_width.ensures) c.if-asked-width.true
 
 pub returns-else-asked-width : goal.returns-else-asked-width
-returns-else-asked-width c = other_width _ _ _ _ _ c.requires c.if-step-count.false _ (rw c.in-Width.is at c.asked_width.ensures) c.if-asked-width.false
+returns-else-asked-width c = other_width _ _ _ _ _ c.requires c.if-step-count.false _ (rw c.in-Some.is at c.asked_width.ensures) c.if-asked-width.false

@@ -19,7 +19,7 @@ signal-requires c =
     let pre = c.requires in
     let id-at = c.id_at in
     record {
-      readable = readable-on _ _ _ _ pre.ready.rows (id_below _ _ _ _ _ id-at.ensures c.in-Span.is);
+      readable = readable-on _ _ _ _ pre.ready.rows (id_below _ _ _ _ id-at.ensures c.in-Some.is);
       depth_in_bounds = (omega (arith, pre.ready.room), pre.ready.few, pre.wires_indexed);
     }
 
@@ -30,7 +30,7 @@ returns-in_default-signal c =
     let id-at = c.id_at in
     let signal = c.signal in
     no-shape
-    (no-signal _ _ _ (rw c.in-Span.is at (id-at.ensures args.f.now)) (rw c.in_default-signal.is at signal.ensures.read))
+    (no-signal _ _ _ (rw c.in-Some.is at (id-at.ensures args.f.now)) (rw c.in_default-signal.is at signal.ensures.read))
 
 pub returns-then-next-tokens : goal.returns-then-next-tokens
 unfolding id_gives
@@ -38,9 +38,9 @@ returns-then-next-tokens c =
     let args = c.args in
     let id-at = c.id_at in
     let signal = c.signal in
-    let a = rw c.in-Read.is at signal.ensures.read in
+    let a = rw c.in-Some-signal.is at signal.ensures.read in
     no-shape
-    (named-read _ _ _ (rw c.in-Span.is at (id-at.ensures args.f.now)) _ _ a.3.is ∙ rows_left _ _ _ _ c.if-next-tokens.true)
+    (named-read _ _ _ (rw c.in-Some.is at (id-at.ensures args.f.now)) _ _ a.3.is ∙ rows_left _ _ _ _ c.if-next-tokens.true)
 
 pub returns : goal.returns
 unfolding id_gives name_in
@@ -48,9 +48,9 @@ returns c =
     let args = c.args in
     let id-at = c.id_at in
     let signal = c.signal in
-    let a = rw c.in-Read.is at signal.ensures.read in
+    let a = rw c.in-Some-signal.is at signal.ensures.read in
     rw (
-      named-read _ _ _ (rw c.in-Span.is at (id-at.ensures args.f.now)) _ _ a.3.is
+      named-read _ _ _ (rw c.in-Some.is at (id-at.ensures args.f.now)) _ _ a.3.is
           ∙ no_rows _ _ _ _ c.if-next-tokens.false,
       c.refused.ensures,
     ) (cell-connected _ _ _ _ a.3.sig _ a.3.held)

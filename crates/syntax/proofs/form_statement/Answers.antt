@@ -18,11 +18,11 @@ pub returns-then-good_literal-2 : goal.returns-then-good_literal-2
 unfolding plain_open
 returns-then-good_literal-2 c w ws s = rw c.in-CellParameter.is (judged {r = CellParameter _ _ _} (stated ws _ s _ refl refl refl (rw (← c.good_literal-in-CellParameter.ensures, c.if-good_literal-2.true)) refl refl refl refl (let x = rw c.in-CellParameter.is at w in (x.0, record { good = sym c.good_literal-in-CellParameter.ensures ∙ c.if-good_literal-2.true; whole = x.1 })) refl))
 
-pub returns-in-Fits : goal.returns-in-Fits
+pub returns-in-Some : goal.returns-in-Some
 unfolding plain_open
-returns-in-Fits c w ws s =
-    let n = rw c.in-Fits.is at c.integer_of.ensures in
-    rw c.in-Autoidx.is (judged {r = Autoidx c.in-Fits.w} (stated ws _ s _ refl refl refl (rw n.0) refl refl refl refl tt (rw (number-back _ _ n.0 n.1))))
+returns-in-Some c w ws s =
+    let n = rw c.in-Some.is at c.integer_of.ensures in
+    rw c.in-Autoidx.is (judged {r = Autoidx c.in-Some.w} (stated ws _ s _ refl refl refl (rw n.0) refl refl refl refl tt (rw (number-back _ _ n.0 n.1))))
 
 pub returns-else-good_literal : goal.returns-else-good_literal
 unfolding plain_open

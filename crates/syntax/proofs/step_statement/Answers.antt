@@ -20,7 +20,7 @@ returns-in_default c =
 
 pub overflow_cast-count : goal.overflow_cast-count
 overflow_cast-count c =
-    let L = rw c.in-Read.is at c.signals_from.ensures.read in
+    let L = rw c.in-Some.is at c.signals_from.ensures.read in
     omega (arith, L.few, c.requires.ready.rows.rows)
 
 pub returns-then-not-arity_fits : goal.returns-then-not-arity_fits
@@ -29,8 +29,8 @@ returns-then-not-arity_fits c =
     let signals-from = c.signals_from in
     let arity-fits = c.arity_fits in
     let code = pre.step_from.0 in
-    let L = rw c.in-Read.is at signals-from.ensures.read in
-    step-miscounted _ _ _ _ _ _ code.0 code.1 _ refl _ _ _ L (sym (arity-fits.ensures.fits code.0 code.1) ∙ c.if-not-arity_fits.true)
+    let L = rw c.in-Some.is at signals-from.ensures.read in
+    step-miscounted _ _ _ _ _ _ code.0 code.1 _ refl _ L (sym (arity-fits.ensures.fits code.0 code.1) ∙ c.if-not-arity_fits.true)
 
 pub returns : goal.returns
 returns c =
@@ -38,7 +38,7 @@ returns c =
     let signals-from = c.signals_from in
     let arity-fits = c.arity_fits in
     let code = pre.step_from.0 in
-    let L = rw c.in-Read.is at signals-from.ensures.read in
+    let L = rw c.in-Some.is at signals-from.ensures.read in
     rw c.refused.ensures
-    (step-judged _ _ _ _ _ _ code.0 code.1 _ refl _ _ _ L (sym (arity-fits.ensures.fits code.0 code.1) ∙ c.if-not-arity_fits.false)
+    (step-judged _ _ _ _ _ _ code.0 code.1 _ refl _ L (sym (arity-fits.ensures.fits code.0 code.1) ∙ c.if-not-arity_fits.false)
     (omega (arith, L.few, pre.ready.rows.rows)))

@@ -15,7 +15,7 @@ returns-in_default-wire_rules c names s =
     let args = c.args in
     let wire-line = c.wire_line in
     let wire-rules = c.wire_rules in
-    let g = rw c.in-Read.is at (wire-line.ensures args.f.now) in
+    let g = rw c.in-Some.is at (wire-line.ensures args.f.now) in
     rw g.1 (judged (wire-bad _ _ s g.0 _ (rw c.in_default-wire_rules.is at (wire-rules.ensures g.0 g.2))))
 
 pub returns-then-port_taken : goal.returns-then-port_taken
@@ -25,8 +25,8 @@ returns-then-port_taken c names s =
     let wire-line = c.wire_line in
     let wire-rules = c.wire_rules in
     let if1 = c.if-flags-gt-MOST_PLAIN_FLAGS in
-    let g = rw c.in-Read.is at (wire-line.ensures args.f.now) in
-    let w = rw c.in-Good.is at (wire-rules.ensures g.0 g.2) in
+    let g = rw c.in-Some.is at (wire-line.ensures args.f.now) in
+    let w = rw c.in-Some-wire_rules.is at (wire-rules.ensures g.0 g.2) in
     rw g.1
     (judged (port-bad _ _ s g.0 _ w.good (port-new _ g.0 w if1.true ∙ rw (← c.port_taken.ensures names, c.if-port_taken.true))))
 
@@ -37,8 +37,8 @@ returns-else-port_taken c names s =
     let wire-line = c.wire_line in
     let wire-rules = c.wire_rules in
     let if1 = c.if-flags-gt-MOST_PLAIN_FLAGS in
-    let g = rw c.in-Read.is at (wire-line.ensures args.f.now) in
-    let w = rw c.in-Good.is at (wire-rules.ensures g.0 g.2) in
+    let g = rw c.in-Some.is at (wire-line.ensures args.f.now) in
+    let w = rw c.in-Some-wire_rules.is at (wire-rules.ensures g.0 g.2) in
     rw g.1
     (judged (wire-stated _ _ s g.0 _ w (port-new _ g.0 w if1.true ∙ rw (← c.port_taken.ensures names, c.if-port_taken.false))))
 
@@ -48,6 +48,6 @@ returns-else-flags-gt-MOST_PLAIN_FLAGS c names s =
     let args = c.args in
     let wire-line = c.wire_line in
     let wire-rules = c.wire_rules in
-    let g = rw c.in-Read.is at (wire-line.ensures args.f.now) in
-    let w = rw c.in-Good.is at (wire-rules.ensures g.0 g.2) in
+    let g = rw c.in-Some.is at (wire-line.ensures args.f.now) in
+    let w = rw c.in-Some-wire_rules.is at (wire-rules.ensures g.0 g.2) in
     rw g.1 (judged (wire-stated _ _ s g.0 _ w (port-free _ g.0 w c.if-flags-gt-MOST_PLAIN_FLAGS.false)))

@@ -8,22 +8,22 @@ pub put_constant-requires : goal.put_constant-requires
 put_constant-requires c =
     let pre = c.requires in
     record {
-      constant_fits = rw c.in-Read.is at pre.optional_fits;
+      constant_fits = rw c.in-Some.is at pre.optional_fits;
       most_width_in_bounds = pre.most_width_in_bounds;
     }
 
-pub returns-in-Read : goal.returns-in-Read
+pub returns-in-Some : goal.returns-in-Some
 unfolding value_in Option-elim optional_columns optional_bytes optional_digits
-returns-in-Read c = record {
-  c_value = rw c.in-Read.is c.put_constant.ensures.c_value;
-  strings_after = rw c.in-Read.is c.put_constant.ensures.strings_after;
-  bits_after = rw c.in-Read.is c.put_constant.ensures.bits_after;
+returns-in-Some c = record {
+  c_value = rw c.in-Some.is c.put_constant.ensures.c_value;
+  strings_after = rw c.in-Some.is c.put_constant.ensures.strings_after;
+  bits_after = rw c.in-Some.is c.put_constant.ensures.bits_after;
 }
 
-pub returns-in-Nothing : goal.returns-in-Nothing
+pub returns-in-None : goal.returns-in-None
 unfolding value_in Option-elim optional_columns optional_bytes optional_digits
-returns-in-Nothing c = record {
-  c_value = rw c.in-Nothing.is;
-  strings_after = rw (c.in-Nothing.is, store-none);
-  bits_after = rw (c.in-Nothing.is, store-none);
+returns-in-None c = record {
+  c_value = rw c.in-None.is;
+  strings_after = rw (c.in-None.is, store-none);
+  bits_after = rw (c.in-None.is, store-none);
 }
