@@ -9,6 +9,7 @@ use native.Mathlib.Omega.{arith}
 use lib.Dec.{ltb}
 use lib.ListN.{length}
 use borrow.Author.Tests.{lt-ltb}
+use Rattle.std.specs.Prelude.{Some, None, Option as Optional}
 use Rattle.rules.specs.Tokens.{Token}
 use Rattle.rules.specs.Statements.{Sig}
 use Rattle.rules.specs.Shapes.{nowhere, signal, sigspec}
@@ -16,9 +17,7 @@ use Rattle.rules.specs.Signals.{Wires}
 use Rattle.tokens.specs.Rows.{line}
 use Rattle.tokens.proofs.TokenLaws.{line-end, line_row, line-long}
 use Rattle.signals.specs.Reads.{mark_at, AnswerRead, SignalIs}
-use Rattle.signals.specs.declared.Bits.{Bits}
 use Rattle.signals.specs.declared.Answer.{Answer}
-use Rattle.signals.specs.declared.Answer.TheVariants as answer
 use Rattle.signals.proofs.Parses.{either-yes, either-not}
 use Rattle.signal_list.specs.Lists.{further, onward, list_on, listed}
 use Rattle.signal_list.specs.ListLaws.{list-end}
@@ -26,33 +25,32 @@ use Rattle.signal_list.specs.Sums.{place_of, added_to, listed_of}
 use Rattle.signal_list.specs.Reads.{NextIs, ListedIs}
 use Rattle.signal_list.specs.declared.Sum.{Sum}
 use Rattle.signal_list.specs.declared.Listed.{Listed}
-use Rattle.signal_list.specs.declared.Listed.TheVariants.{NoShape}
 use Rattle.signal_list.proofs.SumLaws.{SumHeld, nothing_read, sum-start, sum_more, sum_told}
 
 -- ---- the next signal, with a comma before it or without
 
 module _ (f t : List ℕ) (ws : Wires) (i total : ℕ) (out : List ℕ) where
-  next-plain : (out' : List ℕ) (r : Answer) → SignalIs f t ws i 16 (place_of total) out out' r → NextIs f t ws i false total out out' r
+  next-plain : (out' : List ℕ) (r : Optional Answer) → SignalIs f t ws i 16 (place_of total) out out' r → NextIs f t ws i false total out out' r
   unfolding further sigspec
   next-plain out' r A = A
 
-  pub next-none : mark_at t i 44 ≡ false → NextIs f t ws i true total out out answer.NoShape
+  pub next-none : mark_at t i 44 ≡ false → NextIs f t ws i true total out out None
   unfolding further nowhere
   next-none e = record { kept = record { long = refl; below = refl }; read = either-not t i f "," sigspec nowhere e }
 
-  next-comma : (out' : List ℕ) (r : Answer) → mark_at t i 44 ≡ true → SignalIs f t ws (i + 1) 16 (place_of total) out out' r → NextIs f t ws i true total out out' r
+  next-comma : (out' : List ℕ) (r : Optional Answer) → mark_at t i 44 ≡ true → SignalIs f t ws (i + 1) 16 (place_of total) out out' r → NextIs f t ws i true total out out' r
   unfolding further sigspec
   next-comma out' r e A = record { kept = A.kept; read = by r A.read }
     where
       is : further true (line f t i) ≡ signal 16 (line f t (i + 1))
       is = either-yes t i f "," sigspec nowhere e
 
-      by : (r : Answer) → AnswerRead f t ws (signal 16 (line f t (i + 1))) (i + 1) (place_of total) out' r → AnswerRead f t ws (further true (line f t i)) i (place_of total) out' r
-      by (answer.Read n b) R =
+      by : (r : Optional Answer) → AnswerRead f t ws (signal 16 (line f t (i + 1))) (i + 1) (place_of total) out' r → AnswerRead f t ws (further true (line f t i)) i (place_of total) out' r
+      by (Some a) R =
           (omega (arith, R.0), R.1, omega (arith, R.0, R.2), record { sig = R.3.sig; is = is ∙ R.3.is; held = R.3.held })
-      by answer.NoShape R = is ∙ R
+      by None R = is ∙ R
 
-  module _ (comma : Bool) (at o : ℕ) (place : o ≡ place_of total) (out' : List ℕ) (r : Answer) (A : SignalIs f t ws at 16 o out out' r) where
+  module _ (comma : Bool) (at o : ℕ) (place : o ≡ place_of total) (out' : List ℕ) (r : Optional Answer) (A : SignalIs f t ws at 16 o out out' r) where
     pub next-with : comma ≡ true → mark_at t i 44 ≡ true → at ≡ i + 1 → NextIs f t ws i comma total out out' r
     next-with h m e = rw h (next-comma out' r m (rw (e, place) at A))
 
@@ -142,7 +140,7 @@ module _ (f t : List ℕ) (ws : Wires) (i : ℕ) (comma : Bool) (out₀ : List �
       }
 
   module _ (out : List ℕ) (at : ℕ) (l : Sum) (S : ListOn f t ws i comma out₀ out at l) where
-    pub list-told : (r : Listed) → length t / 4 ≤ at → r ≡ listed_of l → ListedIs f t ws i comma out₀ out r
+    pub list-told : (r : Listed) → length t / 4 ≤ at → r ≡ listed_of l → ListedIs f t ws i comma out₀ out (Some r)
     unfolding listed_of
     list-told r h e =
         rw e (record {
@@ -159,18 +157,18 @@ module _ (f t : List ℕ) (ws : Wires) (i : ℕ) (comma : Bool) (out₀ : List �
       due-read : due ≡ (comma && ltb 0 (length S.read))
       due-read = d ∙ ap (λ (n : ℕ). comma && ltb 0 n) (sym S.held.many)
 
-      pub list-broken : NextIs f t ws at due l.total out out' answer.NoShape → ListedIs f t ws i comma out₀ out' NoShape
+      pub list-broken : NextIs f t ws at due l.total out out' None → ListedIs f t ws i comma out₀ out' None
       list-broken A =
           record {
             long = A.kept.long ∙ S.long;
             read = S.is ∙ resumed-none f t comma at here due S.fuel S.enough S.read due-read A.read;
           }
 
-      pub list_on_lem : (n : ℕ) (b : Bits) (r : Sum) → NextIs f t ws at due l.total out out' (answer.Read n b) → r ≡ added_to l b → ListOn f t ws i comma out₀ out' n r
+      pub list_on_lem : (a : Answer) (r : Sum) → NextIs f t ws at due l.total out out' (Some a) → r ≡ added_to l a.bits → ListOn f t ws i comma out₀ out' a.next r
       unfolding added_to
-      list_on_lem n b r A e =
+      list_on_lem a r A e =
           let G = A.read.3 in
-          let R = resumed-on f t comma at here due S.fuel S.enough S.read due-read G.sig n A.read.0 G.is in
+          let R = resumed-on f t comma at here due S.fuel S.enough S.read due-read G.sig a.next A.read.0 G.is in
           rw e (record {
             long = A.kept.long ∙ S.long;
             from = omega (arith, S.from, A.read.0);
@@ -181,5 +179,5 @@ module _ (f t : List ℕ) (ws : Wires) (i : ℕ) (comma : Bool) (out₀ : List �
             fuel = R.0;
             enough = R.1;
             is = S.is ∙ R.2;
-            held = sum_more ws S.read G.sig out out' l b S.held A.kept G.held;
+            held = sum_more ws S.read G.sig out out' l a.bits S.held A.kept G.held;
           })

@@ -26,7 +26,7 @@ use Rattle.faults.proofs.FaultLaws.{merge-zero, mild-merge, faults-none, faults-
 use Rattle.signal_list.specs.Sums.{place_of, added_to, uneven_fault, total_fault, listed_of}
 use Rattle.signal_list.specs.Reads.{ListHeld}
 use Rattle.signal_list.specs.declared.Sum.{Sum}
-use Rattle.signal_list.specs.declared.Listed.TheVariants.{Read}
+use Rattle.signal_list.specs.declared.Listed.{Listed}
 use Rattle.signal_list.proofs.Faults.{told, list-fault, told-mild, told_none}
 use Rattle.signal_list.proofs.Pieces.{pieces_more, pieces_kept, equal-more, first_more, all_same}
 
@@ -84,7 +84,11 @@ module _ (l : Sum) (b : Bits) (n : ℕ) (q : n ≡ merge l.fault b.fault) where
   unfolding added_to
   added-later e z h = rw (ne_eqb l.count 0 z, q, h)
 
-pub told_is : (l : Sum) (u o m n : ℕ) → u ≡ uneven_fault l.even → o ≡ total_fault l.total → m ≡ merge u l.fault → n ≡ merge o m → Read l.width l.count n ≡ listed_of l
+-- the signals with this number
+abbrev told_of : Sum → ℕ → Listed
+told_of l n = record { width = l.width; count = l.count; fault = n }
+
+pub told_is : (l : Sum) (u o m n : ℕ) → u ≡ uneven_fault l.even → o ≡ total_fault l.total → m ≡ merge u l.fault → n ≡ merge o m → told_of l n ≡ listed_of l
 unfolding listed_of
 told_is l u o m n hu ho hm hn = rw (hn, hm, hu, ho)
 

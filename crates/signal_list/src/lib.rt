@@ -6,14 +6,13 @@ ghost use Rattle.std.specs.Prelude.{◌≡◌, ◌+◌, ◌/◌, ◌≤◌, ◌<
 ghost use Rattle.rules.specs.Limits.{most_wires, scratch_length};
 ghost use Rattle.wires.specs.Rows.{wires_from};
 ghost use Rattle.name_index.specs.Index.{WiresIndexed};
-ghost use Rattle.signals.specs.Reads.{mark_at, Readable};
+ghost use Rattle.signals.specs.Reads.{Readable};
 ghost use Rattle.signal_list.specs.Sums.{place_of, added_to, listed_of};
 ghost use Rattle.signal_list.specs.Reads.{NextIs, ListedIs};
 
 use faults::merge;
 use netlist::results::{BAD_WIDTH, TOO_MANY};
-use signals::{Answer, Bits, ModuleWires, signal};
-use tokens::Token;
+use signals::{Answer, Bits, ModuleWires, is_mark, signal};
 
 // The words of a token's row.
 const TOKEN_SIZE: usize = 4;
@@ -44,16 +43,6 @@ pub struct Listed {
     pub width: usize,
     pub count: usize,
     pub fault: u32,
-}
-
-// Whether row i holds a comma.
-fn comma_at(tokens: &[u32], i: usize) -> bool
-    ensures { result ≡ mark_at tokens.now i 44 }
-{
-    let Token::Mark(m) = tokens::token_at(tokens, i) else {
-        return false;
-    };
-    m == COMMA
 }
 
 // Where the next signal's bits go: behind those before it. Once these are too many their bits no longer matter, and it goes where the most
@@ -88,7 +77,7 @@ fn next_signal(
 {
     let mut at = i;
     if comma {
-        if !comma_at(tokens, i) {
+        if !is_mark(tokens, i, COMMA) {
             return None;
         }
         at = i + 1;

@@ -8,6 +8,7 @@ use native.Mathlib.Nat.{add-zero}
 use native.Mathlib.Omega.{arith}
 use lib.ListN.{length}
 use lib.Seq.{slice, slice_empty}
+use Rattle.std.specs.Prelude.{Some, None}
 use Rattle.rules.specs.Statements.{Sig, bundle}
 use Rattle.rules.specs.Signals.{Wires, width, widths, bits, bits_of, parts, parts_of, declared_wire, good_slice}
 use Rattle.rules.specs.Numbers.{good_numbers}
@@ -20,7 +21,7 @@ use Rattle.faults.specs.Faults.{faults, fault, merge, too_wide, mild}
 use Rattle.signals.specs.Held.{codes, Held, Kept}
 use Rattle.signals.specs.Reads.{mark_at, members_on, SignalIs, BundleIs}
 use Rattle.signals.specs.declared.Bits.{Bits}
-use Rattle.signals.specs.declared.Answer.TheVariants.{Read, NoShape}
+use Rattle.signals.specs.declared.Answer.{Answer}
 use Rattle.faults.proofs.FaultLaws.{merge-zero, mild-merge, late-merge, too-wide-late, wide-zero, faults-none, faults-append, faults-front, own-width}
 use Rattle.signals.proofs.Codes.{codes-append}
 use Rattle.signals.proofs.HeldLaws.{sized, kept_same}
@@ -126,7 +127,7 @@ module _ (ws : Wires) (ss : List Sig) (o : ℕ) (out : List ℕ) (w n r : ℕ) (
 -- ---- what `bundle` promises
 
 module _ (f t : List ℕ) (ws : Wires) (i d o : ℕ) (out₀ out : List ℕ) (at w n : ℕ) (S : MembersOn f t ws i d o out₀ out at w n) where
-  pub bundle-closed : (m r : ℕ) → mark_at t at 125 ≡ true → m ≡ too_wide w → r ≡ merge m n → BundleIs f t ws i d o out₀ out (Read (at + 1) (sized w r))
+  pub bundle-closed : (m r : ℕ) → mark_at t at 125 ≡ true → m ≡ too_wide w → r ≡ merge m n → BundleIs f t ws i d o out₀ out (Some (record { next = at + 1; bits = sized w r }))
   bundle-closed m r e k q =
       record {
         kept = S.kept;
@@ -142,11 +143,11 @@ module _ (f t : List ℕ) (ws : Wires) (i d o : ℕ) (out₀ out : List ℕ) (at
     kept-below : Kept put out out' → Kept o out₀ out'
     kept-below K = kept_on o out₀ out out' S.kept (record { long = K.long; below = take-kept out out' put o K.below P.from })
 
-    pub bundle-broken : SignalIs f t ws at d put out out' NoShape → BundleIs f t ws i d o out₀ out' NoShape
+    pub bundle-broken : SignalIs f t ws at d put out out' None → BundleIs f t ws i d o out₀ out' None
     bundle-broken A = record { kept = kept-below A.kept; read = S.is ∙ members-none f t at (signal d) S.read e S.fuel S.enough A.read }
 
-    pub bundle-on : (m : ℕ) (b : Bits) (r : ℕ) → r ≡ merge b.fault n → SignalIs f t ws at d put out out' (Read m b) → MembersOn f t ws i d o out₀ out' m (w + b.width) r
-    bundle-on m b r q A =
+    pub bundle-on : (a : Answer) (r : ℕ) → r ≡ merge a.bits.fault n → SignalIs f t ws at d put out out' (Some a) → MembersOn f t ws i d o out₀ out' a.next (w + a.bits.width) r
+    bundle-on a r q A =
         let G = A.read.3 in
         let k : S.fuel ≡ suc (S.fuel - 1) = omega (arith, S.enough, A.read.0, A.read.1) in
         record {
@@ -157,6 +158,6 @@ module _ (f t : List ℕ) (ws : Wires) (i d o : ℕ) (out₀ out : List ℕ) (at
           read = G.sig ∷ S.read;
           fuel = S.fuel - 1;
           enough = omega (arith, S.enough, A.read.0);
-          is = S.is ∙ ap (λ (x : ℕ). members_on (signal d) x S.read (line f t at)) k ∙ members-next f t at (signal d) S.read e (S.fuel - 1) G.sig m (omega (arith, A.read.0, A.read.1)) G.is;
-          held = rw q (members-more ws S.read G.sig o put out out' w n b S.held P A.kept G.held);
+          is = S.is ∙ ap (λ (x : ℕ). members_on (signal d) x S.read (line f t at)) k ∙ members-next f t at (signal d) S.read e (S.fuel - 1) G.sig a.next (omega (arith, A.read.0, A.read.1)) G.is;
+          held = rw q (members-more ws S.read G.sig o put out out' w n a.bits S.held P A.kept G.held);
         }

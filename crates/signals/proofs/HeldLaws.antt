@@ -9,6 +9,7 @@ use native.Mathlib.Omega.{arith}
 use lib.ListN.{length, take}
 use lib.Seq.{slice}
 use borrow.Author.Tests.{lt-ltb, le-ltb}
+use Rattle.std.specs.Prelude.{Some, None}
 use Rattle.rules.specs.Bytes.{same}
 use Rattle.rules.specs.Tokens.{Name, Literal}
 use Rattle.rules.specs.Statements.{Sig, constant, wire, Wire, digit}
@@ -17,10 +18,9 @@ use Rattle.rules.specs.Numbers.{good_literal, good_numbers}
 use Rattle.rules.specs.Layout.{bit_code}
 use Rattle.tables.specs.Store.{store, length-store, store-slice, store-take}
 use Rattle.lists.specs.Tests.{by_cond, never}
-use Rattle.numbers.specs.declared.kinds.WireNumber.{WireNumber}
 use Rattle.wires.specs.Found.{width_found, found_of}
 use Rattle.wires.specs.FoundLaws.{found_declared, found-width, found-bits}
-use Rattle.wires.specs.declared.Found.{Found}
+use Rattle.wires.specs.declared.FoundWire.{FoundWire}
 use Rattle.literals.specs.Codes as literal
 use Rattle.literals.proofs.CodeLaws.{codes-long}
 use Rattle.faults.specs.Faults.{fault, merge, too_wide, mild}
@@ -115,33 +115,33 @@ found_below n (x ∷ ws) k w =
     (λ t e. let z : length ws ≡ k = ap (λ (o : Option (ℕ × ℕ)). (get_or o (0, 0)).0) e in omega arith) (λ t e. let l : k < length ws = found_below n ws k w e in omega arith)
 
 module _ (ws : Wires) (n : Name) where
-  module _ (k : WireNumber) (w : ℕ) (e : width_found (find n ws) ≡ found_of (Found.At k w)) where
-    wire-width : width ws (wire n) ≡ w
+  module _ (r : FoundWire) (e : width_found (find n ws) ≡ found_of (Some r)) where
+    wire-width : width ws (wire n) ≡ r.width
     unfolding found_of Option-elim
-    wire-width = found-width ws n (Found.At k w) e
+    wire-width = found-width ws n (Some r) e
 
-    pub wire-bits : bits ws (wire n) ≡ wire_bits k.0 0 w
+    pub wire-bits : bits ws (wire n) ≡ wire_bits r.number.0 0 r.width
     unfolding found_of Option-elim
-    wire-bits = found-bits ws n (Found.At k w) e
+    wire-bits = found-bits ws n (Some r) e
 
-    wire-fault : fault ws (wire n) ≡ too_wide w
+    wire-fault : fault ws (wire n) ≡ too_wide r.width
     unfolding fault parts good_numbers good_slice found_of Option-elim
-    wire-fault = own-width ws (wire n) refl (found_declared ws n (Found.At k w) e) refl ∙ ap too_wide wire-width
+    wire-fault = own-width ws (wire n) refl (found_declared ws n (Some r) e) refl ∙ ap too_wide wire-width
 
-    pub wire-number : k.0 < length ws
+    pub wire-number : r.number.0 < length ws
     unfolding found_of
-    wire-number = found_below n ws k.0 w e
+    wire-number = found_below n ws r.number.0 r.width e
 
-    pub wire-over : (o : ℕ) (out : List ℕ) → w < 4294967296 → 2048 < w → Put ws (wire n) o out out (sized w 11)
-    wire-over o out few h = put-over ws (wire n) o out w few wire-fault wire-width h
+    pub wire-over : (o : ℕ) (out : List ℕ) → r.width < 4294967296 → 2048 < r.width → Put ws (wire n) o out out (sized r.width 11)
+    wire-over o out few h = put-over ws (wire n) o out r.width few wire-fault wire-width h
 
-    pub wire-put-fits : (o : ℕ) (out out' : List ℕ) → w ≤ 2048 → o + 2048 ≤ length out → out' ≡ store out o (codes (wire_bits k.0 0 w)) → Put ws (wire n) o out out' (sized w 0)
+    pub wire-put-fits : (o : ℕ) (out out' : List ℕ) → r.width ≤ 2048 → o + 2048 ≤ length out → out' ≡ store out o (codes (wire_bits r.number.0 0 r.width)) → Put ws (wire n) o out out' (sized r.width 0)
     wire-put-fits o out out' h room c =
-        put-fits ws (wire n) o out w (omega arith) wire-fault wire-width out' h room (ap (λ (x : List _). length (codes x)) wire-bits ∙ length-wire-codes k.0 w) (c ∙ ap (λ (x : List _). store out o (codes x)) (sym wire-bits))
+        put-fits ws (wire n) o out r.width (omega arith) wire-fault wire-width out' h room (ap (λ (x : List _). length (codes x)) wire-bits ∙ length-wire-codes r.number.0 r.width) (c ∙ ap (λ (x : List _). store out o (codes x)) (sym wire-bits))
 
-  pub wire-nothing : width_found (find n ws) ≡ found_of Found.Nothing → fault ws (wire n) ≡ 8
+  pub wire-nothing : width_found (find n ws) ≡ found_of None → fault ws (wire n) ≡ 8
   unfolding fault parts good_numbers found_of Option-elim
-  wire-nothing e = own-wire ws (wire n) refl (found_declared ws n Found.Nothing e)
+  wire-nothing e = own-wire ws (wire n) refl (found_declared ws n None e)
 
 -- ---- a constant
 

@@ -9,6 +9,7 @@ use native.Mathlib.Omega.{arith}
 use lib.IntN.{ℤ}
 use lib.ListN.{length, take, drop}
 use lib.Seq.{length-slice, take_all}
+use Rattle.std.specs.Prelude.{Some, None}
 use Rattle.rules.specs.Bytes.{all}
 use Rattle.rules.specs.Statements.{Sig}
 use Rattle.rules.specs.Signals.{Wires, bits, lower, twos_complement, parts}
@@ -18,15 +19,12 @@ use Rattle.numbers.specs.Signed.{signed_of}
 use Rattle.numbers.specs.SignedLaws.{number-back}
 use Rattle.tokens.specs.Rows.{line, integer_in}
 use Rattle.tokens.proofs.TokenLaws.{line-long}
-use Rattle.tokens.specs.declared.Integer.{Integer}
-use Rattle.tokens.specs.declared.Slot.{Slot}
 use Rattle.faults.specs.Faults.{fault, merge}
 use Rattle.signals.specs.Held.{codes, Held, Kept, PartOf, Inside, CutIs, MovedIs}
 use Rattle.signals.specs.Reads.{mark_at, slot_in, sliced_on, SliceIs, BoundsIs, SlicesIs}
 use Rattle.signals.specs.declared.Bits.{Bits}
 use Rattle.signals.specs.declared.Part.{Part}
-use Rattle.signals.specs.declared.Answer.TheVariants as answer
-use Rattle.signals.specs.declared.Bounds.TheVariants as bound
+use Rattle.signals.specs.declared.Bounds.{Bounds}
 use Rattle.faults.proofs.FaultLaws.{faults-front, own-number}
 use Rattle.signals.proofs.Codes.{length-codes, codes-part}
 use Rattle.signals.proofs.HeldLaws.{parted, part-not, kept_same}
@@ -140,7 +138,7 @@ module _ (f t : List ℕ) (i o : ℕ) (out : List ℕ) (b : Bits) (room : o + 20
       }
 
   module _ (at : ℕ) (p : Part) (S : SlicesOn f t i o out b at p) where
-    pub slices-read : (out' : List ℕ) → mark_at t at 91 ≡ false → MovedIs o b.width p out out' → SlicesIs f t i o out b out' (answer.Read at p.bits)
+    pub slices-read : (out' : List ℕ) → mark_at t at 91 ≡ false → MovedIs o b.width p out out' → SlicesIs f t i o out b out' (Some (record { next = at; bits = p.bits }))
     slices-read out' e M =
         record {
           kept = M.kept;
@@ -162,7 +160,7 @@ module _ (f t : List ℕ) (i o : ℕ) (out : List ℕ) (b : Bits) (room : o + 20
       more : (ws : Wires) (s : Sig) (R : Reached f t i ws s at p) → sliced_on s (length (line f t i)) [] (line f t i) ≡ sliced_on s (suc (R.fuel - 1)) R.cuts (line f t at)
       more ws s R = R.is ∙ ap (λ (k : ℕ). sliced_on s k R.cuts (line f t at)) (omega (arith, mark-below t at 91 e, R.enough))
 
-      pub slices-broken : BoundsIs t (at + 1) bound.NoShape → SlicesIs f t i o out b out answer.NoShape
+      pub slices-broken : BoundsIs t (at + 1) None → SlicesIs f t i o out b out None
       slices-broken B =
           record {
             kept = kept_same o out;
@@ -171,21 +169,21 @@ module _ (f t : List ℕ) (i o : ℕ) (out : List ℕ) (b : Bits) (room : o + 20
                 more ws s R ∙ slices-none f t at s R.cuts (R.fuel - 1) e (B f);
           }
 
-      module _ (h : Integer) (l : Slot) (n : ℕ) (B : BoundsIs t (at + 1) (bound.Read h l n)) where
-        pub slices-on : (r : Part) → SliceIs p (integer_in f h) (slot_in f l) r → SlicesOn f t i o out b n r
+      module _ (z : Bounds) (B : BoundsIs t (at + 1) (Some z)) where
+        pub slices-on : (r : Part) → SliceIs p (integer_in f z.high) (slot_in f z.low) r → SlicesOn f t i o out b z.next r
         unfolding sliced
         slices-on r C =
             record {
               from = omega (arith, S.from, B.0);
               within = B.1;
-              inside = record { within = omega (arith, S.inside.within, C.inside.within); none = λ z. S.inside.none (C.inside.none z) };
+              inside = record { within = omega (arith, S.inside.within, C.inside.within); none = λ k. S.inside.none (C.inside.none k) };
               reached = λ ws s H.
                   let R = S.reached ws s H in
                   record {
-                    cuts = (integer_in f h, slot_in f l) ∷ R.cuts;
+                    cuts = (integer_in f z.high, slot_in f z.low) ∷ R.cuts;
                     fuel = R.fuel - 1;
                     enough = omega (arith, R.enough, B.0);
-                    is = more ws s R ∙ slices-next f t at s R.cuts (R.fuel - 1) e (integer_in f h, slot_in f l) n (B.2 f);
+                    is = more ws s R ∙ slices-next f t at s R.cuts (R.fuel - 1) e (integer_in f z.high, slot_in f z.low) z.next (B.2 f);
                     part = C.part ws s (sliced s R.cuts) R.part;
                   };
             }

@@ -140,7 +140,7 @@ fn move_down(scratch: &mut [u32], from: usize, count: usize, o: usize)
 }
 
 // Whether row i holds this mark.
-fn is_mark(tokens: &[u32], i: usize, b: usize) -> bool
+pub fn is_mark(tokens: &[u32], i: usize, b: usize) -> bool
     ensures { result ≡ mark_at tokens.now i b }
 {
     match tokens::token_at(tokens, i) {

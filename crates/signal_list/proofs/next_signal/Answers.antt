@@ -8,17 +8,17 @@ use Rattle.signals.proofs.Parses.{mark-below, readable-on}
 use Rattle.signal_list.proofs.SumLaws.{place-below}
 use Rattle.signal_list.proofs.ReadLaws.{next-none, next-with, next-without}
 use Rattle.signal_list.proofs.next_signal.Goals as goal
-use Rattle.signal_list.proofs.next_signal.Goals.{then-comma+else-not-comma_at, else-comma}
+use Rattle.signal_list.proofs.next_signal.Goals.{then-comma+else-not-is_mark, else-comma}
 
-pub returns-then-not-comma_at : goal.returns-then-not-comma_at
-returns-then-not-comma_at c = rw c.if-comma.true (next-none _ _ _ _ _ _ (sym c.comma_at.ensures ∙ c.if-not-comma_at.true))
+pub returns-then-not-is_mark : goal.returns-then-not-is_mark
+returns-then-not-is_mark c = rw c.if-comma.true (next-none _ _ _ _ _ _ (sym c.is_mark.ensures ∙ c.if-not-is_mark.true))
 
 pub signal-requires : goal.signal-requires
 signal-requires c =
     let args = c.args in
     let pre = c.requires in
     let h : c.if-comma.at ≤ length args.tokens.now / 4 = elim c.if-comma.branch [
-      | then-comma+else-not-comma_at w ↦ let k = mark-below _ _ _ (sym w.comma_at.ensures ∙ w.if-not-comma_at.false) in omega (arith, w.at-is, k)
+      | then-comma+else-not-is_mark w ↦ let k = mark-below _ _ _ (sym w.is_mark.ensures ∙ w.if-not-is_mark.false) in omega (arith, w.at-is, k)
       | else-comma w ↦ omega (arith, w.at-is, pre.readable.here)
     ] in
     record {
@@ -31,6 +31,6 @@ returns c =
     let signal = c.signal in
     let place = c.place in
     elim c.if-comma.branch [
-      | then-comma+else-not-comma_at w ↦ next-with _ _ _ _ _ _ _ _ _ place.ensures _ _ signal.ensures w.if-comma.true (sym w.comma_at.ensures ∙ w.if-not-comma_at.false) w.at-is
+      | then-comma+else-not-is_mark w ↦ next-with _ _ _ _ _ _ _ _ _ place.ensures _ _ signal.ensures w.if-comma.true (sym w.is_mark.ensures ∙ w.if-not-is_mark.false) w.at-is
       | else-comma w ↦ next-without _ _ _ _ _ _ _ _ _ place.ensures _ _ signal.ensures w.if-comma.false w.at-is
     ]

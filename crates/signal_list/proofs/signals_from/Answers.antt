@@ -21,38 +21,36 @@ next_signal-requires c =
       scratch_length_in_bounds = (omega (arith, pre.scratch_length_in_bounds, loop.invariant.long), pre.scratch_length_in_bounds.1, pre.scratch_length_in_bounds.2);
     }
 
-pub shape_of-scratch-in_default : goal.shape_of-scratch-in_default
-shape_of-scratch-in_default c = c.next_signal.ensures.kept.long ∙ c.loop-at.invariant.long
+pub shape_of-scratch-in_err-signal : goal.shape_of-scratch-in_err-signal
+shape_of-scratch-in_err-signal c = c.next_signal.ensures.kept.long ∙ c.loop-at.invariant.long
 
-pub returns-in_default : goal.returns-in_default
-returns-in_default c =
+pub returns-in_err-signal : goal.returns-in_err-signal
+returns-in_err-signal c =
     let args = c.args in
-    let next-signal = c.next_signal in
     let if1 = c.if-comma in
     let loop-test = c.loop-at-test in
     let loop = c.loop-at in
     let due : if1.next_signal ≡ (args.comma && ltb 0 loop.sum.count) = (elim if1.branch [ then-comma w ↦ w.next_signal-is ∙ rw w.if-comma.true | else-comma w ↦ w.next_signal-is ∙ rw w.if-comma.false ]) in
-    list-broken _ _ _ _ _ _ _ _ _ loop.invariant _ due (omega (arith, loop-test.true)) _ (rw c.in_default.is at next-signal.ensures)
+    rw c.from_residual.ensures (list-broken _ _ _ _ _ _ _ _ _ loop.invariant _ due (omega (arith, loop-test.true)) _ c.in_err-signal.ensures)
 
 pub added-sum-requires : goal.added-sum-requires
 added-sum-requires c =
     let pre = c.requires in
     let loop = c.loop-at in
-    let A = rw c.in-Read.is at c.next_signal.ensures in
+    let A = c.in_ok-signal.ensures in
     (omega (arith, loop.invariant.few, loop.invariant.within, pre.readable.rows), omega (arith, loop.invariant.bits, loop.invariant.from, A.read.0, A.read.1, A.read.2, pre.readable.rows))
 
 pub loop-at-smaller : goal.loop-at-smaller
-loop-at-smaller c = let A = rw c.in-Read.is at c.next_signal.ensures in omega (arith, A.read.0, A.read.1)
+loop-at-smaller c = let A = c.in_ok-signal.ensures in omega (arith, A.read.0, A.read.1)
 
 pub loop-at-preserved : goal.loop-at-preserved
 loop-at-preserved c =
     let args = c.args in
-    let next-signal = c.next_signal in
     let if1 = c.if-comma in
     let loop-test = c.loop-at-test in
     let loop = c.loop-at in
     let due : if1.next_signal ≡ (args.comma && ltb 0 loop.sum.count) = (elim if1.branch [ then-comma w ↦ w.next_signal-is ∙ rw w.if-comma.true | else-comma w ↦ w.next_signal-is ∙ rw w.if-comma.false ]) in
-    list_on_lem _ _ _ _ _ _ _ _ _ loop.invariant _ due (omega (arith, loop-test.true)) _ _ _ _ (rw c.in-Read.is at next-signal.ensures) c.added-sum.ensures
+    list_on_lem _ _ _ _ _ _ _ _ _ loop.invariant _ due (omega (arith, loop-test.true)) _ _ _ c.in_ok-signal.ensures c.added-sum.ensures
 
 pub shape_of-scratch : goal.shape_of-scratch
 shape_of-scratch c = c.loop-at.invariant.long

@@ -11,14 +11,15 @@ use Rattle.signals.proofs.+bundle_signal.Goals.{bundle-then-width-lt-MOST_BITS, 
 pub bundle-loop-scope-init : goal.bundle-loop-scope-init
 bundle-loop-scope-init t c = members-on-start _ _ _ _ _ _ _ c.requires.readable.here
 
-pub bundle-returns-in_default : goal.bundle-returns-in_default
-bundle-returns-in_default t c =
+pub bundle-returns-in_err-m : goal.bundle-returns-in_err-m
+bundle-returns-in_err-m t c =
     let P : Place c.args.o c.loop-scope.width c.if-width-lt-MOST_BITS.put = elim c.if-width-lt-MOST_BITS.branch [
       | bundle-then-width-lt-MOST_BITS w ↦ place-behind _ _ _ w.if-width-lt-MOST_BITS.true w.put-is
       | bundle-else-width-lt-MOST_BITS w ↦ place_end _ _ _ w.if-width-lt-MOST_BITS.false w.put-is
     ] in
-    bundle-broken _ _ _ _ _ _ _ _ _ _ _ c.loop-scope.invariant _ P _ (sym c.is_mark.ensures ∙ c.loop-scope-test.true)
-    (rw c.in_default.is at c.signal-m.ensures)
+    rw c.from_residual.ensures
+    (bundle-broken _ _ _ _ _ _ _ _ _ _ _ c.loop-scope.invariant _ P _ (sym c.is_mark.ensures ∙ c.loop-scope-test.true)
+    c.in_err-m.ensures)
 
 pub bundle-loop-scope-preserved : goal.bundle-loop-scope-preserved
 bundle-loop-scope-preserved t c =
@@ -26,8 +27,8 @@ bundle-loop-scope-preserved t c =
       | bundle-then-width-lt-MOST_BITS w ↦ place-behind _ _ _ w.if-width-lt-MOST_BITS.true w.put-is
       | bundle-else-width-lt-MOST_BITS w ↦ place_end _ _ _ w.if-width-lt-MOST_BITS.false w.put-is
     ] in
-    bundle-on _ _ _ _ _ _ _ _ _ _ _ c.loop-scope.invariant _ P _ (sym c.is_mark.ensures ∙ c.loop-scope-test.true) _ _ _
-    c.merge-fault.ensures (rw c.in-Read.is at c.signal-m.ensures)
+    bundle-on _ _ _ _ _ _ _ _ _ _ _ c.loop-scope.invariant _ P _ (sym c.is_mark.ensures ∙ c.loop-scope-test.true) _ _
+    c.merge-fault.ensures c.in_ok-m.ensures
 
 pub bundle-returns : goal.bundle-returns
 bundle-returns t c =
@@ -38,8 +39,8 @@ pub signal-returns-then-depth-eq0 : goal.signal-returns-then-depth-eq0
 signal-returns-then-depth-eq0 t c =
     signal-nowhere _ _ _ _ _ _ _ (head-deep _ _ _ _ c.if-depth-eq0.true (sym c.is_mark.ensures ∙ c.if-is_mark.true))
 
-pub signal-bundle-b-requires : goal.signal-bundle-b-requires
-signal-bundle-b-requires t c = (
+pub signal-bundle-requires : goal.signal-bundle-requires
+signal-bundle-requires t c = (
   omega (arith, c.decreases, c.if-depth-eq0.false),
   (
     readable-on _ _ _ _ c.requires.readable (omega (arith, mark-below _ _ _ (sym c.is_mark.ensures ∙ c.if-is_mark.true))),
@@ -51,24 +52,25 @@ signal-bundle-b-requires t c = (
   ),
 )
 
-pub signal-returns-in_default : goal.signal-returns-in_default
-signal-returns-in_default t c =
-    signal-no-head _ _ _ _ _ _ _ _ _ _
+pub signal-returns-in_err-b : goal.signal-returns-in_err-b
+signal-returns-in_err-b t c =
+    rw c.from_residual.ensures
+    (signal-no-head _ _ _ _ _ _ _ _ _ _
     (head-bundle _ _ _ _ c.if-depth-eq0.false (sym c.is_mark.ensures ∙ c.if-is_mark.true))
-    (rw c.in_default.is at c.bundle-b.ensures)
+    c.in_err-b.ensures)
 
 pub signal-returns-then-is_mark : goal.signal-returns-then-is_mark
 signal-returns-then-is_mark t c =
     signal-with _ _ _ _ _ _ _ _ _ _
-    (head-bundle _ _ _ _ c.if-depth-eq0.false (sym c.is_mark.ensures ∙ c.if-is_mark.true)) _ _
-    (rw c.in-Read.is at c.bundle-b.ensures) _ _ c.slices.ensures (omega arith)
+    (head-bundle _ _ _ _ c.if-depth-eq0.false (sym c.is_mark.ensures ∙ c.if-is_mark.true)) _
+    c.in_ok-b.ensures _ _ c.slices.ensures (omega arith)
 
-pub signal-returns-in_default-a : goal.signal-returns-in_default-a
-signal-returns-in_default-a t c =
-    signal-no-head _ _ _ _ _ _ _ _ _ _ (head-atom _ _ _ _ (sym c.is_mark.ensures ∙ c.if-is_mark.false))
-    (rw c.in_default-a.is at c.atom-a.ensures)
+pub signal-returns-in_err-a : goal.signal-returns-in_err-a
+signal-returns-in_err-a t c =
+    rw c.from_residual-in_err-a.ensures
+    (signal-no-head _ _ _ _ _ _ _ _ _ _ (head-atom _ _ _ _ (sym c.is_mark.ensures ∙ c.if-is_mark.false)) c.in_err-a.ensures)
 
 pub signal-returns : goal.signal-returns
 signal-returns t c =
-    signal-with _ _ _ _ _ _ _ _ _ _ (head-atom _ _ _ _ (sym c.is_mark.ensures ∙ c.if-is_mark.false)) _ _
-    (rw c.in-Read-a.is at c.atom-a.ensures) _ _ c.slices-2.ensures (omega arith)
+    signal-with _ _ _ _ _ _ _ _ _ _ (head-atom _ _ _ _ (sym c.is_mark.ensures ∙ c.if-is_mark.false)) _
+    c.in_ok-a.ensures _ _ c.slices-2.ensures (omega arith)

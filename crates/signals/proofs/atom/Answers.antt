@@ -1,18 +1,29 @@
 -- `atom` meets its contract: by the token of the row.
 -- Assumes nothing.
-use mathlib.Core.List.{[]}
-use mathlib.Core.Path.{refl, sym, subst, ◌∙◌}
+use mathlib.Core.List.{List, []}
+use Prim.Native.Nat.{ℕ}
+use mathlib.Core.Option.{none}
+use mathlib.Core.Path.{◌≡◌, refl, sym, subst, ◌∙◌}
 use Rattle.rules.specs.Shapes.{one, is_atom, atom}
+use Rattle.rules.specs.Tokens as rules
 use Rattle.tokens.specs.Rows.{front}
+use Rattle.tokens.specs.declared.ConstantSpan.{ConstantSpan}
+use Rattle.tokens.specs.declared.Token.{Token}
+use Rattle.tokens.specs.declared.Token.TheVariants.{Name, Word, Constant as Constantly, Mark, End}
 use Rattle.signals.specs.Reads.{WholeToken}
 use Rattle.signals.proofs.AnswerLaws.{atom-nothing, atom-name, atom-constant}
 use Rattle.signals.proofs.atom.Goals as goal
 
-pub token_at-requires : goal.token_at-requires
-token_at-requires c = tt
-
-pub part-requires : goal.part-requires
-part-requires c = tt
+-- a token that is no name and no constant
+no-atom :
+    (f : List ℕ) (x : Token) (ts : List rules.Token) → ((a b : ℕ) → x ≡ Name a b → ⊥) → ((c : ConstantSpan) → x ≡ Constantly c → ⊥) →
+    atom (front f x ts) ≡ none
+unfolding atom one is_atom front
+no-atom f (Name a b) ts n k = absurd (n a b refl)
+no-atom f (Word w) ts n k = refl
+no-atom f (Constantly c) ts n k = absurd (k c refl)
+no-atom f (Mark m) ts n k = refl
+no-atom f End ts n k = refl
 
 pub wire_bits-bits-requires : goal.wire_bits-bits-requires
 wire_bits-bits-requires c = c.requires.most_width_in_bounds
@@ -44,14 +55,6 @@ shape_of-scratch-in-Constant c = (c.literal_bits-bits.ensures []).kept.long
 pub returns-in-Constant : goal.returns-in-Constant
 returns-in-Constant c = atom-constant _ _ _ _ _ _ _ _ _ (sym c.in-Constant.is ∙ c.token_at.ensures) (c.literal_bits-bits.ensures _)
 
-pub returns-in-Word : goal.returns-in-Word
-unfolding atom one is_atom front
-returns-in-Word c = atom-nothing _ _ _ _ _ _ _ (sym c.in-Word.is ∙ c.token_at.ensures) refl
-
-pub returns-in-Mark : goal.returns-in-Mark
-unfolding atom one is_atom front
-returns-in-Mark c = atom-nothing _ _ _ _ _ _ _ (sym c.in-Mark.is ∙ c.token_at.ensures) refl
-
-pub returns-in-End : goal.returns-in-End
-unfolding atom one is_atom front
-returns-in-End c = atom-nothing _ _ _ _ _ _ _ (sym c.in-End.is ∙ c.token_at.ensures) refl
+pub returns-in_default : goal.returns-in_default
+returns-in_default c =
+    atom-nothing _ _ _ _ _ _ _ c.token_at.ensures (no-atom _ _ _ c.in_default.not-Name c.in_default.not-Constant)

@@ -10,31 +10,27 @@ use Rattle.signals.proofs.slices.Goals as goal
 pub loop-at-init : goal.loop-at-init
 loop-at-init c = slices-start _ _ _ _ _ _ c.requires.most_width_in_bounds.0 c.requires.tokens_len_bound.1
 
-pub is_mark-requires : goal.is_mark-requires
-is_mark-requires c = tt
-
 pub overflow_add-at : goal.overflow_add-at
 overflow_add-at c = omega (arith, mark-below _ _ _ (sym c.is_mark.ensures ∙ c.loop-at-test.true))
 
 pub bounds_at-requires : goal.bounds_at-requires
 bounds_at-requires c = (c.requires.tokens_len_bound.0, omega (arith, mark-below _ _ _ (sym c.is_mark.ensures ∙ c.loop-at-test.true)))
 
-pub returns-in_default : goal.returns-in_default
-returns-in_default c =
+pub returns-in_err-bounds : goal.returns-in_err-bounds
+returns-in_err-bounds c =
     let pre = c.requires in
     let loop = c.loop-at in
     let is-mark = c.is_mark in
     let if1 = c.loop-at-test in
-    let bounds-at = c.bounds_at in
-    slices-broken _ _ _ _ _ _ pre.most_width_in_bounds.0 _ _ loop.invariant (sym is-mark.ensures ∙ if1.true)
-    (rw c.in_default.is at bounds-at.ensures)
+    rw c.from_residual.ensures
+    (slices-broken _ _ _ _ _ _ pre.most_width_in_bounds.0 _ _ loop.invariant (sym is-mark.ensures ∙ if1.true) c.in_err-bounds.ensures)
 
 pub slice-part-requires : goal.slice-part-requires
 slice-part-requires c = omega (arith, c.loop-at.invariant.inside.within)
 
 pub loop-at-smaller : goal.loop-at-smaller
 loop-at-smaller c =
-    let B = rw c.in-Read.is at c.bounds_at.ensures in
+    let B = c.in_ok-bounds.ensures in
     omega (arith, B.0, B.1)
 
 pub loop-at-preserved : goal.loop-at-preserved
@@ -43,9 +39,8 @@ loop-at-preserved c =
     let loop = c.loop-at in
     let is-mark = c.is_mark in
     let if1 = c.loop-at-test in
-    let bounds-at = c.bounds_at in
-    slices-on _ _ _ _ _ _ pre.most_width_in_bounds.0 _ _ loop.invariant (sym is-mark.ensures ∙ if1.true) _ _ _
-    (rw c.in-Read.is at bounds-at.ensures) _ c.slice-part.ensures
+    slices-on _ _ _ _ _ _ pre.most_width_in_bounds.0 _ _ loop.invariant (sym is-mark.ensures ∙ if1.true) _
+    c.in_ok-bounds.ensures _ c.slice-part.ensures
 
 pub move_part-requires : goal.move_part-requires
 move_part-requires c =
