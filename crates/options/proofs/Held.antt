@@ -1,6 +1,6 @@
 -- The options that the code holds, and one more of them.
 -- Assumes nothing.
-use mathlib.Core.Path.{◌≡◌, refl, sym, ap, ◌∙◌}
+use mathlib.Core.Path.{◌≡◌, refl, sym, ap, ◌∙◌, subst}
 use mathlib.Core.Bool.{Bool, true, false, cond, not, ◌&&◌, ◌||◌, false≢true}
 use mathlib.Core.List.{List, [], ◌∷◌, Option-to_list}
 use mathlib.Core.Option.{Option, none, some}
@@ -17,19 +17,18 @@ use Rattle.lists.specs.Tests.{by-test, or_true_right, or-false-left, or-false-ri
 use Rattle.lists.specs.Elements.{◌then◌, by-any}
 use Rattle.tokens.specs.Rows.{integer_in}
 use Rattle.tokens.specs.declared.Integer.{Integer}
-use Rattle.tokens.specs.declared.Slot.{Slot}
-use Rattle.tokens.specs.declared.Slot.TheVariants.{Given, Absent}
+use Rattle.std.specs.Prelude.{Option as Optional, Some, None, is_some as is_given}
 use Rattle.tokens.proofs.Words.{keyword-same}
 use Rattle.options.specs.Forms.{is_flag, number_codes, option_codes, is_option}
-use Rattle.options.specs.Holds.{first, is_given, slot_of, flag_of, slot_at, at, given, is_some, fits, all_fit, Holds, no_options, Took}
+use Rattle.options.specs.Holds.{first, slot_of, flag_of, slot_at, at, given, is_some, fits, all_fit, Holds, no_options, Took}
 use Rattle.options.specs.declared.Options.{Options}
 
 -- ---- what the code holds of an option
 
-given-slot : (f : List ℕ) (s : Slot) → is_given s ≡ is_some (slot_of f s)
-unfolding is_given is_some slot_of
-given-slot f (Given z) = refl
-given-slot f Absent = refl
+given-slot : (f : List ℕ) (s : Optional Integer) → is_given s ≡ is_some (slot_of f s)
+unfolding is_some slot_of
+given-slot f (Some z) = refl
+given-slot f None = refl
 
 pub given-flag : (b : Bool) → b ≡ is_some (flag_of b)
 unfolding is_some flag_of
@@ -44,17 +43,15 @@ given-at f o c =
 
 -- ---- one option more
 
-slot-pick : (f : List ℕ) (z : Integer) (b : Bool) (x s : Slot) → x ≡ cond b (Given z) s → slot_of f x ≡ cond b (some (some (integer_in f z))) (slot_of f s)
+slot-pick : (f : List ℕ) (z : Integer) (b : Bool) (s : Optional Integer) → slot_of f (cond b (Some z) s) ≡ cond b (some (some (integer_in f z))) (slot_of f s)
 unfolding slot_of
-slot-pick f z true x s e = rw e
-slot-pick f z false x s e = rw e
+slot-pick f z true s = refl
+slot-pick f z false s = refl
 
-flag-pick : (x u b : Bool) → x ≡ (u || b) → flag_of x ≡ cond b (some none) (flag_of u)
+flag-pick : (b u : Bool) → flag_of (cond b true u) ≡ cond b (some none) (flag_of u)
 unfolding flag_of
-flag-pick x true true e = rw e
-flag-pick x true false e = rw e
-flag-pick x false true e = rw e
-flag-pick x false false e = rw e
+flag-pick true u = refl
+flag-pick false u = refl
 
 pub flag-not : (c : ℕ) → is_flag c ≡ false → (c ≡ 12 → ⊥) × (c ≡ 13 → ⊥)
 unfolding is_flag
@@ -66,60 +63,80 @@ flag-range c h =
     by-test (eqb c 12) (λ e. let q : c ≡ 12 = eqb-true c 12 e in (omega arith, omega arith))
     (λ e. let q : c ≡ 13 = eqb-true c 13 (rw e at h) in (omega arith, omega arith))
 
-module _ (f : List ℕ) (o r : Options) (c : ℕ) where
-  pub took_number :
-      (z : Integer) → is_flag c ≡ false →
-      r.width ≡ cond (eqb c 7) (Given z) o.width →
-      r.offset ≡ cond (eqb c 8) (Given z) o.offset →
-      r.size ≡ cond (eqb c 15) (Given z) o.size →
-      r.input ≡ cond (eqb c 9) (Given z) o.input →
-      r.output ≡ cond (eqb c 10) (Given z) o.output →
-      r.inout ≡ cond (eqb c 11) (Given z) o.inout →
-      r.upto ≡ o.upto →
-      r.signed ≡ o.signed →
-      r.twice ≡ (o.twice || given o c) →
-      Took f o c (some (integer_in f z)) r
-  unfolding at slot_at is_option option_codes number_codes
-  took_number z h w t s a b d u g again =
-      record {
-        twice = again ∙ ap (λ (b : Bool). o.twice || b) (given-at f o c);
-        fields =
-            by-any (λ d. at f r d ≡ cond (eqb c d) (some (some (integer_in f z))) (at f o d)) option_codes
-            ((rw (ne_eqb c 12 (flag-not c h).0, u)) then
-            (rw (ne_eqb c 13 (flag-not c h).1, g)) then
-            slot-pick f z (eqb c 7) r.width o.width w then
-            slot-pick f z (eqb c 8) r.offset o.offset t then
-            slot-pick f z (eqb c 15) r.size o.size s then
-            slot-pick f z (eqb c 9) r.input o.input a then
-            slot-pick f z (eqb c 10) r.output o.output b then
-            slot-pick f z (eqb c 11) r.inout o.inout d then
-            tt);
-      }
+-- o with the number z for option c, and with the flag c
+abbrev numbered : Options → ℕ → Integer → Bool → Options
+numbered o c z t =
+    record {
+      width = cond (eqb c 7) (Some z) o.width;
+      offset = cond (eqb c 8) (Some z) o.offset;
+      size = cond (eqb c 15) (Some z) o.size;
+      input = cond (eqb c 9) (Some z) o.input;
+      output = cond (eqb c 10) (Some z) o.output;
+      inout = cond (eqb c 11) (Some z) o.inout;
+      upto = o.upto;
+      signed = o.signed;
+      twice = t;
+    }
 
-  pub took-flag :
-      is_flag c ≡ true →
-      ((d : ℕ) → slot_at r d ≡ slot_at o d) →
-      r.upto ≡ (o.upto || eqb c 12) →
-      r.signed ≡ (o.signed || eqb c 13) →
-      r.twice ≡ (o.twice || given o c) →
-      Took f o c none r
-  unfolding at is_option option_codes number_codes
-  took-flag h s u g again =
-      let q : (12 ≤ c) × (c ≤ 13) = flag-range c h in
-      let kept : (d : ℕ) → (c ≡ d → ⊥) → slot_of f (slot_at r d) ≡ cond (eqb c d) (some none) (slot_of f (slot_at o d)) = λ d n. rw (ne_eqb c d n, s d) in
+abbrev flagged : Options → ℕ → Bool → Options
+flagged o c t =
+    record {
+      width = o.width;
+      offset = o.offset;
+      size = o.size;
+      input = o.input;
+      output = o.output;
+      inout = o.inout;
+      upto = cond (eqb c 12) true o.upto;
+      signed = cond (eqb c 13) true o.signed;
+      twice = t;
+    }
+
+module _ (f : List ℕ) (o : Options) (t : Bool) where
+  module _ (c : ℕ) (z : Integer) (h : is_flag c ≡ false) (again : t ≡ (o.twice || given o c)) where
+    took : Took f o c (some (integer_in f z)) (numbered o c z t)
+    unfolding at slot_at is_option option_codes number_codes
+    took =
+        record {
+          twice = again ∙ ap (λ (b : Bool). o.twice || b) (given-at f o c);
+          fields =
+              by-any (λ d. at f (numbered o c z t) d ≡ cond (eqb c d) (some (some (integer_in f z))) (at f o d)) option_codes
+              ((rw (ne_eqb c 12 (flag-not c h).0)) then
+              (rw (ne_eqb c 13 (flag-not c h).1)) then
+              slot-pick f z (eqb c 7) o.width then
+              slot-pick f z (eqb c 8) o.offset then
+              slot-pick f z (eqb c 15) o.size then
+              slot-pick f z (eqb c 9) o.input then
+              slot-pick f z (eqb c 10) o.output then
+              slot-pick f z (eqb c 11) o.inout then
+              tt);
+        }
+
+    -- of the option n, and of none of those with numbers
+    pub took_number : (n : ℕ) → c ≡ n → Took f o c (some (integer_in f z)) (numbered o n z t)
+    took_number n e = subst (λ n. Took f o c (some (integer_in f z)) (numbered o n z t)) e took
+
+    pub took_other : (c ≡ 7 → ⊥) → (c ≡ 8 → ⊥) → (c ≡ 15 → ⊥) → (c ≡ 9 → ⊥) → (c ≡ 10 → ⊥) → (c ≡ 11 → ⊥) → Took f o c (some (integer_in f z)) (record { width = o.width; offset = o.offset; size = o.size; input = o.input; output = o.output; inout = o.inout; upto = o.upto; signed = o.signed; twice = t })
+    took_other n7 n8 n15 n9 n10 n11 = rw (ne_eqb c 7 n7, ne_eqb c 8 n8, ne_eqb c 15 n15, ne_eqb c 9 n9, ne_eqb c 10 n10, ne_eqb c 11 n11) at took
+
+  pub took-flag : (c n : ℕ) → c ≡ n → is_flag n ≡ true → t ≡ (o.twice || given o c) → Took f o c none (flagged o n t)
+  unfolding at slot_at is_option option_codes number_codes
+  took-flag c n e h again =
+      let q : (12 ≤ c) × (c ≤ 13) = flag-range c (ap is_flag e ∙ h) in
+      let kept : (d : ℕ) (x : Option (Option ℤ)) → (c ≡ d → ⊥) → x ≡ cond (eqb c d) (some none) x = λ d x n. rw (ne_eqb c d n) in
       record {
         twice = again ∙ ap (λ (b : Bool). o.twice || b) (given-at f o c);
-        fields =
-            by-any (λ d. at f r d ≡ cond (eqb c d) (some none) (at f o d)) option_codes
-            (flag-pick r.upto o.upto (eqb c 12) u then
-            flag-pick r.signed o.signed (eqb c 13) g then
-            kept 7 (λ e. omega arith) then
-            kept 8 (λ e. omega arith) then
-            kept 15 (λ e. omega arith) then
-            kept 9 (λ e. omega arith) then
-            kept 10 (λ e. omega arith) then
-            kept 11 (λ e. omega arith) then
-            tt);
+        fields = subst (λ n. (d : ℕ) → is_option d ≡ true → at f (flagged o n t) d ≡ cond (eqb c d) (some none) (at f o d)) e
+            (by-any (λ d. at f (flagged o c t) d ≡ cond (eqb c d) (some none) (at f o d)) option_codes
+            (flag-pick (eqb c 12) o.upto then
+            flag-pick (eqb c 13) o.signed then
+            kept 7 _ (λ e. omega arith) then
+            kept 8 _ (λ e. omega arith) then
+            kept 15 _ (λ e. omega arith) then
+            kept 9 _ (λ e. omega arith) then
+            kept 10 _ (λ e. omega arith) then
+            kept 11 _ (λ e. omega arith) then
+            tt));
       }
 
 -- ---- and one more written

@@ -84,9 +84,14 @@ module _ (m : Bool) (t : List ℕ) (i : ℕ) where
       let b : i < length t / 4 = below t i x e p in
       rw (line_read f t i x e) (grow (λ k. rest m k os (front f x (line f t (i + 1))) ≡ r f os) k (omega arith) (λ j. q f j os))
 
-  pub refuses-end : row.End ≡ token_at t i → (f : List ℕ) (k : ℕ) (os : List Opt) → length t / 4 - i ≤ k → rest m k os (line f t i) ≡ none
+  -- a token that is neither a name nor a word, and the end
+  pub refuses : (x : Row) → x ≡ token_at t i → ((a b : ℕ) → x ≡ row.Name a b → ⊥) → ((c : ℕ) → x ≡ row.Word c → ⊥) → (f : List ℕ) (k : ℕ) (os : List Opt) → length t / 4 - i ≤ k → rest m k os (line f t i) ≡ none
   unfolding front
-  refuses-end e f k os h = rw (line_read f t i row.End e) (rest-nothing m k os)
+  refuses (row.Name a b) e n w = absurd (n a b refl)
+  refuses (row.Word c) e n w = absurd (w c refl)
+  refuses (row.Constant c) e n w = decides (row.Constant c) e tt (λ f os. none) (λ f j os. rest-literal m j os _ _)
+  refuses (row.Mark b) e n w = decides (row.Mark b) e tt (λ f os. none) (λ f j os. rest-mark m j os _ b)
+  refuses row.End e n w = λ f k os h. rw (line_read f t i row.End e) (rest-nothing m k os)
 
   module _ (a b : ℕ) (e : row.Name a b ≡ token_at t i) where
     pub ends : length t / 4 ≤ i + 1 → (f : List ℕ) (k : ℕ) (os : List Opt) → length t / 4 - i ≤ k → rest m k os (line f t i) ≡ some (statement m os (slice a b f))

@@ -1,20 +1,17 @@
 -- The words that options start with, by their numbers.
 -- Assumes nothing.
-use mathlib.Core.Path.{◌≡◌, refl, sym, ap, ◌∙◌}
+use mathlib.Core.Path.{◌≡◌, refl}
 use mathlib.Core.Bool.{Bool, true, false, cond}
-use mathlib.Core.List.{List, [], ◌∷◌}
+use mathlib.Core.List.{List, ◌∷◌}
 use mathlib.Core.Option.{Option, none, some}
-use Prim.Native.Nat.{ℕ, zero, suc, ◌+◌, ◌<◌, ◌≤◌}
+use Prim.Native.Nat.{ℕ}
 use Prim.Native.String.{String}
 use native.Mathlib.Omega.{arith}
-use lib.Dec.{eqb, ltb}
-use borrow.Author.Tests.{lt-ltb, le-ltb, ne_eqb, eqb-true, eqb-false}
 use Rattle.rules.specs.Bytes.{any, bytes_open}
 use Rattle.rules.specs.Tokens.{Token, word, keywords}
 use Rattle.rules.specs.Statements.{Opt}
 use Rattle.rules.specs.Shapes.{offers, choice, of₁, int, is_word, wire_option_forms, memory_option_forms, numbered, flag, shapes_open}
 use Rattle.scanner.specs.Words.{keyword_at}
-use Rattle.lists.specs.Tests.{by-test}
 use Rattle.tokens.proofs.Words.{word-is}
 use Rattle.options.specs.Forms.{forms, codes, accepted, is_flag, number_codes, option_codes, is_option}
 use Rattle.lists.specs.Elements.{◌then◌, by-any, each_all, none_any}
@@ -54,29 +51,3 @@ accepted-option false = by-any (λ c. is_option c ≡ true) (codes false) (refl 
 pub offers-not : (m : Bool) (t : Token) → ((w : String) → is_word w t ≡ false) → offers (forms m) t ≡ false
 unfolding offers
 offers-not m t h = none_any _ (forms m) (each_all _ (λ c. h c.0) (forms m))
-
--- numbers that follow one another
-abbrev from : ℕ → ℕ → List ℕ
-from a zero = []
-from a (suc n) = a ∷ from (suc a) n
-
-from_low : (c a n : ℕ) → c < a → any (eqb c) (from a n) ≡ false
-unfolding any
-from_low c a zero h = refl
-from_low c a (suc n) h = rw (ne_eqb c a (λ q. omega arith)) (from_low c (suc a) n (omega arith))
-
-from-high : (c a n : ℕ) → a ≤ c → any (eqb c) (from a n) ≡ ltb c (a + n)
-unfolding any
-from-high c a zero h = sym (le-ltb c (a + 0) (omega arith))
-from-high c a (suc n) h =
-    by-test (eqb c a) (λ e. rw e (sym (lt-ltb c (a + suc n) (omega (arith, eqb-true c a e)))))
-    (λ e. let q : suc a + n ≡ a + suc n = omega arith in rw e (from-high c (suc a) n (omega (arith, eqb-false c a e)) ∙ ap (ltb c) q))
-
--- the options of a wire are the keywords 7 to 13
-pub wire-low : (c : ℕ) → c < 7 → accepted false c ≡ false
-unfolding accepted codes
-wire-low c h = from_low c 7 7 h
-
-pub wire-high : (c : ℕ) → 7 ≤ c → accepted false c ≡ ltb c 14
-unfolding accepted codes
-wire-high c h = from-high c 7 7 h

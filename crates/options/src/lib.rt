@@ -58,6 +58,7 @@ fn no_options() -> Options
 }
 
 // The number of the option with keyword number c.
+#[tactic(auto, unfolding(crate::specs::Holds::slot_at))]
 fn slot_at(o: Options, c: usize) -> Option<Integer>
     ensures { result ≡ slot_at o c }
 {
@@ -73,6 +74,7 @@ fn slot_at(o: Options, c: usize) -> Option<Integer>
 }
 
 // Whether the option with keyword number c is given.
+#[tactic(auto, unfolding(crate::specs::Holds::given))]
 fn given(o: Options, c: usize) -> bool
     ensures { result ≡ given o c }
 {
@@ -83,46 +85,30 @@ fn given(o: Options, c: usize) -> bool
     }
 }
 
+// Whether an option stands twice where option c stands behind o.
+fn twice(o: Options, c: usize) -> bool
+    ensures { result ≡ (o.twice || given o c) }
+{
+    o.twice || given(o, c)
+}
+
 // With the number z for option c.
 fn with_number(o: Options, c: usize, z: Integer) -> Options
     requires { is_flag c ≡ false }
     ensures { TookNumber o c z result }
 {
-    let twice = o.twice || given(o, c);
-    let slot = Some(z);
+    let mut r = o;
+    r.twice = twice(o, c);
     match c {
-        WIDTH => Options {
-            width: slot,
-            twice,
-            ..o
-        },
-        OFFSET => Options {
-            offset: slot,
-            twice,
-            ..o
-        },
-        SIZE => Options {
-            size: slot,
-            twice,
-            ..o
-        },
-        INPUT => Options {
-            input: slot,
-            twice,
-            ..o
-        },
-        OUTPUT => Options {
-            output: slot,
-            twice,
-            ..o
-        },
-        INOUT => Options {
-            inout: slot,
-            twice,
-            ..o
-        },
-        _ => Options { twice, ..o },
+        WIDTH => r.width = Some(z),
+        OFFSET => r.offset = Some(z),
+        SIZE => r.size = Some(z),
+        INPUT => r.input = Some(z),
+        OUTPUT => r.output = Some(z),
+        INOUT => r.inout = Some(z),
+        _ => {}
     }
+    r
 }
 
 // With the flag c.
@@ -130,15 +116,18 @@ fn with_flag(o: Options, c: usize) -> Options
     requires { is_flag c ≡ true }
     ensures { TookFlag o c result }
 {
-    Options {
-        upto: o.upto || c == UPTO,
-        signed: o.signed || c == SIGNED,
-        twice: o.twice || given(o, c),
-        ..o
+    let mut r = o;
+    r.twice = twice(o, c);
+    if c == UPTO {
+        r.upto = true;
+    } else {
+        r.signed = true;
     }
+    r
 }
 
 // Whether the keyword c is an option of a memory, or of a wire.
+#[tactic(auto, unfolding(crate::specs::Forms::accepted, crate::specs::Forms::codes, rules::specs::Bytes::any))]
 fn offered(memory: bool, c: usize) -> bool
     ensures { result ≡ accepted memory c }
 {
@@ -148,6 +137,7 @@ fn offered(memory: bool, c: usize) -> bool
     WIDTH <= c && c < MEMORY
 }
 
+#[tactic(auto, unfolding(crate::specs::Forms::is_flag))]
 fn flag(c: usize) -> bool
     ensures { result ≡ is_flag c }
 {
@@ -159,10 +149,16 @@ fn option(tokens: &[u32], memory: bool, i: usize) -> Option<Turn>
     ensures { TurnIs memory tokens.now i result }
 {
     match token_at(tokens, i) {
-        Token::Name { start, end } if tokens.len() / ROW_WORDS <= i + 1 => {
+        Token::Name { start, end } => {
+            if i + 1 < tokens.len() / ROW_WORDS {
+                return None;
+            }
             Some(Turn::Done(Span { start, end }))
         }
-        Token::Word(c) if offered(memory, c) => {
+        Token::Word(c) => {
+            if !offered(memory, c) {
+                return None;
+            }
             if flag(c) {
                 return Some(Turn::Flag(c));
             }
@@ -194,6 +190,7 @@ fn line_of(tokens: &[u32], memory: bool, at: usize) -> Option<Line>
 }
 
 // A line behind its word `wire`, which stands before row i.
+#[tactic(auto, unfolding(crate::specs::Forms::forms, crate::specs::Forms::statement))]
 pub fn wire_line(tokens: &[u32], i: usize) -> Option<Line>
     ensures { LineIs wire_option_forms wire-stmt tokens.now i result }
 {
@@ -201,6 +198,7 @@ pub fn wire_line(tokens: &[u32], i: usize) -> Option<Line>
 }
 
 // A line behind its word `memory`, which stands before row i.
+#[tactic(auto, unfolding(crate::specs::Forms::forms, crate::specs::Forms::statement))]
 pub fn memory_line(tokens: &[u32], i: usize) -> Option<Line>
     ensures { LineIs memory_option_forms memory-stmt tokens.now i result }
 {

@@ -7,7 +7,7 @@ use Rattle.options.proofs.Rest.{Reached}
 use Rattle.options.proofs.line_of.Given as goal
 
 abbrev pub invariant-loop-c : goal.invariant-loop-c
-invariant-loop-c l = (f : List ℕ) → Reached f l.memory l.tokens l.at l.i l.o
+invariant-loop-c l = (f : List ℕ) → Reached f l.memory l.tokens l.at l.i l.options
 
 abbrev pub decreases-loop-c : goal.decreases-loop-c
 decreases-loop-c l = length l.tokens / 4 - l.i

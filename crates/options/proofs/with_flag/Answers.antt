@@ -1,22 +1,17 @@
 -- No number changes.
 -- Assumes nothing.
-use mathlib.Core.Path.{refl, ◌∙◌}
-use Rattle.options.specs.Holds.{slot_at}
-use Rattle.options.proofs.Held.{took-flag}
+use mathlib.Core.Path.{refl}
+use native.Mathlib.Omega.{arith}
+use Rattle.options.specs.Forms.{is_flag}
+use Rattle.options.proofs.Held.{flag-range, took-flag}
 use Rattle.options.proofs.with_flag.Goals as goal
 
-pub given-again-requires : goal.given-again-requires
-given-again-requires c = tt
+pub returns-then-c-eq-UPTO : goal.returns-then-c-eq-UPTO
+unfolding is_flag
+returns-then-c-eq-UPTO c f = took-flag f _ _ _ 12 c.if-c-eq-UPTO.true refl c.twice.ensures
 
-pub or-requires : goal.or-requires
-or-requires c = tt
-
-pub or-requires-2 : goal.or-requires-2
-or-requires-2 c = tt
-
-pub or-requires-3 : goal.or-requires-3
-or-requires-3 c = tt
-
-pub returns : goal.returns
-unfolding slot_at
-returns c f = took-flag f _ _ _ c.requires (λ d. refl) c.or-2.ensures c.or-3.ensures (c.or.ensures ∙ rw c.given-again.ensures)
+pub returns-else-c-eq-UPTO : goal.returns-else-c-eq-UPTO
+unfolding is_flag
+returns-else-c-eq-UPTO c f =
+    let q = flag-range c.args.c c.requires in
+    took-flag f _ _ _ 13 (omega (arith, q.0, q.1, c.if-c-eq-UPTO.false)) refl c.twice.ensures

@@ -1,41 +1,26 @@
 -- One number changes, no flag does.
 -- Assumes nothing.
-use mathlib.Core.Path.{refl, ◌∙◌}
-use Rattle.options.proofs.Held.{took_number}
+use native.Mathlib.Omega.{arith}
+use Rattle.options.proofs.Held.{took_number, took_other}
 use Rattle.options.proofs.with_number.Goals as goal
 
-pub given-again-requires : goal.given-again-requires
-given-again-requires c = tt
+pub returns-in-7 : goal.returns-in-7
+returns-in-7 c f = took_number f _ _ _ _ c.requires c.twice.ensures 7 c.in-7.is
 
-pub pick-width-requires : goal.pick-width-requires
-pick-width-requires c = tt
+pub returns-in-8 : goal.returns-in-8
+returns-in-8 c f = took_number f _ _ _ _ c.requires c.twice.ensures 8 c.in-8.is
 
-pub pick-offset-requires : goal.pick-offset-requires
-pick-offset-requires c = tt
+pub returns-in-15 : goal.returns-in-15
+returns-in-15 c f = took_number f _ _ _ _ c.requires c.twice.ensures 15 c.in-15.is
 
-pub pick-size-requires : goal.pick-size-requires
-pick-size-requires c = tt
+pub returns-in-9 : goal.returns-in-9
+returns-in-9 c f = took_number f _ _ _ _ c.requires c.twice.ensures 9 c.in-9.is
 
-pub pick-input-requires : goal.pick-input-requires
-pick-input-requires c = tt
+pub returns-in-10 : goal.returns-in-10
+returns-in-10 c f = took_number f _ _ _ _ c.requires c.twice.ensures 10 c.in-10.is
 
-pub pick-output-requires : goal.pick-output-requires
-pick-output-requires c = tt
+pub returns-in-11 : goal.returns-in-11
+returns-in-11 c f = took_number f _ _ _ _ c.requires c.twice.ensures 11 c.in-11.is
 
-pub pick-inout-requires : goal.pick-inout-requires
-pick-inout-requires c = tt
-
-pub or-requires : goal.or-requires
-or-requires c = tt
-
-pub returns : goal.returns
-returns c f =
-    let pre = c.requires in
-    let given = c.given-again in
-    let pick = c.pick-width in
-    let pick2 = c.pick-offset in
-    let pick3 = c.pick-size in
-    let pick4 = c.pick-input in
-    let pick5 = c.pick-output in
-    took_number f _ _ _ _ pre pick.ensures pick2.ensures pick3.ensures pick4.ensures pick5.ensures
-    c.pick-inout.ensures refl refl (c.or.ensures ∙ rw given.ensures)
+pub returns-in_default : goal.returns-in_default
+returns-in_default c f = took_other f _ _ _ _ c.requires c.twice.ensures (omega arith) (omega arith) (omega arith) (omega arith) (omega arith) (omega arith)
