@@ -34,16 +34,14 @@ use Rattle.layout.proofs.Stored.{puts-is}
 
 -- ---- a turn of the loop over signals
 
-pub turn-room : (w n k i : ℕ) → k < n → i ≡ k * w → i + w ≤ n * w
-turn-room w n k i h e = let q : suc k * w ≤ n * w = mul-le-mul_right w h in omega arith
-
 pub turn-put :
-    (s d l l' : List ℕ) (w n k at i : ℕ) → n * w ≤ length s → k < n → i ≡ k * w → l ≡ store d at (flat_map reverse (pieces w k s)) →
-    l' ≡ store l (at + i) (reverse (slice i (i + w) s)) → l' ≡ store d at (flat_map reverse (pieces w (k + 1) s))
-turn-put s d l l' w n k at i h g e el el' =
-    let more : flat_map reverse (pieces w (k + 1) s) ≡ flat_map reverse (pieces w k s) ++ reverse (slice i (i + w) s) = rw add-one (pieces-next w k i s e) in
-    let end : at + i ≡ at + length (flat_map reverse (pieces w k s)) = ap (λ (x : ℕ). at + x) (e ∙ sym (pieces-long w k s (omega (arith, turn-room w n k i g e)))) in
-    store_then d l l' at (at + i) (flat_map reverse (pieces w k s)) (reverse (slice i (i + w) s)) el end el' ∙ ap (store d at) (sym more)
+    (s d l l' : List ℕ) (w n k at : ℕ) → n * w ≤ length s → k < n → l ≡ store d at (flat_map reverse (pieces w k s)) →
+    l' ≡ store l (at + k * w) (reverse (slice (k * w) (k * w + w) s)) → l' ≡ store d at (flat_map reverse (pieces w (k + 1) s))
+turn-put s d l l' w n k at h g el el' =
+    let more : flat_map reverse (pieces w (k + 1) s) ≡ flat_map reverse (pieces w k s) ++ reverse (slice (k * w) (k * w + w) s) = rw add-one (pieces-next w k (k * w) s refl) in
+    let room : k * w ≤ n * w = mul-le-mul_right w (omega arith) in
+    let end : at + k * w ≡ at + length (flat_map reverse (pieces w k s)) = ap (λ (x : ℕ). at + x) (sym (pieces-long w k s (omega arith))) in
+    store_then d l l' at (at + k * w) (flat_map reverse (pieces w k s)) (reverse (slice (k * w) (k * w + w) s)) el end el' ∙ ap (store d at) (sym more)
 
 -- ---- the code of the step that a code names
 

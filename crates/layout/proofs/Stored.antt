@@ -264,7 +264,7 @@ module _ (f s : List ℕ) where
       valued (cell-param-stmt (sort_of z) (name_in f n) (constant_in f c)) (ap (statement_in f s) e) refl refl refl refl k.1 (λ u. rw (sort-code z k.0))
 
   parameter-row : (u : rooms.Used) (n : Name) (c : Optional ConstantSpan) → statement_row u (param-stmt n (optional_in f c)) ≡ valued_row u 4 n (optional_in f c) 0
-  unfolding holds contents value_in Option.map Option-elim statement_row columns code valued_row optional_columns row padded
+  unfolding holds contents value_in Option-elim statement_row columns code valued_row optional_columns row padded
   parameter-row u n (Some c) = sym (row_zero u (constant_in f c) 4 u.names (length n))
   parameter-row u n None = refl
 

@@ -16,12 +16,9 @@ fn put_signals(width: usize, count: usize, scratch: &[u32], bits: &mut [u32], at
     requires { (count * width ≤ length scratch.now) × (at + count * width ≤ length bits.old) }
     ensures { bits.new ≡ store bits.old at (flat_map reverse (pieces width count scratch.now)) }
 {
-    let mut from = 0;
-    let mut k = 0;
-    while k < count {
+    for k in 0..count {
+        let from = k * width;
         reverse_words(scratch, from, from + width, bits, at + from);
-        from += width;
-        k += 1;
     }
 }
 
