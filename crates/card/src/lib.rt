@@ -1,4 +1,4 @@
-// The session card and what several calls answer, laid out as C's. Calls that change the card share the laws in proofs/.
+// The session card and what several calls answer, laid out as C's.
 #![tactic(auto)]
 
 // The session card: renames standing, name room used.

@@ -66,14 +66,12 @@ fn separate(class: &[u8; 256], s: &[u8], p: usize, t: Token, e: usize) -> Lexeme
 fn name_end(s: &[u8], p: usize) -> usize
     ensures { result ≡ end_of (in_class mark_byte letter) s.now p }
 {
-    let mut i = p;
-    while i < s.len() {
+    for i in p..s.len() {
         if s[i] <= b' ' {
             return i;
         }
-        i += 1;
     }
-    i
+    p.max(s.len())
 }
 
 // A name: `\` or `$` at p, and the bytes up to the next of 32 or less. It is legal by its length.

@@ -55,10 +55,8 @@ fn put_bits(w: u32, k: usize, out: &mut [u32], at: usize)
     requires { (k ≤ 32) × (at + k ≤ length out.old) }
     ensures { out.new ≡ store out.old at (word_codes k w) }
 {
-    let mut j = 0;
-    while j < k {
+    for j in 0..k {
         out[at + j] = bit_of(w, (k - 1 - j) as u32) as u32;
-        j += 1;
     }
 }
 
@@ -104,10 +102,8 @@ fn put_digits(width: usize, ds: &[u8], out: &mut [u32], at: usize)
 {
     let fills = width - ds.len();
     let filler = filler_code(ds);
-    let mut j = 0;
-    while j < width {
+    for j in 0..width {
         out[at + j] = filled_code(filler, fills, ds, j);
-        j += 1;
     }
 }
 
@@ -126,10 +122,8 @@ fn put_bytes_bits(bytes: &[u8], out: &mut [u32], at: usize)
     requires { at + 8 * length bytes.now ≤ length out.old }
     ensures { out.new ≡ store out.old at (codes (string bytes.now)) }
 {
-    let mut j = 0;
-    while j < bytes.len() {
-        put_bits(bytes[j] as u32, BYTE_BITS, out, at + BYTE_BITS * j);
-        j += 1;
+    for (j, b) in bytes.iter().enumerate() {
+        put_bits(*b as u32, BYTE_BITS, out, at + BYTE_BITS * j);
     }
 }
 

@@ -4,7 +4,7 @@ use mathlib.Core.Path.{◌≡◌, sym, ◌∙◌}
 use mathlib.Core.Logic.{◌⊎◌, ⊎_elim}
 use mathlib.Core.Bool.{Bool, true, false}
 use mathlib.Core.List.{List, []}
-use Prim.Native.Nat.{ℕ, ◌+◌, ◌-◌, ◌<◌, ◌≤◌}
+use Prim.Native.Nat.{ℕ, ◌+◌, ◌-◌, ◌<◌, ◌≤◌, max}
 use native.Mathlib.Numerals.{add-one}
 use native.Mathlib.Omega.{arith}
 use lib.ListN.{length, get_or, take, drop, length-drop, drop_of_length-le}
@@ -12,12 +12,16 @@ use lib.Seq.{drop-cons, drop-drop, slice}
 use Rattle.rules.specs.Bytes.{run, rest}
 use Rattle.scanner.specs.Runs.{end_of}
 use Rattle.lists.specs.Bytes.{run-le, take-run, drop-run}
+use Rattle.lists.specs.Tests.{by_order}
 use Rattle.lists.specs.Parts.{slice-part, slice_cut, slice-none}
+
+end_of-past : (f : ℕ → Bool) (s : List ℕ) (i : ℕ) → length s ≤ i → end_of f s i ≡ i
+unfolding end_of run
+end_of-past f s i h = rw (drop_of_length-le s h) (omega arith)
 
 module _ (f : ℕ → Bool) (s : List ℕ) (i : ℕ) where
   pub end_of-end : length s ≤ i → end_of f s i ≡ i
-  unfolding end_of run
-  end_of-end h = rw (drop_of_length-le s h) (omega arith)
+  end_of-end = end_of-past f s i
 
   pub end_of-more : i < length s → f (get_or s i 0) ≡ true → end_of f s i ≡ end_of f s (i + 1)
   unfolding end_of run
@@ -26,6 +30,13 @@ module _ (f : ℕ → Bool) (s : List ℕ) (i : ℕ) where
   pub end_of-stop : i < length s → f (get_or s i 0) ≡ false → end_of f s i ≡ i
   unfolding end_of run
   end_of-stop h t = rw (drop-cons s i 0, t) (omega arith)
+
+  -- a run taken up to the last byte, from a place that may lie behind it
+  pub end_of-all : (at : ℕ) → at ≤ i → (at ≤ length s → i ≤ length s) → length s ≤ i → end_of f s at ≡ end_of f s i → max at (length s) ≡ end_of f s at
+  end_of-all at l h k e =
+      by_order (length s) at
+      (λ b. omega (arith, end_of-past f s at b))
+      (λ b. omega (arith, e ∙ end_of-end k, h (omega arith)))
 
   pub end_of-low : i ≤ end_of f s i
   unfolding end_of

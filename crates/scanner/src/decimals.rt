@@ -16,19 +16,16 @@ fn more_digit(n: u32, b: u8) -> u32
     if MOST_BEFORE < n {
         return CAP;
     }
-    let d: u32 = if b < b'0' { 0 } else { (b - b'0') as u32 };
-    let m = n * 10 + d;
-    if m < CAP { m } else { CAP }
+    let digit = b.saturating_sub(b'0');
+    (n * 10 + digit as u32).min(CAP)
 }
 
 pub fn decimal(ds: &[u8]) -> u32
     ensures { result ≡ capped (decimal ds.now) }
 {
     let mut n: u32 = 0;
-    let mut i = 0;
-    while i < ds.len() {
-        n = more_digit(n, ds[i]);
-        i += 1;
+    for b in ds {
+        n = more_digit(n, *b);
     }
     n
 }

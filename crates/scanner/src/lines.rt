@@ -31,14 +31,12 @@ fn ends_line(b: u8) -> bool
 fn line_end(s: &[u8], at: usize) -> usize
     ensures { result ≡ end_of (in_class no_byte letter) s.now at }
 {
-    let mut i = at;
-    while i < s.len() {
+    for i in at..s.len() {
         if ends_line(s[i]) {
             return i;
         }
-        i += 1;
     }
-    i
+    at.max(s.len())
 }
 
 pub fn line_from(s: &[u8], at: usize) -> Line

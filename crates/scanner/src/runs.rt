@@ -10,18 +10,13 @@ pub fn run_end(table: &[u8; 256], s: &[u8], at: usize, lo: u8, hi: u8) -> usize
     requires { table.now ≡ class_table }
     ensures { result ≡ end_of (in_class lo hi) s.now at }
 {
-    let mut i = at;
-    while i < s.len() {
+    for i in at..s.len() {
         let c = class_in(table, s[i]);
-        if c < lo {
+        if c < lo || hi < c {
             return i;
         }
-        if hi < c {
-            return i;
-        }
-        i += 1;
     }
-    i
+    at.max(s.len())
 }
 
 // The first position at or after `at` with neither space nor tab, or the end: for a caller that asks but once.

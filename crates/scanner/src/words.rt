@@ -78,11 +78,8 @@ fn word_code(w: &[u8]) -> u64
     ensures { result ≡ word_code w.now }
 {
     let mut n: u64 = 1;
-    let mut i = w.len();
-    while 0 < i {
-        i -= 1;
-        let b = w[i];
-        n = n * 256 + b as u64;
+    for i in (0..w.len()).rev() {
+        n = n * 256 + w[i] as u64;
     }
     n
 }

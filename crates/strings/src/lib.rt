@@ -176,34 +176,24 @@ fn is_plain(b: u8) -> bool
 fn plain_end(s: &[u8], at: usize) -> usize
     ensures { result ≡ end_of is_plain s.now at }
 {
-    let mut i = at;
-    while i < s.len() {
+    for i in at..s.len() {
         if !is_plain(s[i]) {
             return i;
         }
-        i += 1;
     }
-    i
+    at.max(s.len())
 }
 
 // The place behind the closing quote of the string whose first byte stands at `at`, behind the opening one; none if the string is broken.
 pub fn string_end(s: &[u8], at: usize) -> Option<usize>
     ensures { CloseIs s.now at result }
 {
-    let mut i = plain_end(s, at);
     let mut inside = Inside::Plain;
-    while i < s.len() {
+    for i in plain_end(s, at)..s.len() {
         match turn_on(inside, s[i]) {
-            Turn::Goes(_, next) => {
-                inside = next;
-                i += 1;
-            }
-            Turn::Ends(_) => {
-                return Some(i + 1);
-            }
-            Turn::Breaks => {
-                return None;
-            }
+            Turn::Goes(_, next) => inside = next,
+            Turn::Ends(_) => return Some(i + 1),
+            Turn::Breaks => return None,
         }
     }
     None
@@ -223,22 +213,17 @@ fn count(g: Given) -> usize
 pub fn string_size(s: &[u8], at: usize) -> usize
     ensures { result ≡ length (decoded (drop at s.now)) }
 {
-    let mut i = plain_end(s, at);
+    let first = plain_end(s, at);
     let mut inside = Inside::Plain;
-    let mut size = i - at;
-    while i < s.len() {
+    let mut size = first - at;
+    for i in first..s.len() {
         match turn_on(inside, s[i]) {
             Turn::Goes(g, next) => {
                 size += count(g);
                 inside = next;
-                i += 1;
             }
-            Turn::Ends(g) => {
-                return size + count(g);
-            }
-            Turn::Breaks => {
-                return 0;
-            }
+            Turn::Ends(g) => return size + count(g),
+            Turn::Breaks => return 0,
         }
     }
     0
@@ -271,23 +256,18 @@ pub fn put_string(s: &[u8], at: usize, out: &mut [u8], to: usize) -> usize
     ensures value { result ≡ to + length (decoded (drop at s.now)) }
     ensures out_after { out.new ≡ store out.old to (decoded (drop at s.now)) }
 {
-    let mut i = plain_end(s, at);
-    put_bytes(out, to, part(s, at, i));
+    let first = plain_end(s, at);
+    put_bytes(out, to, part(s, at, first));
     let mut inside = Inside::Plain;
-    let mut end = to + (i - at);
-    while i < s.len() {
+    let mut end = to + (first - at);
+    for i in first..s.len() {
         match turn_on(inside, s[i]) {
             Turn::Goes(g, next) => {
                 end = put_given(out, end, g);
                 inside = next;
-                i += 1;
             }
-            Turn::Ends(g) => {
-                return put_given(out, end, g);
-            }
-            Turn::Breaks => {
-                return end;
-            }
+            Turn::Ends(g) => return put_given(out, end, g),
+            Turn::Breaks => return end,
         }
     }
     end

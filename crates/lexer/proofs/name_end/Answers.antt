@@ -8,7 +8,7 @@ use Rattle.rules.specs.Bytes.{is_name_byte}
 use Rattle.scanner.specs.Class.{in_class}
 use Rattle.lists.specs.Bytes.{within-yes, within-below}
 use Rattle.scanner.proofs.ClassLaws.{class-name-byte}
-use Rattle.scanner.proofs.RunLaws.{end_of-end, end_of-more, end_of-stop}
+use Rattle.scanner.proofs.RunLaws.{end_of-all, end_of-more, end_of-stop}
 use Rattle.lexer.proofs.name_end.Goals as goal
 
 by_byte : (b : ℕ) (r : Bool) → is_name_byte b ≡ r → in_class 4 14 b ≡ r
@@ -32,4 +32,4 @@ pub loop-i-preserved : goal.loop-i-preserved
 loop-i-preserved c = c.loop-i.invariant ∙ end_of-more _ _ _ c.loop-i-test.true (in-name _ c.if-s-i-le32.false (omega (arith, c.type_inv.s c.loop-i.i)))
 
 pub returns : goal.returns
-returns c = sym (c.loop-i.invariant ∙ end_of-end _ _ _ c.loop-i-test.false)
+returns c = c.max.ensures ∙ end_of-all _ _ _ _ c.loop-i.auto.i c.loop-i.auto.i-end c.loop-i-test.false c.loop-i.invariant

@@ -9,6 +9,3 @@ use Rattle.lexer.proofs.name_end.Given as goal
 
 abbrev pub invariant-loop-i : goal.invariant-loop-i
 invariant-loop-i l = end_of (in_class 4 14) l.s l.p ≡ end_of (in_class 4 14) l.s l.i
-
-abbrev pub decreases-loop-i : goal.decreases-loop-i
-decreases-loop-i l = length l.s - l.i

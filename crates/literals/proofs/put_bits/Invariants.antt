@@ -7,7 +7,4 @@ use Rattle.literals.specs.Codes.{word_codes}
 use Rattle.literals.proofs.put_bits.Given as goal
 
 abbrev pub invariant-loop-j : goal.invariant-loop-j
-invariant-loop-j l = (l.j ≤ l.k) × (length l.out ≡ length l.initial.out) × (l.out ≡ store l.initial.out l.at (take l.j (word_codes l.k l.w)))
-
-abbrev pub decreases-loop-j : goal.decreases-loop-j
-decreases-loop-j l = l.k - l.j
+invariant-loop-j l = (length l.out ≡ length l.initial.out) × (l.out ≡ store l.initial.out l.at (take l.j (word_codes l.k l.w)))

@@ -8,13 +8,7 @@ use Rattle.literals.proofs.put_bytes_bits.Goals as goal
 
 pub loop-j-init : goal.loop-j-init
 unfolding flat_map
-loop-j-init c = (omega arith, refl, sym (store-none _ _))
-
-pub bounds-bytes-j : goal.bounds-bytes-j
-bounds-bytes-j c = c.loop-j-test.true
-
-pub overflow_cast-bytes : goal.overflow_cast-bytes
-overflow_cast-bytes c = omega (arith, c.type_inv.bytes c.loop-j.j)
+loop-j-init c = (refl, sym (store-none _ _))
 
 pub put_bits-requires : goal.put_bits-requires
 put_bits-requires c = (omega arith, omega arith)
@@ -24,10 +18,9 @@ loop-j-preserved c =
     let loop = c.loop-j in
     let loop-test = c.loop-j-test in
     let put-bits = c.put_bits in (
-      omega arith,
-      put-bits.auto.out ∙ loop.invariant.1,
-      bytes-more _ _ _ _ _ _ loop-test.true loop.invariant.2 put-bits.ensures,
+      put-bits.auto.out ∙ loop.invariant.0,
+      bytes-more _ _ _ _ _ _ loop-test.true loop.invariant.1 put-bits.ensures,
     )
 
 pub returns : goal.returns
-returns c = c.loop-j.invariant.2 ∙ ap (store c.args.out.now c.args.at) (bytes-all _ _ c.loop-j-test.false)
+returns c = c.loop-j.invariant.1 ∙ ap (store c.args.out.now c.args.at) (bytes-all _ _ c.loop-j-test.false)

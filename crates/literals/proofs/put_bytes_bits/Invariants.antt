@@ -8,7 +8,4 @@ use Rattle.literals.specs.Codes.{word_codes}
 use Rattle.literals.proofs.put_bytes_bits.Given as goal
 
 abbrev pub invariant-loop-j : goal.invariant-loop-j
-invariant-loop-j l = (l.j ≤ length l.bytes) × (length l.out ≡ length l.initial.out) × (l.out ≡ store l.initial.out l.at (flat_map (word_codes 8) (take l.j l.bytes)))
-
-abbrev pub decreases-loop-j : goal.decreases-loop-j
-decreases-loop-j l = length l.bytes - l.j
+invariant-loop-j l = (length l.out ≡ length l.initial.out) × (l.out ≡ store l.initial.out l.at (flat_map (word_codes 8) (take l.j l.bytes)))

@@ -9,13 +9,13 @@ use Rattle.literals.proofs.CodeLaws.{filled-long, value-codes}
 use Rattle.literals.proofs.put_digits.Goals as goal
 
 pub loop-j-init : goal.loop-j-init
-loop-j-init c = (omega arith, refl, sym (store-none _ _))
+loop-j-init c = (refl, sym (store-none _ _))
 
 pub loop-j-preserved : goal.loop-j-preserved
 loop-j-preserved c =
     let ds = c.args.ds.now in
     let n = filled-long c.filler_code-filler.result (c.args.width - length ds) ds in
-    (omega arith, simp length-set c.loop-j.invariant.1, filled _ _ _ _ _ c.loop-j.invariant.2 _ (omega arith) c.filled_code.ensures)
+    (simp length-set c.loop-j.invariant.0, filled _ _ _ _ _ c.loop-j.invariant.1 _ (omega arith) c.filled_code.ensures)
 
 pub returns : goal.returns
 returns c =
@@ -23,4 +23,4 @@ returns c =
     let fills = c.args.width - length ds in
     let x = c.filler_code-filler.result in
     let n = filled-long x fills ds in
-    rw (value-codes c.args.width ds, ← c.filler_code-filler.ensures) (filled-end _ _ (filled_codes x fills ds) _ c.loop-j.j c.loop-j.invariant.2 (omega arith))
+    rw (value-codes c.args.width ds, ← c.filler_code-filler.ensures) (filled-end _ _ (filled_codes x fills ds) _ c.loop-j.j c.loop-j.invariant.1 (omega arith))

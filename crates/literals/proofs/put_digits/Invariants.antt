@@ -7,7 +7,4 @@ use Rattle.literals.specs.Codes.{filled_codes}
 use Rattle.literals.proofs.put_digits.Given as goal
 
 abbrev pub invariant-loop-j : goal.invariant-loop-j
-invariant-loop-j l = (l.j ≤ l.width) × (length l.out ≡ length l.initial.out) × (l.out ≡ store l.initial.out l.at (take l.j (filled_codes l.filler l.fills l.ds)))
-
-abbrev pub decreases-loop-j : goal.decreases-loop-j
-decreases-loop-j l = l.width - l.j
+invariant-loop-j l = (length l.out ≡ length l.initial.out) × (l.out ≡ store l.initial.out l.at (take l.j (filled_codes l.filler l.fills l.ds)))

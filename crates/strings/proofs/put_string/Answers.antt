@@ -11,37 +11,25 @@ use Rattle.strings.proofs.StringLaws.{closed-decoded, never-broken}
 use Rattle.strings.proofs.Reached.{plain_size, reached-plain, reached-goes, reached-ends, reached-breaks, reached-end, reached-room}
 use Rattle.strings.proofs.put_string.Goals as goal
 
-pub plain_end-i-requires : goal.plain_end-i-requires
-plain_end-i-requires c = tt
-
-pub part-requires : goal.part-requires
-part-requires c = tt
-
 pub put_bytes-requires : goal.put_bytes-requires
 put_bytes-requires c =
-    let h = reached-room _ _ _ _ _ (reached-plain _ _ _ c.plain_end-i.ensures) c.requires.s_value in
+    let h = reached-room _ _ _ _ _ (reached-plain _ _ _ c.plain_end-first.ensures) c.requires.s_value in
     omega (arith, h, ap length c.part.ensures, c.requires.s_in_bounds)
 
 pub overflow_sub-end : goal.overflow_sub-end
 overflow_sub-end c =
     let args = c.args in
-    let plain-end = c.plain_end-i in
+    let plain-end = c.plain_end-first in
     omega (arith, end_of-low is_plain args.s.now args.at, plain-end.ensures)
 
 pub overflow_add-end : goal.overflow_add-end
 overflow_add-end c =
-    let h = reached-room _ _ _ _ _ (reached-plain _ _ _ c.plain_end-i.ensures) c.requires.s_value in
-    omega (arith, h, plain_size _ _ _ c.plain_end-i.ensures, c.requires.s_in_bounds)
+    let h = reached-room _ _ _ _ _ (reached-plain _ _ _ c.plain_end-first.ensures) c.requires.s_value in
+    omega (arith, h, plain_size _ _ _ c.plain_end-first.ensures, c.requires.s_in_bounds)
 
 pub loop-i-init : goal.loop-i-init
 unfolding inside_of
-loop-i-init c = (_, reached-plain _ _ _ c.plain_end-i.ensures, omega (arith, plain_size _ _ _ c.plain_end-i.ensures), (λ l e. e), refl)
-
-pub bounds-s-i : goal.bounds-s-i
-bounds-s-i c = c.loop-i-test.true
-
-pub turn_on-requires : goal.turn_on-requires
-turn_on-requires c = tt
+loop-i-init c = (_, reached-plain _ _ _ c.plain_end-first.ensures, omega (arith, plain_size _ _ _ c.plain_end-first.ensures), (λ l e. e), refl)
 
 pub put_given-end-requires : goal.put_given-end-requires
 unfolding turn_of

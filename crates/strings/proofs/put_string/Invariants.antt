@@ -11,7 +11,4 @@ use Rattle.strings.proofs.put_string.Given as goal
 -- The loop has reached `i`, and the bytes given so far are stored from `to` on, up to `end`: the plain ones before the loop starts.
 abbrev pub invariant-loop-i : goal.invariant-loop-i
 invariant-loop-i l =
-    (ds : List ℕ) × Reached l.s l.at l.i (inside_of l.inside) ds × (l.end ≡ l.to + length ds) × ((t : List ℕ) → l.initial.out ≡ store t l.to (slice l.at l.initial.i l.s) → l.out ≡ store t l.to ds) × (length l.out ≡ length l.initial.out)
-
-abbrev pub decreases-loop-i : goal.decreases-loop-i
-decreases-loop-i l = length l.s - l.i
+    (ds : List ℕ) × Reached l.s l.at l.i (inside_of l.inside) ds × (l.end ≡ l.to + length ds) × ((t : List ℕ) → l.initial.out ≡ store t l.to (slice l.at l.first l.s) → l.out ≡ store t l.to ds) × (length l.out ≡ length l.initial.out)

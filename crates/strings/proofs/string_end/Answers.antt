@@ -4,18 +4,9 @@ use Rattle.strings.specs.Machine.{inside_of, turn_of}
 use Rattle.strings.proofs.Reached.{reached-plain, reached-goes, reached-ends, reached-breaks, reached-end, closed_is, broken-is}
 use Rattle.strings.proofs.string_end.Goals as goal
 
-pub plain_end-i-requires : goal.plain_end-i-requires
-plain_end-i-requires c = tt
-
 pub loop-i-init : goal.loop-i-init
 unfolding inside_of
 loop-i-init c = (_, reached-plain _ _ _ c.plain_end-i.ensures)
-
-pub bounds-s-i : goal.bounds-s-i
-bounds-s-i c = c.loop-i-test.true
-
-pub turn_on-requires : goal.turn_on-requires
-turn_on-requires c = tt
 
 pub loop-i-preserved : goal.loop-i-preserved
 unfolding turn_of

@@ -8,6 +8,3 @@ use Rattle.strings.proofs.string_end.Given as goal
 -- The loop has reached `i`, whatever bytes were given so far.
 abbrev pub invariant-loop-i : goal.invariant-loop-i
 invariant-loop-i l = (ds : List ℕ) × Reached l.s l.at l.i (inside_of l.inside) ds
-
-abbrev pub decreases-loop-i : goal.decreases-loop-i
-decreases-loop-i l = length l.s - l.i

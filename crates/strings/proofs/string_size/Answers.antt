@@ -8,24 +8,12 @@ use Rattle.strings.proofs.StringLaws.{closed-decoded, broken-decoded}
 use Rattle.strings.proofs.Reached.{plain_size, reached-plain, reached-goes, reached-ends, ends-few, reached-breaks, reached-end}
 use Rattle.strings.proofs.string_size.Goals as goal
 
-pub plain_end-i-requires : goal.plain_end-i-requires
-plain_end-i-requires c = tt
-
 pub overflow_sub-size : goal.overflow_sub-size
-overflow_sub-size c = omega (arith, end_of-low is_plain c.args.s.now c.args.at, c.plain_end-i.ensures)
+overflow_sub-size c = omega (arith, end_of-low is_plain c.args.s.now c.args.at, c.plain_end-first.ensures)
 
 pub loop-i-init : goal.loop-i-init
 unfolding inside_of
-loop-i-init c = (_, reached-plain _ _ _ c.plain_end-i.ensures, plain_size _ _ _ c.plain_end-i.ensures)
-
-pub bounds-s-i : goal.bounds-s-i
-bounds-s-i c = c.loop-i-test.true
-
-pub turn_on-requires : goal.turn_on-requires
-turn_on-requires c = tt
-
-pub count-size-requires : goal.count-size-requires
-count-size-requires c = tt
+loop-i-init c = (_, reached-plain _ _ _ c.plain_end-first.ensures, plain_size _ _ _ c.plain_end-first.ensures)
 
 pub overflow_add-size : goal.overflow_add-size
 unfolding turn_of
@@ -40,9 +28,6 @@ loop-i-preserved c =
     let l = c.loop-i in
     let r = reached-goes _ _ _ _ _ l.invariant.1 _ _ c.loop-i-test.true (rw c.in-Goes.is at c.turn_on.ensures) in
     (_, r, simp length-append (omega (arith, l.invariant.2, c.count-size.ensures)))
-
-pub count-requires : goal.count-requires
-count-requires c = tt
 
 pub overflow_add-result : goal.overflow_add-result
 unfolding turn_of

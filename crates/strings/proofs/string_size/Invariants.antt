@@ -9,6 +9,3 @@ use Rattle.strings.proofs.string_size.Given as goal
 -- The loop has reached `i`, and `size` is the count of the bytes given so far.
 abbrev pub invariant-loop-i : goal.invariant-loop-i
 invariant-loop-i l = (ds : List ℕ) × Reached l.s l.at l.i (inside_of l.inside) ds × (l.size ≡ length ds)
-
-abbrev pub decreases-loop-i : goal.decreases-loop-i
-decreases-loop-i l = length l.s - l.i

@@ -7,8 +7,5 @@ use Rattle.rules.specs.Tokens.{number, decimal}
 use Rattle.scanner.specs.Numbers.{capped}
 use Rattle.scanner.proofs.decimals.decimal.Given as goal
 
-abbrev pub invariant-loop-i : goal.invariant-loop-i
-invariant-loop-i l = (l.n ≤ 2147483649) × (capped (decimal l.ds) ≡ capped (number 10 l.n (drop l.i l.ds)))
-
-abbrev pub decreases-loop-i : goal.decreases-loop-i
-decreases-loop-i l = length l.ds - l.i
+abbrev pub invariant-loop-b : goal.invariant-loop-b
+invariant-loop-b l = (l.n ≤ 2147483649) × (capped (decimal l.ds) ≡ capped (number 10 l.n (drop l.b-index l.ds)))

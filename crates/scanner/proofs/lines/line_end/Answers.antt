@@ -4,7 +4,7 @@ use mathlib.Core.Path.{refl, sym, ap, ◌∙◌}
 use mathlib.Core.Bool.{not}
 use Prim.Native.Nat.{◌-◌}
 use Rattle.scanner.proofs.ClassLaws.{in-line}
-use Rattle.scanner.proofs.RunLaws.{end_of-end, end_of-more, end_of-stop}
+use Rattle.scanner.proofs.RunLaws.{end_of-all, end_of-more, end_of-stop}
 use Rattle.scanner.proofs.lines.line_end.Goals as goal
 
 pub loop-i-init : goal.loop-i-init
@@ -17,4 +17,4 @@ pub loop-i-preserved : goal.loop-i-preserved
 loop-i-preserved c = c.loop-i.invariant ∙ end_of-more _ _ _ c.loop-i-test.true (in-line _ _ c.ends_line.ensures ∙ ap not c.if-ends_line.false)
 
 pub returns : goal.returns
-returns c = sym (c.loop-i.invariant ∙ end_of-end _ _ _ c.loop-i-test.false)
+returns c = c.max.ensures ∙ end_of-all _ _ _ _ c.loop-i.auto.i c.loop-i.auto.i-end c.loop-i-test.false c.loop-i.invariant

@@ -3,8 +3,9 @@
 use mathlib.Core.Path.{refl, sym, ◌∙◌}
 use Prim.Native.Nat.{◌-◌}
 use Rattle.scanner.proofs.ClassLaws.{inside, below, above}
-use Rattle.scanner.proofs.RunLaws.{end_of-end, end_of-more, end_of-stop}
+use Rattle.scanner.proofs.RunLaws.{end_of-all, end_of-more, end_of-stop}
 use Rattle.scanner.proofs.runs.run_end.Goals as goal
+use Rattle.scanner.proofs.runs.run_end.Goals.{then-c-lo-via-then-c-lo, then-c-lo-via-else-c-lo+then-hi-c}
 
 pub loop-i-init : goal.loop-i-init
 loop-i-init c = refl
@@ -13,13 +14,15 @@ pub class_in-c-requires : goal.class_in-c-requires
 class_in-c-requires c = c.requires
 
 pub returns-then-c-lo : goal.returns-then-c-lo
-returns-then-c-lo c = sym (c.loop-i.invariant ∙ end_of-stop _ _ _ c.loop-i-test.true (below _ _ _ _ c.class_in-c.ensures c.if-c-lo.true))
-
-pub returns-then-hi-c : goal.returns-then-hi-c
-returns-then-hi-c c = sym (c.loop-i.invariant ∙ end_of-stop _ _ _ c.loop-i-test.true (above _ _ _ _ c.class_in-c.ensures c.if-hi-c.true))
+returns-then-c-lo c =
+    let ends = end_of-stop _ _ _ c.loop-i-test.true in
+    sym (c.loop-i.invariant ∙ ends (elim c.then-c-lo.branch [
+      | then-c-lo-via-then-c-lo w ↦ below _ _ _ _ c.class_in-c.ensures w.if-c-lo.true
+      | then-c-lo-via-else-c-lo+then-hi-c w ↦ above _ _ _ _ c.class_in-c.ensures w.if-hi-c.true
+    ]))
 
 pub loop-i-preserved : goal.loop-i-preserved
 loop-i-preserved c = c.loop-i.invariant ∙ end_of-more _ _ _ c.loop-i-test.true (inside _ _ _ _ c.class_in-c.ensures c.if-c-lo.false c.if-hi-c.false)
 
 pub returns : goal.returns
-returns c = sym (c.loop-i.invariant ∙ end_of-end _ _ _ c.loop-i-test.false)
+returns c = c.max.ensures ∙ end_of-all _ _ _ _ c.loop-i.auto.i c.loop-i.auto.i-end c.loop-i-test.false c.loop-i.invariant

@@ -9,6 +9,3 @@ use Rattle.scanner.proofs.runs.run_end.Given as goal
 
 abbrev pub invariant-loop-i : goal.invariant-loop-i
 invariant-loop-i l = end_of (in_class l.lo l.hi) l.s l.at ≡ end_of (in_class l.lo l.hi) l.s l.i
-
-abbrev pub decreases-loop-i : goal.decreases-loop-i
-decreases-loop-i l = length l.s - l.i
