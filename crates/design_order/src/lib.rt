@@ -39,11 +39,9 @@ pub fn build_orders(
     requires { place.wires ≤ length index.old }
     ensures { index.new ≡ store index.old 0 (indexes_in names.now wires.now rows.now place renames place.modules) }
 {
-    let mut m = 0;
-    while m < place.modules {
+    for m in 0..place.modules {
         let module = module_at(wires, place, renames, m);
         order_module(names, wires, rows, module, index, module.first as usize);
-        m += 1;
     }
 }
 
@@ -60,15 +58,13 @@ pub fn are_sorted(
     requires names_apart { NamesApart names.now wires.now rows.now place renames }
     ensures { result ≡ same (take (length (indexes_in names.now wires.now rows.now place renames place.modules)) index.now) (indexes_in names.now wires.now rows.now place renames place.modules) }
 {
-    let mut m = 0;
-    while m < place.modules {
+    for m in 0..place.modules {
         let module = module_at(wires, place, renames, m);
         let first = module.first as usize;
         let end = first + module.wires as usize;
         if !is_sorted(names, wires, rows, module, &index[first..end]) {
             return false;
         }
-        m += 1;
     }
     true
 }

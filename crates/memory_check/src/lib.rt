@@ -114,12 +114,10 @@ fn all_renames(
     ensures { RenamesAre names.now wires.now rows.now place renames used result }
 {
     let mut room = used;
-    let mut i = 0;
-    while i < renames {
+    for i in 0..renames {
         room = one_rename(
             names, wires, rows, heads, chain, wire_heads, wire_chain, place, i, room,
         )?;
-        i = i + 1;
     }
     Some(room)
 }

@@ -49,17 +49,12 @@ pub fn module_wires(wires: &[u32], total: u32, m: ModuleNumber) -> Range
     let number = m.0;
     let mut first = 0;
     let mut count = 0;
-    let mut k = 0;
-    while k < total {
+    for k in 0..total {
         let module = first_column(wires, k);
-        first = first + one_if_below(module, number);
-        count = count + one_if_same(module, number);
-        k = k + 1;
+        first += one_if_below(module, number);
+        count += one_if_same(module, number);
     }
-    Range {
-        first: first,
-        count: count,
-    }
+    Range { first, count }
 }
 
 // How many rows stand before the module line of this number.
@@ -67,14 +62,11 @@ fn module_line(rows: &[u32], total: u32, number: usize) -> u32
     ensures { result ≡ line_of rows.now total number }
 {
     let mut lines = 0;
-    let mut k = 0;
-    while k < total {
-        let more = lines + one_if_same(first_column(rows, k), MODULE_KIND);
-        if number < more as usize {
+    for k in 0..total {
+        lines += one_if_same(first_column(rows, k), MODULE_KIND);
+        if number < lines as usize {
             return k;
         }
-        lines = more;
-        k = k + 1;
     }
     total
 }
@@ -94,7 +86,7 @@ pub fn module_rows(rows: &[u32], total: u32, m: ModuleNumber) -> Range
     let end = module_line(rows, total, number + 1);
     let first = line + 1;
     Range {
-        first: first,
+        first,
         count: end - first,
     }
 }

@@ -7,7 +7,7 @@ use mathlib.Core.List.{List, [], ◌∷◌, ◌++◌, map, append_assoc}
 use native.Mathlib.Omega.{arith}
 use Rattle.std.proofs.Math.ListN.{length, drop}
 use Rattle.std.proofs.lemmas.List.{length-map, take-append-le, drop-append-le}
-use Rattle.std.proofs.Math.Seq.{slice}
+use Rattle.std.proofs.Math.Seq.{slice, paste}
 use borrow.Author.Tests.{le-ltb, lt-ltb, eq-eqb, ne_eqb, eqb-true, eqb-false}
 use Rattle.rules.specs.Tokens.{Name}
 use Rattle.rules.specs.Sorted.{before}
@@ -64,18 +64,11 @@ module _ (d : List ℕ) (at count : ℕ) (room : at + count < length d) where
   length_moved : length moved ≡ count
   length_moved = length_part d (at + 1) count (omega (arith, room))
 
-  module _ (l : List ℕ) (j : ℕ) (e : l ≡ store d at (take j moved)) where
-    pub moves-on : j < count → set l (at + j) (get_or l (at + 1 + j) 0) ≡ store d at (take (j + 1) moved)
-    moves-on h =
-        let z : length (take j moved) ≡ j = length-take-le j moved (omega (arith, h, length_moved)) in
-        filled d l moved at j e (get_or l (at + 1 + j) 0) (omega (arith, h, length_moved))
-        (ap (λ (x : List ℕ). get_or x (at + 1 + j) 0) e
-        ∙ store-behind d at (take j moved) (at + 1 + j) (omega (arith, z, room, h)) (omega (arith, z))
-        ∙ sym (get_or-take count (drop (at + 1) d) j 0 h ∙ get_or-drop (at + 1) d j 0))
-
-    pub put-behind : (w : ℕ) → count ≤ j → set l (at + count) w ≡ store d at (moved ++ w ∷ [])
-    put-behind w h =
-        store-more d l at (at + count) w moved (moved ++ w ∷ []) (filled-end d l moved at j e (omega (arith, h, length_moved))) (ap (λ (k : ℕ). at + k) (sym length_moved)) refl
+  pub put-behind : (l : List ℕ) (w : ℕ) → l ≡ paste d at (drop (at + 1) d) (at + 1 + count - (at + 1)) → set l (at + count) w ≡ store d at (moved ++ w ∷ [])
+  put-behind l w e =
+      let z : at + 1 + count - (at + 1) ≡ count = omega arith in
+      let s : store d at moved ≡ paste d at (drop (at + 1) d) count = rw length_moved at (store-eq d at moved (omega (arith, length_moved, room))) in
+      store-more d l at (at + count) w moved (moved ++ w ∷ []) (rw z at e ∙ sym s) (ap (λ (k : ℕ). at + k) (sym length_moved)) refl
 
 -- where behind `at` stands xs, there then stands xs with the number in it
 module _ (d l l' xs : List ℕ) (at p w : ℕ) (room : at + 1 + length xs ≤ length d) (h : p ≤ length xs)

@@ -140,12 +140,10 @@ pub fn is_sorted(names: &[u8], wires: &[u32], rows: &[u32], m: Module, index: &[
     requires apart { Apart (up (name_in names.now wires.now rows.now m) m.wires 0) }
     ensures { result ≡ same index.now (index_up (name_in names.now wires.now rows.now m) m.wires 0) }
 {
-    let mut k = 0;
-    while k < index.len() {
+    for k in 0..index.len() {
         if !stands_next(names, wires, rows, m, index, k) {
             return false;
         }
-        k += 1;
     }
     true
 }
@@ -155,11 +153,7 @@ fn insert(index: &mut [u32], at: usize, count: usize, wire: u32)
     requires { at + count < length index.old }
     ensures { index.new ≡ store index.old at (take count (drop (at + 1) index.old) ++ wire ∷ []) }
 {
-    let mut j = 0;
-    while j < count {
-        index[at + j] = index[at + 1 + j];
-        j += 1;
-    }
+    index.copy_within(at + 1..at + 1 + count, at);
     index[at + count] = wire;
 }
 
@@ -176,13 +170,10 @@ pub fn order_module(
     ensures { index.new ≡ store index.old start (index_up (name_in names.now wires.now rows.now m) m.wires 0) }
 {
     let end = start + m.wires as usize;
-    let mut k = m.wires;
-    while 0 < k {
-        let wire = k - 1;
-        let behind = start + k as usize;
+    for wire in (0..m.wires).rev() {
+        let at = start + wire as usize;
         let name = name_in(names, wires, rows, m, wire);
-        let count = place_among(names, wires, rows, m, &index[behind..end], name);
-        insert(index, start + wire as usize, count, wire);
-        k = wire;
+        let count = place_among(names, wires, rows, m, &index[at + 1..end], name);
+        insert(index, at, count, wire);
     }
 }

@@ -1,10 +1,11 @@
 -- A turn of the search for a name now, and that a name is taken just where its wire is found.
 -- Assumes nothing.
 use Prim.Native.Nat.{ℕ, zero, suc, ◌+◌, ◌-◌}
-use mathlib.Core.Path.{◌≡◌, sym, ap, ◌∙◌}
+use mathlib.Core.Path.{◌≡◌, refl, sym, ap, ◌∙◌}
 use mathlib.Core.List.{List}
 use mathlib.Core.Bool.{Bool, true, false, ◌||◌, or-false, or-true}
 use native.Mathlib.Omega.{arith}
+use Rattle.std.specs.Prelude.{Some, None, is_some}
 use Rattle.std.specs.Prelude.{Option as Optional}
 use Rattle.rules.specs.Bytes.{same, any}
 use Rattle.rules.specs.Tokens.{Name}
@@ -26,6 +27,11 @@ module _ (names wires rows : List ℕ) (m : Module) (n own : Name) (l j k : ℕ)
   pub search-next : b ≡ false → search_now names wires rows m n l k ≡ search_now names wires rows m n j (k + 1)
   unfolding search_now
   search-next t = rw (e, ← eo, ← eb, t)
+
+found-some : (r : Optional WireNumber) → is_found (named r) ≡ is_some r
+unfolding is_found named
+found-some (Some w) = refl
+found-some None = refl
 
 module _ (names wires rows : List ℕ) (m : Module) (n : Name) where
   pub search-start : search_now names wires rows m n m.wires 0 ≡ search_now names wires rows m n (m.wires - 0) 0
@@ -53,8 +59,8 @@ module _ (names wires rows : List ℕ) (m : Module) (n : Name) where
       ap taken e ∙ found-on l (k + 1) ∙ ap (λ (b : Bool). b || is_found (search_now names wires rows m n l (k + 1))) (taken_more k ∙ ap (λ (b : Bool). b || taken k) (same-sym n own)) in
       by-test (same own n) (λ t. h ∙ rw (t, or-true (taken k))) (λ t. h ∙ rw t)
 
-  pub taken-found : (r : Optional WireNumber) → named r ≡ search_now names wires rows m n m.wires 0 → any (λ x. same n x.0) (wires_in names wires rows m) ≡ is_found (named r)
+  pub taken-found : (r : Optional WireNumber) → named r ≡ search_now names wires rows m n m.wires 0 → any (λ x. same n x.0) (wires_in names wires rows m) ≡ is_some r
   unfolding wires_in any wires_now
   taken-found r e =
       let z : 0 + m.wires ≡ m.wires = omega arith in
-      rw e (ap taken (sym z) ∙ found-on m.wires 0)
+      ap taken (sym z) ∙ found-on m.wires 0 ∙ ap is_found (sym e) ∙ found-some r

@@ -75,10 +75,8 @@ fn renamed_to(names: &[u8], rows: &[u32], m: Module, name: &[u8]) -> u32
     ensures { Renamed names.now rows.now m name.now m.renames result }
 {
     let mut least = m.wires;
-    let mut i = 0;
-    while i < m.renames {
+    for i in 0..m.renames {
         least = renamed_by(names, rows, m, name, i, least);
-        i = i + 1;
     }
     least
 }
@@ -112,12 +110,10 @@ pub fn find_named(
     ensures { named result ≡ search_now names.now wires.now rows.now m name.now m.wires 0 }
 {
     let least = renamed_to(names, rows, m, name);
-    let mut k = 0;
-    while k < least {
+    for k in 0..least {
         if keeps_name(names, wires, rows, m, WireNumber(k), name) {
             return Some(WireNumber(k));
         }
-        k = k + 1;
     }
     if least < m.wires {
         return Some(WireNumber(least));
@@ -198,6 +194,7 @@ fn indexed_kept(
 {
     let h = hash(name);
     let mut at = heads[h];
+    // The chain tells behind each row the one before it with the same hash.
     while m.first < at {
         let row = at - 1;
         if row_keeps_name(names, wires, rows, m, row, name) {

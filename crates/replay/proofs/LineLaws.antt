@@ -5,6 +5,8 @@ use mathlib.Core.Path.{◌≡◌, refl, sym, ap, ◌∙◌}
 use mathlib.Core.List.{List, [], ◌++◌, map, flat_map, append-nil}
 use mathlib.Core.Bool.{Bool, true, false, cond, ◌&&◌, ◌||◌, and-true}
 use native.Mathlib.Omega.{arith}
+use Rattle.std.specs.Prelude.{Some, None}
+use Rattle.std.specs.Prelude.{Option as Optional}
 use lib.Dec.{eqb}
 use lib.ListN.{length}
 use borrow.Author.Tests.{eq-eqb}
@@ -23,7 +25,6 @@ use Rattle.tables.specs.declared.Row.{Row}
 use Rattle.lists.specs.Lists.{same_at}
 use Rattle.netlist.specs.Kinds.{of_kinds}
 use Rattle.steps.specs.Steps.{of_steps, step_stands, widths, AskedIs}
-use Rattle.steps.specs.declared.Asked.{Asked}
 use Rattle.row_statements.specs.Reads.{even_signals}
 use Rattle.replay.specs.Turns.{stands_at, AskedFits, LineStands}
 use Rattle.row_statements.proofs.PieceLaws.{even-asked}
@@ -97,12 +98,12 @@ module _ (ss : Past) where
 
 -- ---- the width that is asked
 
-module _ (rows : List ℕ) (p : Place) (t w n : ℕ) (a : Asked) (h : AskedIs rows p t a) where
-  pub asked-none : a ≡ Asked.Nothing → AskedFits rows p t w n true
+module _ (rows : List ℕ) (p : Place) (t w n : ℕ) (a : Optional ℕ) (h : AskedIs rows p t a) where
+  pub asked-none : a ≡ None → AskedFits rows p t w n true
   unfolding widths
   asked-none e names ss q xs l o ep ec ev ew en = let z = h names ss q l o ep ec in rw (z, e) (sym ev)
 
-  pub asked-one : (v : ℕ) → a ≡ Asked.Width v → AskedFits rows p t w n (eqb n 0 || eqb v w)
+  pub asked-one : (v : ℕ) → a ≡ Some v → AskedFits rows p t w n (eqb n 0 || eqb v w)
   unfolding widths equal
   asked-one v e names ss q xs l o ep ec ev ew en = let z = h names ss q l o ep ec in rw (z, e, ← ew, ← en) (even-asked v xs ev)
 

@@ -6,6 +6,8 @@ use mathlib.Core.List.{List, [], ◌∷◌, flat_map}
 use mathlib.Core.Logic.{⊎_elim}
 use mathlib.Core.Bool.{true, false}
 use native.Mathlib.Omega.{arith}
+use Rattle.std.specs.Prelude.{Some, None}
+use Rattle.std.specs.Prelude.{Option as Optional}
 use lib.ListN.{length, get_or}
 use Rattle.rules.specs.Bytes.{within}
 use Rattle.rules.specs.Statements.{Statement}
@@ -20,13 +22,12 @@ use Rattle.context.specs.Place.{place_of, closes_at, Bounds}
 use Rattle.context.specs.Sizes.{sums_of, Within}
 use Rattle.context.specs.declared.place.Place.{Place}
 use Rattle.context.specs.declared.sizes.Sizes.{Sizes}
+use Rattle.context.specs.declared.sizes.Standing.{Standing}
 use Rattle.context.proofs.PlaceLaws.{bounds, closes-place, place-rows}
 use Rattle.row_statements.specs.Reads.{PartTables}
 use Rattle.replay.specs.OneLaws.{next-kind, stored_next}
 use Rattle.replay.specs.Begins.{is_statement, Replays}
 use Rattle.replay.specs.Turns.{Ready, Reached, TurnIs}
-use Rattle.replay.specs.declared.Replayed.{Replayed}
-use Rattle.replay.specs.declared.turns.Turn.{Turn}
 
 pub record Done (t : PartTables) (rows : List ℕ) (p : Place) (u : Sizes) : Type 0 where
   pub past : Past
@@ -67,7 +68,7 @@ module _ (t : PartTables) (rows : List ℕ) (p : Place) (u : Sizes) (d : Done t 
     unfolding word_at
     kind-is = ap (λ (n : ℕ). is_statement (get_or rows (8 * n) 0)) (length-rows ss ∙ rows_are) ∙ ap is_statement (sym ek)
 
-    pub done-closed : is_statement k ≡ false → closes_at p ≡ true → Replays t rows (Replayed.Holding p u)
+    pub done-closed : is_statement k ≡ false → closes_at p ≡ true → Replays t rows (Some (record { place = p; sums = u }))
     unfolding Replays closes
     done-closed e c = (
       ss,
@@ -80,14 +81,14 @@ module _ (t : PartTables) (rows : List ℕ) (p : Place) (u : Sizes) (d : Done t 
       d.reached.sums,
     )
 
-    pub done-open : is_statement k ≡ false → closes_at p ≡ false → Replays t rows Replayed.Damaged
+    pub done-open : is_statement k ≡ false → closes_at p ≡ false → Replays t rows None
     unfolding Replays closes
     done-open e c qs h =
         ⊎_elim (λ q. never (closes ss) (ap closes (sym q) ∙ h.closed) (closes-place ss ∙ ap closes_at d.reached.place ∙ c))
         (λ q. never (is_statement k) (sym kind-is ∙ next-kind q.1 ss q.3) e)
         (stored_next qs ss h d.reached.admits d.reached.fronts)
 
-    pub done_stuck : is_statement k ≡ true → (o : Turn) → TurnIs t rows p u o → o ≡ Turn.Nothing → Replays t rows Replayed.Damaged
+    pub done_stuck : is_statement k ≡ true → (o : Optional Standing) → TurnIs t rows p u o → o ≡ None → Replays t rows None
     unfolding Replays TurnIs
     done_stuck e o n eo qs h =
         let f = rw eo at n in
@@ -96,13 +97,13 @@ module _ (t : PartTables) (rows : List ℕ) (p : Place) (u : Sizes) (d : Done t 
         (λ q. f ss d.reached q.1 q.3 (admits-last q.1 ss q.4))
         (stored_next qs ss h d.reached.admits d.reached.fronts)
 
-    module _ (e : is_statement k ≡ true) (o : Turn) (q : Place) (v : Sizes) (n : TurnIs t rows p u o) (eo : o ≡ Turn.Next q v) where
-      next-is : (s : Statement) × Reached t rows (s ∷ ss) q v
+    module _ (e : is_statement k ≡ true) (o : Optional Standing) (x : Standing) (n : TurnIs t rows p u o) (eo : o ≡ Some x) where
+      next-is : (s : Statement) × Reached t rows (s ∷ ss) x.place x.sums
       unfolding TurnIs
       next-is = let f = rw eo at n in f ss d.reached
 
-      pub done_next : Done t rows q v
+      pub done_next : Done t rows x.place x.sums
       done_next = record { past = next-is.0 ∷ ss; reached = next-is.1 }
 
-      pub next-rows : q.rows ≡ p.rows + 1
+      pub next-rows : x.place.rows ≡ p.rows + 1
       next-rows = omega (arith, rows_are, place-rows (next-is.0 ∷ ss) next-is.1.place)

@@ -5,6 +5,8 @@ use mathlib.Core.Path.{◌≡◌, refl, sym, ap, ap₂, ◌∙◌, subst}
 use mathlib.Core.List.{List, [], ◌∷◌, map, flat_map}
 use mathlib.Core.Bool.{Bool, true, false, cond, not, ◌&&◌, and_assoc}
 use native.Mathlib.Omega.{arith}
+use Rattle.std.specs.Prelude.{Some, None}
+use Rattle.std.specs.Prelude.{Option as Optional}
 use lib.Dec.{eqb, leb}
 use lib.ListN.{length}
 use borrow.Author.Tests.{le-leb, leb-true, not-true, not-false}
@@ -33,6 +35,7 @@ use Rattle.context.specs.Place.{place_of, Bounds, AfterIs}
 use Rattle.context.specs.Sizes.{sizes_by, sums_of, plus_of, exceeds, Within, AtMost, KindSizesAre}
 use Rattle.context.specs.declared.place.Place.{Place}
 use Rattle.context.specs.declared.sizes.Sizes.{Sizes}
+use Rattle.context.specs.declared.sizes.Standing.{Standing}
 use Rattle.context.proofs.PlaceLaws.{place-rows}
 use Rattle.context.proofs.SizeLaws.{sums-step, exceeds-sums, within-past, sizes-small}
 use Rattle.netlist.specs.Used.{used_by}
@@ -43,7 +46,6 @@ use Rattle.netlist.specs.FrontLaws.{fronts-laid, fronts-wired, fronts-stand, sta
 use Rattle.replay.specs.Begins.{with_rows}
 use Rattle.replay.specs.Turns.{LineStands, Reached, TurnIs, Told, Rowed, CountsAs, Counted, small_parts}
 use Rattle.row_statements.specs.declared.statements.Found.{Found}
-use Rattle.replay.specs.declared.turns.Turn.{Turn}
 use Rattle.modules.specs.CodeLaws.{narrow, narrow-past}
 use Rattle.netlist.specs.StepLaws.{equal-last}
 use Rattle.steps.specs.SearchLaws.{admitted-single}
@@ -130,23 +132,23 @@ module _ (names rows : List ℕ) (p : Place) (u : Sizes) (k j c g v x n : ℕ) (
     exceeds-are : (d : Sizes) → KindSizesAre k c g v x n d → exceeds_size (s ∷ ss) ≡ exceeds (plus_of u d)
     exceeds-are d z = sym (exceeds-sums (s ∷ ss)) ∙ ap exceeds (sums-are d z)
 
-  pub counted-taken : b ≡ true → Counted names rows p u k j c g v x n Turn.Nothing
+  pub counted-taken : b ≡ true → Counted names rows p u k j c g v x n None
   unfolding CountsAs
   counted-taken e strings bits wires ss s at w new room = never (takes_name ss s) (taken_is ss s at w ∙ e) new
 
-  pub counted-large : small_parts g v x n ≡ false → Counted names rows p u k j c g v x n Turn.Nothing
+  pub counted-large : small_parts g v x n ≡ false → Counted names rows p u k j c g v x n None
   unfolding CountsAs
   counted-large e strings bits wires ss s at w new room =
       let z = w.counts in
       never (small_parts g v x n) (rw (z.signals, z.values, z.strings, z.names) (small_of ss s room)) e
 
   module _ (d : Sizes) (z : KindSizesAre k c g v x n d) (y : Sizes) (ey : y ≡ plus_of u d) {a : Bool} (ea : a ≡ not (exceeds y)) where
-    pub counted-exceeds : a ≡ false → Counted names rows p u k j c g v x n Turn.Nothing
+    pub counted-exceeds : a ≡ false → Counted names rows p u k j c g v x n None
     unfolding CountsAs
     counted-exceeds e strings bits wires ss s at w new room =
         never (exceeds y) (not-false (exceeds y) (sym ea ∙ e)) (ap exceeds ey ∙ sym (exceeds-are ss s at w d z) ∙ room)
 
-    pub counted_next : b ≡ false → a ≡ true → (q : Place) → AfterIs p k j q → Counted names rows p u k j c g v x n (Turn.Next q y)
+    pub counted_next : b ≡ false → a ≡ true → (q : Place) → AfterIs p k j q → Counted names rows p u k j c g v x n (Some (record { place = q; sums = y }))
     unfolding CountsAs
     counted_next e f q h strings bits wires ss s at w = (
       taken_is ss s at w ∙ e,
@@ -194,7 +196,7 @@ module _ (t : PartTables) (rows : List ℕ) (p : Place) (u : Sizes) where
       long : 8 * p.rows + 8 ≤ length rows
       long = stand-long t rows (used_by p u) here x standing
 
-  pub turn-short : length rows < 8 * p.rows + 8 → TurnIs t rows p u Turn.Nothing
+  pub turn-short : length rows < 8 * p.rows + 8 → TurnIs t rows p u None
   unfolding TurnIs
   turn-short l ss at x f h = omega (arith, long ss at x f h)
 
@@ -204,13 +206,13 @@ module _ (t : PartTables) (rows : List ℕ) (p : Place) (u : Sizes) where
       line_of ss at s d =
           line t.names ss (used_by p u) s (fronts-laid at.fronts) (admitted-single ss at.admits) (sym at.place) (ap words er ∙ d.row) d.even
 
-      pub turn-line : b ≡ false → TurnIs t rows p u Turn.Nothing
+      pub turn-line : b ≡ false → TurnIs t rows p u None
       unfolding TurnIs
       turn-line e ss at x f h =
           let a = admits-all ss x h in
           never b (line_of ss at x (read ss at x f h) ∙ rw (a.standing, a.widths)) e
 
-    module _ (U : Used) (e_u : U ≡ used_by p u) (f : Found) (h : Tells t U (wires_from t.names t.wires p.wires_from (U.wires - p.wires_from)) r (statement_of t U r) f) where
+    module _ (U : Used) (e_u : U ≡ used_by p u) (f : Optional Found) (h : Tells t U (wires_from t.names t.wires p.wires_from (U.wires - p.wires_from)) r (statement_of t U r) f) where
       abbrev found : Statement
       found = statement_of t (used_by p u) next
 
@@ -222,18 +224,18 @@ module _ (t : PartTables) (rows : List ℕ) (p : Place) (u : Sizes) where
       only-found : (ss : Past) → Reached t rows ss p u → (x : Statement) → Fronts (rooms_of (x ∷ ss)) (with_rows t rows) → admits ss x ≡ true → found ≡ x
       only-found ss at x fr ad = read_only t (used_by p u) here (narrow-here ss at) next x (read ss at x fr ad)
 
-      pub turn-not : f ≡ Found.Nothing → TurnIs t rows p u Turn.Nothing
+      pub turn-not : f ≡ None → TurnIs t rows p u None
       unfolding TurnIs Tells
       turn-not e ss at x fr ad =
           let n = rw e at told in
           n (subst (λ (s : Statement). Reads t (used_by p u) here next s) (sym (only-found ss at x fr ad)) (read ss at x fr ad))
 
-      module _ (c g v z n : ℕ) (ef : f ≡ Found.Statement c g v z n) where
+      module _ (y : Found) (ef : f ≡ Some y) where
         reads-found : Reads t (used_by p u) here next found
         unfolding Tells
         reads-found = let q = rw ef at told in q.0
 
-        counts-found : Counts found c g v z n
+        counts-found : Counts found y.count y.signals y.values y.strings y.names
         unfolding Tells
         counts-found = let q = rw ef at told in q.1
 
@@ -243,7 +245,7 @@ module _ (t : PartTables) (rows : List ℕ) (p : Place) (u : Sizes) where
         kind-found : r.kind ≡ code (contents found).kind
         kind-found = kind-told (used_by p u) r found row-found
 
-        pub turn-told : Told r.kind c g v z n
+        pub turn-told : Told r.kind y.count y.signals y.values y.strings y.names
         unfolding even_signals
         turn-told =
             record {
@@ -261,7 +263,7 @@ module _ (t : PartTables) (rows : List ℕ) (p : Place) (u : Sizes) where
             stands-past : Stands (with_rows t rows) (used (rooms_of ss)) found
             stands-past = subst (λ (y : Used). Stands (with_rows t rows) y found) (sym (used-is ss at)) stands-found
 
-            rowed-found : Rowed t rows ss found r.kind j c g v z n
+            rowed-found : Rowed t rows ss found r.kind j y.count y.signals y.values y.strings y.names
             rowed-found =
                 record {
                   row = stand-row found ss stands-past;
@@ -292,13 +294,13 @@ module _ (t : PartTables) (rows : List ℕ) (p : Place) (u : Sizes) where
                   }
 
           pub turn-counted :
-              {b : Bool} → LineStands rows p r b → b ≡ true → (j : ℕ) → j ≡ cond (eqb r.kind 13) r.a 0 → (o : Turn) → CountsAs t rows p u r.kind j c g v z n o → TurnIs t rows p u o
+              {b : Bool} → LineStands rows p r b → b ≡ true → (j : ℕ) → j ≡ cond (eqb r.kind 13) r.a 0 → (o : Optional Standing) → CountsAs t rows p u r.kind j y.count y.signals y.values y.strings y.names o → TurnIs t rows p u o
           unfolding TurnIs CountsAs
-          turn-counted line e j ej (Turn.Next q w) h =
+          turn-counted line e j ej (Some o) h =
               λ ss at.
               let k = h ss found at (rowed-found j ej ss at) in
-              (found, reached-found j ej ss at line e q w k.0 k.1 k.2 k.3)
-          turn-counted line e j ej Turn.Nothing h =
+              (found, reached-found j ej ss at line e o.place o.sums k.0 k.1 k.2 k.3)
+          turn-counted line e j ej None h =
               λ ss at x fr ad.
               let q = sym (only-found ss at x fr ad) in
               let a = admits-all ss x ad in

@@ -43,16 +43,14 @@ pub fn replay(
 {
     let mut place = start();
     let mut sums = none();
-    loop {
-        if !is_statement(word(rows, ROW_WORDS * (place.rows as usize))) {
-            if is_closed(place) {
-                return Some(Standing { place, sums });
-            }
-            return None;
-        }
+    while is_statement(word(rows, ROW_WORDS * place.rows as usize)) {
         let next = one_more(names, strings, bits, wires, rows, heads, chain, place, sums)?;
         index_row(names, rows, heads, chain, place.rows);
         place = next.place;
         sums = next.sums;
     }
+    if is_closed(place) {
+        return Some(Standing { place, sums });
+    }
+    None
 }

@@ -41,13 +41,10 @@ fn renames(rows: &[u32], row: usize, m: ModuleNumber, wire: WireNumber) -> bool
 pub fn last_rename(rows: &[u32], from: u32, count: u32, m: ModuleNumber, wire: WireNumber) -> u32
     ensures { result ≡ last_rename rows.now from count m.0 wire.0 }
 {
-    let mut i = count;
-    while 0 < i {
-        let last = i - 1;
+    for last in (0..count).rev() {
         if renames(rows, from as usize + last as usize, m, wire) {
-            return i;
+            return last + 1;
         }
-        i = last;
     }
     0
 }

@@ -10,7 +10,7 @@ use Rattle.design_order.proofs.are_sorted.Goals as goal
 
 pub loop-m-init : goal.loop-m-init
 unfolding indexes_up
-loop-m-init c = (omega arith, refl)
+loop-m-init c = refl
 
 pub offset_bounds-index-first : goal.offset_bounds-index-first
 offset_bounds-index-first c =
@@ -49,19 +49,16 @@ returns-then-not-is_sorted c =
     let is_sorted = c.is_sorted in
     module-not args.names.now args.wires.now args.rows.now args.place args.renames loop.m module-at.result module-at.ensures args.index.now _ is_sorted.ensures if1.true (not-true _ c.if-not-is_sorted.true-raw)
 
-pub overflow_add-m : goal.overflow_add-m
-overflow_add-m c = omega (arith, c.struct_known-1.given)
-
 pub loop-m-preserved : goal.loop-m-preserved
 loop-m-preserved c =
     let args = c.args in
     let loop = c.loop-m in
     let module-at = c.module_at-module in
     let is_sorted = c.is_sorted in
-    (omega arith, module-told args.names.now args.wires.now args.rows.now args.place args.renames loop.m module-at.result module-at.ensures args.index.now _ is_sorted.ensures (not-false _ c.if-not-is_sorted.false-raw) loop.invariant.1)
+    module-told args.names.now args.wires.now args.rows.now args.place args.renames loop.m module-at.result module-at.ensures args.index.now _ is_sorted.ensures (not-false _ c.if-not-is_sorted.false-raw) loop.invariant
 
 pub returns : goal.returns
 returns c =
     let args = c.args in
     let loop = c.loop-m in
-    told-all _ _ _ args.index.now loop.m args.place.modules loop.invariant.0 c.loop-m-test.false loop.invariant.1
+    told-all _ _ _ args.index.now loop.m args.place.modules c.loop-m.auto.m-end c.loop-m-test.false loop.invariant

@@ -1,14 +1,9 @@
 -- The invariant: the table begins with the indexes of the first m modules.
 -- Assumes nothing.
-use Prim.Native.Nat.{◌-◌, ◌≤◌}
 use mathlib.Core.Path.{◌≡◌}
 use lib.ListN.{length, take}
 use Rattle.design_order.specs.Indexes.{indexes_in}
 use Rattle.design_order.proofs.are_sorted.Given as goal
 
 abbrev pub invariant-loop-m : goal.invariant-loop-m
-invariant-loop-m l =
-    (l.m ≤ l.place.modules) × (take (length (indexes_in l.names l.wires l.rows l.place l.renames l.m)) l.index ≡ indexes_in l.names l.wires l.rows l.place l.renames l.m)
-
-abbrev pub decreases-loop-m : goal.decreases-loop-m
-decreases-loop-m l = l.place.modules - l.m
+invariant-loop-m l = take (length (indexes_in l.names l.wires l.rows l.place l.renames l.m)) l.index ≡ indexes_in l.names l.wires l.rows l.place l.renames l.m

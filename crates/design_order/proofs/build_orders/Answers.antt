@@ -1,7 +1,7 @@
 -- The invariant: the indexes of the first m modules stand in front.
 -- Assumes nothing.
 use Prim.Native.Nat.{◌-◌}
-use mathlib.Core.Path.{refl, sym, ap, ◌∙◌}
+use mathlib.Core.Path.{◌≡◌, sym, ap, ◌∙◌}
 use native.Mathlib.Omega.{arith}
 use lib.ListN.{length}
 use Rattle.tables.specs.Store.{store-none, length-store}
@@ -11,35 +11,18 @@ use Rattle.design_order.proofs.build_orders.Goals as goal
 
 pub loop-m-init : goal.loop-m-init
 unfolding indexes_up
-loop-m-init c = (omega arith, refl, sym (store-none c.args.index.now 0))
+loop-m-init c = sym (store-none c.args.index.now 0)
 
 pub order_module-requires : goal.order_module-requires
 order_module-requires c =
-    let args = c.args in
-    let pre = c.requires in
-    let loop = c.loop-m in
-    let module-at = c.module_at-module in
-    module-fits args.names.now args.wires.now args.rows.now args.place args.renames loop.m module-at.result module-at.ensures loop.index (omega (arith, loop.invariant.1, pre))
-
-pub overflow_add-m : goal.overflow_add-m
-overflow_add-m c = omega (arith, c.struct_known-1.given)
+    let long : length c.loop-m.index ≡ length c.args.index.now = ap length c.loop-m.invariant ∙ length-store _ _ _ in
+    module-fits c.args.names.now _ c.args.rows.now c.args.place _ _ _ c.module_at-module.ensures c.loop-m.index (omega (arith, long, c.requires))
 
 pub loop-m-preserved : goal.loop-m-preserved
-loop-m-preserved c =
-    let args = c.args in
-    let loop = c.loop-m in
-    let module-at = c.module_at-module in
-    let order-module = c.order_module in (
-      omega arith,
-      ap length order-module.ensures ∙ length-store _ _ _ ∙ loop.invariant.1,
-      module-built args.names.now args.wires.now args.rows.now args.place args.renames loop.m module-at.result module-at.ensures args.index.now loop.index _ loop.invariant.2 order-module.ensures,
-    )
+loop-m-preserved c = module-built _ _ _ c.args.place _ _ _ c.module_at-module.ensures _ _ _ c.loop-m.invariant c.order_module.ensures
 
 pub shape_of-index : goal.shape_of-index
-shape_of-index c = c.loop-m.invariant.1
+shape_of-index c = ap length c.loop-m.invariant ∙ length-store _ _ _
 
 pub returns : goal.returns
-returns c =
-    let args = c.args in
-    let loop = c.loop-m in
-    built-all args.names.now args.wires.now args.rows.now args.place args.renames args.index.now loop.index loop.m loop.invariant.0 c.loop-m-test.false loop.invariant.2
+returns c = built-all _ _ _ c.args.place _ _ _ c.loop-m.m c.loop-m.auto.m-end c.loop-m-test.false c.loop-m.invariant

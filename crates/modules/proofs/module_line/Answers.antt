@@ -1,6 +1,5 @@
--- `module_line` meets its contract. The invariant: the lines are those of the first k rows, and not more than the number.
+-- The invariant: the lines are those of the first k rows, and not more than the number.
 -- Assumes nothing.
-use Prim.Native.Nat.{◌-◌}
 use mathlib.Core.Path.{refl}
 use native.Mathlib.Omega.{arith}
 use lib.Dec.{eqb}
@@ -10,23 +9,21 @@ use Rattle.modules.proofs.module_line.Goals as goal
 
 pub loop-k-init : goal.loop-k-init
 unfolding rows_where
-loop-k-init c = (omega arith, refl, omega arith)
+loop-k-init c = record { lines_in = refl; few = omega arith }
 
-pub overflow_add-more : goal.overflow_add-more
-overflow_add-more c = omega (arith, where-sum (λ x. eqb x 3) _ _ _ c.loop-k.invariant.1 _ _ c.first_column.ensures c.one_if_same.ensures)
+pub overflow_add-lines : goal.overflow_add-lines
+overflow_add-lines c = omega (arith, where-sum (λ x. eqb x 3) _ _ _ c.loop-k.invariant.lines_in _ _ c.first_column.ensures c.one_if_same-lines.ensures)
 
-pub overflow_cast-more : goal.overflow_cast-more
-overflow_cast-more c = omega (arith, where-sum (λ x. eqb x 3) _ _ _ c.loop-k.invariant.1 _ _ c.first_column.ensures c.one_if_same.ensures)
-
-pub returns-then-number-more : goal.returns-then-number-more
-returns-then-number-more c =
-    line-stop _ _ _ _ _ _ c.loop-k.invariant.1 (where-turn (λ x. eqb x 3) _ _ _ c.loop-k.invariant.1 _ _ c.first_column.ensures c.one_if_same.ensures) c.loop-k.invariant.2
-    (omega arith)
-    (omega arith)
+pub returns-then-number-lines : goal.returns-then-number-lines
+returns-then-number-lines c =
+    let inv = c.loop-k.invariant in
+    line-stop _ _ _ _ _ _ inv.lines_in (where-turn (λ x. eqb x 3) _ _ _ inv.lines_in _ _ c.first_column.ensures c.one_if_same-lines.ensures) inv.few c.if-number-lines.true c.loop-k-test.true
 
 pub loop-k-preserved : goal.loop-k-preserved
-loop-k-preserved c =
-    (omega arith, where-turn (λ x. eqb x 3) _ _ _ c.loop-k.invariant.1 _ _ c.first_column.ensures c.one_if_same.ensures, omega arith)
+loop-k-preserved c = record {
+  lines_in = where-turn (λ x. eqb x 3) _ _ _ c.loop-k.invariant.lines_in _ _ c.first_column.ensures c.one_if_same-lines.ensures;
+  few = omega (arith, c.if-number-lines.false);
+}
 
 pub returns : goal.returns
-returns c = line-end _ _ _ _ _ (omega arith) c.loop-k.invariant.1 c.loop-k.invariant.2
+returns c = line-end _ _ _ _ _ (omega arith) c.loop-k.invariant.lines_in c.loop-k.invariant.few

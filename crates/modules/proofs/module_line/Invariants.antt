@@ -1,12 +1,9 @@
--- `module_line` meets its contract. The invariant: the lines are those of the first k rows, and not more than the number.
+-- The invariant: the lines are those of the first k rows, and not more than the number.
 -- Assumes nothing.
-use Prim.Native.Nat.{◌-◌, ◌≤◌}
+use Prim.Native.Nat.{◌≤◌}
 use mathlib.Core.Path.{◌≡◌}
 use Rattle.modules.specs.Ranges.{lines_in}
 use Rattle.modules.proofs.module_line.Given as goal
 
 abbrev pub invariant-loop-k : goal.invariant-loop-k
-invariant-loop-k l = (l.k ≤ l.total) × (l.lines ≡ lines_in l.rows l.k) × (l.lines ≤ l.number)
-
-abbrev pub decreases-loop-k : goal.decreases-loop-k
-decreases-loop-k l = l.total - l.k
+invariant-loop-k l = record { lines_in : l.lines ≡ lines_in l.rows l.k; few : l.lines ≤ l.number }

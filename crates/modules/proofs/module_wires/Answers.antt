@@ -1,6 +1,5 @@
--- `module_wires` meets its contract. The invariant: the counts are those of the first k rows.
+-- The invariant: the counts are those of the first k rows.
 -- Assumes nothing.
-use Prim.Native.Nat.{◌-◌}
 use mathlib.Core.Path.{◌≡◌, refl}
 use native.Mathlib.Omega.{arith}
 use lib.Dec.{eqb, ltb}
@@ -10,23 +9,22 @@ use Rattle.modules.proofs.module_wires.Goals as goal
 
 pub loop-k-init : goal.loop-k-init
 unfolding rows_where
-loop-k-init c = (omega arith, refl, refl)
+loop-k-init c = record { below = refl; own = refl }
 
 pub overflow_add-first : goal.overflow_add-first
-overflow_add-first c = omega (arith, where-sum (λ x. ltb x _) _ _ _ c.loop-k.invariant.1 _ _ c.first_column-module.ensures c.one_if_below-first.ensures)
+overflow_add-first c = omega (arith, where-sum (λ x. ltb x _) _ _ _ c.loop-k.invariant.below _ _ c.first_column-module.ensures c.one_if_below-first.ensures)
 
 pub overflow_add-count : goal.overflow_add-count
-overflow_add-count c = omega (arith, where-sum (λ x. eqb x _) _ _ _ c.loop-k.invariant.2 _ _ c.first_column-module.ensures c.one_if_same-count.ensures)
+overflow_add-count c = omega (arith, where-sum (λ x. eqb x _) _ _ _ c.loop-k.invariant.own _ _ c.first_column-module.ensures c.one_if_same-count.ensures)
 
 pub loop-k-preserved : goal.loop-k-preserved
-loop-k-preserved c = (
-  omega arith,
-  where-turn (λ x. ltb x _) _ _ _ c.loop-k.invariant.1 _ _ c.first_column-module.ensures c.one_if_below-first.ensures,
-  where-turn (λ x. eqb x _) _ _ _ c.loop-k.invariant.2 _ _ c.first_column-module.ensures c.one_if_same-count.ensures,
-)
+loop-k-preserved c = record {
+  below = where-turn (λ x. ltb x _) _ _ _ c.loop-k.invariant.below _ _ c.first_column-module.ensures c.one_if_below-first.ensures;
+  own = where-turn (λ x. eqb x _) _ _ _ c.loop-k.invariant.own _ _ c.first_column-module.ensures c.one_if_same-count.ensures;
+}
 
 pub returns : goal.returns
 unfolding wire_range
 returns c =
     let e : c.loop-k.k ≡ c.args.total = omega arith in
-    rw (c.loop-k.invariant.1, c.loop-k.invariant.2, e)
+    rw (c.loop-k.invariant.below, c.loop-k.invariant.own, e)

@@ -1,15 +1,11 @@
 -- The invariant: each entry in front of k stands behind one whose name comes before its own.
 -- Assumes nothing.
-use Prim.Native.Nat.{ℕ, ◌-◌, ◌<◌}
+use Prim.Native.Nat.{ℕ, ◌<◌}
 use mathlib.Core.Path.{◌≡◌}
 use mathlib.Core.Bool.{true}
-use lib.ListN.{length}
 use Rattle.byte_order.specs.Order.{stands_next}
 use Rattle.name_order.specs.Named.{name_in}
 use Rattle.name_order.proofs.is_sorted.Given as goal
 
 abbrev pub invariant-loop-k : goal.invariant-loop-k
 invariant-loop-k l = (j : ℕ) → j < l.k → stands_next (name_in l.names l.wires l.rows l.m) l.m.wires l.index j ≡ true
-
-abbrev pub decreases-loop-k : goal.decreases-loop-k
-decreases-loop-k l = length l.index - l.k

@@ -1,7 +1,7 @@
--- The invariant: the wires from k on stand in order, in their part of the table.
+-- The invariant: the wires from the one reached on stand in order, in their part of the table.
 -- Assumes nothing.
-use Prim.Native.Nat.{◌-◌}
-use mathlib.Core.Path.{refl, ap, ◌∙◌}
+use Prim.Native.Nat.{◌+◌, ◌-◌}
+use mathlib.Core.Path.{◌≡◌, ap, ◌∙◌}
 use native.Mathlib.Omega.{arith}
 use lib.ListN.{length}
 use Rattle.tables.specs.Store.{length-store}
@@ -9,45 +9,34 @@ use Rattle.name_order.specs.Named.{name_in}
 use Rattle.name_order.specs.NamedLaws.{built-start, built-ordered, built-room, built-more, built-end}
 use Rattle.name_order.proofs.order_module.Goals as goal
 
-pub loop-k-init : goal.loop-k-init
-loop-k-init c =
-    let args = c.args in
-    let pre = c.requires in
-    (omega arith, refl, refl, built-start (name_in args.names.now args.wires.now args.rows.now args.m) args.index.now args.start args.m.wires (pre))
+pub loop-wire-init : goal.loop-wire-init
+loop-wire-init c = built-start _ _ _ _ c.requires
+
+pub slice_bounds-place_among-end : goal.slice_bounds-place_among-end
+slice_bounds-place_among-end c =
+    let long : length c.loop-wire.index ≡ length c.args.index.now = ap length c.loop-wire.invariant ∙ length-store _ _ _ in
+    omega (arith, c.requires, long)
 
 pub place_among-count-requires : goal.place_among-count-requires
 place_among-count-requires c =
-    let args = c.args in
-    let pre = c.requires in
-    let loop = c.loop-k in
-    built-ordered (name_in args.names.now args.wires.now args.rows.now args.m) args.index.now args.start args.m.wires (pre) loop.index loop.k loop.invariant.3 loop.invariant.0
+    let l = c.loop-wire in
+    let z : c.args.start + (l.wire - 1) + 1 ≡ c.args.start + l.wire = omega arith in
+    rw z (built-ordered _ _ _ _ c.requires _ _ l.invariant l.auto.wire)
 
 pub insert-requires : goal.insert-requires
 insert-requires c =
-    let args = c.args in
-    let pre = c.requires in
-    let loop = c.loop-k in
-    let its-name = c.name_in-name in
-    let place-among = c.place_among-count in
-    built-room (name_in args.names.now args.wires.now args.rows.now args.m) args.index.now args.start args.m.wires (pre) loop.index loop.k loop.invariant.3 loop.invariant.0 (loop.k - 1) (omega arith) _ its-name.ensures _ place-among.ensures
+    let l = c.loop-wire in
+    let z : c.args.start + (l.wire - 1) + 1 ≡ c.args.start + l.wire = omega arith in
+    built-room (name_in c.args.names.now c.args.wires.now c.args.rows.now c.args.m) _ _ _ c.requires _ _ l.invariant l.auto.wire (l.wire - 1) (omega arith) _ c.name_in-name.ensures _ (rw z at c.place_among-count.ensures)
 
-pub loop-k-preserved : goal.loop-k-preserved
-loop-k-preserved c =
-    let args = c.args in
-    let pre = c.requires in
-    let loop = c.loop-k in
-    let its-name = c.name_in-name in
-    let place-among = c.place_among-count in
-    let insert = c.insert in (
-      omega arith,
-      refl,
-      ap length insert.ensures ∙ length-store _ _ _ ∙ loop.invariant.2,
-      built-more (name_in args.names.now args.wires.now args.rows.now args.m) args.index.now args.start args.m.wires (pre) loop.index loop.k loop.invariant.3 loop.invariant.0 (loop.k - 1) (omega arith) _ its-name.ensures _ place-among.ensures _ insert.ensures,
-    )
+pub loop-wire-preserved : goal.loop-wire-preserved
+loop-wire-preserved c =
+    let l = c.loop-wire in
+    let z : c.args.start + (l.wire - 1) + 1 ≡ c.args.start + l.wire = omega arith in
+    built-more (name_in c.args.names.now c.args.wires.now c.args.rows.now c.args.m) _ _ _ c.requires _ _ l.invariant l.auto.wire (l.wire - 1) (omega arith) _ c.name_in-name.ensures _ (rw z at c.place_among-count.ensures) _ c.insert.ensures
+
+pub shape_of-index : goal.shape_of-index
+shape_of-index c = ap length c.loop-wire.invariant ∙ length-store _ _ _
 
 pub returns : goal.returns
-returns c =
-    let args = c.args in
-    let pre = c.requires in
-    let loop = c.loop-k in
-    built-end (name_in args.names.now args.wires.now args.rows.now args.m) args.index.now args.start args.m.wires (pre) loop.index loop.k loop.invariant.3 c.loop-k-test.false
+returns c = built-end _ _ _ _ c.requires _ _ c.loop-wire.invariant c.loop-wire-test.false

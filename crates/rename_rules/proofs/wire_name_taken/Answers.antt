@@ -1,6 +1,10 @@
 -- A name is taken just where its wire is found.
 -- Assumes nothing.
-use mathlib.Core.Path.{sym, ap, ◌∙◌}
-use Rattle.rename_rules.specs.Search.{named, is_found}
+use mathlib.Core.Path.{sym, ◌∙◌}
 use Rattle.rename_rules.proofs.SearchLaws.{taken-found}
 use Rattle.rename_rules.proofs.wire_name_taken.Goals as goal
+
+pub returns : goal.returns
+returns c =
+    c.is_some.ensures
+    ∙ sym (taken-found c.args.names.now c.args.wires.now c.args.rows.now c.args.m c.args.name.now _ c.find_named.ensures)

@@ -13,8 +13,8 @@ returns-then-not-line_stands c = turn-line _ _ _ _ _ c.get_row-r.ensures c.line_
 pub used_from-x-requires : goal.used_from-x-requires
 used_from-x-requires c = c.requires.ready.within
 
-pub statement_at-f-requires : goal.statement_at-f-requires
-statement_at-f-requires c =
+pub statement_at-requires : goal.statement_at-requires
+statement_at-requires c =
     let args = c.args in
     let pre = c.requires in record {
       small = small-used (used_of c.used_from-x.result) args.p args.u c.used_from-x.ensures pre.ready.within;
@@ -27,25 +27,25 @@ counted-requires c =
     let args = c.args in
     let get-row = c.get_row-r in
     let used-from = c.used_from-x in
-    let statement-at = c.statement_at-f in record {
+    let statement-at = c.statement_at in record {
       ready = pre.ready;
       told = turn-told (part_tables args.names.now args.strings.now args.bits.now args.wires.now)
           args.rows.now args.p args.u get-row.result get-row.ensures (used_of used-from.result)
-          used-from.ensures statement-at.result statement-at.ensures _ _ _ _ _ c.in-Statement.is;
+          used-from.ensures statement-at.result statement-at.ensures _ c.in_ok-found.was;
       indexed = pre.indexed;
     }
 
-pub returns-in-Statement : goal.returns-in-Statement
-returns-in-Statement c =
+pub returns : goal.returns
+returns c =
     let if1 = c.if-rows-at in
     let get-row = c.get_row-r in
     let line-stands = c.line_stands in
     let step_of_lem = c.step_of in
     let if2 = c.if-not-line_stands in
     let used-from = c.used_from-x in
-    let statement-at = c.statement_at-f in
-    turn-counted _ _ _ _ _ get-row.ensures _ used-from.ensures _ statement-at.ensures _ _ _ _ _ c.in-Statement.is
+    let statement-at = c.statement_at in
+    turn-counted _ _ _ _ _ get-row.ensures _ used-from.ensures _ statement-at.ensures _ c.in_ok-found.was
     if1.false line-stands.ensures (not-false _ if2.false-raw) _ step_of_lem.ensures _ (c.counted.ensures _ _ _)
 
-pub returns-in-Nothing : goal.returns-in-Nothing
-returns-in-Nothing c = turn-not _ _ _ _ _ c.get_row-r.ensures _ c.used_from-x.ensures _ c.statement_at-f.ensures c.in-Nothing.is
+pub returns-in_err-found : goal.returns-in_err-found
+returns-in_err-found c = turn-not _ _ _ _ _ c.get_row-r.ensures _ c.used_from-x.ensures _ c.statement_at.ensures c.in_err-found.was
