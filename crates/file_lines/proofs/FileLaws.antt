@@ -6,6 +6,7 @@ use mathlib.Core.Bool.{Bool, true, false, cond, and-false}
 use mathlib.Core.List.{List, [], ◌∷◌, reverse, reverse-reverse}
 use native.Mathlib.Omega.{arith}
 use lib.Dec.{ltb}
+use Rattle.std.specs.Prelude.{Ok, Err, Result}
 use lib.ListN.{length, drop, drop_of_length-le}
 use borrow.Author.Tests.{ltb-false}
 use Rattle.rules.specs.Lines as rules
@@ -27,22 +28,18 @@ use Rattle.context.specs.Place.{place_of, closes_at}
 use Rattle.context.specs.Sizes.{sums_of}
 use Rattle.context.specs.declared.place.Place.{Place}
 use Rattle.context.specs.declared.sizes.Sizes.{Sizes}
+use Rattle.context.specs.declared.sizes.Standing.{Standing}
 use Rattle.context.proofs.PlaceLaws.{closes-place}
 use Rattle.admitted.specs.Admitted.{admitted}
 use Rattle.netlist.specs.Laid.{rooms_of, Laid}
 use Rattle.goal.specs.Settled.{stop_of}
 use Rattle.goal.specs.declared.Goal.{Goal}
 use Rattle.netlist.specs.Tables.{Tables}
+use Rattle.netlist.specs.declared.results.Refused.{Refused}
 use Rattle.layout.specs.Put.{tables_of}
 use Rattle.reading_step.specs.Steps.{line_of, LineFits, Goes, StepIs, StepAs}
 use Rattle.reading_step.proofs.StepLaws.{done-stands}
-use Rattle.file_lines.specs.Lines.{read_to, Reached, Before, finish_of, Landed, ReachAs}
-use Rattle.reading_step.specs.declared.Step.{Step}
-use Rattle.reading_step.specs.declared.Step.TheVariants.{Next, Stop}
-use Rattle.file_lines.specs.declared.Answer.{Answer}
-use Rattle.file_lines.specs.declared.Answer.TheVariants.{Accepted, Refused}
-use Rattle.file_lines.specs.declared.Reach.{Reach}
-use Rattle.file_lines.specs.declared.Reach.TheVariants.{Ended, Longer}
+use Rattle.file_lines.specs.Lines.{read_to, Reached, Before, finish_of, Landed}
 
 -- ---- a reading that ends nowhere early
 
@@ -154,16 +151,16 @@ module _ {stop : Past → Bool} {f scratch : List ℕ} {p : Place} {u : Sizes} {
   pub reached-fits : (l : Line) → l ≡ line_from f at → LineFits f l scratch
   reached-fits l is = fits f at l is scratch r.inside r.file r.scratch-long
 
-  module _ (l : Line) (is : l ≡ line_from f at) (x : Step) (t' : Tables) (st : StepAs f l p u t t' x) where
-    module _ (p' : Place) (u' : Sizes) (e : x ≡ Next p' u') (b : Bool) (asked : Asked stop p' t' b) where
-      goes : Goes r.past (line_of f l) p' u' t'
+  module _ (l : Line) (is : l ≡ line_from f at) (x : Result Standing Refused) (t' : Tables) (st : StepAs f l p u t t' x) where
+    module _ (y : Standing) (e : x ≡ Ok y) (b : Bool) (asked : Asked stop y.place t' b) where
+      goes : Goes r.past (line_of f l) y.place y.sums t'
       goes = subst (StepIs r.past (line_of f l) t') e (st r.past r.done)
 
       answered : b ≡ stop goes.past
       answered = asked goes.past goes.done.place_is (done-stands goes.done).laid
 
       -- a turn of the loop
-      pub reached-more : (scratch' : List ℕ) → b ≡ false → length scratch' ≡ length scratch → Reached stop f scratch' p' u' t' l.next
+      pub reached-more : (scratch' : List ℕ) → b ≡ false → length scratch' ≡ length scratch → Reached stop f scratch' y.place y.sums t' l.next
       reached-more scratch' eb ks =
           let g = goes in
           let on : stop g.past ≡ false = sym answered ∙ eb in
@@ -178,46 +175,31 @@ module _ {stop : Past → Bool} {f scratch : List ℕ} {p : Place} {u : Sizes} {
           }
 
       -- it is left where the test holds
-      pub landed-settled : b ≡ true → Landed (read_to stop f) t' (Accepted p' u')
+      pub landed-settled : b ≡ true → Landed (read_to stop f) t' (Ok y)
       landed-settled eb =
           let g = goes in
           rw (r.rest ∙ lines-settled f at l is stop (length f) r.past g.past g.goes (sym answered ∙ eb))
           (rw (reverse-reverse g.past) g.done)
 
     -- it is left where a line is refused
-    pub landed-stop : (n q : ℕ) → x ≡ Stop n q → Landed (read_to stop f) t' (Refused n q)
-    landed-stop n q e =
-        let o : outcome r.past (line_of f l) ≡ reading.Outcome.refused n q = subst (StepIs r.past (line_of f l) t') e (st r.past r.done) in
-        rw (r.rest ∙ lines-stop f at l is stop (length f) n q r.past o) refl
+    pub landed-stop : (y : Refused) → x ≡ Err y → Landed (read_to stop f) t' (Err y)
+    landed-stop y e =
+        let o : outcome r.past (line_of f l) ≡ reading.Outcome.refused y.number y.place = subst (StepIs r.past (line_of f l) t') e (st r.past r.done) in
+        rw (r.rest ∙ lines-stop f at l is stop (length f) y.number y.place r.past o) refl
 
   -- it is left at the file's end
-  finish-landed : (size : ℕ) → Landed (finish size r.past) t (finish_of size p u)
+  finish-landed : (size : ℕ) → Landed (finish size r.past) t (finish_of size (record { place = p; sums = u }))
   unfolding finish finish_of
   finish-landed size =
       by-test (closes_at p)
       (λ e. rw (closes-place r.past, r.done.place_is, e) (rw (reverse-reverse r.past) r.done))
       (λ e. rw (closes-place r.past, r.done.place_is, e) refl)
 
-  pub landed-end : (a : Answer) → length f ≤ at → a ≡ finish_of (length f) p u → Landed (read_to stop f) t a
+  pub landed-end : (a : Result Standing Refused) → length f ≤ at → a ≡ finish_of (length f) (record { place = p; sums = u }) → Landed (read_to stop f) t a
   landed-end a h ea =
       let q : read_to stop f ≡ finish (length f) r.past =
       r.rest ∙ ap (λ (s : List ℕ). read_until stop (length f) (lines_from at s) r.past) (drop_of_length-le f {i = at} h) ∙ last-until stop (length f) at r.past r.on in
       rw (q, ea) (finish-landed (length f))
-
--- ---- a line that is too long
-
-module _ (stop : Past → Bool) (f tokens scratch heads chain : List ℕ) (t : Tables) (r : Reach) (x : ReachAs stop f tokens scratch heads chain t r) where
-  pub ended : (a : Answer) → r ≡ Ended a → Landed (read_to stop f) t a
-  ended a e = subst (ReachAs stop f tokens scratch heads chain t) e x
-
-  pub longer : (l : Line) (p : Place) (u : Sizes) → r ≡ Longer l p u → ReachAs stop f tokens scratch heads chain t (Longer l p u)
-  longer l p u e = subst (ReachAs stop f tokens scratch heads chain t) e x
-
-  -- four words for each byte of a file are enough for any line
-  pub no_longer : (l : Line) (p : Place) (u : Sizes) → r ≡ Longer l p u → length tokens ≡ 131072 → ⊥
-  no_longer l p u e k =
-      let y : ReachAs stop f tokens scratch heads chain t (Longer l p u) = longer l p u e in
-      let b : LineFits f l scratch = reached-fits y.0.reached l y.0.is in omega (arith, y.2, b.high, b.file)
 
 -- ---- no goal
 

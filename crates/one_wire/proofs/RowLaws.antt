@@ -7,6 +7,7 @@ use mathlib.Core.Option.{Option, none, some}
 use mathlib.Core.Bool.{Bool, true, false}
 use native.Mathlib.Omega.{arith}
 use lib.Dec.{eqb}
+use Rattle.std.specs.Prelude.{Ok, Result}
 use Rattle.rules.specs.Bytes.{same}
 use Rattle.rules.specs.Tokens.{Name}
 use Rattle.rules.specs.Statements.{Wire}
@@ -14,14 +15,14 @@ use Rattle.rules.specs.Judgement.{Verdict}
 use Rattle.rules.specs.Quick.{Sought, gives, stops, of_verdict, of_wire}
 use Rattle.numbers.specs.Signed.{signed_of}
 use Rattle.wires.specs.Rows.{column, span_at, name_of, wire_of}
+use Rattle.netlist.specs.declared.results.Refused.{Refused}
 use Rattle.modules.specs.declared.Range.{Range}
 use Rattle.one_wire.specs.Asked.{row_named, row_sought, DeclaredAs}
 use Rattle.one_wire.specs.declared.Declared.{Declared}
-use Rattle.one_wire.specs.declared.Declared.TheVariants as declared
 
 pub wire-row :
     (t : List ℕ) (k w o g : ℕ) (u : Bool) → w ≡ column t k 3 → o ≡ column t k 4 → g ≡ column t k 5 → u ≡ eqb (g % 2) 1 →
-    DeclaredAs (gives (wire_of t k)) (declared.Wire w o u)
+    DeclaredAs (gives (wire_of t k)) (Ok (record { width = w; offset = o; upto = u }))
 unfolding wire_of
 wire-row t k w o g u ew eo eg eu =
     let v : (wire_of t k).upto ≡ u = sym (eu ∙ ap (λ (x : ℕ). eqb (x % 2) 1) eg) in (
@@ -67,7 +68,7 @@ module _ (names t : List ℕ) (n : Name) (r : Range) where
   module _ (k : ℕ) (all : From k ≡ row_named names t n r.count r.first) (q : Range) (is : r ≡ q) where
     pub sought-row :
         (row : ℕ) → row ≡ r.first + k → k < r.count → same (name_of names t row) n ≡ true →
-        (x : Declared) → DeclaredAs (gives (wire_of t row)) x → DeclaredAs (row_sought names t n q) x
+        (x : Result Declared Refused) → DeclaredAs (gives (wire_of t row)) x → DeclaredAs (row_sought names t n q) x
     unfolding row_sought of_wire of_verdict
     sought-row row er h e x d =
         let y : gives (wire_of t row) ≡ row_sought names t n r = sym (ap (of_wire (λ w. Verdict.accepted w)) (sym all ∙ from_found k row er h e)) in

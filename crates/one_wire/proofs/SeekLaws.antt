@@ -7,6 +7,7 @@ use mathlib.Core.Option.{Option, none, some}
 use mathlib.Core.Bool.{Bool, true, false, cond}
 use lib.IntN.{ℤ, pos}
 use lib.Dec.{ltb}
+use Rattle.std.specs.Prelude.{Ok, Err, Result}
 use lib.ListN.{length}
 use borrow.Author.Tests.{lt-ltb, le-ltb}
 use Rattle.rules.specs.Limits.{longest_file, names_length, wires_length}
@@ -22,10 +23,12 @@ use Rattle.rules.specs.Quick.{read_until, settles, wire_named, Sought, gives, st
 use Rattle.context.specs.Place.{place_of, wires_in}
 use Rattle.context.specs.declared.place.Place.{Place}
 use Rattle.context.specs.declared.sizes.Sizes.{Sizes}
+use Rattle.context.specs.declared.sizes.Standing.{Standing}
 use Rattle.admitted.specs.AdmitLaws.{admitted-standing, admitted-offsets}
 use Rattle.netlist.specs.Laid.{rooms_of, Wired}
 use Rattle.netlist.specs.WireLaws.{wired-padded}
 use Rattle.netlist.specs.Tables.{Tables}
+use Rattle.netlist.specs.declared.results.Refused.{Refused}
 use Rattle.goal.specs.Settled.{stop_of}
 use Rattle.goal.specs.declared.Goal.{Goal}
 use Rattle.modules.specs.Ranges.{wire_range}
@@ -34,12 +37,9 @@ use Rattle.modules.specs.WireLaws.{design-range}
 use Rattle.layout.specs.Put.{tables_of}
 use Rattle.reading_step.specs.Steps.{Done}
 use Rattle.file_lines.specs.Lines.{read_to, Landed}
-use Rattle.file_lines.specs.declared.Answer.{Answer}
-use Rattle.file_lines.specs.declared.Answer.TheVariants.{Accepted, Refused}
 use Rattle.one_wire.specs.Asked.{told, wire_sought, row_named, row_sought, DeclaredAs, IndexTold}
 use Rattle.one_wire.specs.FirstLaws.{first_of, named-pairs, row_first}
 use Rattle.one_wire.specs.declared.Declared.{Declared}
-use Rattle.one_wire.specs.declared.Declared.TheVariants as declared
 
 -- ---- in the tables
 
@@ -75,26 +75,26 @@ module _ (f : List ℕ) (m : ℕ) (n : Name) where
     unfolding wire_sought seek stop_of
     sought-by = rw (le-ltb _ _ short)
 
-    module _ (t : Tables) (a : Answer) where
-      refused-by : (g : reading.Answer) (k q : ℕ) → Landed g t a → a ≡ Refused k q → sought (λ w. Verdict.accepted w) m n g ≡ stops k q
+    module _ (t : Tables) (a : Result Standing Refused) where
+      refused-by : (g : reading.Answer) (r : Refused) → Landed g t a → a ≡ Err r → sought (λ w. Verdict.accepted w) m n g ≡ stops r.number r.place
       unfolding sought
-      refused-by (reading.accepted ss) k q h e = absurd (subst (Landed (reading.accepted ss) t) e h)
-      refused-by (reading.refused i p) k q h e =
-          let x : i ≡ k = cc in let y : p ≡ q = cc in λ j. stops (x j) (y j)
+      refused-by (reading.accepted ss) r h e = absurd (subst (Landed (reading.accepted ss) t) e h)
+      refused-by (reading.refused i p) r h e =
+          let k : record { number = i; place = p } ≡ r = cc in ap (λ (x : Refused). stops x.number x.place) k
 
-      accepted-by : (g : reading.Answer) (p : Place) (u : Sizes) → Landed g t a → a ≡ Accepted p u →
-          sought (λ w. Verdict.accepted w) m n g ≡ row_sought t.names t.wires n (wire_range t.wires p.wires m)
+      accepted-by : (g : reading.Answer) (y : Standing) → Landed g t a → a ≡ Ok y →
+          sought (λ w. Verdict.accepted w) m n g ≡ row_sought t.names t.wires n (wire_range t.wires y.place.wires m)
       unfolding sought row_sought
-      accepted-by (reading.accepted ss) p u h e =
-          ap (of_wire (λ w. Verdict.accepted w)) (first-wire ss p u t (subst (Landed (reading.accepted ss) t) e h) m n)
-      accepted-by (reading.refused i q) p u h e = cc
+      accepted-by (reading.accepted ss) y h e =
+          ap (of_wire (λ w. Verdict.accepted w)) (first-wire ss y.place y.sums t (subst (Landed (reading.accepted ss) t) e h) m n)
+      accepted-by (reading.refused i q) y h e = cc
 
-      pub sought-refused : (k q : ℕ) → Landed (read_to (stop_of (goal_in m) n) f) t a → a ≡ Refused k q → wire_sought f m n ≡ stops k q
-      sought-refused k q h e = sought-by ∙ refused-by (read_to (stop_of (goal_in m) n) f) k q h e
+      pub sought-refused : (r : Refused) → Landed (read_to (stop_of (goal_in m) n) f) t a → a ≡ Err r → wire_sought f m n ≡ stops r.number r.place
+      sought-refused r h e = sought-by ∙ refused-by (read_to (stop_of (goal_in m) n) f) r h e
 
-      pub sought-accepted : (p : Place) (u : Sizes) → Landed (read_to (stop_of (goal_in m) n) f) t a → a ≡ Accepted p u →
-          (x : Declared) → DeclaredAs (row_sought t.names t.wires n (wire_range t.wires p.wires m)) x → DeclaredAs (wire_sought f m n) x
-      sought-accepted p u h e x = subst (λ (y : Sought Wire). DeclaredAs y x) (sym (sought-by ∙ accepted-by (read_to (stop_of (goal_in m) n) f) p u h e))
+      pub sought-accepted : (y : Standing) → Landed (read_to (stop_of (goal_in m) n) f) t a → a ≡ Ok y →
+          (x : Result Declared Refused) → DeclaredAs (row_sought t.names t.wires n (wire_range t.wires y.place.wires m)) x → DeclaredAs (wire_sought f m n) x
+      sought-accepted y h e x = subst (λ (z : Sought Wire). DeclaredAs z x) (sym (sought-by ∙ accepted-by (read_to (stop_of (goal_in m) n) f) y h e))
 
 -- ---- what is told of the wire
 
@@ -122,27 +122,27 @@ module _ {A : Type 0} (g : Wire → Verdict A) (m : ℕ) (n : Name) where
   unfolding seek wire_sought
   asked f = asked-long (ltb longest_file (length f)) (read_until (settles m n) (length f) (lines f) [])
 
-module _ (f : List ℕ) (m : ℕ) (n : Name) (r : Declared) (h : DeclaredAs (wire_sought f m n) r) where
-  module _ (k p : ℕ) (e : r ≡ declared.Refused k p) where
-    is-refused : wire_sought f m n ≡ stops k p
+module _ (f : List ℕ) (m : ℕ) (n : Name) (r : Result Declared Refused) (h : DeclaredAs (wire_sought f m n) r) where
+  module _ (x : Refused) (e : r ≡ Err x) where
+    is-refused : wire_sought f m n ≡ stops x.number x.place
     is-refused = subst (DeclaredAs (wire_sought f m n)) e h
 
-    pub width-refused : ◌≡◌ {A = ℕ × ℕ × ℕ} (k, p, 0) (told 0 (quick_width f m n))
+    pub width-refused : ◌≡◌ {A = ℕ × ℕ × ℕ} (x.number, x.place, 0) (told 0 (quick_width f m n))
     unfolding told quick_width asks
     width-refused = sym (ap (told 0) (asked (λ w. Verdict.accepted w.width) m n f ∙ ap (asks (λ w. Verdict.accepted w.width)) is-refused))
 
-    pub index-refused : (i : ℕ) → ◌≡◌ {A = ℕ × ℕ × ℤ} (k, p, pos 0) (told (pos 0) (quick_index f m n i))
+    pub index-refused : (i : ℕ) → ◌≡◌ {A = ℕ × ℕ × ℤ} (x.number, x.place, pos 0) (told (pos 0) (quick_index f m n i))
     unfolding told quick_index asks
     index-refused i = sym (ap (told (pos 0)) (asked (λ w. index_in w i) m n f ∙ ap (asks (λ w. index_in w i)) is-refused))
 
-  module _ (w o : ℕ) (u : Bool) (e : r ≡ declared.Wire w o u) where
-    is-wire : DeclaredAs (wire_sought f m n) (declared.Wire w o u)
+  module _ (d : Declared) (e : r ≡ Ok d) where
+    is-wire : DeclaredAs (wire_sought f m n) (Ok d)
     is-wire = subst (DeclaredAs (wire_sought f m n)) e h
 
-    pub width-told : ◌≡◌ {A = ℕ × ℕ × ℕ} (0, 0, w) (told 0 (quick_width f m n))
+    pub width-told : ◌≡◌ {A = ℕ × ℕ × ℕ} (0, 0, d.width) (told 0 (quick_width f m n))
     unfolding told quick_width asks of_verdict
     width-told = sym (ap (told 0) (asked (λ w. Verdict.accepted w.width) m n f ∙ ap (asks (λ w. Verdict.accepted w.width)) is-wire.2))
 
-    pub index-told : (i : ℕ) (a : ℕ × ℕ × ℤ) → IndexTold o w u i a → a ≡ told (pos 0) (quick_index f m n i)
+    pub index-told : (i : ℕ) (a : ℕ × ℕ × ℤ) → IndexTold d.offset d.width d.upto i a → a ≡ told (pos 0) (quick_index f m n i)
     unfolding quick_index asks
     index-told i a q = q is-wire.0 is-wire.1 ∙ sym (ap (told (pos 0)) (asked (λ w. index_in w i) m n f ∙ ap (asks (λ w. index_in w i)) is-wire.2))

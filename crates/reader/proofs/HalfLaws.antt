@@ -5,6 +5,7 @@ use mathlib.Core.Path.{◌≡◌, refl, sym, ap, ◌∙◌, subst}
 use mathlib.Core.Bool.{Bool, true, false}
 use mathlib.Core.List.{List, reverse, reverse-reverse}
 use lib.ListN.{length, replicate}
+use Rattle.std.specs.Prelude.{Ok, Err, Result as Either}
 use borrow.Author.Tests.{lt-ltb, le-ltb}
 use Rattle.rules.specs.Statements.{Statement}
 use Rattle.rules.specs.Reading as reading
@@ -13,19 +14,19 @@ use Rattle.rules.specs.Layout.{Rooms, empty, put_all, put_renames, rooms, used, 
 use Rattle.rules.specs.Layout as layouts
 use Rattle.context.specs.declared.place.Place.{Place}
 use Rattle.context.specs.declared.sizes.Sizes.{Sizes}
+use Rattle.context.specs.declared.sizes.Standing.{Standing}
 use Rattle.netlist.specs.Laid.{rooms_of}
 use Rattle.netlist.specs.LaidLaws.{rooms-past}
 use Rattle.netlist.specs.UsedLaws.{used-past}
 use Rattle.netlist.specs.Lengths.{sizes-exact, right_sizes, right_lengths}
 use Rattle.netlist.specs.Tables.{Tables, tabled}
 use Rattle.netlist.specs.Results.{Result, result, lent}
+use Rattle.netlist.specs.declared.results.Refused.{Refused}
 use Rattle.layout.specs.Put.{tables_of}
 use Rattle.layout.specs.Stored.{Sized}
 use Rattle.reading_step.specs.Steps.{Done}
 use Rattle.file_lines.specs.Lines.{Landed}
 use Rattle.file_reader.proofs.ZeroLaws.{zero-tables}
-use Rattle.file_lines.specs.declared.Answer.{Answer}
-use Rattle.file_lines.specs.declared.Answer.TheVariants.{Accepted, Refused}
 use Rattle.reader.specs.Fill.{leaves, fill_into}
 
 -- ---- cleared tables
@@ -50,23 +51,23 @@ pub read-any : (f : List ℕ) → length f ≤ 32768 → read f ≡ read_any f
 unfolding read
 read-any f h = rw (le-ltb _ _ h)
 
-module _ (f : List ℕ) (short : length f ≤ 32768) (t : Tables) (a : Answer) where
-  accepted-by : (g : reading.Answer) (p : Place) (u : Sizes) → Landed g t a → a ≡ Accepted p u → ◌≡◌ {A = ℕ × ℕ} (0, 0) (checked g)
+module _ (f : List ℕ) (short : length f ≤ 32768) (t : Tables) (a : Either Standing Refused) where
+  accepted-by : (g : reading.Answer) (x : Standing) → Landed g t a → a ≡ Ok x → ◌≡◌ {A = ℕ × ℕ} (0, 0) (checked g)
   unfolding checked
-  accepted-by (reading.accepted ss) p u h e = refl
-  accepted-by (reading.refused i q) p u h e = cc
+  accepted-by (reading.accepted ss) x h e = refl
+  accepted-by (reading.refused i q) x h e = cc
 
-  refused-by : (g : reading.Answer) (n q : ℕ) → Landed g t a → a ≡ Refused n q → ◌≡◌ {A = ℕ × ℕ} (n, q) (checked g)
+  refused-by : (g : reading.Answer) (r : Refused) → Landed g t a → a ≡ Err r → ◌≡◌ {A = ℕ × ℕ} (r.number, r.place) (checked g)
   unfolding checked
-  refused-by (reading.accepted ss) n q h e = absurd (subst (Landed (reading.accepted ss) t) e h)
-  refused-by (reading.refused i p) n q h e =
-      let k : n ≡ i = cc in let o : q ≡ p = cc in λ j. (k j, o j)
+  refused-by (reading.accepted ss) r h e = absurd (subst (Landed (reading.accepted ss) t) e h)
+  refused-by (reading.refused i p) r h e =
+      let k : r ≡ record { number = i; place = p } = cc in ap (λ (x : Refused). (x.number, x.place)) k
 
-  pub checked-accepted : (p : Place) (u : Sizes) → Landed (read_any f) t a → a ≡ Accepted p u → ◌≡◌ {A = ℕ × ℕ} (0, 0) (checked (read f))
-  checked-accepted p u h e = accepted-by (read_any f) p u h e ∙ ap checked (sym (read-any f short))
+  pub checked-accepted : (x : Standing) → Landed (read_any f) t a → a ≡ Ok x → ◌≡◌ {A = ℕ × ℕ} (0, 0) (checked (read f))
+  checked-accepted x h e = accepted-by (read_any f) x h e ∙ ap checked (sym (read-any f short))
 
-  pub checked_refused : (n q : ℕ) → Landed (read_any f) t a → a ≡ Refused n q → ◌≡◌ {A = ℕ × ℕ} (n, q) (checked (read f))
-  checked_refused n q h e = refused-by (read_any f) n q h e ∙ ap checked (sym (read-any f short))
+  pub checked_refused : (r : Refused) → Landed (read_any f) t a → a ≡ Err r → ◌≡◌ {A = ℕ × ℕ} (r.number, r.place) (checked (read f))
+  checked_refused r h e = refused-by (read_any f) r h e ∙ ap checked (sym (read-any f short))
 
 -- ---- the fill
 
@@ -104,23 +105,23 @@ module _ {n s b w r : List ℕ} where
     left-statements =
         lent_is (put_all empty ss) u.name_bytes (d.tables-are ∙ ap (λ (R : Rooms). tables_of (memory R 0)) rooms-are) room-used
 
-  pub left-accepted : (g : reading.Answer) (a : Answer) (p : Place) (u : Sizes) → Landed g (tabled n s b w r) a → a ≡ Accepted p u
-      → result 0 0 (lent n s b w r 0 u.name_bytes) ≡ leaves g
+  pub left-accepted : (g : reading.Answer) (a : Either Standing Refused) (x : Standing) → Landed g (tabled n s b w r) a → a ≡ Ok x
+      → result 0 0 (lent n s b w r 0 x.sums.name_bytes) ≡ leaves g
   unfolding leaves layout rooms put_renames
-  left-accepted (reading.accepted ss) a p u h e =
-      ap (result 0 0) (left-statements ss p u (subst (Landed (reading.accepted ss) (tabled n s b w r)) e h))
-  left-accepted (reading.refused i q) a p u h e = cc
+  left-accepted (reading.accepted ss) a x h e =
+      ap (result 0 0) (left-statements ss x.place x.sums (subst (Landed (reading.accepted ss) (tabled n s b w r)) e h))
+  left-accepted (reading.refused i q) a x h e = cc
 
   -- the tables are zero on a refusal
   left-zero : (i p : ℕ) → tabled n s b w r ≡ tables_of (memory empty 0) → result i p (lent n s b w r 0 0) ≡ result i p (memory empty 0)
   left-zero i p z = ap (result i p) (lent_is empty 0 z refl)
 
-  pub left-refused : (g : reading.Answer) (t : Tables) (a : Answer) (i p : ℕ) → Landed g t a → a ≡ Refused i p → tabled n s b w r ≡ tables_of (memory empty 0)
-      → result i p (lent n s b w r 0 0) ≡ leaves g
+  pub left-refused : (g : reading.Answer) (t : Tables) (a : Either Standing Refused) (x : Refused) → Landed g t a → a ≡ Err x → tabled n s b w r ≡ tables_of (memory empty 0)
+      → result x.number x.place (lent n s b w r 0 0) ≡ leaves g
   unfolding leaves
-  left-refused (reading.accepted ss) t a i p h e z = absurd (subst (Landed (reading.accepted ss) t) e h)
-  left-refused (reading.refused j q) t a i p h e z =
-      let k : j ≡ i = cc in let o : q ≡ p = cc in rw (k, o) (left-zero i p z)
+  left-refused (reading.accepted ss) t a x h e z = absurd (subst (Landed (reading.accepted ss) t) e h)
+  left-refused (reading.refused j q) t a x h e z =
+      let k : x ≡ record { number = j; place = q } = cc in rw k (left-zero j q z)
 
   pub left-long : (f : List ℕ) → 32768 < length f → tabled n s b w r ≡ tables_of (memory empty 0) → result 2 0 (lent n s b w r 0 0) ≡ leaves (read f)
   unfolding leaves read

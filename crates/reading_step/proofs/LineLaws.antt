@@ -6,6 +6,7 @@ use mathlib.Core.Bool.{Bool, true, false, not, not-not}
 use mathlib.Core.List.{List, [], ◌∷◌}
 use native.Mathlib.Omega.{arith}
 use lib.Dec.{ltb}
+use Rattle.std.specs.Prelude.{Some, None, Ok, Err, Result, Option as Optional}
 use lib.ListN.{length, take, drop, take-append-drop}
 use lib.Seq.{slice, length-slice, length-take-le}
 use borrow.Author.Tests.{ltb-true}
@@ -29,17 +30,14 @@ use Rattle.tokens.specs.declared.Token.TheVariants.{Name, Word, Constant as Cons
 use Rattle.tokens.proofs.TokenLaws.{present, row_before, front-token}
 use Rattle.lexer.specs.Lexemes.{Held}
 use Rattle.lexer.specs.Lines.{lexed_of, Among, LexedIs}
-use Rattle.lexer.specs.declared.Lexed.{Lexed}
-use Rattle.lexer.specs.declared.Lexed.TheVariants.{Tokens, Bad}
+use Rattle.lexer.specs.declared.BadToken.{BadToken}
 use Rattle.signals.specs.Reads.{WholeToken, Closed}
 use Rattle.syntax.specs.Statements.{Ready}
 use Rattle.judgement.specs.Judged as judgement
 use Rattle.judgement.specs.Judged.{Verdicts}
-use Rattle.judgement.specs.declared.Judged.{Judged}
-use Rattle.judgement.specs.declared.Judged.TheVariants as judgedly
+use Rattle.judgement.specs.declared.Stated.{Stated}
+use Rattle.netlist.specs.declared.results.Refused.{Refused}
 use Rattle.reading_step.specs.Steps.{line_of, judged_as, AnswerIs, Storable}
-use Rattle.reading_step.specs.declared.LineAnswer.{LineAnswer}
-use Rattle.reading_step.specs.declared.Outcome.TheVariants.{Refused}
 
 -- ---- the rows of a line
 
@@ -84,9 +82,9 @@ line-some f t n e h q =
 
 -- ---- the rows are ready for the verdict
 
-module _ (f old new : List ℕ) (l : Line) (x : Lexed) (L : LexedIs f l.start l.end old new x) (n : ℕ) (e : x ≡ Tokens n)
+module _ (f old new : List ℕ) (l : Line) (x : Result ℕ BadToken) (L : LexedIs f l.start l.end old new x) (n : ℕ) (e : x ≡ Ok n)
     (inside : l.end ≤ length f) (file : length f ≤ 32768) (old-long : 4 * (l.end - l.start) ≤ length old) where
-  among : Among f l.start l.end new (Tokens n)
+  among : Among f l.start l.end new (Ok n)
   among = subst (Among f l.start l.end new) e L.among
 
   pub rows_few : 4 * n ≤ 131072
@@ -113,15 +111,15 @@ module _ (f old new : List ℕ) (l : Line) (x : Lexed) (L : LexedIs f l.start l.
 
 -- ---- a bad token: it lies in the file, and what is left of the line from it on tells its place
 
-module _ (f old new : List ℕ) (l : Line) (x : Lexed) (L : LexedIs f l.start l.end old new x) (p : ℕ) (e : x ≡ Bad p) (inside : l.end ≤ length f) where
-  among-bad : Among f l.start l.end new (Bad p)
+module _ (f old new : List ℕ) (l : Line) (x : Result ℕ BadToken) (L : LexedIs f l.start l.end old new x) (p : BadToken) (e : x ≡ Err p) (inside : l.end ≤ length f) where
+  among-bad : Among f l.start l.end new (Err p)
   among-bad = subst (Among f l.start l.end new) e L.among
 
-  pub bad-low : p < length f
+  pub bad-low : p.at < length f
   bad-low = omega (arith, among-bad.1)
 
-  left-from : l.start + (length (slice l.start l.end f) - length (slice p l.end f)) ≡ p
-  left-from = rw (length-slice l.start l.end f inside, length-slice p l.end f inside) (omega (arith, among-bad.0, among-bad.1))
+  left-from : l.start + (length (slice l.start l.end f) - length (slice p.at l.end f)) ≡ p.at
+  left-from = rw (length-slice l.start l.end f inside, length-slice p.at l.end f inside) (omega (arith, among-bad.0, among-bad.1))
 
 -- ---- the outcome
 
@@ -130,24 +128,24 @@ unfolding lexed
 lexed-some ss l [] h = absurd (h refl)
 lexed-some ss l (t ∷ ts) h = refl
 
-module _ (ss : Past) (f old new : List ℕ) (l : Line) (x : Lexed) (L : LexedIs f l.start l.end old new x) where
-  by-lexed : (y : Lexed) → x ≡ y → outcome ss (line_of f l) ≡ lexed ss (line_of f l) (lexed_of f l.end new y)
+module _ (ss : Past) (f old new : List ℕ) (l : Line) (x : Result ℕ BadToken) (L : LexedIs f l.start l.end old new x) where
+  by-lexed : (y : Result ℕ BadToken) → x ≡ y → outcome ss (line_of f l) ≡ lexed ss (line_of f l) (lexed_of f l.end new y)
   unfolding outcome line_of
   by-lexed y e = ap (lexed ss (line_of f l)) (L.is ∙ ap (lexed_of f l.end new) e)
 
-  pub outcome-bad : (p : ℕ) → x ≡ Bad p → l.end ≤ length f → outcome ss (line_of f l) ≡ reading.Outcome.refused 4 p
+  pub outcome-bad : (p : BadToken) → x ≡ Err p → l.end ≤ length f → outcome ss (line_of f l) ≡ reading.Outcome.refused 4 p.at
   unfolding lexed_of lexed line_of
-  outcome-bad p e inside = by-lexed (Bad p) e ∙ ap (reading.Outcome.refused 4) (left-from f old new l x L p e inside)
+  outcome-bad p e inside = by-lexed (Err p) e ∙ ap (reading.Outcome.refused 4) (left-from f old new l x L p e inside)
 
-  pub outcome-none : (n : ℕ) → x ≡ Tokens n → n ≡ 0 → outcome ss (line_of f l) ≡ skipped
+  pub outcome-none : (n : ℕ) → x ≡ Ok n → n ≡ 0 → outcome ss (line_of f l) ≡ skipped
   unfolding lexed_of lexed line rows_from
-  outcome-none n e z = by-lexed (Tokens 0) (e ∙ ap Tokens z)
+  outcome-none n e z = by-lexed (Ok 0) (e ∙ ap (λ (k : ℕ). Ok k) z)
 
-  module _ (n : ℕ) (e : x ≡ Tokens n) (inside : l.end ≤ length f) (file : length f ≤ 32768) (old-long : 4 * (l.end - l.start) ≤ length old) where
+  module _ (n : ℕ) (e : x ≡ Ok n) (inside : l.end ≤ length f) (file : length f ≤ 32768) (old-long : 4 * (l.end - l.start) ≤ length old) where
     some-tokens : (n ≡ 0 → ⊥) → (b : Bool) → not l.ended ≡ b → outcome ss (line_of f l) ≡ judged (place (line_of f l)) (stated ss (not b) (line f (take (4 * n) new) 0))
     unfolding lexed_of line_of
     some-tokens h b k =
-        rw (← k, not-not) (by-lexed (Tokens n) e ∙ lexed-some ss (line_of f l) _ (line-some f (take (4 * n) new) n (long f new n (rows_fit f old new l x L n e inside file old-long)) h))
+        rw (← k, not-not) (by-lexed (Ok n) e ∙ lexed-some ss (line_of f l) _ (line-some f (take (4 * n) new) n (long f new n (rows_fit f old new l x L n e inside file old-long)) h))
 
     pub outcome-open : (n ≡ 0 → ⊥) → not l.ended ≡ true → outcome ss (line_of f l) ≡ reading.Outcome.refused 5 (place (line_of f l))
     unfolding stated judged
@@ -175,30 +173,30 @@ end-small f l lo hi r e low high file =
     omega (arith, end_of-high (in_class lo hi) (take (l.end - 0) f) l.start (omega arith))
 
 pub judged-refused :
-    (f : List ℕ) (l : Line) (j : Judged) (n p : ℕ) → j ≡ judgedly.Refused n → p ≡ end_of (in_class 3 3) (take (l.end - 0) (drop 0 f)) l.start →
-    ◌≡◌ {A = LineAnswer} (record { outcome = Refused; number = n; place = p }) (judged_as f l j)
+    (f : List ℕ) (l : Line) (j : Result Stated ℕ) (n p : ℕ) → j ≡ Err n → p ≡ end_of (in_class 3 3) (take (l.end - 0) (drop 0 f)) l.start →
+    ◌≡◌ {A = Result (Optional Stated) Refused} (Err (record { number = n; place = p })) (judged_as f l j)
 unfolding judged_as
 judged-refused f l j n p e q = rw (e, place_end f l, ← q) refl
 
 pub answer-judged :
-    (ss : Past) (f t s : List ℕ) (l : Line) (j : Judged) (r : LineAnswer) → r ≡ judged_as f l j →
+    (ss : Past) (f t s : List ℕ) (l : Line) (j : Result Stated ℕ) (r : Result (Optional Stated) Refused) → r ≡ judged_as f l j →
     outcome ss (line_of f l) ≡ judged (place (line_of f l)) (shaped ss (shape (context ss) (line f t 0))) → Verdicts ss f t s j → AnswerIs ss (line_of f l) f s r
 unfolding judged_as judged
-answer-judged ss f t s l (judgedly.Stated x u) r q e v =
+answer-judged ss f t s l (Ok x) r q e v =
     rw q (record { statement = v.statement; is = e ∙ ap (judged (place (line_of f l))) v.accepts; stated = v.stated; sums-are = v.sums-are })
-answer-judged ss f t s l (judgedly.Refused n) r q e v = rw q (e ∙ ap (judged (place (line_of f l))) v)
+answer-judged ss f t s l (Err n) r q e v = rw q (e ∙ ap (judged (place (line_of f l))) v)
 
-pub storable-judged : (f : List ℕ) (l : Line) (j : Judged) (r : LineAnswer) → r ≡ judged_as f l j → judgement.Storable f j → Storable f r.outcome
+pub storable-judged : (f : List ℕ) (l : Line) (j : Result Stated ℕ) (r : Result (Optional Stated) Refused) → r ≡ judged_as f l j → judgement.Storable f j → Storable f r
 unfolding judged_as
-storable-judged f l (judgedly.Stated x u) r q h = rw q h
-storable-judged f l (judgedly.Refused n) r q h = rw q tt
+storable-judged f l (Ok x) r q h = rw q h
+storable-judged f l (Err n) r q h = rw q tt
 
 -- a verdict that is refused
-module _ (f : List ℕ) (l : Line) (n : ℕ) (r : LineAnswer) (q : r ≡ judged_as f l (judgedly.Refused n)) where
+module _ (f : List ℕ) (l : Line) (n : ℕ) (r : Result (Optional Stated) Refused) (q : r ≡ judged_as f l (Err n)) where
   pub answer-refused : (ss : Past) (s : List ℕ) → outcome ss (line_of f l) ≡ reading.Outcome.refused n (place (line_of f l)) → AnswerIs ss (line_of f l) f s r
   unfolding judged_as
   answer-refused ss s e = rw q e
 
-  pub storable-refused : Storable f r.outcome
+  pub storable-refused : Storable f r
   unfolding judged_as
   storable-refused = rw q tt

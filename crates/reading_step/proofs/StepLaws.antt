@@ -7,6 +7,7 @@ use mathlib.Core.List.{List, [], ◌∷◌}
 use mathlib.Core.Option.{Option, none, some, map}
 use native.Mathlib.Omega.{arith}
 use lib.ListN.{length}
+use Rattle.std.specs.Prelude.{Some, None, Ok, Err, Result, Option as Optional}
 use Rattle.rules.specs.Lines as rules
 use Rattle.rules.specs.Statements as statements
 use Rattle.rules.specs.Statements.{Step as Stepping, Signal, code, contents, statements_open}
@@ -21,6 +22,7 @@ use Rattle.context.specs.Place.{place_of, step_of, AfterIs}
 use Rattle.context.specs.Sizes.{sums_of, Within}
 use Rattle.context.specs.declared.place.Place.{Place}
 use Rattle.context.specs.declared.sizes.Sizes.{Sizes}
+use Rattle.context.specs.declared.sizes.Standing.{Standing}
 use Rattle.context.proofs.PlaceLaws.{bounds, place-rows}
 use Rattle.context.proofs.SizeLaws.{same-wires}
 use Rattle.admitted.specs.Admitted.{admitted}
@@ -44,14 +46,12 @@ use Rattle.netlist.specs.declared.used.Used.{Used}
 use Rattle.netlist.specs.Used.{used_of, used_by}
 use Rattle.netlist.specs.UsedLaws.{used-past, used-wires}
 use Rattle.layout.proofs.PastLaws.{room-past}
+use Rattle.netlist.specs.declared.results.Refused.{Refused}
 use Rattle.judgement.specs.Judged.{Stands}
+use Rattle.judgement.specs.declared.Stated.{Stated}
 use Rattle.soundness.specs.ReadLaws.{states-admitted}
 use Rattle.steps.specs.SearchLaws.{admitted-single}
-use Rattle.reading_step.specs.Steps.{PlaceFits, step_in, States, OutcomeIs, Storable, Done, Goes, StepIndexed}
-use Rattle.reading_step.specs.declared.Outcome.{Outcome}
-use Rattle.reading_step.specs.declared.Outcome.TheVariants as outcomes
-use Rattle.reading_step.specs.declared.Step.{Step}
-use Rattle.reading_step.specs.declared.Step.TheVariants.{Next}
+use Rattle.reading_step.specs.Steps.{PlaceFits, step_in, States, AnswerIs, Storable, Done, Goes, StepIndexed}
 
 -- ---- what the statements so far give
 
@@ -175,10 +175,19 @@ wires-now : (ss : Past) {p : Place} → place_of ss ≡ p → p.wires ≡ length
 unfolding place_of
 wires-now ss e = sym (used-wires ss ∙ ap (λ (q : Place). q.wires) e)
 
-module _ {ss : Past} {p : Place} {u : Sizes} {t : Tables} (d : Done ss p u t) (l : rules.Line) (f s : List ℕ) (r : Statement) (more : Sizes)
-    (x : Outcome) (is : x ≡ outcomes.Stated r more) (i j : ℕ) (st : OutcomeIs ss l f s i j x) (sound : Storable f x) where
+module _ {ss : Past} {p : Place} {u : Sizes} {t : Tables} (d : Done ss p u t) (l : rules.Line) (f s : List ℕ)
+    {x : Result (Optional Stated) Refused} {a : Optional Stated} {z : Stated} (was : x ≡ Ok a) (given : a ≡ Some z) (st : AnswerIs ss l f s x) (sound : Storable f x) where
+  abbrev r : Statement
+  r = z.statement
+
+  abbrev more : Sizes
+  more = z.sums
+
+  is : x ≡ Ok (Some z)
+  is = was ∙ ap (λ (o : Optional Stated). Ok o) given
+
   states : States ss l f s r more
-  states = subst (OutcomeIs ss l f s i j) is st
+  states = subst (AnswerIs ss l f s) is st
 
   storable : Sound f r × (fault_of r ≡ 0) × Within more
   storable = subst (Storable f) is sound
@@ -229,14 +238,15 @@ module _ {ss : Past} {p : Place} {u : Sizes} {t : Tables} (d : Done ss p u t) (l
         goes = λ m. ap (next m ss) states.is;
       }
 
-module _ {ss : Past} {p : Place} {u : Sizes} {t : Tables} (d : Done ss p u t) (l : rules.Line) (f s : List ℕ) (x : Outcome) (i j : ℕ) (st : OutcomeIs ss l f s i j x) where
-  pub step-skipped : x ≡ outcomes.Skipped → Goes ss l p u t
+module _ {ss : Past} {p : Place} {u : Sizes} {t : Tables} (d : Done ss p u t) (l : rules.Line) (f s : List ℕ) {x : Result (Optional Stated) Refused} (st : AnswerIs ss l f s x) where
+  pub step-skipped : (a : Optional Stated) → x ≡ Ok a → ((z : Stated) → a ≡ Some z → ⊥) → Goes ss l p u t
   unfolding next
-  step-skipped e =
-      let o : outcome ss l ≡ skipped = subst (OutcomeIs ss l f s i j) e st in record { past = ss; done = d; goes = λ m. ap (next m ss) o }
+  step-skipped None e h =
+      let o : outcome ss l ≡ skipped = subst (AnswerIs ss l f s) e st in record { past = ss; done = d; goes = λ m. ap (next m ss) o }
+  step-skipped (Some z) e h = absurd (h z refl)
 
-  pub step-refused : x ≡ outcomes.Refused → outcome ss l ≡ reading.Outcome.refused i j
-  step-refused e = subst (OutcomeIs ss l f s i j) e st
+  pub step-refused : (r : Refused) → x ≡ Err r → outcome ss l ≡ reading.Outcome.refused r.number r.place
+  step-refused r e = subst (AnswerIs ss l f s) e st
 
 -- an answer that is no step
 pub no_step : (r : Statement) → ((p w n l : ℕ) → r ≡ StepOf p w n l → ⊥) → 0 ≡ step_in r
@@ -258,13 +268,7 @@ no_step (Process n) h = refl
 no_step BadNumber h = refl
 no_step MissingWire h = refl
 
--- what is neither skipped nor stated is refused
-pub refused-left : (x : Outcome) → (x ≡ outcomes.Skipped → ⊥) → ((r : Statement) (more : Sizes) → x ≡ outcomes.Stated r more → ⊥) → x ≡ outcomes.Refused
-refused-left outcomes.Skipped h k = absurd (h refl)
-refused-left (outcomes.Stated r u) h k = absurd (k r u refl)
-refused-left outcomes.Refused h k = refl
-
 pub next-indexed :
-    {heads chain names wires rows : List ℕ} {r : Step} {p : Place} {u : Sizes} → r ≡ Next p u → StepIndexed heads chain names wires rows r →
-    LinesIndexed heads chain names wires rows p.rows p.wires
+    {heads chain names wires rows : List ℕ} {r : Result Standing Refused} {x : Standing} → r ≡ Ok x → StepIndexed heads chain names wires rows r →
+    LinesIndexed heads chain names wires rows x.place.rows x.place.wires
 next-indexed {heads} {chain} {names} {wires} {rows} e x = subst (StepIndexed heads chain names wires rows) e x

@@ -1,25 +1,15 @@
 -- "WRITING, READING AND WRITING AGAIN GIVES THE FIRST TEXT".
 -- Assumes nothing.
 use Rattle.std.specs.Prelude.{ℕ, ◌≡◌}
-use Rattle.std.proofs.Math.Path.{sym, ap}
-use Rattle.std.proofs.Common.{◌∙◌}
-use mathlib.Core.List.{List}
+use Rattle.std.proofs.Common.{sym, ap, ◌∙◌}
+use mathlib.Core.List.{List, []}
+use Rattle.rules.specs.Limits.{longest_file}
 use Rattle.rules.specs.Statements.{Statement}
 use Rattle.rules.specs.Judgement.{Verdict}
 use Rattle.rules.specs.Reading.{Answer, accepted, read}
 use Rattle.rules.specs.Design.{design}
-use Rattle.rules.specs.Session.{Rename, now}
-use Rattle.rules.specs.Layout.{Memory}
-use Rattle.rules.specs.Text.{write}
-use Rattle.admitted.specs.Holds.{Holds}
-use Rattle.theorems.specs.ReadingBack.{write_read}
-use Rattle.std.specs.Prelude.{ℕ, ◌≡◌}
-use Rattle.std.proofs.Common.{sym, ap, ◌∙◌}
-use mathlib.Core.List.{List, []}
-use Rattle.rules.specs.Limits.{longest_file}
-use Rattle.rules.specs.Reading.{accepted, read}
-use Rattle.rules.specs.Design.{design}
 use Rattle.rules.specs.Session.{Rename, Call, now, plain_session}
+use Rattle.rules.specs.Layout.{Memory}
 use Rattle.rules.specs.Text.{write, program}
 use Rattle.admitted.specs.Holds.{Holds}
 use Rattle.theorems.specs.ReadingBack.{write_read}

@@ -28,11 +28,11 @@ is_settled-requires c = tt
 
 pub returns-then-is_settled : goal.returns-then-is_settled
 returns-then-is_settled c =
-    landed-settled c.loop-line.invariant.0.reached _ c.loop-line.invariant.0.is _ _ c.take_line.ensures.step_as _ _ c.in-Next.is _ c.is_settled.ensures c.if-is_settled.true
+    landed-settled c.loop-line.invariant.0.reached _ c.loop-line.invariant.0.is _ _ c.take_line.ensures.step_as _ c.in-Ok.is _ c.is_settled.ensures c.if-is_settled.true
 
-pub returns-in-Stop : goal.returns-in-Stop
-returns-in-Stop c =
-    landed-stop c.loop-line.invariant.0.reached _ c.loop-line.invariant.0.is _ _ c.take_line.ensures.step_as _ _ c.in-Stop.is
+pub returns-in-Err : goal.returns-in-Err
+returns-in-Err c =
+    landed-stop c.loop-line.invariant.0.reached _ c.loop-line.invariant.0.is _ _ c.take_line.ensures.step_as _ c.in-Err.is
 
 pub line_at-line-requires : goal.line_at-line-requires
 line_at-line-requires c = tt
@@ -43,8 +43,8 @@ loop-line-smaller c =
 
 pub loop-line-preserved : goal.loop-line-preserved
 loop-line-preserved c =
-    let x = next-indexed c.in-Next.is c.take_line.ensures.step_indexed in (
-      before _ _ (reached-more c.loop-line.invariant.0.reached _ c.loop-line.invariant.0.is _ _ c.take_line.ensures.step_as _ _ c.in-Next.is _ c.is_settled.ensures _ c.if-is_settled.false c.take_line.auto.scratch) c.line_at-line.ensures,
+    let x = next-indexed c.in-Ok.is c.take_line.ensures.step_indexed in (
+      before _ _ (reached-more c.loop-line.invariant.0.reached _ c.loop-line.invariant.0.is _ _ c.take_line.ensures.step_as _ c.in-Ok.is _ c.is_settled.ensures _ c.if-is_settled.false c.take_line.auto.scratch) c.line_at-line.ensures,
       x,
       c.loop-line.invariant.2,
       c.loop-line.invariant.3,

@@ -5,10 +5,10 @@ use Rattle.rename_rules.specs.Search.{named}
 use Rattle.session.specs.Called.{answer}
 use Rattle.look_up.proofs.find.Goals as goal
 
-pub returns-in-At : goal.returns-in-At
+pub returns-in-Some : goal.returns-in-Some
 unfolding answer named
-returns-in-At c = sym (ap (answer 0) (sym c.find_named-named.ensures ∙ ap named c.in-At.is))
+returns-in-Some c = sym (ap (answer 0) (sym c.find_named.ensures ∙ ap named c.in-Some.is))
 
-pub returns-in-Nothing : goal.returns-in-Nothing
+pub returns-in-None : goal.returns-in-None
 unfolding answer named
-returns-in-Nothing c = sym (ap (answer 0) (sym c.find_named-named.ensures ∙ ap named c.in-Nothing.is))
+returns-in-None c = sym (ap (answer 0) (sym c.find_named.ensures ∙ ap named c.in-None.is))

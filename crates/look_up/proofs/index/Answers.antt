@@ -15,7 +15,7 @@ returns-then-own-number c =
     index-missing
     (opened
     (lent args.names.now args.strings.now args.bits.now args.wires.now args.rows.now args.renames args.room)
-    _ open-memory.ensures _ c.in-Open.is) _ _ _ _ module-wires.ensures c.if-own-number.true
+    _ open-memory.ensures _ c.in-Ok.is) _ _ _ _ module-wires.ensures c.if-own-number.true
 
 pub overflow_add-own : goal.overflow_add-own
 overflow_add-own c =
@@ -27,7 +27,7 @@ overflow_add-own c =
       wire-fits
           (opened
           (lent args.names.now args.strings.now args.bits.now args.wires.now args.rows.now args.renames args.room)
-          _ open-memory.ensures _ c.in-Open.is) args.m.0 args.w.0 _
+          _ open-memory.ensures _ c.in-Ok.is) args.m.0 args.w.0 _
           module-wires.ensures c.if-own-number.false,
     )
 
@@ -40,14 +40,14 @@ returns-else-own-number c =
     index-there
     (opened
     (lent args.names.now args.strings.now args.bits.now args.wires.now args.rows.now args.renames args.room)
-    _ open-memory.ensures _ c.in-Open.is) args.m.0 args.w.0 args.bit _ module-wires.ensures
+    _ open-memory.ensures _ c.in-Ok.is) args.m.0 args.w.0 args.bit _ module-wires.ensures
     _ if1.false c.row_index.ensures
 
-pub returns-in-Refused : goal.returns-in-Refused
-returns-in-Refused c =
+pub returns-in-Err : goal.returns-in-Err
+returns-in-Err c =
     let args = c.args in
     let open-memory = c.open_memory in
     not-open (λ n. (n, pos 0)) _ _
     (not_opened
     (lent args.names.now args.strings.now args.bits.now args.wires.now args.rows.now args.renames args.room)
-    _ open-memory.ensures _ c.in-Refused.is)
+    _ open-memory.ensures _ c.in-Err.is)

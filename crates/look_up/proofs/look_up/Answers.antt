@@ -4,21 +4,21 @@ use Rattle.session.proofs.CallLaws.{not-open}
 use Rattle.look_up.proofs.AskLaws.{looked-up}
 use Rattle.look_up.proofs.look_up.Goals as goal
 
-pub returns-in-Open : goal.returns-in-Open
-returns-in-Open c =
+pub returns-in-Ok : goal.returns-in-Ok
+returns-in-Ok c =
     let args = c.args in
     let open-memory = c.open_memory in
     looked-up
     (opened
     (lent args.names.now args.strings.now args.bits.now args.wires.now args.rows.now args.renames args.room)
-    _ open-memory.ensures _ c.in-Open.is) args.m.0 args.name.now _ _
+    _ open-memory.ensures _ c.in-Ok.is) args.m.0 args.name.now _ _
     c.module_of.ensures c.find.ensures
 
-pub returns-in-Refused : goal.returns-in-Refused
-returns-in-Refused c =
+pub returns-in-Err : goal.returns-in-Err
+returns-in-Err c =
     let args = c.args in
     let open-memory = c.open_memory in
     not-open (λ n. (n, 0)) _ _
     (not_opened
     (lent args.names.now args.strings.now args.bits.now args.wires.now args.rows.now args.renames args.room)
-    _ open-memory.ensures _ c.in-Refused.is)
+    _ open-memory.ensures _ c.in-Err.is)

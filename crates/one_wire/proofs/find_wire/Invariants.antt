@@ -1,11 +1,7 @@
-use Prim.Native.Nat.{◌-◌, ◌≤◌}
 use mathlib.Core.Path.{◌≡◌}
 use Rattle.one_wire.specs.Asked.{row_named}
 use Rattle.one_wire.proofs.RowLaws.{From}
 use Rattle.one_wire.proofs.find_wire.Given as goal
 
 abbrev pub invariant-loop-k : goal.invariant-loop-k
-invariant-loop-k l = (From l.names l.wires l.name l.own l.k ≡ row_named l.names l.wires l.name l.own.count l.own.first) × (l.k ≤ l.own.count)
-
-abbrev pub decreases-loop-k : goal.decreases-loop-k
-decreases-loop-k l = l.own.count - l.k
+invariant-loop-k l = From l.names l.wires l.name l.own l.k ≡ row_named l.names l.wires l.name l.own.count l.own.first

@@ -12,10 +12,10 @@ read_file-requires c = record {
   rows_value = zero-tables refl refl refl refl refl;
 }
 
-pub returns-in-Accepted : goal.returns-in-Accepted
-returns-in-Accepted c =
-    checked-accepted _ c.if-size-gt-MOST_FILE_BYTES.false _ _ _ _ c.read_file.ensures c.in-Accepted.is
+pub returns-in-Ok : goal.returns-in-Ok
+returns-in-Ok c =
+    checked-accepted _ c.if-size-gt-MOST_FILE_BYTES.false _ _ _ c.read_file.ensures c.in-Ok.is
 
-pub returns-in-Refused : goal.returns-in-Refused
-returns-in-Refused c =
-    checked_refused _ c.if-size-gt-MOST_FILE_BYTES.false _ _ _ _ c.read_file.ensures c.in-Refused.is
+pub returns-in-Err : goal.returns-in-Err
+returns-in-Err c =
+    checked_refused _ c.if-size-gt-MOST_FILE_BYTES.false _ _ _ c.read_file.ensures c.in-Err.is

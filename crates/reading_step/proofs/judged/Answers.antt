@@ -17,9 +17,9 @@ overflow_cast-result c =
     let pre = c.requires in
     omega (arith, end-small args.f.now args.line _ _ _ c.blanks_end.ensures pre.0 pre.1 pre.2)
 
-pub returns-in-Stated : goal.returns-in-Stated
+pub returns-in-Ok : goal.returns-in-Ok
 unfolding judged_as
-returns-in-Stated c = sym (ap (judged_as c.args.f.now c.args.line) c.in-Stated.is)
+returns-in-Ok c = sym (ap (judged_as c.args.f.now c.args.line) c.in-Ok.is)
 
-pub returns-in-Refused : goal.returns-in-Refused
-returns-in-Refused c = judged-refused c.args.f.now c.args.line _ _ _ c.in-Refused.is c.blanks_end.ensures
+pub returns-in-Err : goal.returns-in-Err
+returns-in-Err c = judged-refused c.args.f.now c.args.line _ _ _ c.in-Err.is c.blanks_end.ensures

@@ -14,7 +14,7 @@ overflow_cast-result c =
     let pre = c.requires in
     let lex-line = c.lex_line in
     omega
-    (arith, bad-low _ _ _ args.line _ lex-line.ensures _ c.in-Bad.is pre.line_fits.0.high, pre.line_fits.0.file)
+    (arith, bad-low _ _ _ args.line _ lex-line.ensures _ c.in-Err.is pre.line_fits.0.high, pre.line_fits.0.file)
 
 pub returns-then-n-eq0 : goal.returns-then-n-eq0
 returns-then-n-eq0 c =
@@ -22,7 +22,7 @@ returns-then-n-eq0 c =
     let lex-line = c.lex_line in
     record {
       storable = tt;
-      answer_as = λ ss st. outcome-none ss _ _ _ args.line _ lex-line.ensures _ c.in-Tokens.is c.if-n-eq0.true;
+      answer_as = λ ss st. outcome-none ss _ _ _ args.line _ lex-line.ensures _ c.in-Ok.is c.if-n-eq0.true;
     }
 
 pub judged-requires : goal.judged-requires
@@ -38,7 +38,7 @@ returns-then-not-line c =
     let if1 = c.if-n-eq0 in record {
       storable = storable-refused _ args.line _ _ c.judged.ensures;
       answer_as = λ ss st. answer-refused _ args.line _ _ c.judged.ensures ss _
-          (outcome-open ss _ _ _ args.line _ lex-line.ensures _ c.in-Tokens.is pre.line_fits.0.high pre.line_fits.0.file
+          (outcome-open ss _ _ _ args.line _ lex-line.ensures _ c.in-Ok.is pre.line_fits.0.high pre.line_fits.0.file
           pre.line_fits.1 if1.false c.if-not-line.true);
     }
 
@@ -48,7 +48,7 @@ overflow_mul-stop c =
     let pre = c.requires in
     let lex-line = c.lex_line in
     omega
-    (arith, rows_few _ _ _ args.line _ lex-line.ensures _ c.in-Tokens.is pre.line_fits.0.high pre.line_fits.0.file pre.line_fits.1)
+    (arith, rows_few _ _ _ args.line _ lex-line.ensures _ c.in-Ok.is pre.line_fits.0.high pre.line_fits.0.file pre.line_fits.1)
 
 pub slice_bounds-judge_line-count : goal.slice_bounds-judge_line-count
 slice_bounds-judge_line-count c = zero-le
@@ -59,37 +59,37 @@ judge_line-requires c =
     let pre = c.requires in
     let lex-line = c.lex_line in
     let if1 = c.if-n-eq0 in record {
-      ready = rows-ready _ _ _ args.line _ lex-line.ensures _ c.in-Tokens.is pre.line_fits.0.high pre.line_fits.0.file
+      ready = rows-ready _ _ _ args.line _ lex-line.ensures _ c.in-Ok.is pre.line_fits.0.high pre.line_fits.0.file
           pre.line_fits.1 _ _ pre.line_fits.0.scratch-long pre.place_fits.few if1.false;
       within = pre.place_fits.within;
       bounds = pre.place_fits.bounds;
       lines_indexed = pre.lines_indexed;
     }
 
-pub judged-requires-in-Tokens : goal.judged-requires-in-Tokens
-judged-requires-in-Tokens c =
+pub judged-requires-2 : goal.judged-requires-2
+judged-requires-2 c =
     let pre = c.requires in
     (pre.line_fits.0.low, pre.line_fits.0.high, pre.line_fits.0.file)
 
-pub returns-in-Bad : goal.returns-in-Bad
-returns-in-Bad c =
+pub returns-in-Err : goal.returns-in-Err
+returns-in-Err c =
     let args = c.args in
     let pre = c.requires in
     let lex-line = c.lex_line in record {
       storable = tt;
-      answer_as = λ ss st. outcome-bad ss _ _ _ args.line _ lex-line.ensures _ c.in-Bad.is pre.line_fits.0.high;
+      answer_as = λ ss st. outcome-bad ss _ _ _ args.line _ lex-line.ensures _ c.in-Err.is pre.line_fits.0.high;
     }
 
-pub returns-else-not-line : goal.returns-else-not-line
-returns-else-not-line c =
+pub returns : goal.returns
+returns c =
     let args = c.args in
     let pre = c.requires in
     let lex-line = c.lex_line in
     let if1 = c.if-n-eq0 in
     let if2 = c.if-not-line in
     let judge-line = c.judge_line in record {
-      storable = storable-judged _ _ _ _ c.judged-in-Tokens.ensures judge-line.ensures.storable;
-      answer_as = λ ss st. answer-judged ss _ _ _ _ _ _ c.judged-in-Tokens.ensures
-          (outcome-shaped ss _ _ _ args.line _ lex-line.ensures _ c.in-Tokens.is pre.line_fits.0.high pre.line_fits.0.file
+      storable = storable-judged _ _ _ _ c.judged-2.ensures judge-line.ensures.storable;
+      answer_as = λ ss st. answer-judged ss _ _ _ _ _ _ c.judged-2.ensures
+          (outcome-shaped ss _ _ _ args.line _ lex-line.ensures _ c.in-Ok.is pre.line_fits.0.high pre.line_fits.0.file
           pre.line_fits.1 if1.false if2.false) (judge-line.ensures.judged_as ss st);
     }

@@ -1,35 +1,31 @@
 use mathlib.Core.Path.{ap, ◌∙◌}
 use native.Mathlib.Omega.{arith}
+use Rattle.std.proofs.lemmas.Result.{err_from_is_err_and}
 use Rattle.context.proofs.PlaceLaws.{after_is}
 use Rattle.context.specs.Place.{place_after}
 use Rattle.context.specs.declared.place.Place.{Place}
 use Rattle.name_index.specs.LineLaws.{lines-upto}
 use Rattle.reading_step.specs.Steps.{line_of}
-use Rattle.reading_step.proofs.StepLaws.{done-fits, done-stands, done-rows, put-storable, step-stated, step-skipped, step-refused, refused-left, step-indexed, done-few, done-wires}
+use Rattle.reading_step.proofs.StepLaws.{done-fits, done-stands, done-rows, put-storable, step-stated, step-skipped, step-refused, step-indexed, done-few, done-wires}
 use Rattle.reading_step.proofs.take_line.Goals as goal
 
-pub line_answer-answer-requires : goal.line_answer-answer-requires
-line_answer-answer-requires c =
-    let pre = c.requires in
+pub line_answer-requires : goal.line_answer-requires
+line_answer-requires c =
     record {
-      line_fits = pre.line_fits;
-      place_fits = done-fits pre.some_done.done;
-      lines_indexed = pre.lines_indexed;
+      line_fits = c.requires.line_fits;
+      place_fits = done-fits c.requires.some_done.done;
+      lines_indexed = c.requires.lines_indexed;
     }
 
 pub used_from-u-requires : goal.used_from-u-requires
-used_from-u-requires c =
-    let pre = c.requires in
-    (done-fits pre.some_done.done).within
+used_from-u-requires c = (done-fits c.requires.some_done.done).within
 
 pub put_statement-requires : goal.put_statement-requires
 put_statement-requires c =
     let pre = c.requires in
-    let args = c.args in
-    let line-answer = c.line_answer-answer in
-    let used-from = c.used_from-u in
-    put-storable pre.some_done.done (line_of args.f.now args.line) _ _ _ _ _ c.in-Stated.is _ _
-    (line-answer.ensures.answer_as _ (done-stands pre.some_done.done)) line-answer.ensures.storable _ used-from.ensures
+    let line-answer = c.line_answer in
+    put-storable pre.some_done.done (line_of c.args.f.now c.args.line) _ _ c.in_ok-answer.was c.in-Some.is
+    (line-answer.ensures.answer_as _ (done-stands pre.some_done.done)) line-answer.ensures.storable _ c.used_from-u.ensures
     (line-answer.auto.scratch ∙ pre.line_fits.0.scratch-long)
 
 pub kind_code-kind-requires : goal.kind_code-kind-requires
@@ -41,49 +37,41 @@ step_code-requires c = tt
 pub index_line-requires : goal.index_line-requires
 index_line-requires c =
     let pre = c.requires in
-    let args = c.args in
-    let line-answer = c.line_answer-answer in
-    let used-from = c.used_from-u in
-    let put-statement = c.put_statement in record {
-      lines_indexed = step-indexed pre.some_done.done (line_of args.f.now args.line) _ _ _ _ _ c.in-Stated.is _ _
-          (line-answer.ensures.answer_as _ (done-stands pre.some_done.done)) line-answer.ensures.storable _ _ used-from.ensures
-          put-statement.ensures _ _ pre.lines_indexed;
+    let line-answer = c.line_answer in record {
+      lines_indexed = step-indexed pre.some_done.done (line_of c.args.f.now c.args.line) _ _ c.in_ok-answer.was c.in-Some.is
+          (line-answer.ensures.answer_as _ (done-stands pre.some_done.done)) line-answer.ensures.storable _ _ c.used_from-u.ensures
+          c.put_statement.ensures _ _ pre.lines_indexed;
       row_lt_row_room = (omega (arith, done-few pre.some_done.done), done-wires pre.some_done.done);
     }
 
 pub after-requires : goal.after-requires
 after-requires c =
-    let pre = c.requires in
     record {
-      rows_bound = done-rows pre.some_done.done;
-      bounds = (done-fits pre.some_done.done).bounds;
+      rows_bound = done-rows c.requires.some_done.done;
+      bounds = (done-fits c.requires.some_done.done).bounds;
     }
 
-pub returns-in-Skipped : goal.returns-in-Skipped
-returns-in-Skipped c =
-    let pre = c.requires in
-    let line-answer = c.line_answer-answer in record {
-      step_as = λ ss d. step-skipped d _ _ _ _ _ _ (line-answer.ensures.answer_as ss (done-stands d)) c.in-Skipped.is;
-      step_indexed = pre.lines_indexed;
-    }
+pub returns-in_err-answer : goal.returns-in_err-answer
+returns-in_err-answer c =
+    let p = err_from_is_err_and c.from_residual.result c.from_residual.ensures.1 in
+    rw (p.1, p.2) (record {
+      step_as = λ ss d. step-refused d _ _ _ (c.line_answer.ensures.answer_as ss (done-stands d)) _ c.in_err-answer.was;
+      step_indexed = tt;
+    })
 
-pub returns-in_default-outcome : goal.returns-in_default-outcome
-returns-in_default-outcome c = record {
-  step_as = λ ss d. step-refused d _ _ _ _ _ _ (c.line_answer-answer.ensures.answer_as ss (done-stands d)) (refused-left c.line_answer-answer.result.outcome c.in_default.not-Skipped c.in_default-outcome.not-Stated);
-  step_indexed = tt;
+pub returns-in_default : goal.returns-in_default
+returns-in_default c = record {
+  step_as = λ ss d. step-skipped d _ _ _ (c.line_answer.ensures.answer_as ss (done-stands d)) _ c.in_ok-answer.was c.in_default.not-Some;
+  step_indexed = c.requires.lines_indexed;
 }
 
 pub returns : goal.returns
 unfolding place_after
 returns c =
-    let line-answer = c.line_answer-answer in
-    let used-from = c.used_from-u in
-    let put-statement = c.put_statement in
-    let kind-code = c.kind_code-kind in
-    let index-line = c.index_line in record {
-      step_as = λ ss d. step-stated d _ _ _ _ _ _ c.in-Stated.is _ _ (line-answer.ensures.answer_as ss (done-stands d))
-          line-answer.ensures.storable _ _ _ _ _ used-from.ensures put-statement.ensures kind-code.ensures
+    let line-answer = c.line_answer in record {
+      step_as = λ ss d. step-stated d _ _ _ c.in_ok-answer.was c.in-Some.is (line-answer.ensures.answer_as ss (done-stands d))
+          line-answer.ensures.storable _ _ _ _ _ c.used_from-u.ensures c.put_statement.ensures c.kind_code-kind.ensures
           c.step_code.ensures (after_is _ _ _ _ c.after.ensures);
       step_indexed = lines-upto (ap (λ (p : Place). p.rows) c.after.ensures) (ap (λ (p : Place). p.wires) c.after.ensures)
-          index-line.ensures;
+          c.index_line.ensures;
     }
