@@ -18,8 +18,8 @@ use Rattle.scanner.specs.Words.{keyword_at}
 use Rattle.lists.specs.Tests.{cond-le}
 use Rattle.numbers.specs.Signed.{signed_of}
 use Rattle.numbers.specs.SignedLaws.{signed_word}
-use Rattle.tokens.specs.declared.Slot.{Slot}
-use Rattle.tokens.specs.declared.Slot.TheVariants.{Given, Absent}
+use Rattle.std.specs.Prelude.{Option as Optional, Some, None}
+use Rattle.tokens.specs.declared.Integer.{Integer}
 use Rattle.options.specs.Forms.{number_codes, option_codes, is_option}
 use Rattle.options.specs.Holds.{slot_of, slot_at, at, is_some, Holds}
 use Rattle.option_rules.specs.Numbers.{value_or, WordIs, options_good}
@@ -43,13 +43,13 @@ module _ (w t : ℤ) (ps : Ports) where
   fine-range h = rw h
 
 -- a port that is written
-port-held : (f : List ℕ) (d : Direction) (s : Slot) (ps : Ports) → cond (is_some (slot_of f s)) ((d, value_or (pos 0) f s) ∷ ps) ps ≡ with_port f d s ps
+port-held : (f : List ℕ) (d : Direction) (s : Optional Integer) (ps : Ports) → cond (is_some (slot_of f s)) ((d, value_or (pos 0) f s) ∷ ps) ps ≡ with_port f d s ps
 unfolding is_some slot_of value_or with_port
-port-held f d (Given z) ps = refl
-port-held f d Absent ps = refl
+port-held f d (Some z) ps = refl
+port-held f d None ps = refl
 
 module _ (f : List ℕ) (o : Options) (os : List Opt) (H : Holds f o os) where
-  among : (w : String) (d : Direction) (c : ℕ) → bytes w ≡ keyword_at c → is_option c ≡ true → (s : Slot) → at f o c ≡ slot_of f s → (ds : List (String × Direction)) → ports_among ((w, d) ∷ ds) os ≡ with_port f d s (ports_among ds os)
+  among : (w : String) (d : Direction) (c : ℕ) → bytes w ≡ keyword_at c → is_option c ≡ true → (s : Optional Integer) → at f o c ≡ slot_of f s → (ds : List (String × Direction)) → ports_among ((w, d) ∷ ds) os ≡ with_port f d s (ports_among ds os)
   unfolding ports_among
   among w d c e h s a ds = rw (has-held f o os H w c e h, number-held f o os H w c e h (pos 0) s a, a) (port-held f d s (ports_among ds os))
 

@@ -17,8 +17,8 @@ use Rattle.scanner.specs.Words.{keyword_at}
 use Rattle.lists.specs.Tests.{by-test, and-true-left, and-true-right}
 use Rattle.lists.specs.Bytes.{within-above}
 use Rattle.tokens.specs.Rows.{integer_in}
-use Rattle.tokens.specs.declared.Slot.{Slot}
-use Rattle.tokens.specs.declared.Slot.TheVariants.{Given, Absent}
+use Rattle.std.specs.Prelude.{Option as Optional, Some, None}
+use Rattle.tokens.specs.declared.Integer.{Integer}
 use Rattle.options.specs.Forms.{number_codes, is_option}
 use Rattle.options.specs.Holds.{first, slot_of, slot_at, at, is_some, fits, all_fit, Holds}
 use Rattle.option_rules.specs.Numbers.{value_or, slot_fits, options_good}
@@ -53,20 +53,20 @@ unfolding number_or first number_in
 number-first d w [] = refl
 number-first d w (o ∷ os) = by-test (same o.0 (bytes w)) (λ e. rw e) (λ e. rw e (number-first d w os))
 
-number-slot : (d : ℤ) (f : List ℕ) (s : Slot) → number_in d (slot_of f s) ≡ value_or d f s
+number-slot : (d : ℤ) (f : List ℕ) (s : Optional Integer) → number_in d (slot_of f s) ≡ value_or d f s
 unfolding number_in slot_of value_or
-number-slot d f (Given z) = refl
-number-slot d f Absent = refl
+number-slot d f (Some z) = refl
+number-slot d f None = refl
 
-fit-slot : (f : List ℕ) (s : Slot) → all_fit (slot_of f s) ≡ slot_fits f s
+fit-slot : (f : List ℕ) (s : Optional Integer) → all_fit (slot_of f s) ≡ slot_fits f s
 unfolding all_fit slot_of slot_fits fits all Option-to_list
-fit-slot f (Given z) = and-true (int32 (integer_in f z))
-fit-slot f Absent = refl
+fit-slot f (Some z) = and-true (int32 (integer_in f z))
+fit-slot f None = refl
 
-pub fits-value : (d : ℤ) (f : List ℕ) (s : Slot) → int32 d ≡ true → slot_fits f s ≡ true → int32 (value_or d f s) ≡ true
+pub fits-value : (d : ℤ) (f : List ℕ) (s : Optional Integer) → int32 d ≡ true → slot_fits f s ≡ true → int32 (value_or d f s) ≡ true
 unfolding slot_fits value_or
-fits-value d f (Given z) h k = k
-fits-value d f Absent h k = h
+fits-value d f (Some z) h k = k
+fits-value d f None h k = h
 
 six : (a b c x y z : Bool) → (a && (b && (c && (x && (y && (z && true)))))) ≡ ((a && (b && c)) && (x && (y && z)))
 six true true true x y z = ap (λ (b : Bool). x && (y && b)) (and-true z)
@@ -90,7 +90,7 @@ module _ (f : List ℕ) (o : Options) (os : List Opt) (H : Holds f o os) where
     unfolding has
     has-held = any-first (bytes w) os ∙ ap is_some held_first
 
-    pub number-held : (d : ℤ) (s : Slot) → at f o c ≡ slot_of f s → number_or d w os ≡ value_or d f s
+    pub number-held : (d : ℤ) (s : Optional Integer) → at f o c ≡ slot_of f s → number_or d w os ≡ value_or d f s
     number-held d s a = number-first d w os ∙ ap (number_in d) (held_first ∙ a) ∙ number-slot d f s
 
   pub options-held : good_options os ≡ options_good f o

@@ -56,12 +56,14 @@ struct Port {
     number: u32,
 }
 
+#[tactic(auto, unfolding(rules::specs::Bytes::within))]
 fn between(lo: u32, hi: u32, n: u32) -> bool
     ensures { result ≡ within lo hi n }
 {
     lo <= n && n <= hi
 }
 
+#[tactic(auto, unfolding(crate::specs::Numbers::slot_fits))]
 fn slot_fits(f: &[u8], s: Option<Integer>) -> bool
     ensures { result ≡ slot_fits f.now s }
 {
@@ -72,6 +74,7 @@ fn slot_fits(f: &[u8], s: Option<Integer>) -> bool
 }
 
 // An option stands once, and every number is within 32 bits.
+#[tactic(auto, unfolding(crate::specs::Numbers::options_good))]
 fn options_good(f: &[u8], o: Options) -> bool
     ensures { result ≡ options_good f.now o }
 {
@@ -85,6 +88,7 @@ fn options_good(f: &[u8], o: Options) -> bool
 }
 
 // The word of an option's number, or else d.
+#[tactic(auto, unfolding(crate::specs::Numbers::value_or, crate::specs::Numbers::slot_fits, rules::specs::Signals::twos_complement))]
 fn word_or(f: &[u8], s: Option<Integer>, d: u32) -> u32
     ensures { WordIs f.now s d result }
 {
@@ -120,6 +124,7 @@ fn port_of(f: &[u8], o: Options) -> Option<Port>
     joined(f, o.input, INPUT_CODE, behind)
 }
 
+#[tactic(auto, unfolding(crate::specs::Limits::flag_bits))]
 fn flag_bits(upto: bool, signed: bool) -> u32
     ensures { result ≡ flag_bits upto signed }
 {

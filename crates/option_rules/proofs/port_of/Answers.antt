@@ -10,15 +10,6 @@ use Rattle.rules.specs.Layout.{direction_code}
 use Rattle.option_rules.specs.Limits.{ports_in, ports_good}
 use Rattle.option_rules.proofs.port_of.Goals as goal
 
-pub joined-last-requires : goal.joined-last-requires
-joined-last-requires c = tt
-
-pub joined-behind-requires : goal.joined-behind-requires
-joined-behind-requires c = tt
-
-pub joined-requires : goal.joined-requires
-joined-requires c = tt
-
 pub returns : goal.returns
 unfolding ports_in ports_good port_of all direction_code Option-elim
 returns c = c.joined.ensures input _ refl (c.joined-behind.ensures output _ refl (c.joined-last.ensures inout [] refl (refl, refl, refl)))
