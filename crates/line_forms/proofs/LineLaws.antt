@@ -19,13 +19,13 @@ use Rattle.rules.specs.Shapes as shapes
 use Rattle.scanner.specs.Words.{keyword_number, keyword_at, place_in}
 use Rattle.lists.specs.Tests.{and-true-left, and-true-right}
 use Rattle.scanner.proofs.WordLaws.{keyword-back, keyword-number}
-use Rattle.tokens.specs.Rows.{line}
+use Rattle.tokens.specs.Rows.{front, line}
+use Rattle.tokens.specs.declared.Token.{Token}
+use Rattle.tokens.specs.declared.Token.TheVariants as row
 use Rattle.tokens.specs.Parts.{IdIs, IntegerIs, id_gives, integer_gives}
 use Rattle.tokens.specs.declared.Integer.{Integer}
-use Rattle.tokens.specs.declared.Id.{Id}
-use Rattle.tokens.specs.declared.Id.TheVariants as id
-use Rattle.tokens.specs.declared.Slot.{Slot}
-use Rattle.tokens.specs.declared.Slot.TheVariants as slot
+use Rattle.std.specs.Prelude.{Option as Optional, Some}
+use Rattle.scanner.specs.declared.parts.Span.{Span}
 use Rattle.tokens.proofs.TokenLaws.{line-end, line-there, line_row, by-line}
 use Rattle.tokens.proofs.Words.{word-is}
 use Rattle.line_forms.specs.Words.{starts, WordIs, announced, numbered}
@@ -38,11 +38,11 @@ given_below : {A : Type 0} (g : rules.Token → Option A) (f t : List ℕ) (i : 
 unfolding one
 given_below g f t i x e = line-there f t i (λ b. let q : one g (line f t i) ≡ none = rw b in let z : ◌≡◌ {A = ℕ} 0 1 = cc in omega arith)
 
-pub id_below : (t : List ℕ) (i a b : ℕ) (r : Id) → IdIs t i r → r ≡ id.Span a b → i < length t / 4
+pub id_below : (t : List ℕ) (i : ℕ) (s : Span) (r : Optional Span) → IdIs t i r → r ≡ Some s → i < length t / 4
 unfolding shapes.id id_gives
-id_below t i a b r h e = given_below shapes.is_id [] t i _ (rw e at (h []))
+id_below t i s r h e = given_below shapes.is_id [] t i _ (rw e at (h []))
 
-pub integer-below : (t : List ℕ) (i : ℕ) (z : Integer) (r : Slot) → IntegerIs t i r → r ≡ slot.Given z → i < length t / 4
+pub integer-below : (t : List ℕ) (i : ℕ) (z : Integer) (r : Optional Integer) → IntegerIs t i r → r ≡ Some z → i < length t / 4
 unfolding shapes.int integer_gives
 integer-below t i z r h e = given_below shapes.is_integer [] t i _ (rw e at (h []))
 
@@ -74,6 +74,14 @@ pub no_number : (w : String) → rules.is_keyword (bytes w) ≡ true → false �
 no_number w h =
     let k : keyword_number (bytes w) < 32 = ltb-true _ _ (sym (keyword-number (bytes w)) ∙ h) in
     sym (ne_eqb 32 (keyword_number (bytes w)) (λ e. omega arith))
+
+pub other_number : (f : List ℕ) (x : Token) (w : String) (ts : List rules.Token) → rules.is_keyword (bytes w) ≡ true → ((c : ℕ) → x ≡ row.Word c → ⊥) → starts w (front f x ts) ≡ eqb 32 (keyword_number (bytes w))
+unfolding front starts is_word
+other_number f (row.Name a b) w ts h n = no_number w h
+other_number f (row.Word c) w ts h n = absurd (n c refl)
+other_number f (row.Constant c) w ts h n = no_number w h
+other_number f (row.Mark b) w ts h n = no_number w h
+other_number f row.End w ts h n = no_number w h
 
 -- a row stands where a keyword does
 pub word_below : (w : String) (t : List ℕ) (i c : ℕ) → WordIs t i c → rules.is_keyword (bytes w) ≡ true → c ≡ keyword_number (bytes w) → i < length t / 4

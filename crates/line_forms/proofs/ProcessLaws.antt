@@ -3,7 +3,7 @@
 use Prim.Native.Nat.{ℕ, ◌+◌, ◌/◌, ◌<◌, ◌≤◌}
 use native.Mathlib.Omega.{arith}
 use mathlib.Core.Path.{◌≡◌, refl, sym, ◌∙◌}
-use mathlib.Core.Bool.{Bool, true, false, not, ◌&&◌, ◌||◌, false≢true}
+use mathlib.Core.Bool.{Bool, true, false, not, cond, ◌&&◌, ◌||◌, false≢true}
 use mathlib.Core.List.{List, [], ◌∷◌}
 use mathlib.Core.Option.{none}
 use lib.Dec.{eqb, ltb}
@@ -75,47 +75,30 @@ pub or-false : (b : Bool) → (b || false) ≡ b
 or-false true = refl
 or-false false = refl
 
-case-words : (deeper attributed : Bool) (c : ℕ) → (c ≡ 20 → ⊥) → begins (forms_in_case deeper attributed) c ≡ (eqb c 4 || (eqb c 21 || (not attributed && (eqb c 19 || eqb c 2))))
+case-words : (deeper attributed : Bool) (c : ℕ) → begins (forms_in_case deeper attributed) c ≡ (eqb c 4 || (eqb c 21 || (cond (eqb c 20) deeper (not attributed && (eqb c 19 || eqb c 2)))))
 unfolding process_open forms_in_case
-case-words true true c h = rw (ne_eqb c 20 h)
-case-words true false c h = rw (ne_eqb c 20 h, or-false (eqb c 2))
-case-words false true c h = refl
-case-words false false c h = rw (or-false (eqb c 2))
-
-case-switch : (deeper attributed : Bool) → begins (forms_in_case deeper attributed) 20 ≡ deeper
-unfolding process_open forms_in_case
-case-switch true true = refl
-case-switch true false = refl
-case-switch false true = refl
-case-switch false false = refl
+case-words true true c = by-test (eqb c 20) (λ e. rw (eqb-true c 20 e)) (λ e. rw e)
+case-words true false c = by-test (eqb c 20) (λ e. rw (eqb-true c 20 e)) (λ e. rw (e, or-false (eqb c 2)))
+case-words false true c = by-test (eqb c 20) (λ e. rw (eqb-true c 20 e)) (λ e. rw e)
+case-words false false c = by-test (eqb c 20) (λ e. rw (eqb-true c 20 e)) (λ e. rw (e, or-false (eqb c 2)))
 
 one_deeper : (k : ℕ) → ltb (k + 1) most_switches ≡ ltb k 15
 one_deeper k = by-test (ltb k 15) (λ e. lt-ltb (k + 1) 16 (let h = ltb-true k 15 e in omega arith) ∙ sym e) (λ e. le-ltb (k + 1) 16 (let h = ltb-false k 15 e in omega arith) ∙ sym e)
 
 module _ (first : Bool) where
-  pub body-begins : (attributed : Bool) (c : ℕ) → begins (forms in_process first attributed) c ≡ (eqb c 4 || (eqb c 20 || (not attributed && any (eqb c) (root_words 19))))
+  pub body_begins : (attributed : Bool) (c : ℕ) → begins (forms in_process first attributed) c ≡ (eqb c 4 || (eqb c 20 || (not attributed && any (eqb c) (root_words 19))))
   unfolding process_open root_words
-  body-begins true c = refl
-  body-begins false c = refl
+  body_begins true c = refl
+  body_begins false c = refl
 
-  pub switch-begins : (k : ℕ) (attributed : Bool) (c : ℕ) → begins (forms (in_switch k) first attributed) c ≡ (eqb c 4 || (eqb c 21 || (not attributed && eqb c 2)))
+  pub switch_begins : (k : ℕ) (attributed : Bool) (c : ℕ) → begins (forms (in_switch k) first attributed) c ≡ (eqb c 4 || (eqb c 21 || (not attributed && eqb c 2)))
   unfolding process_open
-  switch-begins k true c = refl
-  switch-begins k false c = rw (or-false (eqb c 2))
+  switch_begins k true c = refl
+  switch_begins k false c = rw (or-false (eqb c 2))
 
-  -- in a case, but for `switch`; and of `switch`
-  pub case-begins : (k : ℕ) (attributed : Bool) (c : ℕ) → (c ≡ 20 → ⊥) → begins (forms (in_case k) first attributed) c ≡ (eqb c 4 || (eqb c 21 || (not attributed && (eqb c 19 || eqb c 2))))
+  pub case_begins : (k : ℕ) (attributed : Bool) (c : ℕ) → begins (forms (in_case k) first attributed) c ≡ (eqb c 4 || (eqb c 21 || (cond (eqb c 20) (ltb k 15) (not attributed && (eqb c 19 || eqb c 2)))))
   unfolding process_open forms_in_case
-  case-begins k attributed c h = case-words (ltb (k + 1) most_switches) attributed c h
-
-  pub switch-deeper : (k : ℕ) (attributed : Bool) → begins (forms (in_case k) first attributed) 20 ≡ ltb k 15
-  unfolding process_open forms_in_case
-  switch-deeper k attributed = case-switch (ltb (k + 1) most_switches) attributed ∙ one_deeper k
-
-pub case-scope : (n k : ℕ) → Inside n → (n ≡ 3 → ⊥) → (n ≡ 4 → ⊥) → (n ≡ 5 → ⊥) → (n ≡ 6 → ⊥) → scope_of n k ≡ in_case k
-unfolding scope_of
-case-scope n k h a b c d =
-    rw (ne_eqb n 0 (λ q. omega (arith, h, q)), ne_eqb n 1 (λ q. omega (arith, h, q)), ne_eqb n 2 (λ q. omega (arith, h, q)), ne_eqb n 3 a, ne_eqb n 4 b, ne_eqb n 5 c, ne_eqb n 6 d)
+  case_begins k attributed c = case-words (ltb (k + 1) most_switches) attributed c ∙ rw (one_deeper k)
 
 -- ---- what they announce: the same in every scope
 

@@ -265,90 +265,62 @@ pub fn cell_line_kind(tokens: &[u32]) -> CellKind
 }
 
 // Whether the keyword c begins a line outside of switches: the word w, `sync` or `end`.
+#[tactic(auto, unfolding(crate::specs::Processes::root_words, rules::specs::Bytes::any, crate::proofs::ProcessLaws::process_open))]
 fn begins_root(c: usize, w: usize) -> bool
     ensures { result ≡ any (eqb c) (root_words w) }
 {
-    if c == w {
-        return true;
-    }
-    if c == SYNC {
-        return true;
-    }
-    c == END
+    c == w || c == SYNC || c == END
 }
 
 // The same before the switch of a process.
+#[tactic(auto, using(crate::proofs::ProcessLaws::body_begins))]
 fn begins_body(c: usize, attributed: bool) -> bool
     ensures { (first : Bool) → result ≡ begins (forms in_process first attributed) c }
 {
-    if c == ATTRIBUTE {
-        return true;
+    match c {
+        ATTRIBUTE | SWITCH => true,
+        _ => !attributed && begins_root(c, ASSIGN),
     }
-    if c == SWITCH {
-        return true;
-    }
-    if attributed {
-        return false;
-    }
-    begins_root(c, ASSIGN)
 }
 
 // The same in a switch before its first case.
+#[tactic(auto, using(crate::proofs::ProcessLaws::switch_begins))]
 fn begins_switch(c: usize, depth: u32, attributed: bool) -> bool
     ensures { (first : Bool) → result ≡ begins (forms (in_switch depth) first attributed) c }
 {
-    if c == ATTRIBUTE {
-        return true;
+    match c {
+        ATTRIBUTE | CASE => true,
+        END => !attributed,
+        _ => false,
     }
-    if c == CASE {
-        return true;
-    }
-    if attributed {
-        return false;
-    }
-    c == END
 }
 
 // The same in a case; a switch only where few enough are open.
+#[tactic(auto, using(crate::proofs::ProcessLaws::case_begins))]
 fn begins_case(c: usize, depth: u32, attributed: bool) -> bool
     ensures { (first : Bool) → result ≡ begins (forms (in_case depth) first attributed) c }
 {
-    if c == ATTRIBUTE {
-        return true;
+    match c {
+        ATTRIBUTE | CASE => true,
+        SWITCH => depth < MOST_AROUND,
+        ASSIGN | END => !attributed,
+        _ => false,
     }
-    if c == SWITCH {
-        return depth < MOST_AROUND;
-    }
-    if c == CASE {
-        return true;
-    }
-    if attributed {
-        return false;
-    }
-    if c == ASSIGN {
-        return true;
-    }
-    c == END
 }
 
 // The same in any scope of a process; depth: how many switches are open around the innermost one.
+#[tactic(auto, unfolding(context::specs::Place::scope_of))]
 fn begins_line(c: usize, scope: u32, depth: u32, attributed: bool) -> bool
     requires { Inside scope }
     ensures { (first : Bool) → result ≡ begins (forms (scope_of scope depth) first attributed) c }
 {
-    if scope == IN_PROCESS {
-        return begins_body(c, attributed);
+    match scope {
+        IN_PROCESS => begins_body(c, attributed),
+        IN_TAIL => begins_root(c, ASSIGN),
+        IN_SYNC => begins_root(c, UPDATE),
+        IN_SWITCH => begins_switch(c, depth, attributed),
+        _ => begins_case(c, depth, attributed),
     }
-    if scope == IN_TAIL {
-        return begins_root(c, ASSIGN);
-    }
-    if scope == IN_SYNC {
-        return begins_root(c, UPDATE);
-    }
-    if scope == IN_SWITCH {
-        return begins_switch(c, depth, attributed);
-    }
-    begins_case(c, depth, attributed)
 }
 
 // What stands behind `sync`: one of the eight words from `global` to `edge`.

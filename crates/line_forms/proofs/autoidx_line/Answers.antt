@@ -11,8 +11,8 @@ unfolding shapes.of₁ shapes.after shapes.give shapes.whole integer_gives form_
 returns-in_default c = (λ f. rw (c.integer_at.ensures f, c.in_default.is), tt)
 
 pub overflow_add-i : goal.overflow_add-i
-overflow_add-i c = omega (arith, integer-below _ _ _ _ c.integer_at.ensures c.in-Given.is)
+overflow_add-i c = omega (arith, integer-below _ _ _ _ c.integer_at.ensures c.in-Some.is)
 
 pub returns : goal.returns
 unfolding shapes.of₁ shapes.after shapes.give shapes.whole integer_gives ended form_of
-returns c = (λ f. rw (c.integer_at.ensures f, c.in-Given.is) (c.finished.ensures.0 f), c.finished.ensures.1 tt)
+returns c = (λ f. rw (c.integer_at.ensures f, c.in-Some.is) (c.finished.ensures.0 f), c.finished.ensures.1 tt)

@@ -12,12 +12,12 @@ unfolding shapes.of₁ shapes.after shapes.give shapes.whole id_gives form_of
 returns-in_default c = (λ f. rw (c.id_at.ensures f, c.in_default.is), tt)
 
 pub overflow_add-i : goal.overflow_add-i
-overflow_add-i c = omega (arith, id_below _ _ _ _ _ c.id_at.ensures c.in-Span.is)
+overflow_add-i c = omega (arith, id_below _ _ _ _ c.id_at.ensures c.in-Some.is)
 
 pub returns : goal.returns
 unfolding shapes.of₁ shapes.after shapes.give shapes.whole id_gives ended form_of name_in
 returns c =
     elim c.if-process.branch [
-      | then-process w ↦ (λ f. rw (c.id_at.ensures f, c.in-Span.is, w.if-process.true) (rw w.form-is at (c.finished.ensures.0 f)), rw w.form-is at c.finished.ensures.1 tt)
-      | else-process w ↦ (λ f. rw (c.id_at.ensures f, c.in-Span.is, w.if-process.false) (rw w.form-is at (c.finished.ensures.0 f)), rw w.form-is at c.finished.ensures.1 tt)
+      | then-process w ↦ (λ f. rw (c.id_at.ensures f, c.in-Some.is, w.if-process.true) (rw w.form-is at (c.finished.ensures.0 f)), rw w.form-is at c.finished.ensures.1 tt)
+      | else-process w ↦ (λ f. rw (c.id_at.ensures f, c.in-Some.is, w.if-process.false) (rw w.form-is at (c.finished.ensures.0 f)), rw w.form-is at c.finished.ensures.1 tt)
     ]

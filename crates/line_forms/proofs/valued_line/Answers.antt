@@ -12,14 +12,14 @@ unfolding shapes.of₂ shapes.of₁ shapes.after shapes.give shapes.whole id_giv
 returns-in_default c = (λ f. rw (c.id_at.ensures f, c.in_default.is), λ _. tt)
 
 pub overflow_add-j : goal.overflow_add-j
-overflow_add-j c = omega (arith, id_below _ _ _ _ _ c.id_at.ensures c.in-Span.is)
+overflow_add-j c = omega (arith, id_below _ _ _ _ c.id_at.ensures c.in-Some.is)
 
 pub returns-in_default-literal_at : goal.returns-in_default-literal_at
 unfolding shapes.of₂ shapes.of₁ shapes.after shapes.give shapes.whole id_gives literal_gives form_of
-returns-in_default-literal_at c = (λ f. rw (c.id_at.ensures f, c.in-Span.is, c.literal_at.ensures.0 f, c.in_default-literal_at.is), λ _. tt)
+returns-in_default-literal_at c = (λ f. rw (c.id_at.ensures f, c.in-Some.is, c.literal_at.ensures.0 f, c.in_default-literal_at.is), λ _. tt)
 
 pub overflow_add-j-2 : goal.overflow_add-j-2
-overflow_add-j-2 c = omega (arith, id_below _ _ _ _ _ c.id_at.ensures c.in-Span.is)
+overflow_add-j-2 c = omega (arith, id_below _ _ _ _ c.id_at.ensures c.in-Some.is)
 
 pub returns : goal.returns
 unfolding shapes.of₂ shapes.of₁ shapes.after shapes.give shapes.whole id_gives literal_gives ended form_of name_in
@@ -28,13 +28,13 @@ returns c =
     let literal-at = c.literal_at in
     elim c.if-attribute.branch [
       | then-attribute w ↦ (
-        λ f. rw (id-at.ensures f, c.in-Span.is, literal-at.ensures.0 f, c.in-Read.is, w.if-attribute.true)
+        λ f. rw (id-at.ensures f, c.in-Some.is, literal-at.ensures.0 f, c.in-Some-literal_at.is, w.if-attribute.true)
             (rw w.form-is at (c.finished.ensures.0 f)),
-        λ h. rw w.form-is at c.finished.ensures.1 (_, rw c.in-Read.is at literal-at.ensures.1),
+        λ h. rw w.form-is at c.finished.ensures.1 (_, rw c.in-Some-literal_at.is at literal-at.ensures.1),
       )
       | else-attribute w ↦ (
-        λ f. rw (id-at.ensures f, c.in-Span.is, literal-at.ensures.0 f, c.in-Read.is, w.if-attribute.false)
+        λ f. rw (id-at.ensures f, c.in-Some.is, literal-at.ensures.0 f, c.in-Some-literal_at.is, w.if-attribute.false)
             (rw w.form-is at (c.finished.ensures.0 f)),
-        λ h. rw w.form-is at c.finished.ensures.1 (h, (_, rw c.in-Read.is at literal-at.ensures.1)),
+        λ h. rw w.form-is at c.finished.ensures.1 (h, (_, rw c.in-Some-literal_at.is at literal-at.ensures.1)),
       )
     ]
