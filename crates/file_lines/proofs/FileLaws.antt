@@ -2,11 +2,11 @@
 -- Assumes nothing.
 use Prim.Native.Nat.{ℕ, zero-le, ◌-◌, ◌≤◌, ◌<◌}
 use mathlib.Core.Path.{◌≡◌, refl, sym, ap, ◌∙◌, subst}
-use mathlib.Core.Bool.{Bool, true, false, cond, and-false}
+use mathlib.Core.Bool.{Bool, true, false, cond}
 use mathlib.Core.List.{List, [], ◌∷◌, reverse, reverse-reverse}
 use native.Mathlib.Omega.{arith}
 use lib.Dec.{ltb}
-use Rattle.std.specs.Prelude.{Ok, Err, Result}
+use Rattle.std.specs.Prelude.{Some, None, Ok, Err, Result, Option as Optional}
 use lib.ListN.{length, drop, drop_of_length-le}
 use borrow.Author.Tests.{ltb-false}
 use Rattle.rules.specs.Lines as rules
@@ -33,7 +33,7 @@ use Rattle.context.proofs.PlaceLaws.{closes-place}
 use Rattle.admitted.specs.Admitted.{admitted}
 use Rattle.netlist.specs.Laid.{rooms_of, Laid}
 use Rattle.goal.specs.Settled.{stop_of}
-use Rattle.goal.specs.declared.Goal.{Goal}
+use Rattle.numbers.specs.declared.kinds.ModuleNumber.{ModuleNumber}
 use Rattle.netlist.specs.Tables.{Tables}
 use Rattle.netlist.specs.declared.results.Refused.{Refused}
 use Rattle.layout.specs.Put.{tables_of}
@@ -203,11 +203,12 @@ module _ {stop : Past → Bool} {f scratch : List ℕ} {p : Place} {u : Sizes} {
 
 -- ---- no goal
 
-pub no-goal : (g : Goal) (n f : List ℕ) → g.some ≡ false → read_to (stop_of g n) f ≡ read_any f
+pub no-goal : (n f : List ℕ) → read_to (stop_of None n) f ≡ read_any f
 unfolding stop_of read_any
-no-goal g n f e = until-never (stop_of g n) (λ q. rw e) (length f) (lines f) []
+no-goal n f = until-never (stop_of None n) (λ q. refl) (length f) (lines f) []
 
 -- no statement settles anything
-pub none-settled : (g : Goal) (n : List ℕ) → stop_of g n [] ≡ false
+pub none-settled : (g : Optional ModuleNumber) (n : List ℕ) → stop_of g n [] ≡ false
 unfolding stop_of settles
-none-settled g n = and-false g.some
+none-settled (Some m) n = refl
+none-settled None n = refl

@@ -7,7 +7,7 @@ use mathlib.Core.Option.{Option, none, some}
 use mathlib.Core.Bool.{Bool, true, false, cond}
 use lib.IntN.{ℤ, pos}
 use lib.Dec.{ltb}
-use Rattle.std.specs.Prelude.{Ok, Err, Result}
+use Rattle.std.specs.Prelude.{Some, Ok, Err, Result, Option as Optional}
 use lib.ListN.{length}
 use borrow.Author.Tests.{lt-ltb, le-ltb}
 use Rattle.rules.specs.Limits.{longest_file, names_length, wires_length}
@@ -30,7 +30,7 @@ use Rattle.netlist.specs.WireLaws.{wired-padded}
 use Rattle.netlist.specs.Tables.{Tables}
 use Rattle.netlist.specs.declared.results.Refused.{Refused}
 use Rattle.goal.specs.Settled.{stop_of}
-use Rattle.goal.specs.declared.Goal.{Goal}
+use Rattle.numbers.specs.declared.kinds.ModuleNumber.{ModuleNumber}
 use Rattle.modules.specs.Ranges.{wire_range}
 use Rattle.modules.specs.HeadLaws.{standing-headed}
 use Rattle.modules.specs.WireLaws.{design-range}
@@ -62,8 +62,8 @@ module _ (ss : List Statement) (p : Place) (u : Sizes) (t : Tables) (d : Done (r
 -- ---- of the file
 
 -- a goal in this module
-abbrev pub goal_in : ℕ → Goal
-goal_in m = record { some = true; «module» = m }
+abbrev pub goal_in : ℕ → Optional ModuleNumber
+goal_in m = Some (record { 0 = m })
 
 module _ (f : List ℕ) (m : ℕ) (n : Name) where
   pub sought-long : 32768 < length f → wire_sought f m n ≡ stops 2 0

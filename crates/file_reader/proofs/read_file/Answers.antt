@@ -1,5 +1,3 @@
-use mathlib.Core.Path.{refl}
-use mathlib.Core.Bool.{false}
 use Rattle.file_lines.proofs.FileLaws.{no-goal}
 use Rattle.file_reader.proofs.read_file.Goals as goal
 
@@ -11,4 +9,4 @@ read_until-requires c = record {
 
 pub returns : goal.returns
 returns c =
-    rw (← no-goal (record { some = false; «module» = 0 }) c.args.f.now c.args.f.now refl) c.read_until.ensures
+    rw (← no-goal c.args.f.now c.args.f.now) c.read_until.ensures
