@@ -8,7 +8,9 @@ use native.Mathlib.Omega.{arith}
 use lib.ListN.{length, get_or, take, replicate, length-append, length-map, length-replicate, length-reverse, get_or-replicate, get_or-append}
 use lib.Seq.{length-take-le, take_all, get_or-append-add}
 use lib.IntN.{ℤ}
-use Rattle.tables.specs.Store.{store, store-store}
+use Rattle.std.proofs.lemmas.Slice.{put_mid-paste}
+use borrow.Rule.Slice.PartMut.{put_mid}
+use Rattle.tables.specs.Store.{store, store-eq, store-store}
 use Rattle.rules.specs.Bytes.{byte}
 use Rattle.rules.specs.Tokens.{Digit, S0, S1, Sx, Sz, Sm, Sa, Literal, value, integer, string, digit}
 use Rattle.rules.specs.Numbers.{good_literal}
@@ -49,20 +51,17 @@ module _ (x fills : ℕ) (bs : List ℕ) where
   unfolding filled_codes
   filled-long = rw (length-append, length-replicate, length-map)
 
-  pub filled-front : (j : ℕ) → j < fills → x ≡ get_or (filled_codes x fills bs) j 0
+  -- what fills is stored, and then the digits behind it
+  pub stored-filled :
+      (l ys : List ℕ) (at k n : ℕ) → ys ≡ replicate n x → n ≡ fills → k ≡ fills → at + fills ≤ length l →
+      store (put_mid at k l ys) (at + fills) (map (λ b. digit_code (digit b)) bs) ≡ store l at (filled_codes x fills bs)
   unfolding filled_codes
-  filled-front j h =
+  stored-filled l ys at k n e m q h =
       let z : List ℕ = replicate fills x in
-      let l : j < length z = rw length-replicate h in
-      sym (get_or-append z (map (λ b. digit_code (digit b)) bs) 0 j l ∙ get_or-replicate fills j x 0 h)
-
-  pub filled-digit : (j : ℕ) → fills ≤ j → j < fills + length bs → digit_code (digit (get_or bs (j - fills) 0)) ≡ get_or (filled_codes x fills bs) j 0
-  unfolding filled_codes
-  filled-digit j h l =
-      let z : List ℕ = replicate fills x in
-      let e : j ≡ length z + (j - fills) = rw length-replicate (omega arith) in
-      let ds : List ℕ = map (λ b. digit_code (digit b)) bs in
-      sym (ap (λ (n : ℕ). get_or (z ++ ds) n 0) e ∙ get_or-append-add z ds (j - fills) 0 ∙ map_at (λ b. digit_code (digit b)) bs (j - fills) 0 0 (omega arith))
+      let w : length z ≡ fills = length-replicate fills x in
+      let p : put_mid at k l ys ≡ store l at z =
+      put_mid-paste at k l ys z fills (rw (e, m)) (sym q) (sym w) ∙ rw (take_all fills z (omega (arith, w))) (sym (rw w at (store-eq l at z (omega (arith, w))))) in
+      rw p (rw w at (store-store l at z (map (λ b. digit_code (digit b)) bs)))
 
 -- what fills it up to the width, and the digits as they stand
 pub value-codes : (w : ℕ) (bs : List ℕ) → codes (value w (map digit bs)) ≡ filled_codes (filler_code bs) (w - length bs) bs

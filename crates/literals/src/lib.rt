@@ -1,7 +1,7 @@
 // The codes of the bits of a line's constants, highest first.
 #![tactic(auto)]
 
-ghost use Rattle.std.specs.Prelude.{◌≡◌, true, map, reverse, ◌+◌, ◌*◌, ◌≤◌, ◌<◌, length, drop, get_or};
+ghost use Rattle.std.specs.Prelude.{◌≡◌, true, map, reverse, ◌+◌, ◌*◌, ◌≤◌, length, drop};
 ghost use Rattle.rules.specs.Limits.{most_width};
 ghost use Rattle.rules.specs.Tokens.{digit, value, integer, string};
 ghost use Rattle.rules.specs.Numbers.{int32, good_literal};
@@ -10,7 +10,7 @@ ghost use Rattle.rules.specs.Layout.{digit_code};
 ghost use Rattle.tables.specs.Store.{store};
 ghost use Rattle.strings.specs.Decoded.{decoded, closes};
 ghost use Rattle.tokens.specs.Rows.{integer_in, literal_in};
-ghost use Rattle.literals.specs.Codes.{Whole, codes, word_codes, filled_codes, filler_code};
+ghost use Rattle.literals.specs.Codes.{Whole, codes, word_codes, filler_code};
 
 use literal_rules::{BYTE_BITS, INTEGER_BITS, value_digits};
 use numbers::signed::{bit_of, word_of};
@@ -84,26 +84,15 @@ fn filler_code(ds: &[u8]) -> u32
     top
 }
 
-// The code at place j of a value that so many of this code fill.
-fn filled_code(filler: u32, fills: usize, ds: &[u8], j: usize) -> u32
-    requires { j < fills + length ds.now }
-    ensures { result ≡ get_or (filled_codes filler fills ds.now) j 0 }
-{
-    if j < fills {
-        return filler;
-    }
-    digit_code(ds[j - fills])
-}
-
 // The digits of a value, highest first, filled up to its width.
 fn put_digits(width: usize, ds: &[u8], out: &mut [u32], at: usize)
     requires { (length ds.now ≤ width) × (at + width ≤ length out.old) }
     ensures { out.new ≡ store out.old at (codes (value width (map digit ds.now))) }
 {
-    let fills = width - ds.len();
-    let filler = filler_code(ds);
-    for j in 0..width {
-        out[at + j] = filled_code(filler, fills, ds, j);
+    let digits = at + (width - ds.len());
+    out[at..digits].fill(filler_code(ds));
+    for (j, d) in ds.iter().enumerate() {
+        out[digits + j] = digit_code(*d);
     }
 }
 
