@@ -9,7 +9,7 @@ use lib.Dec.{ltb}
 use lib.ListN.{length, get_or, take, drop}
 use lib.Seq.{slice, length-slice, append_snoc}
 use borrow.Author.Tests.{ltb-true, ltb-false}
-use Rattle.std.specs.Prelude.{Ok, Err}
+use Rattle.std.specs.Prelude.{Option, Some, None, Result, Ok, Err}
 use Rattle.rules.specs.Tokens as rules
 use Rattle.lists.specs.Tests.{by-test}
 use Rattle.lists.specs.Parts.{slice-part}
@@ -20,7 +20,7 @@ use Rattle.tokens.proofs.TokenLaws.{words_back, length-row_words, row_same, put-
 use Rattle.lexer.specs.Lexemes.{Held, step_of, StepIs}
 use Rattle.lexer.specs.Lines.{lexed_of, LexedIs}
 use Rattle.lexer.specs.declared.Lexeme.{Lexeme}
-use Rattle.lexer.specs.declared.Lexeme.TheVariants as lexeme
+use Rattle.lexer.specs.declared.BadToken.{BadToken}
 use Rattle.lexer.proofs.Prefix.{length-prefix, held-file, token-file, held_small, held-present}
 
 -- tokens in front of what the rules say of the rest
@@ -74,7 +74,7 @@ start f t from end h k =
     }
 
 -- the line as a part of the file's first bytes, and what stands there
-pub told : (f : List ℕ) (end i : ℕ) (r q : Lexeme) → StepIs (take (end - 0) (drop 0 f)) i r → r ≡ q → StepIs (take end f) i q
+pub told : (f : List ℕ) (end i : ℕ) (r q : Result (Option Lexeme) BadToken) → StepIs (take (end - 0) (drop 0 f)) i r → r ≡ q → StepIs (take end f) i q
 told f end i r q S e = let T : StepIs (take end f) i r = rw (sym (slice-part 0 end f)) at S in rw e at T
 
 module _ (f old t : List ℕ) (from end i n : ℕ) (k : end ≤ length f) (R : Reached f old t from end i n) where
@@ -92,7 +92,7 @@ module _ (f old t : List ℕ) (from end i n : ℕ) (k : end ≤ length f) (R : R
   ends_by zero e = refl
   ends_by (suc m) e = rw e
 
-  pub ended : StepIs (take end f) i lexeme.Done → LexedIs f from end old t (Ok n)
+  pub ended : StepIs (take end f) i (Ok None) → LexedIs f from end old t (Ok n)
   unfolding step_of lexed_of behind
   ended S =
       record {
@@ -101,7 +101,7 @@ module _ (f old t : List ℕ) (from end i n : ℕ) (k : end ≤ length f) (R : R
         kept = R.kept;
       }
 
-  pub broke : (p : ℕ) → StepIs (take end f) i (lexeme.Wrong p) → LexedIs f from end old t (Err (record { at = p }))
+  pub broke : (p : ℕ) → StepIs (take end f) i (Err (record { at = p })) → LexedIs f from end old t (Err (record { at = p }))
   unfolding step_of lexed_of behind rules.tokens_by
   broke p S =
       let l : p < end = omega (arith, S.lies.1, length-prefix f end k) in
@@ -111,7 +111,7 @@ module _ (f old t : List ℕ) (from end i n : ℕ) (k : end ≤ length f) (R : R
         kept = R.kept;
       }
 
-  module _ (x : Token) (next : ℕ) (S : StepIs (take end f) i (lexeme.Token x next)) where
+  module _ (x : Token) (next : ℕ) (S : StepIs (take end f) i (Ok (Some (record { token = x; next = next })))) where
     pub within : (i < next) × (next ≤ end) × Held (take end f) x
     within = (S.lies.0, omega (arith, S.lies.1, length-prefix f end k), S.lies.2)
 

@@ -12,7 +12,7 @@ use lib.Seq.{slice, slice_empty, length-slice, drop-cons}
 use mir.Syntax.{w8}
 use mir.Val.{Fits}
 use borrow.Author.Tests.{lt-ltb, le-ltb, eq-eqb, ne_eqb}
-use Rattle.std.specs.Prelude.{Option, Some, None}
+use Rattle.std.specs.Prelude.{Option, Some, None, Result, Ok, Err, ok_or}
 use Rattle.rules.specs.Bytes.{within, run, legal, is_name_start, is_name_byte}
 use Rattle.rules.specs.Tokens as rules
 use Rattle.numbers.specs.Signed.{integer_of}
@@ -33,14 +33,14 @@ use Rattle.tokens.specs.declared.Token.{Token}
 use Rattle.tokens.specs.declared.Token.TheVariants as token
 use Rattle.lexer.specs.Lexemes.{Held, Lies, step_of, Steps, StepIs, Starts}
 use Rattle.lexer.specs.declared.Lexeme.{Lexeme}
-use Rattle.lexer.specs.declared.Lexeme.TheVariants as lexeme
+use Rattle.lexer.specs.declared.BadToken.{BadToken}
 use Rattle.lexer.proofs.ByClass.{step-blanks, not-blank, at_name, at-word, at-number, at-minus, at-string, at_mark, at-hash, at_other, past, started}
 
 -- the answer of one step is that of another that is the same
-pub steps-by : (s : List ℕ) (at : ℕ) (x y : rules.Step) (r : Lexeme) → x ≡ y → Steps s at y r → Steps s at x r
+pub steps-by : (s : List ℕ) (at : ℕ) (x y : rules.Step) (r : Result (Option Lexeme) BadToken) → x ≡ y → Steps s at y r → Steps s at x r
 steps-by s at x y r e q = record { is = e ∙ q.is; lies = q.lies }
 
-pub wrong-at : (s : List ℕ) (p : ℕ) (x : rules.Step) → p < length s → x ≡ rules.wrong (drop p s) → Steps s p x (lexeme.Wrong p)
+pub wrong-at : (s : List ℕ) (p : ℕ) (x : rules.Step) → p < length s → x ≡ rules.wrong (drop p s) → Steps s p x (Err (record { at = p }))
 unfolding step_of
 wrong-at s p x h e = record { is = e; lies = omega arith }
 
@@ -69,45 +69,45 @@ module _ (s : List ℕ) (at : ℕ) where
   parted-at h = rw (drop-cons s at 0) (ap (λ (f : ℕ → Bool). f (get_or s at 0)) class-parting)
 
 module _ (s : List ℕ) (p : ℕ) (t : Token) (e : ℕ) (r : Bool) (q : r ≡ rules.parted (drop e s)) (h : (p < e) × (e ≤ length s) × Held s t) where
-  pub separate-token : r ≡ true → Steps s p (rules.separate (drop p s) (token_in s t) (drop e s)) (lexeme.Token t e)
+  pub separate-token : r ≡ true → Steps s p (rules.separate (drop p s) (token_in s t) (drop e s)) (Ok (Some (record { token = t; next = e })))
   unfolding rules.separate step_of
   separate-token x = record { is = rw (← q, x); lies = h }
 
-  pub separate-wrong : r ≡ false → Steps s p (rules.separate (drop p s) (token_in s t) (drop e s)) (lexeme.Wrong p)
+  pub separate-wrong : r ≡ false → Steps s p (rules.separate (drop p s) (token_in s t) (drop e s)) (Err (record { at = p }))
   unfolding rules.separate
   separate-wrong x = wrong-at s p _ (omega (arith, h.0, h.1)) (rw (← q, x))
 
 -- ---- blanks
 
-lies-on : (s : List ℕ) (at p : ℕ) → at ≤ p → (r : Lexeme) → Lies s p r → Lies s at r
-lies-on s at p h (lexeme.Token t e) q = (omega (arith, q.0), q.1, q.2)
-lies-on s at p h lexeme.Done q = tt
-lies-on s at p h (lexeme.Wrong x) q = (omega (arith, q.0), q.1)
+lies-on : (s : List ℕ) (at p : ℕ) → at ≤ p → (r : Result (Option Lexeme) BadToken) → Lies s p r → Lies s at r
+lies-on s at p h (Ok (Some l)) q = (omega (arith, q.0), q.1, q.2)
+lies-on s at p h (Ok None) q = tt
+lies-on s at p h (Err b) q = (omega (arith, q.0), q.1)
 
 module _ (s : List ℕ) (at p : ℕ) (e : p ≡ end_of (in_class 3 3) s at) where
   -- what stands behind the blanks
-  pub blanks-then : (r : Lexeme) → StepIs s p r → StepIs s at r
+  pub blanks-then : (r : Result (Option Lexeme) BadToken) → StepIs s p r → StepIs s at r
   blanks-then r q =
       record {
         is = step-blanks s at ∙ ap (λ (k : ℕ). rules.step (drop k s)) (sym e) ∙ q.is;
         lies = lies-on s at p (omega (arith, end_of-low (in_class 3 3) s at)) r q.lies;
       }
 
-  pub step_end : length s ≤ p → StepIs s at lexeme.Done
+  pub step_end : length s ≤ p → StepIs s at (Ok None)
   unfolding step_of rules.step
-  step_end h = blanks-then lexeme.Done (record { is = rw (drop_of_length-le s h); lies = tt })
+  step_end h = blanks-then (Ok None) (record { is = rw (drop_of_length-le s h); lies = tt })
 
   module _ (h : p < length s) (k : ℕ) (c : k ≡ class_of (get_or s p 0)) where
-    pub step-mark : k ≡ 4 → get_or s p 0 < 256 → StepIs s at (lexeme.Token (token.Mark (get_or s p 0)) (p + 1))
+    pub step-mark : k ≡ 4 → get_or s p 0 < 256 → StepIs s at (Ok (Some (record { token = token.Mark (get_or s p 0); next = p + 1 })))
     unfolding step_of token_in front
     step-mark x b = blanks-then _ (record { is = at_mark s p h k c x; lies = (omega arith, omega arith, b) })
 
-    pub step-hash : k ≡ 5 → StepIs s at lexeme.Done
+    pub step-hash : k ≡ 5 → StepIs s at (Ok None)
     unfolding step_of
-    step-hash x = blanks-then lexeme.Done (record { is = at-hash s p h k c x; lies = tt })
+    step-hash x = blanks-then (Ok None) (record { is = at-hash s p h k c x; lies = tt })
 
-    pub step_other : k < 7 → (k ≡ 4 → ⊥) → (k ≡ 5 → ⊥) → StepIs s at (lexeme.Wrong p)
-    step_other l m o = blanks-then (lexeme.Wrong p) (wrong-at s p _ h (at_other s p h k c (not-blank s at p e h) l m o))
+    pub step_other : k < 7 → (k ≡ 4 → ⊥) → (k ≡ 5 → ⊥) → StepIs s at (Err (record { at = p }))
+    step_other l m o = blanks-then (Err (record { at = p })) (wrong-at s p _ h (at_other s p h k c (not-blank s at p e h) l m o))
 
     pub starts : (lo hi : ℕ) → lo ≤ k → k ≤ hi → Starts s p lo hi
     starts lo hi l m = record { inside = h; low = omega arith; high = omega arith }
@@ -126,18 +126,18 @@ module _ (s : List ℕ) (p e : ℕ) where
         let l : is_name_start (get_or s p 0) ≡ true = ap (λ (f : ℕ → Bool). f (get_or s p 0)) class-name-start ∙ started s p 7 7 c 7 7 (omega arith) (omega arith) in
         rw (← length-slice p e s b.1, name-run) (legal-run (get_or s p 0) (drop (suc p) s) l)
 
-    pub name-token : 2 ≤ e - p → e - p ≤ 255 → StepIs s p (lexeme.Token (token.Name p e) e)
+    pub name-token : 2 ≤ e - p → e - p ≤ 255 → StepIs s p (Ok (Some (record { token = token.Name p e; next = e })))
     unfolding rules.name_step step_of token_in front
     name-token h k =
         let b = ends-past s p 7 7 4 14 e c (omega arith) (omega arith) q in
         let t : legal (slice p e s) ≡ true = name-legal ∙ within-yes 2 255 (e - p) h k in
         record { is = at_name s p c e q ∙ rw t; lies = (b.0, b.1, (omega (arith, b.0), b.1, t)) }
 
-    pub name-few : e - p < 2 → StepIs s p (lexeme.Wrong p)
+    pub name-few : e - p < 2 → StepIs s p (Err (record { at = p }))
     unfolding rules.name_step
     name-few h = wrong-at s p _ c.inside (at_name s p c e q ∙ rw (name-legal, within-below 2 255 (e - p) h))
 
-    pub name-many : 255 < e - p → StepIs s p (lexeme.Wrong p)
+    pub name-many : 255 < e - p → StepIs s p (Err (record { at = p }))
     unfolding rules.name_step
     name-many h = wrong-at s p _ c.inside (at_name s p c e q ∙ rw (name-legal, within-above 2 255 (e - p) h))
 
@@ -152,7 +152,7 @@ module _ (s : List ℕ) (p e : ℕ) where
         let back : keyword_at k ≡ slice p e s = ap keyword_at (sym number) ∙ keyword-back (slice p e s) is in
         at-word s p c e q ∙ rw (is, back)
 
-    pub word-wrong : 32 ≤ k → StepIs s p (lexeme.Wrong p)
+    pub word-wrong : 32 ≤ k → StepIs s p (Err (record { at = p }))
     unfolding rules.word_step
     word-wrong h = wrong-at s p _ c.inside (at-word s p c e q ∙ rw (keyword-number (slice p e s), number, le-ltb k 32 h))
 
@@ -192,7 +192,7 @@ module _ (s : List ℕ) (p e : ℕ) where
         let b = ends 9 11 s (p + 1) e q (omega (arith, c.inside)) in
         at-minus s p c e q ∙ minus-digits (slice (p + 1) e s) (rw (length-slice (p + 1) e s b.1) (omega arith))
 
-    pub minus-wrong : e ≤ p + 1 → StepIs s p (lexeme.Wrong p)
+    pub minus-wrong : e ≤ p + 1 → StepIs s p (Err (record { at = p }))
     unfolding rules.minus_step
     minus-wrong h =
         let b = ends 9 11 s (p + 1) e q (omega (arith, c.inside)) in
@@ -204,6 +204,12 @@ module _ (s : List ℕ) (p : ℕ) (c : Starts s p 8 8) (r : Option ℕ) (q : Clo
   unfolding rules.string_step token_in front literal_in
   string-token e x = at-string s p c ∙ rw (close-closed s (p + 1) r q e x)
 
-  pub string-wrong : r ≡ None → StepIs s p (lexeme.Wrong p)
+  string-broken : r ≡ None → StepIs s p (Err (record { at = p }))
   unfolding rules.string_step
-  string-wrong x = wrong-at s p _ c.inside (at-string s p c ∙ rw (close-broken s (p + 1) r q x))
+  string-broken x = wrong-at s p _ c.inside (at-string s p c ∙ rw (close-broken s (p + 1) r q x))
+
+  pub string-wrong : (b : BadToken) → r ≡ None → Err b ≡ ok_or r (record { at = p }) → StepIs s p (Err b)
+  string-wrong b x e =
+      let k : ◌≡◌ {A = Result ℕ BadToken} (Err b) (Err (record { at = p })) = rw x at e in
+      let j : b ≡ record { at = p } = cc in
+      rw j (string-broken x)

@@ -1,91 +1,63 @@
 -- The class of the first byte behind the blanks decides.
 use native.Mathlib.Omega.{arith}
-use Prim.Native.Nat.{◌≤◌}
+use Rattle.std.proofs.lemmas.Result.{err_from_is_err_and}
 use Rattle.lexer.proofs.ByClass.{class-le}
-use Rattle.lexer.proofs.Steps.{byte_small, blanks-then, step_end, step-mark, step-hash, step_other, starts}
+use Rattle.lexer.proofs.Steps.{byte_small, blanks-then, step_end, step-mark, step-hash, step_other}
 use Rattle.lexer.proofs.step.Goals as goal
-
-pub run_end-p-requires : goal.run_end-p-requires
-run_end-p-requires c = c.requires
 
 pub returns-then-s-p : goal.returns-then-s-p
 returns-then-s-p c = step_end _ _ _ c.run_end-p.ensures c.if-s-p.true
 
-pub class_in-k-requires : goal.class_in-k-requires
-class_in-k-requires c = c.requires
+pub returns-in-5 : goal.returns-in-5
+returns-in-5 c = step-hash _ _ _ c.run_end-p.ensures c.if-s-p.false _ c.class_in.ensures c.in-5.is
 
-pub overflow_cast-result : goal.overflow_cast-result
-overflow_cast-result c = omega (arith, c.type_inv.s c.run_end-p.result)
+pub returns-in-4 : goal.returns-in-4
+returns-in-4 c = step-mark _ _ _ c.run_end-p.ensures c.if-s-p.false _ c.class_in.ensures c.in-4.is (byte_small _ (c.type_inv.s c.run_end-p.result))
 
-pub returns-then-k-eq-MARK : goal.returns-then-k-eq-MARK
-returns-then-k-eq-MARK c = step-mark _ _ _ c.run_end-p.ensures c.if-s-p.false _ c.class_in-k.ensures c.if-k-eq-MARK.true (byte_small _ (c.type_inv.s c.run_end-p.result))
+pub returns-in_default : goal.returns-in_default
+returns-in_default c = step_other _ _ _ c.run_end-p.ensures c.if-s-p.false _ c.class_in.ensures (omega arith) (λ q. omega arith) (λ q. omega arith)
 
-pub returns-then-k-eq-COMMENT : goal.returns-then-k-eq-COMMENT
-returns-then-k-eq-COMMENT c = step-hash _ _ _ c.run_end-p.ensures c.if-s-p.false _ c.class_in-k.ensures c.if-k-eq-COMMENT.true
+pub returns-in_default-2 : goal.returns-in_default-2
+returns-in_default-2 c =
+    let small = class-le _ (byte_small _ (c.type_inv.s c.run_end-p.result)) in
+    step_other _ _ _ c.run_end-p.ensures c.if-s-p.false _ c.class_in.ensures (omega (arith, small, c.class_in.ensures)) (λ q. omega arith) (λ q. omega arith)
 
-pub returns-then-k-lt-NAME_START : goal.returns-then-k-lt-NAME_START
-returns-then-k-lt-NAME_START c = step_other _ _ _ c.run_end-p.ensures c.if-s-p.false _ c.class_in-k.ensures c.if-k-lt-NAME_START.true c.if-k-eq-MARK.false c.if-k-eq-COMMENT.false
+pub returns-in_ok-lexeme-in-7 : goal.returns-in_ok-lexeme-in-7
+returns-in_ok-lexeme-in-7 c = blanks-then _ _ _ c.run_end-p.ensures _ c.in_ok-lexeme-in-7.ensures
 
-pub name_step-requires : goal.name_step-requires
-name_step-requires c = starts _ _ _ c.run_end-p.ensures c.if-s-p.false _ c.class_in-k.ensures 7 7 (omega arith) (omega arith)
+pub returns-in_err-lexeme-in-7 : goal.returns-in_err-lexeme-in-7
+returns-in_err-lexeme-in-7 c =
+    let p = err_from_is_err_and c.from_residual.result c.from_residual.ensures.1 in
+    rw (p.1, p.2) (blanks-then _ _ _ c.run_end-p.ensures _ c.in_err-lexeme-in-7.ensures)
 
-pub returns-then-k-eq-NAME_START : goal.returns-then-k-eq-NAME_START
-returns-then-k-eq-NAME_START c = blanks-then _ _ _ c.run_end-p.ensures _ c.name_step.ensures
+pub returns-in_ok-lexeme-in-8 : goal.returns-in_ok-lexeme-in-8
+returns-in_ok-lexeme-in-8 c = blanks-then _ _ _ c.run_end-p.ensures _ c.in_ok-lexeme-in-8.ensures
 
-pub string_step-requires : goal.string_step-requires
-string_step-requires c =
-    let pre = c.requires in
-    let run-end = c.run_end-p in
-    let if1 = c.if-s-p in
-    let class-in = c.class_in-k in
-    record {
-      class_value = pre;
-      starts = starts _ _ _ run-end.ensures if1.false _ class-in.ensures 8 8 (omega arith) (omega arith);
-    }
+pub returns-in_err-lexeme-in-8 : goal.returns-in_err-lexeme-in-8
+returns-in_err-lexeme-in-8 c =
+    let p = err_from_is_err_and c.from_residual-in_err-lexeme-in-8.result c.from_residual-in_err-lexeme-in-8.ensures.1 in
+    rw (p.1, p.2) (blanks-then _ _ _ c.run_end-p.ensures _ c.in_err-lexeme-in-8.ensures)
 
-pub returns-then-k-eq-QUOTE : goal.returns-then-k-eq-QUOTE
-returns-then-k-eq-QUOTE c = blanks-then _ _ _ c.run_end-p.ensures _ c.string_step.ensures
+pub returns-in_ok-lexeme-in-9-to-11 : goal.returns-in_ok-lexeme-in-9-to-11
+returns-in_ok-lexeme-in-9-to-11 c = blanks-then _ _ _ c.run_end-p.ensures _ c.in_ok-lexeme-in-9-to-11.ensures
 
-pub number_step-requires : goal.number_step-requires
-number_step-requires c =
-    let pre = c.requires in
-    let run-end = c.run_end-p in
-    let if1 = c.if-s-p in
-    let class-in = c.class_in-k in
-    record {
-      class_value = pre;
-      starts = starts _ _ _ run-end.ensures if1.false _ class-in.ensures 9 11 (omega arith) (omega arith);
-    }
+pub returns-in_err-lexeme-in-9-to-11 : goal.returns-in_err-lexeme-in-9-to-11
+returns-in_err-lexeme-in-9-to-11 c =
+    let p = err_from_is_err_and c.from_residual-in_err-lexeme-in-9-to-11.result c.from_residual-in_err-lexeme-in-9-to-11.ensures.1 in
+    rw (p.1, p.2) (blanks-then _ _ _ c.run_end-p.ensures _ c.in_err-lexeme-in-9-to-11.ensures)
 
-pub returns-then-k-lt-MINUS : goal.returns-then-k-lt-MINUS
-returns-then-k-lt-MINUS c = blanks-then _ _ _ c.run_end-p.ensures _ c.number_step.ensures
+pub returns-in_ok-lexeme-in-12 : goal.returns-in_ok-lexeme-in-12
+returns-in_ok-lexeme-in-12 c = blanks-then _ _ _ c.run_end-p.ensures _ c.in_ok-lexeme-in-12.ensures
 
-pub minus_step-requires : goal.minus_step-requires
-minus_step-requires c =
-    let pre = c.requires in
-    let run-end = c.run_end-p in
-    let if1 = c.if-s-p in
-    let class-in = c.class_in-k in
-    record {
-      class_value = pre;
-      starts = starts _ _ _ run-end.ensures if1.false _ class-in.ensures 12 12 (omega arith) (omega arith);
-    }
+pub returns-in_err-lexeme-in-12 : goal.returns-in_err-lexeme-in-12
+returns-in_err-lexeme-in-12 c =
+    let p = err_from_is_err_and c.from_residual-in_err-lexeme-in-12.result c.from_residual-in_err-lexeme-in-12.ensures.1 in
+    rw (p.1, p.2) (blanks-then _ _ _ c.run_end-p.ensures _ c.in_err-lexeme-in-12.ensures)
 
-pub returns-then-k-eq-MINUS : goal.returns-then-k-eq-MINUS
-returns-then-k-eq-MINUS c = blanks-then _ _ _ c.run_end-p.ensures _ c.minus_step.ensures
+pub returns-in_ok-lexeme-in-13-to-14 : goal.returns-in_ok-lexeme-in-13-to-14
+returns-in_ok-lexeme-in-13-to-14 c = blanks-then _ _ _ c.run_end-p.ensures _ c.in_ok-lexeme-in-13-to-14.ensures
 
-pub word_step-requires : goal.word_step-requires
-word_step-requires c =
-    let pre = c.requires in
-    let run-end = c.run_end-p in
-    let if1 = c.if-s-p in
-    let class-in = c.class_in-k in
-    let l : class-in.result ≤ 14 = omega
-    (arith, class-le _ (byte_small _ (c.type_inv.s run-end.result)), class-in.ensures) in
-    record {
-      class_value = pre;
-      starts = starts _ _ _ run-end.ensures if1.false _ class-in.ensures 13 14 (omega arith) l;
-    }
-
-pub returns : goal.returns
-returns c = blanks-then _ _ _ c.run_end-p.ensures _ c.word_step.ensures
+pub returns-in_err-lexeme-in-13-to-14 : goal.returns-in_err-lexeme-in-13-to-14
+returns-in_err-lexeme-in-13-to-14 c =
+    let p = err_from_is_err_and c.from_residual-in_err-lexeme-in-13-to-14.result c.from_residual-in_err-lexeme-in-13-to-14.ensures.1 in
+    rw (p.1, p.2) (blanks-then _ _ _ c.run_end-p.ensures _ c.in_err-lexeme-in-13-to-14.ensures)

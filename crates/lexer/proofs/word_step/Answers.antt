@@ -18,11 +18,11 @@ slice_bounds-keyword-end c = (ends _ _ _ _ _ c.run_end-e.ensures (omega (arith, 
 pub separate-requires : goal.separate-requires
 separate-requires c = let b = ends-past _ _ 13 14 13 14 _ c.requires.starts (omega arith) (omega arith) c.run_end-e.ensures in record {
   class_value = c.requires.class_value;
-  p_lt_e = (b.0, b.1, c.if-k-lt-NO_KEYWORD.true);
+  p_lt_e = (b.0, b.1, c.if-k-ge-NO_KEYWORD.false);
 }
 
-pub returns-then-k-lt-NO_KEYWORD : goal.returns-then-k-lt-NO_KEYWORD
-returns-then-k-lt-NO_KEYWORD c = steps-by _ _ _ _ _ (word-token _ _ _ c.requires.starts c.run_end-e.ensures _ c.keyword-k.ensures c.if-k-lt-NO_KEYWORD.true) c.separate.ensures
-
 pub returns : goal.returns
-returns c = word-wrong _ _ _ c.requires.starts c.run_end-e.ensures _ c.keyword-k.ensures c.if-k-lt-NO_KEYWORD.false
+returns c = steps-by _ _ _ _ _ (word-token _ _ _ c.requires.starts c.run_end-e.ensures _ c.keyword-k.ensures c.if-k-ge-NO_KEYWORD.false) c.separate.ensures
+
+pub returns-then-k-ge-NO_KEYWORD : goal.returns-then-k-ge-NO_KEYWORD
+returns-then-k-ge-NO_KEYWORD c = word-wrong _ _ _ c.requires.starts c.run_end-e.ensures _ c.keyword-k.ensures c.if-k-ge-NO_KEYWORD.true
