@@ -28,7 +28,7 @@ use scanner::decimals::decimal;
 use scanner::parts::{Span, part};
 use strings::put_string;
 use syntax::{RIGHT_SIGNAL, Statement};
-use tables::{ROW_WORDS, Row, put_bytes, put_row, reverse_words};
+use tables::{ROW_WORDS, Row, put_row, reverse_words, store};
 use tokens::{ConstantSpan, Integer};
 
 // The columns of a constant: its kind, where it starts and its length; or its kind and the integer.
@@ -138,7 +138,7 @@ fn put_name(f: &[u8], name: Span, names: &mut [u8], at: u32) -> u32
     ensures names_after { names.new ≡ store names.old at (name_in f.now name) }
 {
     let bytes = part(f, name.start, name.end);
-    put_bytes(names, at as usize, bytes);
+    store(names, at as usize, bytes);
     bytes.len() as u32
 }
 

@@ -25,7 +25,7 @@ use context::kinds::{
     WIRE_KIND,
 };
 use numbers::kinds::WireNumber;
-use signal_runs::words;
+use scanner::parts::part;
 use signal_text::put_signal;
 use step_text::put_step;
 use text::{put_byte, put_bytes, put_decimal, put_integer, put_spaces, put_token};
@@ -90,7 +90,7 @@ fn words_at<'a>(t: &'a [u32], rows: &[u32], row: usize, c: usize) -> &'a [u32]
 {
     let start = column(rows, row, c) as usize;
     let size = column(rows, row, c + 1) as usize;
-    words(t, start, start + size)
+    part(t, start, start + size)
 }
 
 fn put_number(out: &mut [u8], at: usize, n: u32) -> usize

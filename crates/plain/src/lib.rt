@@ -11,7 +11,7 @@ ghost use Rattle.plain.specs.Put.{PutAt, wrote};
 ghost use Rattle.plain.specs.Taken.{TakenIs};
 
 use names::{legal, same_bytes};
-use tables::put_bytes;
+use tables::store;
 
 // The refusals: an illegal name, room too short, bytes that are no legal name's plain form.
 const ILLEGAL_NAME: u32 = 4;
@@ -79,10 +79,10 @@ fn put_plain(out: &mut [u8], at: usize, b: u8) -> usize
     ensures { PutAt at (plain_byte b) out.old out.new result }
 {
     if is_plain(b) {
-        put_bytes(out, at, &[b]);
+        store(out, at, &[b]);
         return at + 1;
     }
-    put_bytes(out, at, &[b'_', hex_digit(b / 16), hex_digit(b % 16)]);
+    store(out, at, &[b'_', hex_digit(b / 16), hex_digit(b % 16)]);
     at + HEX_ESCAPE
 }
 
@@ -261,7 +261,7 @@ pub fn name_of(form: &[u8], out: &mut [u8]) -> Turned
             length: 0,
         };
     }
-    put_bytes(out, 0, &name[0..end]);
+    store(out, 0, &name[0..end]);
     Turned {
         number: 0,
         length: end as u32,
@@ -289,18 +289,18 @@ fn put_low(out: &mut [u8], at: usize, b: u8) -> usize
     ensures { PutAt at (low b) out.old out.new result }
 {
     if b' ' <= b {
-        put_bytes(out, at, &[b]);
+        store(out, at, &[b]);
         return at + 1;
     }
     if b == b'\n' {
-        put_bytes(out, at, b"\\n");
+        store(out, at, b"\\n");
         return at + LETTER_ESCAPE;
     }
     if b == b'\t' {
-        put_bytes(out, at, b"\\t");
+        store(out, at, b"\\t");
         return at + LETTER_ESCAPE;
     }
-    put_bytes(out, at, &[b'\\', b'0', b'0' + b / 8, b'0' + b % 8]);
+    store(out, at, &[b'\\', b'0', b'0' + b / 8, b'0' + b % 8]);
     at + OCTAL_ESCAPE
 }
 

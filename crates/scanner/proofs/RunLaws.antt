@@ -61,7 +61,7 @@ module _ (f : ℕ → Bool) (s : List ℕ) (i : ℕ) where
   end_of-rest = sym (drop-drop (length (run f (drop i s))) i s) ∙ drop-run f (drop i s)
 
 -- the part that code cuts at the table's end
-module _ (start end stop : ℕ) (l : List ℕ) (came : (stop ≡ end) ⊎ ((length l ≤ end) × (stop ≡ length l))) where
+module _ {A : Type 0} (start end stop : ℕ) (l : List A) (came : (stop ≡ end) ⊎ ((length l ≤ end) × (stop ≡ length l))) where
   stop-same : slice start stop l ≡ slice start end l
   stop-same = ⊎_elim (λ e. rw e) (λ h. rw h.1 (slice_cut start end l h.0)) came
 

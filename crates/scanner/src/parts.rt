@@ -9,8 +9,8 @@ pub struct Span {
     pub end: usize,
 }
 
-// The bytes from start up to end, cut to those that are there.
-pub fn part<'a>(s: &'a [u8], start: usize, end: usize) -> &'a [u8]
+// The values from start up to end, cut to those that are there.
+pub fn part<T>(s: &[T], start: usize, end: usize) -> &[T]
     ensures { result.now ≡ slice start end s.now }
 {
     let stop = if end < s.len() { end } else { s.len() };

@@ -19,7 +19,7 @@ use netlist::lengths::right_lengths;
 use netlist::results::{CallResult, DAMAGED, NOTHING_TO_UNDO, WRONG_LENGTH};
 use numbers::kinds::{ModuleNumber, WireNumber};
 use rename_rules::judge_rename;
-use tables::{ROW_WORDS, Row, put_bytes, put_row, word};
+use tables::{ROW_WORDS, Row, put_row, store, word};
 use zeros::zero_bytes;
 
 // The column of a rename's row where its new name's start stands.
@@ -64,7 +64,7 @@ fn put_rename(
     ensures names_after { names.new ≡ store names.old room new.now }
     ensures rows_after { rows.new ≡ store rows.old (8 * row) (rename_row room (record { module_number = m.0; wire_number = w.0; new_name = new.now })) }
 {
-    put_bytes(names, room as usize, new);
+    store(names, room as usize, new);
     put_row(
         rows,
         ROW_WORDS * row as usize,

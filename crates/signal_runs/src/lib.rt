@@ -2,21 +2,9 @@
 #![tactic(auto)]
 
 ghost use Rattle.std.specs.Prelude.{◌≡◌, ◌≤◌, ◌<◌, length};
-ghost use Rattle.std.proofs.Math.Seq.{slice};
 ghost use Rattle.signal_runs.specs.Runs.{is_digit, is_bit, joint, Apart, Lowest};
 
 use numbers::kinds::{SignalBit, WireNumber, decode};
-
-// The words from start up to end, cut to those that are there.
-pub fn words<'a>(t: &'a [u32], start: usize, end: usize) -> &'a [u32]
-    ensures { result.now ≡ slice start end t.now }
-{
-    let stop = if end < t.len() { end } else { t.len() };
-    if stop <= start {
-        return &t[0..0];
-    }
-    &t[start..stop]
-}
 
 fn is_digit(b: SignalBit) -> bool
     ensures { result ≡ is_digit b }

@@ -17,7 +17,7 @@ use context::steps::{
     ALWAYS_STEP, ASSIGN_STEP, CASE_STEP, EDGE_STEP, GLOBAL_STEP, HIGH_STEP, INIT_STEP, LOW_STEP,
     NEGEDGE_STEP, POSEDGE_STEP, SWITCH_STEP, UPDATE_STEP,
 };
-use signal_runs::words;
+use scanner::parts::part;
 use signal_text::put_signal;
 use text::put_bytes;
 use wire_names::Module;
@@ -73,7 +73,7 @@ fn put_signals(
     let mut left = column(rows, row, STEP_SIGNALS);
     let mut end = at;
     while 0 < left {
-        let s = words(bits, start, start + width);
+        let s = part(bits, start, start + width);
         end = put_listed(names, wires, rows, m, s, comma & (1 < left), out, end);
         start = start + width;
         left = left - 1;

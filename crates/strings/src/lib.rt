@@ -11,7 +11,7 @@ ghost use Rattle.scanner.specs.Runs.{end_of};
 ghost use Rattle.tables.specs.Store.{store};
 
 use scanner::parts::part;
-use tables::put_bytes;
+use tables::store;
 
 // Where the reader stands: in plain text, behind `\`, or behind `\` and one or two octal digits, with their number.
 #[derive(Clone, Copy)]
@@ -257,7 +257,7 @@ pub fn put_string(s: &[u8], at: usize, out: &mut [u8], to: usize) -> usize
     ensures out_after { out.new ≡ store out.old to (decoded (drop at s.now)) }
 {
     let first = plain_end(s, at);
-    put_bytes(out, to, part(s, at, first));
+    store(out, to, part(s, at, first));
     let mut inside = Inside::Plain;
     let mut end = to + (first - at);
     for i in first..s.len() {

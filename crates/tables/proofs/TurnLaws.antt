@@ -8,11 +8,13 @@ use lib.ListN.{length, get_or, set, length-reverse}
 use lib.Seq.{slice, slice-cons, length-slice}
 use Rattle.tables.specs.Store.{store, store-more}
 
-pub reversed : (d s l : List ℕ) (at to j : ℕ) → l ≡ store d at (reverse (slice j to s)) → 0 < j → j ≤ to → to ≤ length s → set l (at + (to - j)) (get_or s (j - 1) 0) ≡ store d at (reverse (slice (j - 1) to s))
-reversed d s l at to j e h k n =
-    let ej : suc (j - 1) ≡ j = omega arith in
-    store-more d l at (at + (to - j)) (get_or s (j - 1) 0) (reverse (slice j to s)) (reverse (slice (j - 1) to s)) e
-    (ap (λ (m : ℕ). at + m) (sym (length-reverse (slice j to s) ∙ length-slice j to s n)))
-    (ap reverse (slice-cons (j - 1) to s 0 (omega arith) n)
-    ∙ reverse-cons (get_or s (j - 1) 0) (slice (suc (j - 1)) to s)
-    ∙ ap (λ (m : ℕ). reverse (slice m to s) ++ get_or s (j - 1) 0 ∷ []) ej)
+pub reversed :
+    (d s l : List ℕ) (at to i j k : ℕ) → l ≡ store d at (reverse (slice j to s)) → i + 1 ≡ j → j ≤ to → to ≤ length s → k ≡ at + (to - j) →
+    set l k (get_or s i 0) ≡ store d at (reverse (slice i to s))
+reversed d s l at to i j k e ej h n ek =
+    let es : suc i ≡ j = omega arith in
+    store-more d l at k (get_or s i 0) (reverse (slice j to s)) (reverse (slice i to s)) e
+    (ek ∙ ap (λ (m : ℕ). at + m) (sym (length-reverse (slice j to s) ∙ length-slice j to s n)))
+    (ap reverse (slice-cons i to s 0 (omega arith) n)
+    ∙ reverse-cons (get_or s i 0) (slice (suc i) to s)
+    ∙ ap (λ (m : ℕ). reverse (slice m to s) ++ get_or s i 0 ∷ []) es)

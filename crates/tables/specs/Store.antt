@@ -1,26 +1,32 @@
--- A run of values stored in a table, and its laws. Bytes and words are both numbers, so each law serves both kinds of table.
+-- A run of values stored in a table, and its laws. Bytes and words are both numbers, so a law of numbers serves both kinds of table.
 -- Assumes nothing.
 use Rattle.std.specs.Prelude.{◌≡◌, refl, List, [], ◌∷◌, ◌++◌, ℕ, suc, ◌+◌, ◌-◌, ◌≤◌, ◌<◌, length, take, drop, get_or, set}
 use Rattle.std.proofs.Common.{sym, ap, ap₂, ◌∙◌, append_assoc, append-nil, add-zero, add-one, arith, length-append, length-take-le, take_all, take-suc, take_at, drop_at, get_or-take, get_or-drop}
+use borrow.Rule.Slice.PartMut.{put_mid}
 use Rattle.std.proofs.Math.Seq.{slice, length-sets, take-append_seam, drop-append_seam}
+use Rattle.std.proofs.lemmas.List.{drop-drop}
 use Rattle.std.proofs.lemmas.List.Edits.{sets, sets-eq}
 
 -- values stored one behind another, from a place on
-unfoldable pub store : List ℕ → ℕ → List ℕ → List ℕ
+unfoldable pub store : {A : Type 0} → List A → ℕ → List A → List A
 store l at vs = sets l at vs
 
-pub store-none : (l : List ℕ) (at : ℕ) → store l at [] ≡ l
+pub store-none : {A : Type 0} (l : List A) (at : ℕ) → store l at [] ≡ l
 unfolding store
 store-none l at = refl
 
-pub length-store : (l : List ℕ) (at : ℕ) (vs : List ℕ) → length (store l at vs) ≡ length l
+pub length-store : {A : Type 0} (l : List A) (at : ℕ) (vs : List A) → length (store l at vs) ≡ length l
 unfolding store
 length-store l at vs = length-sets l at vs
 
 -- what stands in front, the values, and what stands behind
-pub store-eq : (l : List ℕ) (at : ℕ) (vs : List ℕ) → at + length vs ≤ length l → store l at vs ≡ take at l ++ vs ++ drop (at + length vs) l
+pub store-eq : {A : Type 0} (l : List A) (at : ℕ) (vs : List A) → at + length vs ≤ length l → store l at vs ≡ take at l ++ vs ++ drop (at + length vs) l
 unfolding store
 store-eq l at vs h = sets-eq vs l at h
+
+-- the values written over that part of the table
+pub put_store : {A : Type 0} (l : List A) (at k : ℕ) (vs ys : List A) → ys ≡ vs → k ≡ length vs → at + length vs ≤ length l → put_mid at k l ys ≡ store l at vs
+put_store l at k vs ys ey ek h = rw (ey, ek, store-eq l at vs h, drop-drop, append_assoc)
 
 -- two runs, one behind the other, are one
 sets-sets : (l : List ℕ) (at : ℕ) (vs ws : List ℕ) → sets (sets l at vs) (at + length vs) ws ≡ sets l at (vs ++ ws)

@@ -1,4 +1,4 @@
-// The leaves over one lent table of design memory: bytes or words stored from a place on, a row put or got.
+// The leaves over one lent table of design memory: values stored from a place on, a row put or got.
 #![tactic(auto)]
 
 ghost use Rattle.std.specs.Prelude.{◌≡◌, reverse, ◌+◌, ◌-◌, ◌≤◌, length, get_or};
@@ -22,26 +22,13 @@ pub struct Row {
     pub g: u32,
 }
 
-pub fn put_bytes(room: &mut [u8], at: usize, src: &[u8])
-    requires { at + length src.now ≤ length room.old }
-    ensures { room.new ≡ store room.old at src.now }
+// Values one behind another, from a place on.
+#[tactic(auto, using(crate::specs::Store::put_store))]
+pub fn store<T: Copy>(table: &mut [T], at: usize, values: &[T])
+    requires { at + length values.now ≤ length table.old }
+    ensures { table.new ≡ store table.old at values.now }
 {
-    let mut j = 0;
-    while j < src.len() {
-        room[at + j] = src[j];
-        j += 1;
-    }
-}
-
-pub fn put_words(table: &mut [u32], at: usize, src: &[u32])
-    requires { at + length src.now ≤ length table.old }
-    ensures { table.new ≡ store table.old at src.now }
-{
-    let mut j = 0;
-    while j < src.len() {
-        table[at + j] = src[j];
-        j += 1;
-    }
+    table[at..at + values.len()].copy_from_slice(values);
 }
 
 // The words of src from `from` to `to`, last first.
@@ -49,10 +36,8 @@ pub fn reverse_words(src: &[u32], from: usize, to: usize, out: &mut [u32], at: u
     requires { (from ≤ to) × (to ≤ length src.now) × (at + (to - from) ≤ length out.old) }
     ensures { out.new ≡ store out.old at (reverse (slice from to src.now)) }
 {
-    let mut j = to;
-    while from < j {
-        out[at + (to - j)] = src[j - 1];
-        j -= 1;
+    for j in (from..to).rev() {
+        out[at + (to - 1 - j)] = src[j];
     }
 }
 
@@ -61,7 +46,7 @@ pub fn put_row(rows: &mut [u32], at: usize, r: Row)
     ensures { rows.new ≡ store rows.old at (words r) }
 {
     let columns = [r.kind, r.a, r.b, r.c, r.d, r.e, r.f, r.g];
-    put_words(rows, at, &columns);
+    store(rows, at, &columns);
 }
 
 pub fn get_row(rows: &[u32], at: usize) -> Row
@@ -84,8 +69,5 @@ pub fn get_row(rows: &[u32], at: usize) -> Row
 pub fn word(t: &[u32], i: usize) -> u32
     ensures { result ≡ get_or t.now i 0 }
 {
-    if i < t.len() {
-        return t[i];
-    }
-    0
+    t.get(i).copied().unwrap_or(0)
 }

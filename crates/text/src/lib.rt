@@ -54,7 +54,7 @@ pub fn put_bytes(out: &mut [u8], at: usize, s: &[u8]) -> usize
         return put_each(out, at, s);
     }
     if end <= out.len() {
-        tables::put_bytes(out, at, s);
+        tables::store(out, at, s);
         return end;
     }
     if out.len() <= at {

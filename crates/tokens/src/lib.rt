@@ -7,7 +7,7 @@ ghost use Rattle.tokens.specs.Rows.{token_at, row_words, constant_words, Small, 
 ghost use Rattle.tokens.specs.Parts.{IdIs, IntegerIs, LiteralIs};
 
 use scanner::parts::Span;
-use tables::put_words;
+use tables::store;
 
 // The words of a row.
 pub const ROW_WORDS: usize = 4;
@@ -114,7 +114,7 @@ fn put_row(table: &mut [u32], at: usize, kind: u32, a: usize, b: usize, c: usize
     ensures { table.new ≡ store table.old at (kind ∷ a ∷ b ∷ c ∷ []) }
 {
     let columns = [kind, a as u32, b as u32, c as u32];
-    put_words(table, at, &columns);
+    store(table, at, &columns);
 }
 
 fn put_constant(table: &mut [u32], at: usize, c: ConstantSpan)

@@ -15,7 +15,7 @@ use context::place::Place;
 use design_text::{Counts, put_text};
 use netlist::results::TEXT_TOO_LONG;
 use session::open_memory;
-use tables::put_bytes;
+use tables::store;
 use text::TEXT_LENGTH;
 
 // Number 0 is none; a refusal's length is 0.
@@ -92,7 +92,7 @@ fn write_rows(
             length: 0,
         };
     }
-    put_bytes(out, 0, &text[0..end]);
+    store(out, 0, &text[0..end]);
     Written {
         number: 0,
         length: end as u32,

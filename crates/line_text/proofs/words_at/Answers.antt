@@ -5,4 +5,4 @@ use Rattle.line_text.proofs.words_at.Goals as goal
 
 pub returns : goal.returns
 unfolding span_at
-returns c = rw (← c.column-start.ensures, ← c.column-size.ensures) c.words.ensures
+returns c = rw (← c.column-start.ensures, ← c.column-size.ensures) c.part.ensures

@@ -45,5 +45,5 @@ returns c =
     let is-form-of = c.is_form_of in
     let if2 = c.if-not-is_form_of in
     let if3 = c.if-out-end in
-    let put-bytes = c.put_bytes in
-    back-there args.form.now put-name.ensures if1.false (search rules) _ is-form-of.ensures args.out.now (not-false _ if2.false-raw) if3.false put-bytes.ensures
+    let stored = c.store in
+    back-there args.form.now put-name.ensures if1.false (search rules) _ is-form-of.ensures args.out.now (not-false _ if2.false-raw) if3.false stored.ensures

@@ -5,6 +5,6 @@ use Rattle.session.proofs.put_rename.Goals as goal
 pub returns : goal.returns
 unfolding words rename_row row padded
 returns c = record {
-  names_after = c.put_bytes.ensures;
+  names_after = c.store.ensures;
   rows_after = c.put_row.ensures;
 }

@@ -15,13 +15,13 @@ pub put_listed-end-requires : goal.put_listed-end-requires
 put_listed-end-requires c =
     let loop = c.loop-left in
     let args = c.args in
-    let words = c.words-s in
-    let h : length words.result.now ≤ length args.bits.now = words-le args.bits.now words.result.now loop.start (loop.start + c.column-width.result) words.ensures in
+    let signal = c.part-s in
+    let h : length signal.result.now ≤ length args.bits.now = words-le args.bits.now signal.result.now loop.start (loop.start + c.column-width.result) signal.ensures in
     (written-most loop.invariant.2.written, omega (arith, c.requires.2))
 
 pub loop-left-preserved : goal.loop-left-preserved
 loop-left-preserved c =
-    (omega arith, omega arith, reaches-next c.loop-left.invariant.2 c.put_listed-end.ensures (pieces-next _ _ _ _ _ _ _ (omega arith) c.words-s.ensures))
+    (omega arith, omega arith, reaches-next c.loop-left.invariant.2 c.put_listed-end.ensures (pieces-next _ _ _ _ _ _ _ (omega arith) c.part-s.ensures))
 
 pub shape_of-out : goal.shape_of-out
 shape_of-out c = c.loop-left.invariant.2.written.kept

@@ -11,8 +11,8 @@ use Rattle.strings.proofs.StringLaws.{closed-decoded, never-broken}
 use Rattle.strings.proofs.Reached.{plain_size, reached-plain, reached-goes, reached-ends, reached-breaks, reached-end, reached-room}
 use Rattle.strings.proofs.put_string.Goals as goal
 
-pub put_bytes-requires : goal.put_bytes-requires
-put_bytes-requires c =
+pub store-requires : goal.store-requires
+store-requires c =
     let h = reached-room _ _ _ _ _ (reached-plain _ _ _ c.plain_end-first.ensures) c.requires.s_value in
     omega (arith, h, ap length c.part.ensures, c.requires.s_in_bounds)
 
@@ -37,7 +37,7 @@ put_given-end-requires c =
     let pre = c.requires in
     let args = c.args in
     let part = c.part in
-    let put-bytes = c.put_bytes in
+    let put-bytes = c.store in
     let loop = c.loop-i in
     let loop-test = c.loop-i-test in
     let turn_on = c.turn_on in
@@ -75,7 +75,7 @@ put_given-requires c =
     let pre = c.requires in
     let args = c.args in
     let part = c.part in
-    let put-bytes = c.put_bytes in
+    let put-bytes = c.store in
     let loop = c.loop-i in
     let loop-test = c.loop-i-test in
     let turn_on = c.turn_on in
@@ -95,7 +95,7 @@ pub returns-in-Ends : goal.returns-in-Ends
 unfolding turn_of
 returns-in-Ends c =
     let part = c.part in
-    let put-bytes = c.put_bytes in
+    let put-bytes = c.store in
     let loop = c.loop-i in
     let loop-test = c.loop-i-test in
     let turn_on = c.turn_on in

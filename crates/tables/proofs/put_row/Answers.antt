@@ -4,4 +4,4 @@ use Rattle.tables.proofs.put_row.Goals as goal
 
 pub returns : goal.returns
 unfolding words
-returns c = c.put_words.ensures
+returns c = c.store.ensures

@@ -16,8 +16,8 @@ pub returns-then-end-out : goal.returns-then-end-out
 returns-then-end-out c =
     let args = c.args in
     let if1 = c.if-end-gt-TEXT_LENGTH in
-    let put-bytes = c.put_bytes in
-    all-bytes args.out.now _ args.s.now args.at put-bytes.ensures if1.false
+    let stored = c.store in
+    all-bytes args.out.now _ args.s.now args.at stored.ensures if1.false
 
 pub shape_of-out-then-end-out : goal.shape_of-out-then-end-out
 shape_of-out-then-end-out c = (returns-then-end-out c).kept

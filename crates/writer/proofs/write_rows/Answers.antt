@@ -18,5 +18,5 @@ pub returns : goal.returns
 returns c =
     let put-text = c.put_text-end in
     let args = c.args in
-    let put-bytes = c.put_bytes in
-    write-short _ put-text.result put-text.ensures.place args.out.now (omega arith) (omega arith) put-text.ensures (search rules) put-bytes.ensures
+    let stored = c.store in
+    write-short _ put-text.result put-text.ensures.place args.out.now (omega arith) (omega arith) put-text.ensures (search rules) stored.ensures

@@ -5,9 +5,9 @@ use Rattle.tables.specs.Store.{store}
 use Rattle.line_forms.specs.Forms.{name_in}
 use Rattle.layout.proofs.put.put_name.Goals as goal
 
-pub put_bytes-requires : goal.put_bytes-requires
+pub store-requires : goal.store-requires
 unfolding name_in
-put_bytes-requires c = omega (arith, c.requires, ap length c.part-bytes.ensures)
+store-requires c = omega (arith, c.requires, ap length c.part-bytes.ensures)
 
 pub overflow_cast-result : goal.overflow_cast-result
 unfolding name_in
@@ -18,8 +18,8 @@ unfolding name_in
 returns c =
     let args = c.args in
     let part = c.part-bytes in
-    let put-bytes = c.put_bytes in
+    let stored = c.store in
     record {
       value = ap length part.ensures;
-      names_after = put-bytes.ensures ∙ ap (store args.names.now args.at) part.ensures;
+      names_after = stored.ensures ∙ ap (store args.names.now args.at) part.ensures;
     }
