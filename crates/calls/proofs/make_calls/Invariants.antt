@@ -7,9 +7,7 @@ use Rattle.calls.proofs.CallLaws.{Going}
 use Rattle.calls.proofs.make_calls.Given as goal
 
 abbrev pub invariant-loop-i : goal.invariant-loop-i
-invariant-loop-i l =
-    (l.i ≤ l.many) × (length l.answers ≡ length l.initial.answers) × (length l.names ≡ length l.initial.names) × (length l.rows ≡ length l.initial.rows) × (5 * l.many ≤ length l.calls) × Going (lent l.initial.names l.strings l.bits l.wires l.initial.rows l.renames l.room) l.initial.answers (calls_in l.calls l.texts) (calls_from l.calls l.texts (l.many - l.i) l.i) l.i (lent l.names l.strings l.bits l.wires l.rows l.standing l.used) l.answers
-
-abbrev pub decreases-loop-i : goal.decreases-loop-i
-decreases-loop-i l =
-    l.many - l.i
+invariant-loop-i l = record {
+  words : 5 * l.many ≤ length l.calls;
+  going : Going (lent l.initial.names l.strings l.bits l.wires l.initial.rows l.renames l.room) l.initial.answers (calls_in l.calls l.texts) (calls_from l.calls l.texts (l.many - l.i) l.i) l.i (lent l.names l.strings l.bits l.wires l.rows l.standing l.used) l.answers;
+}
