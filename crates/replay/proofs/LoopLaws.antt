@@ -4,10 +4,11 @@ use Prim.Native.Nat.{ℕ, ◌+◌, ◌*◌}
 use mathlib.Core.Path.{◌≡◌, refl, sym, ap, ◌∙◌, subst}
 use mathlib.Core.List.{List, [], ◌∷◌, flat_map}
 use mathlib.Core.Logic.{⊎_elim}
-use mathlib.Core.Bool.{true, false}
+use mathlib.Core.Bool.{Bool, true, false}
 use native.Mathlib.Omega.{arith}
 use Rattle.std.specs.Prelude.{Some, None}
 use Rattle.std.specs.Prelude.{Option as Optional}
+use Rattle.std.specs.Bool.{then_some}
 use lib.ListN.{length, get_or}
 use Rattle.rules.specs.Bytes.{within}
 use Rattle.rules.specs.Statements.{Statement}
@@ -26,7 +27,8 @@ use Rattle.context.specs.declared.sizes.Standing.{Standing}
 use Rattle.context.proofs.PlaceLaws.{bounds, closes-place, place-rows}
 use Rattle.row_statements.specs.Reads.{PartTables}
 use Rattle.replay.specs.OneLaws.{next-kind, stored_next}
-use Rattle.replay.specs.Begins.{is_statement, Replays}
+use Rattle.name_index.specs.Index.{key_at, Indexed}
+use Rattle.replay.specs.Begins.{is_statement, Replays, IndexLeft}
 use Rattle.replay.specs.Turns.{Ready, Reached, TurnIs}
 
 pub record Done (t : PartTables) (rows : List ℕ) (p : Place) (u : Sizes) : Type 0 where
@@ -68,7 +70,7 @@ module _ (t : PartTables) (rows : List ℕ) (p : Place) (u : Sizes) (d : Done t 
     unfolding word_at
     kind-is = ap (λ (n : ℕ). is_statement (get_or rows (8 * n) 0)) (length-rows ss ∙ rows_are) ∙ ap is_statement (sym ek)
 
-    pub done-closed : is_statement k ≡ false → closes_at p ≡ true → Replays t rows (Some (record { place = p; sums = u }))
+    done-closed : is_statement k ≡ false → closes_at p ≡ true → Replays t rows (Some (record { place = p; sums = u }))
     unfolding Replays closes
     done-closed e c = (
       ss,
@@ -81,12 +83,16 @@ module _ (t : PartTables) (rows : List ℕ) (p : Place) (u : Sizes) (d : Done t 
       d.reached.sums,
     )
 
-    pub done-open : is_statement k ≡ false → closes_at p ≡ false → Replays t rows None
+    done-open : is_statement k ≡ false → closes_at p ≡ false → Replays t rows None
     unfolding Replays closes
     done-open e c qs h =
         ⊎_elim (λ q. never (closes ss) (ap closes (sym q) ∙ h.closed) (closes-place ss ∙ ap closes_at d.reached.place ∙ c))
         (λ q. never (is_statement k) (sym kind-is ∙ next-kind q.1 ss q.3) e)
         (stored_next qs ss h d.reached.admits d.reached.fronts)
+
+    pub done_over : is_statement k ≡ false → (b : Bool) → b ≡ closes_at p → Replays t rows (then_some b (record { place = p; sums = u }))
+    done_over e true c = done-closed e (sym c)
+    done_over e false c = done-open e (sym c)
 
     pub done_stuck : is_statement k ≡ true → (o : Optional Standing) → TurnIs t rows p u o → o ≡ None → Replays t rows None
     unfolding Replays TurnIs
@@ -107,3 +113,10 @@ module _ (t : PartTables) (rows : List ℕ) (p : Place) (u : Sizes) (d : Done t 
 
       pub next-rows : x.place.rows ≡ p.rows + 1
       next-rows = omega (arith, rows_are, place-rows (next-is.0 ∷ ss) next-is.1.place)
+
+pub index_over :
+    (heads chain names rows : List ℕ) (x : Standing) → Indexed heads chain (key_at names rows) x.place.rows → (b : Bool) →
+    IndexLeft heads chain names rows (then_some b x)
+unfolding IndexLeft
+index_over heads chain names rows x h true = h
+index_over heads chain names rows x h false = tt

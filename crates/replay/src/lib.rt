@@ -41,16 +41,24 @@ pub fn replay(
     ensures replays { Replays (part_tables names.now strings.now bits.now wires.now) rows.now result }
     ensures index_left { IndexLeft heads.new chain.new names.now rows.now result }
 {
-    let mut place = start();
-    let mut sums = none();
-    while is_statement(word(rows, ROW_WORDS * place.rows as usize)) {
-        let next = one_more(names, strings, bits, wires, rows, heads, chain, place, sums)?;
-        index_row(names, rows, heads, chain, place.rows);
-        place = next.place;
-        sums = next.sums;
+    let mut behind = Standing {
+        place: start(),
+        sums: none(),
+    };
+    while is_statement(word(rows, ROW_WORDS * behind.place.rows as usize)) {
+        let row = behind.place.rows;
+        behind = one_more(
+            names,
+            strings,
+            bits,
+            wires,
+            rows,
+            heads,
+            chain,
+            behind.place,
+            behind.sums,
+        )?;
+        index_row(names, rows, heads, chain, row);
     }
-    if is_closed(place) {
-        return Some(Standing { place, sums });
-    }
-    None
+    is_closed(behind.place).then_some(behind)
 }

@@ -48,4 +48,4 @@ returns c =
     if1.false line-stands.ensures (not-false _ if2.false-raw) _ step_of_lem.ensures _ (c.counted.ensures _ _ _)
 
 pub returns-in_err-found : goal.returns-in_err-found
-returns-in_err-found c = turn-not _ _ _ _ _ c.get_row-r.ensures _ c.used_from-x.ensures _ c.statement_at.ensures c.in_err-found.was
+returns-in_err-found c = rw c.from_residual.ensures (turn-not _ _ c.args.p c.args.u _ c.get_row-r.ensures _ c.used_from-x.ensures _ c.statement_at.ensures c.in_err-found.was)
