@@ -5,6 +5,8 @@ use mathlib.Core.Path.{◌≡◌, sym, ap, ◌∙◌, subst}
 use mathlib.Core.List.{List, [], reverse, reverse-reverse}
 use mathlib.Core.Bool.{true, false}
 use native.Mathlib.Omega.{arith}
+use Rattle.std.specs.Prelude.{Some, None}
+use Rattle.std.specs.Prelude.{Option as Optional}
 use lib.ListN.{length}
 use Rattle.rules.specs.Statements.{Statement}
 use Rattle.rules.specs.Judgement.{Past}
@@ -15,16 +17,14 @@ use Rattle.context.specs.Place.{wires_in, place_of}
 use Rattle.context.specs.Sizes.{sizes_by, sums_of}
 use Rattle.context.specs.declared.place.Place.{Place}
 use Rattle.context.specs.declared.sizes.Sizes.{Sizes}
+use Rattle.context.specs.declared.sizes.Standing.{Standing}
 use Rattle.admitted.specs.AdmitLaws.{admitted-within}
 use Rattle.admitted.specs.Holds.{Holds}
 use Rattle.row_statements.specs.Reads.{PartTables}
 use Rattle.replay.specs.Begins.{Stored, Replays, IndexLeft}
 use Rattle.name_index.specs.Index.{key_at, Indexed}
 use Rattle.replay.specs.OneLaws.{stored_one}
-use Rattle.replay.specs.declared.Replayed.{Replayed}
 use Rattle.rename_rules.specs.Judged.{Lies}
-use Rattle.memory_check.specs.declared.Held.{Held}
-use Rattle.memory_check.specs.declared.Renamed.{Renamed}
 use Rattle.memory_check.specs.Renamed.{RenamesAre}
 use Rattle.netlist.specs.Lengths.{right_sizes, right_lengths, sizes-exact}
 use Rattle.memory_check.specs.Held.{rest_zero, HeldIs}
@@ -36,28 +36,34 @@ names-short names strings bits wires rows e = omega (arith, (sizes-exact names s
 
 -- the index that the replay leaves is of the place's rows
 pub index_kept :
-    (heads chain names rows : List ℕ) {p : Place} {u : Sizes} (o : Replayed) → IndexLeft heads chain names rows o → o ≡ Replayed.Holding p u →
-    Indexed heads chain (key_at names rows) p.rows
+    (heads chain names rows : List ℕ) {x : Standing} (o : Optional Standing) → IndexLeft heads chain names rows o → o ≡ Some x →
+    Indexed heads chain (key_at names rows) x.place.rows
 unfolding IndexLeft
-index_kept heads chain names rows o x e = rw e at x
+index_kept heads chain names rows o h e = rw e at h
 
-pub few-wires : (t : PartTables) (rows : List ℕ) (o : Replayed) (p : Place) (u : Sizes) → Replays t rows o → o ≡ Replayed.Holding p u → p.wires ≤ 512
+pub few-wires : (t : PartTables) (rows : List ℕ) (o : Optional Standing) (x : Standing) → Replays t rows o → o ≡ Some x → x.place.wires ≤ 512
 unfolding Replays place_of wires_in sums_of sizes_by
-few-wires t rows o p u r e =
+few-wires t rows o x r e =
     let f = rw e at r in
-    subst (λ (x : Place). x.wires ≤ 512) f.2 (admitted-within f.0 f.1.admits).wires
+    subst (λ (p : Place). p.wires ≤ 512) f.2 (admitted-within f.0 f.1.admits).wires
 
 module _ (m : Memory) where
-  pub other-sizes : right_lengths m ≡ false → HeldIs m Held.Damaged
+  pub other-sizes : right_lengths m ≡ false → HeldIs m None
   unfolding HeldIs
   other-sizes e ss rs h = never (right_lengths m) (holds-sizes h) e
 
-  module _ (o : Replayed) (r : Replays (parts_of m) m.rows o) where
-    pub no-statements : o ≡ Replayed.Damaged → HeldIs m Held.Damaged
+  module _ (o : Optional Standing) (r : Replays (parts_of m) m.rows o) where
+    pub no-statements : o ≡ None → HeldIs m None
     unfolding HeldIs Replays
     no-statements e ss rs h = let f = rw e at r in f (reverse ss) (holds-stored h)
 
-    module _ (p : Place) (u : Sizes) (e : o ≡ Replayed.Holding p u) where
+    module _ (behind : Standing) (e : o ≡ Some behind) where
+      abbrev p : Place
+      p = behind.place
+
+      abbrev u : Sizes
+      u = behind.sums
+
       found : (ss : Past) × Stored (parts_of m) m.rows ss × (place_of ss ≡ p) × (sums_of ss ≡ u)
       unfolding Replays
       found = rw e at r
@@ -75,16 +81,16 @@ module _ (m : Memory) where
         lies : Lies m.names m.wires m.rows p 0 u.name_bytes ss []
         lies = stored-lies m ss p u (holds-stored h) same_place same-sums
 
-      pub rest-left : rest_zero m p u ≡ false → HeldIs m Held.Damaged
+      pub rest-left : rest_zero m p u ≡ false → HeldIs m None
       unfolding HeldIs
       rest-left z ss rs h = never (rest_zero m p u) (holds-rest h p u (same_place h) (same-sums h)) z
 
-      module _ (s : Renamed) (k : RenamesAre m.names m.wires m.rows p m.renames u.name_bytes s) where
-        pub no-renames-there : s ≡ Renamed.Nothing → HeldIs m Held.Damaged
+      module _ (s : Optional ℕ) (k : RenamesAre m.names m.wires m.rows p m.renames u.name_bytes s) where
+        pub no-renames-there : s ≡ None → HeldIs m None
         unfolding HeldIs RenamesAre
         no-renames-there d ss rs h = let f = rw d at k in f ss (lies h) rs h.allowed (holds-laid h) (holds-many h)
 
-        module _ (n : ℕ) (d : s ≡ Renamed.Used n) where
+        module _ (n : ℕ) (d : s ≡ Some n) where
           room-is : {ss : List Statement} {rs : List Rename} → Holds m ss rs → n ≡ m.room
           unfolding RenamesAre
           room-is {ss} {rs} h =
@@ -94,11 +100,11 @@ module _ (m : Memory) where
               let q : rs ≡ z.0 = file-one ss rs z.0 c (holds-laid h) z.1.laid in
               sym z.1.room ∙ ap (λ (l : List Rename). length (rooms ss l).names) (sym q) ∙ holds-room h
 
-          pub other-room : (n ≡ m.room → ⊥) → HeldIs m Held.Damaged
+          pub other-room : (n ≡ m.room → ⊥) → HeldIs m None
           unfolding HeldIs
           other-room b ss rs h = b (room-is h)
 
-          pub memory-holds : n ≡ m.room → right_lengths m ≡ true → rest_zero m p u ≡ true → HeldIs m (Held.Holding p u)
+          pub memory-holds : n ≡ m.room → right_lengths m ≡ true → rest_zero m p u ≡ true → HeldIs m (Some behind)
           unfolding HeldIs RenamesAre
           memory-holds b z r₀ =
               let f = rw d at k in

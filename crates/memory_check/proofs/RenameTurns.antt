@@ -5,6 +5,8 @@ use mathlib.Core.Path.{◌≡◌, sym, ap, ap₂, ◌∙◌, subst}
 use mathlib.Core.List.{List, [], ◌∷◌, ◌++◌, reverse}
 use mathlib.Core.Bool.{true, false}
 use native.Mathlib.Omega.{arith}
+use Rattle.std.specs.Prelude.{Some, None}
+use Rattle.std.specs.Prelude.{Option as Optional}
 use lib.ListN.{length, take, drop, length-append, length-take, length-drop}
 use lib.Seq.{slice}
 use Rattle.rules.specs.Tokens.{Name}
@@ -24,7 +26,6 @@ use Rattle.lists.specs.Tests.{never}
 use Rattle.lists.specs.Parts.{slice-span}
 use Rattle.rename_rules.specs.Judged.{Lies, judged}
 use Rattle.rename_rules.specs.JudgedLaws.{judged-is}
-use Rattle.memory_check.specs.declared.Renamed.{Renamed}
 use Rattle.memory_check.specs.Renamed.{is_rename, RenameIs, RenamesAre}
 use Rattle.memory_check.specs.AllowedLaws.{allowed-next, allowed-more, number-accepted, accepted-number}
 use Rattle.memory_check.specs.RenameLaws.{RowOf, rename-eq, rename-words, words-rename, Next, laid_next, next-laid, file-last, eights-file, length-file, file-only, file-next}
@@ -62,16 +63,16 @@ module _ (names wires rows : List ℕ) (p : Place) (i used : ℕ) where
       next-name : Has names used q.new_name
       next-name = rw (← l.room) next.name
 
-  pub no_row : length rows < 8 * (p.rows + i) + 8 → RenameIs names wires rows p i used Renamed.Nothing
+  pub no_row : length rows < 8 * (p.rows + i) + 8 → RenameIs names wires rows p i used None
   unfolding RenameIs
   no_row h ss rs l q k e = omega (arith, next-long l q k)
 
   module _ (x : Row) (ex : x ≡ row_at rows (8 * (p.rows + i))) where
-    pub no-rename : is_rename x used ≡ false → RenameIs names wires rows p i used Renamed.Nothing
+    pub no-rename : is_rename x used ≡ false → RenameIs names wires rows p i used None
     unfolding RenameIs
     no-rename h ss rs l q k e = never (is_rename x used) (next_row l q k x ex).is h
 
-    pub no_name : length names < used + x.b → RenameIs names wires rows p i used Renamed.Nothing
+    pub no_name : length names < used + x.b → RenameIs names wires rows p i used None
     unfolding RenameIs
     no_name h ss rs l q k e = omega (arith, (next_row l q k x ex).long, next-inside l q k)
 
@@ -85,7 +86,7 @@ module _ (names wires rows : List ℕ) (p : Place) (i used : ℕ) where
       number_is : {ss : List Statement} {rs : List Rename} → Lies names wires rows p i used ss rs → number_of (rename_call (design ss) rs new) ≡ number
       number_is l = judged-is l new ∙ sym j
 
-      pub rename-refused : (number ≡ 0 → ⊥) → RenameIs names wires rows p i used Renamed.Nothing
+      pub rename-refused : (number ≡ 0 → ⊥) → RenameIs names wires rows p i used None
       unfolding RenameIs Has
       rename-refused h ss rs l q k e =
           let f = next_row l q k x ex in
@@ -96,7 +97,7 @@ module _ (names wires rows : List ℕ) (p : Place) (i used : ℕ) where
 
       pub rename-next :
           8 * (p.rows + i) + 8 ≤ length rows → is_rename x used ≡ true → used + x.b ≤ length names → number ≡ 0 →
-          RenameIs names wires rows p i used (Renamed.Used (used + x.b))
+          RenameIs names wires rows p i used (Some (used + x.b))
       unfolding RenameIs Has
       rename-next long is inside z ss rs l =
           let S : Rooms = rooms ss rs in
@@ -123,12 +124,12 @@ module _ (names wires rows : List ℕ) (p : Place) (i used : ℕ) where
 
 -- ALL RENAMES
 module _ (names wires rows : List ℕ) (p : Place) (used : ℕ) where
-  pub renames-start : RenamesAre names wires rows p 0 used (Renamed.Used used)
+  pub renames-start : RenamesAre names wires rows p 0 used (Some used)
   unfolding RenamesAre
   renames-start ss l = ([], l, no-renames)
 
-  module _ (i room : ℕ) (inv : RenamesAre names wires rows p i used (Renamed.Used room)) (o : Renamed) (h : RenameIs names wires rows p i room o) where
-    pub renames-more : (n : ℕ) → o ≡ Renamed.Used n → RenamesAre names wires rows p (i + 1) used (Renamed.Used n)
+  module _ (i room : ℕ) (inv : RenamesAre names wires rows p i used (Some room)) (o : Optional ℕ) (h : RenameIs names wires rows p i room o) where
+    pub renames-more : (n : ℕ) → o ≡ Some n → RenamesAre names wires rows p (i + 1) used (Some n)
     unfolding RenamesAre RenameIs
     renames-more n e ss l =
         let f = rw e at h in
@@ -136,7 +137,7 @@ module _ (names wires rows : List ℕ) (p : Place) (used : ℕ) where
         let y = f ss z.0 z.1 in
         (z.0 ++ y.0 ∷ [], y.1, allowed-more z.0 y.0 z.2 y.2)
 
-    pub renames-stuck : (many : ℕ) → i < many → o ≡ Renamed.Nothing → RenamesAre names wires rows p many used Renamed.Nothing
+    pub renames-stuck : (many : ℕ) → i < many → o ≡ None → RenamesAre names wires rows p many used None
     unfolding RenamesAre RenameIs
     renames-stuck many b e ss l qs a k c =
         let f = rw e at h in

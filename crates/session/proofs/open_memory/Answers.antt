@@ -1,34 +1,26 @@
+use Rattle.std.proofs.lemmas.Result.{err_from_is_err_and}
 use mathlib.Core.Path.{refl, sym, ◌∙◌}
 use borrow.Author.Tests.{not-true, not-false}
 use Rattle.netlist.specs.Results.{lent}
 use Rattle.netlist.specs.Lengths.{right_lengths}
 use Rattle.session.specs.Steps.{wrong-sizes}
-use Rattle.session.proofs.OpenLaws.{held-open, held_none}
+use Rattle.session.proofs.OpenLaws.{held-open, err_refused}
 use Rattle.session.proofs.open_memory.Goals as goal
 
 pub returns-then-not-right_lengths : goal.returns-then-not-right_lengths
 unfolding right_lengths
 returns-then-not-right_lengths c = wrong-sizes (sym c.right_lengths.ensures ∙ not-true _ c.if-not-right_lengths.true-raw) refl
 
-pub returns-in-Holding : goal.returns-in-Holding
+pub returns-in_err-behind : goal.returns-in_err-behind
 unfolding right_lengths
-returns-in-Holding c =
-    let args = c.args in
-    let right-lengths = c.right_lengths in
-    let if1 = c.if-not-right_lengths in
-    let judge-memory = c.judge_memory in
-    held-open
-    (lent args.names.now args.strings.now args.bits.now args.wires.now args.rows.now args.renames args.room)
-    _ judge-memory.ensures (sym right-lengths.ensures ∙ not-false _ if1.false-raw) _ _
-    c.in-Holding.is
+returns-in_err-behind c =
+    let p = err_from_is_err_and c.from_residual.result c.from_residual.ensures.1 in
+    rw p.1
+    (err_refused (lent c.args.names.now c.args.strings.now c.args.bits.now c.args.wires.now c.args.rows.now c.args.renames c.args.room) _
+    c.judge_memory.ensures (sym c.right_lengths.ensures ∙ not-false _ c.if-not-right_lengths.false-raw) c.in_err-behind.ensures.ok_part _ c.in_err-behind.ensures.value _ p.2)
 
-pub returns-in-Damaged : goal.returns-in-Damaged
+pub returns : goal.returns
 unfolding right_lengths
-returns-in-Damaged c =
-    let args = c.args in
-    let right-lengths = c.right_lengths in
-    let if1 = c.if-not-right_lengths in
-    let judge-memory = c.judge_memory in
-    held_none
-    (lent args.names.now args.strings.now args.bits.now args.wires.now args.rows.now args.renames args.room)
-    _ judge-memory.ensures (sym right-lengths.ensures ∙ not-false _ if1.false-raw) c.in-Damaged.is
+returns c =
+    held-open (lent c.args.names.now c.args.strings.now c.args.bits.now c.args.wires.now c.args.rows.now c.args.renames c.args.room) _
+    c.judge_memory.ensures (sym c.right_lengths.ensures ∙ not-false _ c.if-not-right_lengths.false-raw) _ c.in_ok-behind.ensures.ok_part

@@ -9,19 +9,19 @@ undo_open-requires c =
     let open-memory = c.open_memory in
     opened
     (lent args.names.now args.strings.now args.bits.now args.wires.now args.rows.now args.renames args.room)
-    _ open-memory.ensures _ c.in-Open.is
+    _ open-memory.ensures _ c.in-Ok.is
 
-pub shape_of-names-in-Open : goal.shape_of-names-in-Open
-shape_of-names-in-Open c = c.undo_open.auto.names
+pub shape_of-names-in-Ok : goal.shape_of-names-in-Ok
+shape_of-names-in-Ok c = c.undo_open.auto.names
 
-pub shape_of-rows-in-Open : goal.shape_of-rows-in-Open
-shape_of-rows-in-Open c = c.undo_open.auto.rows
+pub shape_of-rows-in-Ok : goal.shape_of-rows-in-Ok
+shape_of-rows-in-Ok c = c.undo_open.auto.rows
 
-pub returns-in-Open : goal.returns-in-Open
-returns-in-Open c = c.undo_open.ensures
+pub returns-in-Ok : goal.returns-in-Ok
+returns-in-Ok c = c.undo_open.ensures
 
-pub returns-in-Refused : goal.returns-in-Refused
-returns-in-Refused c =
+pub returns-in-Err : goal.returns-in-Err
+returns-in-Err c =
     let args = c.args in
     let open-memory = c.open_memory in
     not-open
@@ -29,4 +29,4 @@ returns-in-Refused c =
     args.rows.now args.renames args.room)) _ _
     (not_opened
     (lent args.names.now args.strings.now args.bits.now args.wires.now args.rows.now args.renames args.room)
-    _ open-memory.ensures _ c.in-Refused.is)
+    _ open-memory.ensures _ c.in-Err.is)
