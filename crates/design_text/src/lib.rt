@@ -48,14 +48,12 @@ struct Object {
 fn next_row(rows: &[u32], kind: u32, from: u32, to: u32) -> u32
     ensures { result ≡ next_row rows.now kind from (to - from) }
 {
-    let mut k = from;
-    while k < to {
+    for k in from..to {
         if row_kind(rows, k) == kind {
             return k;
         }
-        k = k + 1;
     }
-    k
+    from.max(to)
 }
 
 // The line of row k, if it is of this kind.
@@ -99,12 +97,10 @@ fn put_kind(
     ensures { Written at (kind_rows (tabled names.now strings.now bits.now wires.now rows.now) m kind level span.from (span.to - span.from)) out.old out.new result }
 {
     let mut end = at;
-    let mut k = span.from;
-    while k < span.to {
+    for k in span.from..span.to {
         end = put_row(
             names, strings, bits, wires, rows, m, kind, level, k, out, end,
         );
-        k = k + 1;
     }
     end
 }
@@ -227,8 +223,7 @@ fn put_objects(
 {
     let mut end = at;
     let mut first = span.from;
-    let mut k = span.from;
-    while k < span.to {
+    for k in span.from..span.to {
         end = put_object(
             names,
             strings,
@@ -238,7 +233,7 @@ fn put_objects(
             m,
             kind,
             Object {
-                first: first,
+                first,
                 row: k,
                 to: span.to,
             },
@@ -246,7 +241,6 @@ fn put_objects(
             end,
         );
         first = waiting_from(row_kind(rows, k), first, k);
-        k = k + 1;
     }
     end
 }
@@ -407,8 +401,7 @@ fn put_modules(
     let mut end = at;
     let mut number = 0;
     let mut first = 0;
-    let mut k = 0;
-    while k < counts.statements {
+    for k in 0..counts.statements {
         let kind = row_kind(rows, k);
         end = put_module(
             names,
@@ -423,9 +416,8 @@ fn put_modules(
             out,
             end,
         );
-        number = number + one_if_module(kind);
+        number += one_if_module(kind);
         first = waiting_from(kind, first, k);
-        k = k + 1;
     }
     end
 }

@@ -18,7 +18,8 @@ use Rattle.wire_names.specs.NowLaws.{name_by, name_by_lem}
 use Rattle.wire_names.specs.declared.Module.{Module}
 use Rattle.plain.specs.Put.{PutAt, wrote, flat_map-most, put-kept, put_then}
 use Rattle.plain.specs.FormLaws.{form-most, low-most}
-use Rattle.show.specs.Parts.{bytes_in, InRange}
+use Rattle.scanner.specs.declared.parts.Span.{Span}
+use Rattle.show.specs.Parts.{bytes_at, Lies}
 use Rattle.show.specs.declared.Shown.{Shown}
 use Rattle.show.proofs.PartLaws.{shown-part}
 use Rattle.listing.specs.Lines.{name_at, shown_at, place_at, line_at, lines_at, fitted}
@@ -27,11 +28,10 @@ use Rattle.listing.specs.Lines.{name_at, shown_at, place_at, line_at, lines_at, 
 part-most : (s e : ℕ) (l : List ℕ) → length (take (e - s) (drop s l)) ≤ length l
 part-most s e l = omega (arith, length-take (e - s) (drop s l), length-drop s l)
 
-bytes_most : (names strings : List ℕ) (x : Shown) → length (bytes_in names strings x) ≤ length names + length strings
-unfolding bytes_in
-bytes_most names strings (Shown.Name s e) = omega (arith, part-most s e names)
-bytes_most names strings (Shown.Text s e) = omega (arith, part-most s e strings)
-bytes_most names strings (Shown.Refused n) = omega arith
+bytes_most : (names strings : List ℕ) (x : Shown) → length (bytes_at names strings x) ≤ length names + length strings
+unfolding bytes_at
+bytes_most names strings (Shown.Name p) = omega (arith, part-most p.start p.end names)
+bytes_most names strings (Shown.Text p) = omega (arith, part-most p.start p.end strings)
 
 name-short : (names wires rows : List ℕ) (from k last : ℕ) → length (name_by names wires rows from k last) ≤ length names
 unfolding name_by span_at
@@ -54,28 +54,28 @@ module _ (names strings wires rows : List ℕ) (m : Module) where
     abbrev bytes : List ℕ
     bytes = shown_at names strings wires rows m w
 
-    bytes-are : InRange names strings place × (bytes_in names strings place ≡ bytes)
+    bytes-are : Lies names strings place × (bytes_at names strings place ≡ bytes)
     unfolding place_at shown_at
-    bytes-are = let q = shown-part names strings wires rows m.from m.renames m.number.0 w (m.first + w) in (q.0, q.2)
+    bytes-are = shown-part names strings wires rows m.from m.renames m.number.0 w (m.first + w)
 
     pub shown-most : length bytes ≤ length names + length strings
     shown-most = rw (← bytes-are.1) (bytes_most names strings place)
 
     module _ (x : Shown) (is : x ≡ place) where
-      told : (y : Shown) → x ≡ y → InRange names strings y × (bytes_in names strings y ≡ bytes)
-      told y e = subst (λ (z : Shown). InRange names strings z × (bytes_in names strings z ≡ bytes)) (sym is ∙ e) bytes-are
+      told : (y : Shown) → x ≡ y → Lies names strings y × (bytes_at names strings y ≡ bytes)
+      told y e = subst (λ (z : Shown). Lies names strings z × (bytes_at names strings z ≡ bytes)) (sym is ∙ e) bytes-are
 
-      pub name-told : (s e : ℕ) → x ≡ Shown.Name s e → (s ≤ e) × (e ≤ length names) × (take (e - s) (drop s names) ≡ bytes) × (length (take (e - s) (drop s names)) ≤ length names)
-      unfolding bytes_in
-      name-told s e q = let t = told (Shown.Name s e) q in (t.0.0, t.0.1, t.1, part-most s e names)
+      pub name-told :
+          (p : Span) → x ≡ Shown.Name p →
+          (p.start ≤ p.end) × (p.end ≤ length names) × (take (p.end - p.start) (drop p.start names) ≡ bytes) × (length (take (p.end - p.start) (drop p.start names)) ≤ length names)
+      unfolding bytes_at
+      name-told p q = let t = told (Shown.Name p) q in (t.0.0, t.0.1, t.1, part-most p.start p.end names)
 
-      pub text-told : (s e : ℕ) → x ≡ Shown.Text s e → (s ≤ e) × (e ≤ length strings) × (take (e - s) (drop s strings) ≡ bytes) × (length (take (e - s) (drop s strings)) ≤ length strings)
-      unfolding bytes_in
-      text-told s e q = let t = told (Shown.Text s e) q in (t.0.0, t.0.1, t.1, part-most s e strings)
-
-      pub none_told : (n : ℕ) → x ≡ Shown.Refused n → flat_map low bytes ≡ []
-      unfolding bytes_in flat_map
-      none_told n q = ap (flat_map low) (sym (told (Shown.Refused n) q).1)
+      pub text-told :
+          (p : Span) → x ≡ Shown.Text p →
+          (p.start ≤ p.end) × (p.end ≤ length strings) × (take (p.end - p.start) (drop p.start strings) ≡ bytes) × (length (take (p.end - p.start) (drop p.start strings)) ≤ length strings)
+      unfolding bytes_at
+      text-told p q = let t = told (Shown.Text p) q in (t.0.0, t.0.1, t.1, part-most p.start p.end strings)
 
   -- A LINE
   pub line-long : (w : ℕ) → length (line_at names strings wires rows m w) ≡ length (plain_form (name_at names strings wires rows m w)) + length (flat_map low (shown_at names strings wires rows m w)) + 2

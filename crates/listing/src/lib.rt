@@ -128,10 +128,8 @@ fn lines_size(names: &[u8], strings: &[u8], wires: &[u32], rows: &[u32], m: Modu
     ensures { result ≡ length (lines_at names.now strings.now wires.now rows.now m m.wires) }
 {
     let mut size = 0;
-    let mut w = 0;
-    while w < m.wires {
+    for w in 0..m.wires {
         size += line_size(names, strings, wires, rows, m, w);
-        w += 1;
     }
     size
 }
@@ -149,10 +147,8 @@ fn put_lines(
     ensures { PutAt 0 (lines_at names.now strings.now wires.now rows.now m m.wires) out.old out.new result }
 {
     let mut end = 0;
-    let mut w = 0;
-    while w < m.wires {
+    for w in 0..m.wires {
         end = put_line(names, strings, wires, rows, m, w, out, end);
-        w += 1;
     }
     end
 }

@@ -144,10 +144,8 @@ fn put_rows(
     ensures { Written at (row_lines (tabled names.now strings.now bits.now wires.now rows.now) m level from (to - from)) out.old out.new result }
 {
     let mut end = at;
-    let mut k = from;
-    while k < to {
+    for k in from..to {
         end = put_line(names, strings, bits, wires, rows, m, k, level, out, end);
-        k = k + 1;
     }
     end
 }
@@ -207,16 +205,14 @@ fn put_inside(
 {
     let mut end = at;
     let mut first = from;
-    let mut k = from;
     let mut z = Inside {
         opened: 0,
         level: BODY_LEVEL,
     };
-    while k < to {
+    for k in from..to {
         let kind = row_kind(rows, k);
         let step = step_at(rows, k);
-        let opened = z.opened;
-        if (kind == END_KIND) & (opened == 0) {
+        if (kind == END_KIND) & (z.opened == 0) {
             return end;
         }
         let level = level_of(z, kind, step);
@@ -225,7 +221,6 @@ fn put_inside(
         );
         z = behind(z, kind, step);
         first = waiting_from(kind, first, k);
-        k = k + 1;
     }
     end
 }

@@ -1,17 +1,19 @@
 -- Whether a part stands in its table, by the tests in the order of the code.
 -- Assumes nothing.
-use Prim.Native.Nat.{ℕ, ◌+◌, ◌≤◌, ◌<◌}
-use mathlib.Core.Path.{◌≡◌, sym, ◌∙◌}
-use mathlib.Core.List.{List}
+use Prim.Native.Nat.{ℕ, ◌+◌, ◌-◌, ◌≤◌, ◌<◌}
+use mathlib.Core.Path.{◌≡◌, sym, ap, ◌∙◌}
+use mathlib.Core.List.{List, [], ◌∷◌}
 use mathlib.Core.Bool.{Bool, true, false, ◌&&◌, and-true}
 use native.Mathlib.Omega.{arith}
 use lib.Dec.{leb}
-use lib.ListN.{length}
-use lib.Seq.{slice}
+use lib.ListN.{length, get_or, take, drop}
 use borrow.Author.Tests.{le-leb, lt-leb, leb-true, leb-false}
+use Rattle.std.proofs.lemmas.List.{take_more, take_all, drop_more, drop_all}
 use Rattle.rules.specs.Bytes.{all, within}
 use Rattle.rules.specs.Signals.{Wires}
 use Rattle.lists.specs.Tests.{by-test, and-true-left, and-true-right}
+use Rattle.lists.specs.Parts.{slice-part}
+use Rattle.lists.specs.Elements.{all_split}
 use Rattle.lists.specs.Bytes.{legal-short}
 use Rattle.admitted.specs.Admitted.{fine_bit}
 use Rattle.numbers.specs.Kinds.{bit_of, bit_at}
@@ -24,6 +26,28 @@ positive n h = omega arith
 pub given-byte : (b : ℕ) → b ≤ 255 → within 1 255 b ≡ leb 1 b
 unfolding within
 given-byte b h = rw (le-leb b 255 h) (and-true (leb 1 b))
+
+-- values one behind another that pass a test: those before a place and from it on
+module _ (f : ℕ → Bool) (xs : List ℕ) (i : ℕ) where
+  pub all-next : i < length xs → (all f (take i xs) && f (get_or xs i 0)) ≡ all f (take (i + 1) xs)
+  unfolding all
+  all-next h = sym (ap (all f) (take_more xs i 0 h) ∙ all_split f (take i xs) (get_or xs i 0 ∷ []) ∙ ap (λ (b : Bool). all f (take i xs) && b) (and-true (f (get_or xs i 0))))
+
+  pub all-taken : length xs ≤ i → all f (take i xs) ≡ all f xs
+  all-taken h = ap (all f) (take_all i xs h)
+
+  pub all-from : i < length xs → all f (drop i xs) ≡ (f (get_or xs i 0) && all f (drop (i + 1) xs))
+  unfolding all
+  all-from h = ap (all f) (drop_more xs i 0 h)
+
+  pub all-done : length xs ≤ i → all f (drop i xs) ≡ true
+  unfolding all
+  all-done h = ap (all f) (drop_all i xs h)
+
+-- the part of a table that is passed on
+pub taken-span : (t : List ℕ) (at n : ℕ) → take (at + n - at) (drop at t) ≡ span t at n
+unfolding span
+taken-span t at n = sym (slice-part at (at + n) t)
 
 -- inside the table just where the end is
 pub whole_by : (t : List ℕ) (at n : ℕ) → (n ≡ 0 → ⊥) → leb (at + n) (length t) ≡ whole t at n
@@ -45,8 +69,7 @@ module _ (t : List ℕ) (at n : ℕ) {b : Bool} (w : b ≡ whole t at n) where
     pub part-wide : b ≡ true → 2048 < n → false ≡ part_stands f t at n
     part-wide e h = part_in e (rw (lt-leb n 2048 h))
 
-    pub part-all : b ≡ true → n ≤ 2048 → {r : Bool} → r ≡ all f (slice at (at + n) t) → r ≡ part_stands f t at n
-    unfolding span
+    pub part-all : b ≡ true → n ≤ 2048 → {r : Bool} → r ≡ all f (span t at n) → r ≡ part_stands f t at n
     part-all e h q = part_in e (rw (le-leb n 2048 h) q)
 
 -- bits that stand, and a signal of so many
@@ -59,8 +82,8 @@ module _ (ws : Wires) (t : List ℕ) (at n : ℕ) where
   unfolding bits_stand all
   bits_none e = rw (e, whole-none, span_none)
 
-  pub bits-all : {b : Bool} → b ≡ whole t at n → b ≡ true → {r : Bool} → r ≡ all (λ c. fine_bit ws (bit_of (bit_at c))) (slice at (at + n) t) → r ≡ bits_stand ws t at n
-  unfolding bits_stand span
+  pub bits-all : {b : Bool} → b ≡ whole t at n → b ≡ true → {r : Bool} → r ≡ all (λ c. fine_bit ws (bit_of (bit_at c))) (span t at n) → r ≡ bits_stand ws t at n
+  unfolding bits_stand
   bits-all w e q = part_in t at n w e q
 
   pub signal-wide : 2048 < n → false ≡ signal_stands ws t at n

@@ -1,7 +1,6 @@
 // The parts of a statement that stand in the tables behind what is used of them: names, digits and strings.
 // All of it is total: a span past a table's end stands nowhere.
-ghost use Rattle.std.specs.Prelude.{◌≡◌, ◌≤◌, length};
-ghost use Rattle.std.proofs.Math.Seq.{slice};
+ghost use Rattle.std.specs.Prelude.{◌≡◌};
 ghost use Rattle.rules.specs.Bytes.{all, within};
 ghost use Rattle.row_statements.specs.Parts.{WholeIs, name_stands, is_digit, digits_stand, text_stands};
 
@@ -35,15 +34,12 @@ pub fn name_stands(names: &[u8], at: u32, size: u32) -> bool
 }
 
 // Each is looked at, also behind one that is none: so the compiler tests several in one step.
-fn all_digits(bits: &[u32], from: usize, to: usize) -> bool
-    requires { to ≤ length bits.now }
-    ensures { result ≡ all is_digit (slice from to bits.now) }
+fn all_digits(codes: &[u32]) -> bool
+    ensures { result ≡ all is_digit codes.now }
 {
     let mut good = true;
-    let mut i = from;
-    while i < to {
-        good = good & (bits[i] < DIGITS);
-        i += 1;
+    for &code in codes {
+        good &= code < DIGITS;
     }
     good
 }
@@ -62,18 +58,15 @@ pub fn digits_stand(bits: &[u32], at: u32, size: u32) -> bool
         return true;
     }
     let from = at as usize;
-    all_digits(bits, from, from + size as usize)
+    all_digits(&bits[from..from + size as usize])
 }
 
-fn all_given(strings: &[u8], from: usize, to: usize) -> bool
-    requires { to ≤ length strings.now }
-    ensures { result ≡ all (within 1 255) (slice from to strings.now) }
+fn all_given(bytes: &[u8]) -> bool
+    ensures { result ≡ all (within 1 255) bytes.now }
 {
     let mut good = true;
-    let mut i = from;
-    while i < to {
-        good = good & (1 <= strings[i]);
-        i += 1;
+    for &byte in bytes {
+        good &= 1 <= byte;
     }
     good
 }
@@ -89,5 +82,5 @@ pub fn text_stands(strings: &[u8], at: u32, size: u32) -> bool
         return true;
     }
     let from = at as usize;
-    all_given(strings, from, from + size as usize)
+    all_given(&strings[from..from + size as usize])
 }

@@ -1,6 +1,5 @@
 // Signals and wires: each bit inside its wire, each wire within the rules.
-ghost use Rattle.std.specs.Prelude.{◌≤◌, length};
-ghost use Rattle.std.proofs.Math.Seq.{slice};
+ghost use Rattle.std.specs.Prelude.{◌≤◌};
 ghost use Rattle.row_statements.specs.Parts.{BitFits, BitsFit, BitsStand, SignalFits, WireFits};
 
 use crate::parts::{MOST_WIDTH, is_whole};
@@ -38,16 +37,13 @@ fn bit_fits(wires: &[u32], first: u32, count: u32, code: u32) -> bool
     }
 }
 
-fn all_fit(wires: &[u32], first: u32, count: u32, bits: &[u32], from: usize, to: usize) -> bool
-    requires { to ≤ length bits.now }
-    ensures { BitsFit wires.now first count (slice from to bits.now) result }
+fn all_fit(wires: &[u32], first: u32, count: u32, codes: &[u32]) -> bool
+    ensures { BitsFit wires.now first count codes.now result }
 {
-    let mut i = from;
-    while i < to {
-        if !bit_fits(wires, first, count, bits[i]) {
+    for &code in codes {
+        if !bit_fits(wires, first, count, code) {
             return false;
         }
-        i += 1;
     }
     true
 }
@@ -63,7 +59,7 @@ pub fn bits_stand(wires: &[u32], first: u32, count: u32, bits: &[u32], at: u32, 
         return true;
     }
     let from = at as usize;
-    all_fit(wires, first, count, bits, from, from + size as usize)
+    all_fit(wires, first, count, &bits[from..from + size as usize])
 }
 
 // The bits of a signal.

@@ -14,17 +14,17 @@ use borrow.Author.Tests.{ltb-true, ltb-false, leb-true, leb-false}
 use Rattle.rules.specs.Bytes.{byte}
 use Rattle.rules.specs.Session.{plain_name, or_else}
 use Rattle.lists.specs.Tests.{by_cond, by-test}
+use Rattle.scanner.specs.declared.parts.Span.{Span}
 use Rattle.scanner.proofs.RunLaws.{cut-none, cut-part}
 use Rattle.wires.specs.Rows.{column, span_at}
 use Rattle.wire_names.specs.Now.{last_rename, name_now}
 use Rattle.wire_names.specs.NowLaws.{name_by, name_by_lem}
 use Rattle.show.specs.Rows.{wire_line, hdlname_row, text_at, shown_name}
-use Rattle.show.specs.Parts.{part, cut_of, span_part, text_part, part_by, name_part, plain_part, shown_of, shown_part, number_of, bytes_in, InRange}
-use Rattle.show.specs.declared.Part.{Part}
+use Rattle.show.specs.Parts.{part, cut_of, span_part, text_part, part_by, name_part, plain_part, shown_of, shown_part, bytes_at, Lies}
 use Rattle.show.specs.declared.Shown.{Shown}
 
 -- these bytes are that part of a table
-abbrev pub PartIs : (table bytes : List ℕ) → Part → Type 0
+abbrev pub PartIs : (table bytes : List ℕ) → Span → Type 0
 PartIs t xs p = (p.start ≤ p.end) × (p.end ≤ length t) × (take (p.end - p.start) (drop p.start t) ≡ xs)
 
 module _ (t : List ℕ) where
@@ -62,7 +62,7 @@ module _ (names wires rows : List ℕ) (from count m n k : ℕ) where
   name-is = rw (name_by_lem names wires rows from m n k count) (by_last (last_rename rows from count m n))
 
 -- WITHOUT THE `\\` OF A PUBLIC NAME
-module _ (names : List ℕ) (p : Part) (h : p.end ≤ length names) where
+module _ (names : List ℕ) (p : Span) (h : p.end ≤ length names) where
   part-cons : p.start < p.end → take (p.end - p.start) (drop p.start names) ≡ get_or names p.start 0 ∷ take (p.end - (p.start + 1)) (drop (p.start + 1) names)
   part-cons b =
       let e : p.end - p.start ≡ suc (p.end - (p.start + 1)) = omega arith in
@@ -105,28 +105,28 @@ unfolding or_else
 else-second [] ys h = refl
 else-second (x ∷ xs) ys h = absurd (omega arith)
 
-module _ (names strings xs ys : List ℕ) (t p : Part) (ht : PartIs strings xs t) (hp : PartIs names ys p) where
+module _ (names strings xs ys : List ℕ) (t p : Span) (ht : PartIs strings xs t) (hp : PartIs names ys p) where
   text-length : length xs ≡ t.end - t.start
   text-length = ap length (sym ht.2) ∙ length-take-le (t.end - t.start) (drop t.start strings) (omega (arith, length-drop t.start strings, ht.1))
 
   abbrev Is : Shown → Type 0
-  Is r = InRange names strings r × (number_of r ≡ 0) × (bytes_in names strings r ≡ or_else xs ys)
+  Is r = Lies names strings r × (bytes_at names strings r ≡ or_else xs ys)
 
   shown_of_lem : Is (shown_of t p)
-  unfolding shown_of number_of bytes_in
+  unfolding shown_of bytes_at
   shown_of_lem =
       by_cond Is (ltb t.start t.end)
-      (λ q. ((ht.0, ht.1), refl, ht.2 ∙ else-first xs ys (omega (arith, text-length, ltb-true t.start t.end q))))
-      (λ q. ((hp.0, hp.1), refl, hp.2 ∙ else-second xs ys (omega (arith, text-length, ltb-false t.start t.end q))))
+      (λ q. ((ht.0, ht.1), ht.2 ∙ else-first xs ys (omega (arith, text-length, ltb-true t.start t.end q))))
+      (λ q. ((hp.0, hp.1), hp.2 ∙ else-second xs ys (omega (arith, text-length, ltb-false t.start t.end q))))
 
 module _ (names strings wires rows : List ℕ) (from count m n k : ℕ) where
   abbrev Shows : Shown → Type 0
-  Shows r = InRange names strings r × (number_of r ≡ 0) × (bytes_in names strings r ≡ shown_name names strings wires rows from count m n k)
+  Shows r = Lies names strings r × (bytes_at names strings r ≡ shown_name names strings wires rows from count m n k)
 
   pub shown-part : Shows (shown_part names strings wires rows from count m n k)
   unfolding shown_part shown_name
   shown-part =
       let q : PartIs names (name_now names wires rows from count m n k) (name_part names wires rows from count m n k) = name-is names wires rows from count m n k in
-      let p : Part = name_part names wires rows from count m n k in
+      let p : Span = name_part names wires rows from count m n k in
       let e = plain-is names p q.1 q.0 in
       shown_of_lem names strings _ _ _ _ (text-is strings rows (hdlname_row names rows (wire_line rows from k) 0)) (e.0, e.1, e.2 ∙ ap plain_name q.2)

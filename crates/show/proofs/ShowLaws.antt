@@ -7,6 +7,7 @@ use mathlib.Core.Option
 use mathlib.Core.Option.{Option, none, some, Option-elim}
 use mathlib.Core.Bool.{true, false}
 use native.Mathlib.Omega.{arith}
+use Rattle.std.specs.Prelude.{Result, Ok, Err}
 use lib.ListN.{length, get_elem?, take, drop, length-reverse}
 use borrow.Author.Tests.{le-leb, lt-leb}
 use Rattle.rules.specs.Tokens.{Name}
@@ -16,6 +17,7 @@ use Rattle.rules.specs.Judgement.{Past, accepted, refused}
 use Rattle.rules.specs.Design.{Object, object, design}
 use Rattle.rules.specs.Session.{wires_at, wire_at, now, hdlname, plain_name, or_else, show}
 use Rattle.rules.specs.Layout.{Memory}
+use Rattle.scanner.specs.declared.parts.Span.{Span}
 use Rattle.wires.specs.Rows.{name_of, wire_of, wires_from}
 use Rattle.wires.specs.RowLaws.{length-wires, wire-numbered}
 use Rattle.lists.specs.Lists.{at_map}
@@ -44,7 +46,7 @@ use Rattle.session.proofs.CallLaws.{not-open}
 use Rattle.session.proofs.HoldLaws.{rows_before, lies}
 use Rattle.rename_rules.specs.LiesLaws.{headed, offsets, wired, all-wires, name-now-is, missing}
 use Rattle.show.specs.Rows.{wire_line, hdlname_row, text_at, shown_name}
-use Rattle.show.specs.Parts.{shown_part, shown_in, number_of, bytes_in, InRange, first_byte, ShownAs, ShownAt, LiesAt}
+use Rattle.show.specs.Parts.{shown_part, shown_in, number_of, bytes_at, bytes_in, InRange, byte_at, first_byte, ShownAs, ShownAt, LiesAt}
 use Rattle.show.specs.declared.Shown.{Shown}
 use Rattle.show.proofs.PartLaws.{shown-part}
 use Rattle.show.proofs.FoundLaws.{line-found, hdlname-found}
@@ -61,10 +63,10 @@ name_by xs i o x e q =
     ap (λ (y : Option (Name × Wire)). Option-elim y [] (λ z. z.0)) (sym (at_map seen xs i ∙ ap (Option.map seen) e) ∙ q)
 
 -- what find_shown ensures of an answer
-abbrev pub Answered : Memory → (m w : ℕ) → Shown → Type 0
+abbrev pub Answered : Memory → (m w : ℕ) → Result Shown ℕ → Type 0
 Answered M m w r = ShownAt M m w r × (InRange M.names M.strings r × ShownAs M m w (number_of r) (bytes_in M.names M.strings r))
 
-shown-in : {M : Memory} {p : Place} → Holding M p → (m w : ℕ) (r : Shown) → r ≡ shown_in M p m w → ShownAt M m w r
+shown-in : {M : Memory} {p : Place} → Holding M p → (m w : ℕ) (r : Result Shown ℕ) → r ≡ shown_in M p m w → ShownAt M m w r
 shown-in {M} h m w r e = holding h.statements h.renames h.lengths h.holds (e ∙ ap (λ (q : Place). shown_in M q m w) (sym h.place))
 
 module _ {names strings bits wires rows : List ℕ} {renames room : ℕ} {p : Place} (h : Holding (lent names strings bits wires rows renames room) p) (m w : ℕ)
@@ -150,53 +152,58 @@ module _ {names strings bits wires rows : List ℕ} {renames room : ℕ} {p : Pl
         let q = wire-shown in
         ap (λ (o : Option (Object Wire)). Option-elim o (refused 8) (λ x. accepted (or_else (hdlname x.attributes) (plain_name x.name)))) q.1 ∙ ap accepted q.3
 
-    part_in : shown_in (lent names strings bits wires rows renames room) p m w ≡ shown_part names strings wires rows p.rows renames m w (own.first + w)
+    part_in : shown_in (lent names strings bits wires rows renames room) p m w ≡ Ok (shown_part names strings wires rows p.rows renames m w (own.first + w))
     unfolding shown_in
     part_in = rw (← eo, lt-leb own.count w b)
 
-    pub shown-there : (r : Shown) → r ≡ shown_part names strings wires rows p.rows renames m w (own.first + w) → Answered (lent names strings bits wires rows renames room) m w r
-    unfolding answer
+    pub shown-there :
+        (r : Shown) → r ≡ shown_part names strings wires rows p.rows renames m w (own.first + w) → Answered (lent names strings bits wires rows renames room) m w (Ok r)
+    unfolding answer number_of bytes_in
     shown-there r e =
         let q = shown-part names strings wires rows p.rows renames m w (own.first + w) in (
-          shown-in h m w r (e ∙ sym part_in),
-          (rw e q.0, holding h.statements h.renames h.lengths h.holds (rw (e, q.1, q.2, show-is))),
+          shown-in h m w (Ok r) (ap Ok e ∙ sym part_in),
+          (rw e q.0, holding h.statements h.renames h.lengths h.holds (rw (e, q.1, show-is))),
         )
 
   -- THE WIRE IS NOT THERE
-  none_in : own.count ≤ w → shown_in (lent names strings bits wires rows renames room) p m w ≡ Shown.Refused 8
+  none_in : own.count ≤ w → shown_in (lent names strings bits wires rows renames room) p m w ≡ Err 8
   unfolding shown_in
   none_in b = rw (← eo, le-leb own.count w b)
 
-  pub shown-missing : own.count ≤ w → Answered (lent names strings bits wires rows renames room) m w (Shown.Refused 8)
+  pub shown-missing : own.count ≤ w → Answered (lent names strings bits wires rows renames room) m w (Err 8)
   unfolding answer show Option-elim number_of bytes_in
   shown-missing b =
       let e : wire_at (design h.statements) m w ≡ none = none-by _ (missing (lies h) m w true (λ (x : Wire). false) (rw (← eo) b)) in
       let q : wire_at (now (design h.statements) h.renames) m w ≡ none =
       wire-now (design h.statements) h.renames m w ∙ ap (Option.map (wire_now h.renames m w)) e in
-      (shown-in h m w (Shown.Refused 8) (sym (none_in b)), (tt, holding h.statements h.renames h.lengths h.holds (rw q)))
+      (shown-in h m w (Err 8) (sym (none_in b)), (tt, holding h.statements h.renames h.lengths h.holds (rw q)))
 
 -- THE MEMORY IS NOT OPEN
-pub shown-refused : (M : Memory) (m w n : ℕ) → NotOpen M n → Answered M m w (Shown.Refused n)
+pub shown-refused : (M : Memory) (m w n : ℕ) → NotOpen M n → Answered M m w (Err n)
 unfolding number_of bytes_in
-shown-refused M m w n h = (not-open Shown.Refused _ n h, (tt, not-open (λ e. (e, [])) _ n h))
+shown-refused M m w n h = (not-open Err _ n h, (tt, not-open (λ e. (e, [])) _ n h))
 
 -- THE PART RETURNED
-module _ (M : Memory) (m w : ℕ) (names strings : ℕ × ℕ) (r : Shown) (h : Answered M m w r) where
-  abbrev Returned : Shown → Type 0
+module _ (M : Memory) (m w : ℕ) (names strings : ℕ × ℕ) (r : Result Shown ℕ) (h : Answered M m w r) where
+  abbrev Returned : Result Shown ℕ → Type 0
   Returned x = ShownAs M m w (number_of x) (bytes_in M.names M.strings x) × LiesAt M m w names strings (first_byte names strings x)
 
   returned : Returned r
   returned = (h.1.1, called-turn (λ n p. ap (first_byte names strings)) (λ ss rs. ap (first_byte names strings)) h.0)
 
-  pub shown-name : (s e : ℕ) → r ≡ Shown.Name s e → ShownAs M m w 0 (take (e - s) (drop s M.names)) × LiesAt M m w names strings (names.0, s + names.1)
-  unfolding number_of bytes_in first_byte
-  shown-name s e q = subst Returned q returned
+  pub shown-name :
+      (p : Span) → r ≡ Ok (Shown.Name p) →
+      ShownAs M m w 0 (take (p.end - p.start) (drop p.start M.names)) × LiesAt M m w names strings (names.0, p.start + names.1)
+  unfolding number_of bytes_at bytes_in byte_at first_byte
+  shown-name p q = subst Returned q returned
 
-  pub shown-text : (s e : ℕ) → r ≡ Shown.Text s e → ShownAs M m w 0 (take (e - s) (drop s M.strings)) × LiesAt M m w names strings (strings.0, s + strings.1)
-  unfolding number_of bytes_in first_byte
-  shown-text s e q = subst Returned q returned
+  pub shown-text :
+      (p : Span) → r ≡ Ok (Shown.Text p) →
+      ShownAs M m w 0 (take (p.end - p.start) (drop p.start M.strings)) × LiesAt M m w names strings (strings.0, p.start + strings.1)
+  unfolding number_of bytes_at bytes_in byte_at first_byte
+  shown-text p q = subst Returned q returned
 
   -- the part of the names from 0 up to 0
-  pub shown-none : (n : ℕ) → r ≡ Shown.Refused n → ShownAs M m w n [] × LiesAt M m w names strings (names.0, 0 + names.1)
+  pub shown-none : (n : ℕ) → r ≡ Err n → ShownAs M m w n [] × LiesAt M m w names strings (names.0, 0 + names.1)
   unfolding number_of bytes_in first_byte
   shown-none n q = let e : 0 + names.1 ≡ names.1 = omega arith in rw e (subst Returned q returned)

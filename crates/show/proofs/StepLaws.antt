@@ -8,12 +8,12 @@ use mathlib.Core.Logic.{◌⊎◌, ⊎_elim}
 use lib.Dec.{ltb}
 use lib.ListN.{length, get_or}
 use borrow.Author.Tests.{lt-ltb, le-ltb, le-leb, lt-leb, ne_eqb}
+use Rattle.scanner.specs.declared.parts.Span.{Span}
 use Rattle.wires.specs.Rows.{column}
 use Rattle.netlist.specs.Rows.{kind_at}
 use Rattle.wire_names.specs.Now.{last_rename}
 use Rattle.show.specs.Rows.{declares, wire_line, is_hdlname, hdlname_row}
 use Rattle.show.specs.Parts.{part, cut_of, span_part, text_part, part_by, name_part, plain_part, shown_of, shown_part}
-use Rattle.show.specs.declared.Part.{Part}
 use Rattle.show.specs.declared.Shown.{Shown}
 
 -- THE WIRE'S STATEMENT
@@ -82,7 +82,7 @@ pub name-at : (names wires rows : List ℕ) (from count m n k last l : ℕ) → 
 unfolding name_part
 name-at names wires rows from count m n k last l el e = rw (← el, e)
 
-module _ (names : List ℕ) (p : Part) where
+module _ (names : List ℕ) (p : Span) where
   pub plain-public : p.start < p.end → get_or names p.start 0 ≡ 92 → part (p.start + 1) p.end ≡ plain_part names p
   unfolding plain_part
   plain-public h e = rw (lt-ltb p.start p.end h, e)
@@ -95,17 +95,17 @@ module _ (names : List ℕ) (p : Part) where
   unfolding plain_part
   plain-none h = rw (le-ltb p.start p.end h)
 
-module _ (names strings wires rows : List ℕ) (from count m n k line behind : ℕ) (t : Part)
+module _ (names strings wires rows : List ℕ) (from count m n k line behind : ℕ) (t : Span)
     (el : line ≡ wire_line rows from k) (eb : behind ≡ hdlname_row names rows line 0) (et : t ≡ text_part strings rows behind) where
   text-found : t ≡ text_part strings rows (hdlname_row names rows (wire_line rows from k) 0)
   text-found = et ∙ ap (text_part strings rows) (eb ∙ ap (λ (x : ℕ). hdlname_row names rows x 0) el)
 
-  pub shows-text : t.start < t.end → Shown.Text t.start t.end ≡ shown_part names strings wires rows from count m n k
+  pub shows-text : t.start < t.end → Shown.Text t ≡ shown_part names strings wires rows from count m n k
   unfolding shown_part shown_of
   shows-text h = rw (← text-found, lt-ltb t.start t.end h)
 
   pub shows-name :
-      t.end ≤ t.start → (now p : Part) → now ≡ name_part names wires rows from count m n k → p ≡ plain_part names now →
-      Shown.Name p.start p.end ≡ shown_part names strings wires rows from count m n k
+      t.end ≤ t.start → (now p : Span) → now ≡ name_part names wires rows from count m n k → p ≡ plain_part names now →
+      Shown.Name p ≡ shown_part names strings wires rows from count m n k
   unfolding shown_part shown_of
   shows-name h now p en ep = rw (← text-found, le-ltb t.start t.end h, ← en, ← ep)

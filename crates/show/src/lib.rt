@@ -74,13 +74,10 @@ fn declares(rows: &[u32], row: u32, wire: u32) -> bool
 fn wire_line(rows: &[u32], total: u32, wire: u32) -> u32
     ensures { result ≡ wire_line rows.now total wire }
 {
-    let mut k = total;
-    while 0 < k {
-        let last = k - 1;
-        if declares(rows, last, wire) {
-            return last;
+    for k in (0..total).rev() {
+        if declares(rows, k, wire) {
+            return k;
         }
-        k = last;
     }
     0
 }
@@ -96,18 +93,13 @@ fn hdlname_row(names: &[u8], rows: &[u32], line: u32) -> u32
     ensures { result ≡ hdlname_row names.now rows.now line 0 }
 {
     let mut found = 0;
-    let mut k = line;
-    while 0 < k {
-        let last = k - 1;
-        if row_kind(rows, last) != ATTRIBUTE_KIND {
+    for k in (0..line).rev() {
+        if row_kind(rows, k) != ATTRIBUTE_KIND {
             return found;
         }
-        found = if is_hdlname(names, rows, last) {
-            k
-        } else {
-            found
-        };
-        k = last;
+        if is_hdlname(names, rows, k) {
+            found = k + 1;
+        }
     }
     found
 }

@@ -70,13 +70,11 @@ fn put_signals(
 {
     let width = column(rows, row, STEP_WIDTH) as usize;
     let mut start = column(rows, row, STEP_BITS) as usize;
-    let mut left = column(rows, row, STEP_SIGNALS);
     let mut end = at;
-    while 0 < left {
+    for left in (0..column(rows, row, STEP_SIGNALS)).rev() {
         let s = part(bits, start, start + width);
-        end = put_listed(names, wires, rows, m, s, comma & (1 < left), out, end);
-        start = start + width;
-        left = left - 1;
+        end = put_listed(names, wires, rows, m, s, comma & (0 < left), out, end);
+        start += width;
     }
     end
 }

@@ -1,7 +1,9 @@
 -- The loop's invariant: the first row of the kind is the first one from k on.
 -- Assumes nothing.
-use mathlib.Core.Path.{refl, sym, ◌∙◌}
+use mathlib.Core.Path.{◌≡◌, refl, sym, ◌∙◌}
 use native.Mathlib.Omega.{arith}
+use Prim.Native.Nat.{◌≤◌}
+use Rattle.lists.specs.Tests.{by_order}
 use Rattle.design_text.proofs.Loops.{row-found, row-later, row-none}
 use Rattle.design_text.proofs.next_row.Goals as goal
 
@@ -27,4 +29,14 @@ loop-k-preserved c =
     (omega arith) c.if-row_kind-kind.false
 
 pub returns : goal.returns
-returns c = sym (c.loop-k.invariant ∙ row-none c.args.rows.now c.args.kind c.loop-k.k c.args.to (omega arith))
+returns c =
+    let args = c.args in
+    let k = c.loop-k.k in
+    by_order args.to args.from
+    (λ h.
+    let end : c.max.result ≡ args.from = omega (arith, c.max.ensures) in
+    end ∙ sym (row-none args.rows.now args.kind args.from args.to h))
+    (λ h.
+    let within : args.from ≤ args.to = omega arith in
+    let end : c.max.result ≡ k = omega (arith, c.max.ensures, c.loop-k.auto.k-end within) in
+    end ∙ sym (c.loop-k.invariant ∙ row-none args.rows.now args.kind k args.to (omega arith)))

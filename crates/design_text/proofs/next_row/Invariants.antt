@@ -7,6 +7,3 @@ use Rattle.design_text.proofs.next_row.Given as goal
 
 abbrev pub invariant-loop-k : goal.invariant-loop-k
 invariant-loop-k l = next_row l.rows l.kind l.from (l.to - l.from) ≡ next_row l.rows l.kind l.k (l.to - l.k)
-
-abbrev pub decreases-loop-k : goal.decreases-loop-k
-decreases-loop-k l = l.to - l.k

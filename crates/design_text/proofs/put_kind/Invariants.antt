@@ -7,7 +7,4 @@ use Rattle.text.specs.Reaches.{Reaches}
 use Rattle.design_text.proofs.put_kind.Given as goal
 
 abbrev pub invariant-loop-k : goal.invariant-loop-k
-invariant-loop-k l = Reaches l.at (kind_rows (tabled l.names l.strings l.bits l.wires l.rows) l.m l.kind l.level l.span.from (l.span.to - l.span.from)) (kind_rows (tabled l.names l.strings l.bits l.wires l.rows) l.m l.kind l.level l.k (l.span.to - l.k)) l.initial.out l.out l.end
-
-abbrev pub decreases-loop-k : goal.decreases-loop-k
-decreases-loop-k l = l.span.to - l.k
+invariant-loop-k l = Reaches l.at (kind_rows (tabled l.names l.strings l.bits l.wires l.rows) l.m l.kind l.level l.fn.span.from (l.fn.span.to - l.fn.span.from)) (kind_rows (tabled l.names l.strings l.bits l.wires l.rows) l.m l.kind l.level l.k (l.fn.span.to - l.k)) l.initial.out l.out l.end

@@ -8,6 +8,3 @@ use Rattle.design_text.proofs.put_objects.Given as goal
 
 abbrev pub invariant-loop-k : goal.invariant-loop-k
 invariant-loop-k l = Reaches l.at (object_rows (tabled l.names l.strings l.bits l.wires l.rows) l.m l.kind l.span.from l.span.from (l.span.to - l.span.from)) (object_rows (tabled l.names l.strings l.bits l.wires l.rows) l.m l.kind l.first l.k (l.span.to - l.k)) l.initial.out l.out l.end
-
-abbrev pub decreases-loop-k : goal.decreases-loop-k
-decreases-loop-k l = l.span.to - l.k

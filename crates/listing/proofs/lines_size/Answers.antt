@@ -9,7 +9,7 @@ use Rattle.listing.proofs.lines_size.Goals as goal
 
 pub loop-w-init : goal.loop-w-init
 unfolding lines_at
-loop-w-init c = (omega arith, refl)
+loop-w-init c = refl
 
 pub line_size-size-requires : goal.line_size-size-requires
 line_size-size-requires c = record {
@@ -22,17 +22,17 @@ overflow_add-size c =
     let args = c.args in
     let loop = c.loop-w in
     let pre = c.requires in
-    omega (arith, pre, size-more args.names.now args.strings.now args.wires.now args.rows.now args.m loop.w loop.size _ loop.invariant.1 c.line_size-size.ensures, lines-most args.names.now args.strings.now args.wires.now args.rows.now args.m pre.names_len.0 pre.names_len.1 (loop.w + 1))
+    omega (arith, pre, size-more args.names.now args.strings.now args.wires.now args.rows.now args.m loop.w loop.size _ loop.invariant c.line_size-size.ensures, lines-most args.names.now args.strings.now args.wires.now args.rows.now args.m pre.names_len.0 pre.names_len.1 (loop.w + 1))
 
 pub loop-w-preserved : goal.loop-w-preserved
 loop-w-preserved c =
     let args = c.args in
     let loop = c.loop-w in
-    (omega arith, size-more args.names.now args.strings.now args.wires.now args.rows.now args.m loop.w loop.size _ loop.invariant.1 c.line_size-size.ensures)
+    size-more args.names.now args.strings.now args.wires.now args.rows.now args.m loop.w loop.size _ loop.invariant c.line_size-size.ensures
 
 pub returns : goal.returns
 returns c =
     let args = c.args in
     let loop = c.loop-w in
     let e : loop.w ≡ args.m.wires = omega arith in
-    loop.invariant.1 ∙ ap (λ (k : ℕ). length (lines_at args.names.now args.strings.now args.wires.now args.rows.now args.m k)) e
+    loop.invariant ∙ ap (λ (k : ℕ). length (lines_at args.names.now args.strings.now args.wires.now args.rows.now args.m k)) e

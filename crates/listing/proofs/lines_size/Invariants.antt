@@ -6,7 +6,4 @@ use Rattle.listing.specs.Lines.{lines_at}
 use Rattle.listing.proofs.lines_size.Given as goal
 
 abbrev pub invariant-loop-w : goal.invariant-loop-w
-invariant-loop-w l = (l.w ≤ l.m.wires) × (l.size ≡ length (lines_at l.names l.strings l.wires l.rows l.m l.w))
-
-abbrev pub decreases-loop-w : goal.decreases-loop-w
-decreases-loop-w l = l.m.wires - l.w
+invariant-loop-w l = l.size ≡ length (lines_at l.names l.strings l.wires l.rows l.m l.w)

@@ -5,13 +5,13 @@ use Rattle.session.proofs.CallLaws.{not-open}
 use Rattle.listing.proofs.ListLaws.{fits, listed-missing, listed-there}
 use Rattle.listing.proofs.listing.Goals as goal
 
-pub returns-then-place-number : goal.returns-then-place-number
-returns-then-place-number c =
+pub returns-then-place-m : goal.returns-then-place-m
+returns-then-place-m c =
     let args = c.args in
     let held =
     opened (lent args.names.now args.strings.now args.bits.now args.wires.now args.rows.now args.renames args.room)
     _ c.open_memory.ensures _ c.in-Open.is in
-    listed-missing held args.m.0 args.out.now c.if-place-number.true
+    listed-missing held args.m.0 args.out.now c.if-place-m.true
 
 pub list_module-requires : goal.list_module-requires
 list_module-requires c =
@@ -22,17 +22,17 @@ list_module-requires c =
     let all = fits held args.m.0 _ c.module_of.ensures in
     record { wires_bound = all.0; names_len = all.1 }
 
-pub returns-else-place-number : goal.returns-else-place-number
-returns-else-place-number c =
+pub returns : goal.returns
+returns c =
     let args = c.args in
     let held =
     opened (lent args.names.now args.strings.now args.bits.now args.wires.now args.rows.now args.renames args.room)
     _ c.open_memory.ensures _ c.in-Open.is in
-    listed-there held args.m.0 args.out.now c.if-place-number.false _ c.module_of.ensures _ c.list_module.ensures
+    listed-there held args.m.0 args.out.now c.if-place-m.false _ c.module_of.ensures _ c.list_module.ensures
 
-pub returns-in-Refused : goal.returns-in-Refused
-returns-in-Refused c =
+pub returns-in-Err : goal.returns-in-Err
+returns-in-Err c =
     let args = c.args in
     not-open (λ n. (n, 0, args.out.now)) _ _
     (not_opened (lent args.names.now args.strings.now args.bits.now args.wires.now args.rows.now args.renames args.room)
-    _ c.open_memory.ensures _ c.in-Refused.is)
+    _ c.open_memory.ensures _ c.in-Err.is)

@@ -9,7 +9,7 @@ use Rattle.listing.proofs.put_lines.Goals as goal
 
 pub loop-w-init : goal.loop-w-init
 unfolding lines_at
-loop-w-init c = (omega arith, put-none 0 c.args.out.now)
+loop-w-init c = put-none 0 c.args.out.now
 
 pub put_line-end-requires : goal.put_line-end-requires
 put_line-end-requires c =
@@ -19,21 +19,21 @@ put_line-end-requires c =
     let inside : loop.w < args.m.wires = omega arith in
     record {
       w_bound = omega (arith, pre);
-      w_in_bounds = omega (arith, pre, loop.invariant.1.place, put-kept loop.invariant.1, lines_fit args.names.now args.strings.now args.wires.now args.rows.now args.m loop.w args.m.wires inside);
+      w_in_bounds = omega (arith, pre, loop.invariant.place, put-kept loop.invariant, lines_fit args.names.now args.strings.now args.wires.now args.rows.now args.m loop.w args.m.wires inside);
     }
 
 pub loop-w-preserved : goal.loop-w-preserved
 loop-w-preserved c =
     let args = c.args in
     let loop = c.loop-w in
-    (omega arith, put_as (put_then loop.invariant.1 c.put_line-end.ensures) (lines_more args.names.now args.strings.now args.wires.now args.rows.now args.m loop.w))
+    put_as (put_then loop.invariant c.put_line-end.ensures) (lines_more args.names.now args.strings.now args.wires.now args.rows.now args.m loop.w)
 
 pub shape_of-out : goal.shape_of-out
-shape_of-out c = put-kept c.loop-w.invariant.1
+shape_of-out c = put-kept c.loop-w.invariant
 
 pub returns : goal.returns
 returns c =
     let args = c.args in
     let loop = c.loop-w in
     let e : loop.w ≡ args.m.wires = omega arith in
-    put_as loop.invariant.1 (ap (λ (k : ℕ). lines_at args.names.now args.strings.now args.wires.now args.rows.now args.m k) e)
+    put_as loop.invariant (ap (λ (k : ℕ). lines_at args.names.now args.strings.now args.wires.now args.rows.now args.m k) e)

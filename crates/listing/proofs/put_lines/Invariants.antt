@@ -5,7 +5,4 @@ use Rattle.listing.specs.Lines.{lines_at}
 use Rattle.listing.proofs.put_lines.Given as goal
 
 abbrev pub invariant-loop-w : goal.invariant-loop-w
-invariant-loop-w l = (l.w ≤ l.m.wires) × PutAt 0 (lines_at l.names l.strings l.wires l.rows l.m l.w) l.initial.out l.out l.end
-
-abbrev pub decreases-loop-w : goal.decreases-loop-w
-decreases-loop-w l = l.m.wires - l.w
+invariant-loop-w l = PutAt 0 (lines_at l.names l.strings l.wires l.rows l.m l.w) l.initial.out l.out l.end

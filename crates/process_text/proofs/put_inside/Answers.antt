@@ -17,12 +17,12 @@ row_kind-kind-requires c = tt
 pub step_at-step-requires : goal.step_at-step-requires
 step_at-step-requires c = tt
 
-pub returns-then-kind-opened : goal.returns-then-kind-opened
+pub returns-then-kind-z : goal.returns-then-kind-z
 unfolding closes
-returns-then-kind-opened c = reaches_end c.loop-k.invariant.1 (inside-closed _ _ c.loop-k.z _ _ _ _ c.row_kind-kind.ensures (omega arith) c.if-kind-opened.true)
+returns-then-kind-z c = reaches_end c.loop-k.invariant.1 (inside-closed _ _ c.loop-k.z _ _ _ _ c.row_kind-kind.ensures (omega arith) c.if-kind-z.true)
 
-pub shape_of-out-then-kind-opened : goal.shape_of-out-then-kind-opened
-shape_of-out-then-kind-opened c = (returns-then-kind-opened c).kept
+pub shape_of-out-then-kind-z : goal.shape_of-out-then-kind-z
+shape_of-out-then-kind-z c = (returns-then-kind-z c).kept
 
 pub level_of-level-requires : goal.level_of-level-requires
 level_of-level-requires c = tt
@@ -49,7 +49,7 @@ loop-k-preserved c =
     let below : loop.k < args.to = omega arith in
     let row-kind = c.row_kind-kind in
     let step-at = c.step_at-step in
-    let if1 = c.if-kind-opened in
+    let if1 = c.if-kind-z in
     let level-of = c.level_of-level in
     let put-row = c.put_row-end in
     let behind = c.behind-z in (

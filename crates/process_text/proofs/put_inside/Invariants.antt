@@ -11,6 +11,3 @@ abbrev pub invariant-loop-k : goal.invariant-loop-k
 invariant-loop-k l =
     Shallow l.z l.k
     × Reaches l.at (inside_rows (tabled l.names l.strings l.bits l.wires l.rows) l.m (record { opened = 0; level = 2 }) l.from l.from (l.to - l.from)) (inside_rows (tabled l.names l.strings l.bits l.wires l.rows) l.m l.z l.first l.k (l.to - l.k)) l.initial.out l.out l.end
-
-abbrev pub decreases-loop-k : goal.decreases-loop-k
-decreases-loop-k l = l.to - l.k

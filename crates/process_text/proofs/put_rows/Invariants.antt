@@ -9,6 +9,3 @@ use Rattle.process_text.proofs.put_rows.Given as goal
 abbrev pub invariant-loop-k : goal.invariant-loop-k
 invariant-loop-k l =
     Reaches l.at (row_lines (tabled l.names l.strings l.bits l.wires l.rows) l.m l.level l.from (l.to - l.from)) (row_lines (tabled l.names l.strings l.bits l.wires l.rows) l.m l.level l.k (l.to - l.k)) l.initial.out l.out l.end
-
-abbrev pub decreases-loop-k : goal.decreases-loop-k
-decreases-loop-k l = l.to - l.k

@@ -16,7 +16,7 @@ returns-then-own-number c =
     shown-missing
     (opened
     (lent args.names.now args.strings.now args.bits.now args.wires.now args.rows.now args.renames args.room)
-    _ open-memory.ensures _ c.in-Open.is) _ _ _ module-wires.ensures c.if-own-number.true in
+    _ open-memory.ensures _ c.in_ok-place.was) _ _ _ module-wires.ensures c.if-own-number.true in
     record { shown_at = all.0; in_range = all.1.0; shown_as = all.1.1 }
 
 pub overflow_add-own : goal.overflow_add-own
@@ -29,12 +29,12 @@ overflow_add-own c =
       wire-fits
           (opened
           (lent args.names.now args.strings.now args.bits.now args.wires.now args.rows.now args.renames args.room)
-          _ open-memory.ensures _ c.in-Open.is) args.m.0 args.w.0 _ module-wires.ensures
+          _ open-memory.ensures _ c.in_ok-place.was) args.m.0 args.w.0 _ module-wires.ensures
           c.if-own-number.false,
     )
 
-pub returns-else-own-number : goal.returns-else-own-number
-returns-else-own-number c =
+pub returns : goal.returns
+returns c =
     let args = c.args in
     let open-memory = c.open_memory in
     let module-wires = c.module_wires-own in
@@ -43,19 +43,19 @@ returns-else-own-number c =
     shown-there
     (opened
     (lent args.names.now args.strings.now args.bits.now args.wires.now args.rows.now args.renames args.room)
-    _ open-memory.ensures _ c.in-Open.is) args.m.0 args.w.0 _ module-wires.ensures if1.false
+    _ open-memory.ensures _ c.in_ok-place.was) args.m.0 args.w.0 _ module-wires.ensures if1.false
     _ c.shown_wire.ensures in
     record { shown_at = all.0; in_range = all.1.0; shown_as = all.1.1 }
 
-pub returns-in-Refused : goal.returns-in-Refused
-returns-in-Refused c =
+pub returns-in_err-place : goal.returns-in_err-place
+returns-in_err-place c =
     let args = c.args in
     let open-memory = c.open_memory in
-    let all =
+    let all = ?
     shown-refused
     (lent args.names.now args.strings.now args.bits.now args.wires.now args.rows.now args.renames args.room)
     args.m.0 args.w.0 _
     (not_opened
     (lent args.names.now args.strings.now args.bits.now args.wires.now args.rows.now args.renames args.room)
-    _ open-memory.ensures _ c.in-Refused.is) in
+    _ open-memory.ensures _ c.in_err-place.was) in
     record { shown_at = all.0; in_range = all.1.0; shown_as = all.1.1 }

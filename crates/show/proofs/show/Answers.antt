@@ -9,46 +9,46 @@ use Rattle.show.proofs.show.Goals as goal
 pub slice_bounds-result-count : goal.slice_bounds-result-count
 slice_bounds-result-count c =
     let args = c.args in
-    let find-shown = c.find_shown-place in
-    (subst (InRange args.names.now args.strings.now) c.in-Name.is
+    let find-shown = c.find_shown in
+    (subst (InRange args.names.now args.strings.now) c.in-Ok-Name.is
     find-shown.ensures.in_range).0
 
-pub returns-in-Name : goal.returns-in-Name
-returns-in-Name c =
+pub returns-in-Ok-Name : goal.returns-in-Ok-Name
+returns-in-Ok-Name c =
     let args = c.args in
-    let found = c.find_shown-place.ensures in
+    let found = c.find_shown.ensures in
     let all =
     shown-name
     (lent args.names.now args.strings.now args.bits.now args.wires.now args.rows.now args.renames args.room)
     args.m.0 args.w.0 args.names.ref_ptr args.strings.ref_ptr _ (found.shown_at, (found.in_range, found.shown_as)) _ _
-    c.in-Name.is in
+    c.in-Ok-Name.is in
     record { shown_as = all.0; lies_at = all.1 }
 
-pub slice_bounds-result-count-in-Text : goal.slice_bounds-result-count-in-Text
-slice_bounds-result-count-in-Text c =
+pub slice_bounds-result-count-in-Ok-Text : goal.slice_bounds-result-count-in-Ok-Text
+slice_bounds-result-count-in-Ok-Text c =
     let args = c.args in
-    let find-shown = c.find_shown-place in
-    (subst (InRange args.names.now args.strings.now) c.in-Text.is
+    let find-shown = c.find_shown in
+    (subst (InRange args.names.now args.strings.now) c.in-Ok-Text.is
     find-shown.ensures.in_range).0
 
-pub returns-in-Text : goal.returns-in-Text
-returns-in-Text c =
+pub returns-in-Ok-Text : goal.returns-in-Ok-Text
+returns-in-Ok-Text c =
     let args = c.args in
-    let found = c.find_shown-place.ensures in
+    let found = c.find_shown.ensures in
     let all =
     shown-text
     (lent args.names.now args.strings.now args.bits.now args.wires.now args.rows.now args.renames args.room)
     args.m.0 args.w.0 args.names.ref_ptr args.strings.ref_ptr _ (found.shown_at, (found.in_range, found.shown_as)) _ _
-    c.in-Text.is in
+    c.in-Ok-Text.is in
     record { shown_as = all.0; lies_at = all.1 }
 
-pub returns-in-Refused : goal.returns-in-Refused
-returns-in-Refused c =
+pub returns-in-Err : goal.returns-in-Err
+returns-in-Err c =
     let args = c.args in
-    let found = c.find_shown-place.ensures in
+    let found = c.find_shown.ensures in
     let all =
     shown-none
     (lent args.names.now args.strings.now args.bits.now args.wires.now args.rows.now args.renames args.room)
     args.m.0 args.w.0 args.names.ref_ptr args.strings.ref_ptr _ (found.shown_at, (found.in_range, found.shown_as)) _
-    c.in-Refused.is in
+    c.in-Err.is in
     record { shown_as = all.0; lies_at = all.1 }

@@ -14,8 +14,8 @@ returns-then-text c =
     args.count args.m.0 args.w.0 args.k _ _ text-part.result wire-line.ensures
     hdlname-row.ensures text-part.ensures c.if-text.true
 
-pub plain_part-name-requires : goal.plain_part-name-requires
-plain_part-name-requires c =
+pub plain_part-requires : goal.plain_part-requires
+plain_part-requires c =
     let args = c.args in
     rw c.name_part-now.ensures
     (name-is args.names.now args.wires.now args.rows.now args.from args.count args.m.0 args.w.0 args.k).1
@@ -30,4 +30,4 @@ returns c =
     shows-name args.names.now args.strings.now args.wires.now args.rows.now args.from
     args.count args.m.0 args.w.0 args.k _ _ text-part.result wire-line.ensures
     hdlname-row.ensures text-part.ensures if1.false _ _ c.name_part-now.ensures
-    c.plain_part-name.ensures
+    c.plain_part.ensures

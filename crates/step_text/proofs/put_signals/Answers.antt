@@ -9,7 +9,7 @@ use Rattle.step_text.specs.StepLaws.{words-le, pieces-next, pieces_end, row-sign
 use Rattle.step_text.proofs.put_signals.Goals as goal
 
 pub loop-left-init : goal.loop-left-init
-loop-left-init c = (omega arith, omega arith, reaches-start _ _ _ c.requires.0)
+loop-left-init c = (omega arith, reaches-start _ _ _ c.requires.0)
 
 pub put_listed-end-requires : goal.put_listed-end-requires
 put_listed-end-requires c =
@@ -17,14 +17,14 @@ put_listed-end-requires c =
     let args = c.args in
     let signal = c.part-s in
     let h : length signal.result.now ≤ length args.bits.now = words-le args.bits.now signal.result.now loop.start (loop.start + c.column-width.result) signal.ensures in
-    (written-most loop.invariant.2.written, omega (arith, c.requires.2))
+    (written-most loop.invariant.1.written, omega (arith, c.requires.2))
 
 pub loop-left-preserved : goal.loop-left-preserved
 loop-left-preserved c =
-    (omega arith, omega arith, reaches-next c.loop-left.invariant.2 c.put_listed-end.ensures (pieces-next _ _ _ _ _ _ _ (omega arith) c.part-s.ensures))
+    (omega arith, reaches-next c.loop-left.invariant.1 c.put_listed-end.ensures (pieces-next _ _ _ _ _ _ _ (omega arith) c.part-s.ensures))
 
 pub shape_of-out : goal.shape_of-out
-shape_of-out c = c.loop-left.invariant.2.written.kept
+shape_of-out c = c.loop-left.invariant.1.written.kept
 
 pub returns : goal.returns
-returns c = written_as (reaches_end c.loop-left.invariant.2 (pieces_end _ _ _ _ _ _ (omega arith))) (row-signals _ _ _ _ _ _ _ _ c.column-width.ensures c.column-start.ensures c.column-left.ensures)
+returns c = written_as (reaches_end c.loop-left.invariant.1 (pieces_end _ _ _ _ _ _ (omega arith))) (row-signals _ _ _ _ _ _ _ _ c.column-width.ensures c.column-start.ensures c.column-left.ensures)

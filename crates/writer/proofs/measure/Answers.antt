@@ -13,23 +13,23 @@ measure_rows-requires c =
     bits-few
     (opened
     (lent args.names.now args.strings.now args.bits.now args.wires.now args.rows.now args.renames args.room)
-    _ open-memory.ensures _ c.in-Open.is)
+    _ open-memory.ensures _ c.in-Ok.is)
 
-pub returns-in-Open : goal.returns-in-Open
-returns-in-Open c =
+pub returns-in-Ok : goal.returns-in-Ok
+returns-in-Ok c =
     let args = c.args in
     let open-memory = c.open_memory in
     measured
     (opened
     (lent args.names.now args.strings.now args.bits.now args.wires.now args.rows.now args.renames args.room)
-    _ open-memory.ensures _ c.in-Open.is) c.counts_at.result c.counts_at.ensures
+    _ open-memory.ensures _ c.in-Ok.is) c.counts_at.result c.counts_at.ensures
     _ c.measure_rows.ensures
 
-pub returns-in-Refused : goal.returns-in-Refused
-returns-in-Refused c =
+pub returns-in-Err : goal.returns-in-Err
+returns-in-Err c =
     let args = c.args in
     let open-memory = c.open_memory in
     not-open (λ n. (n, 0)) _ _
     (not_opened
     (lent args.names.now args.strings.now args.bits.now args.wires.now args.rows.now args.renames args.room)
-    _ open-memory.ensures _ c.in-Refused.is)
+    _ open-memory.ensures _ c.in-Err.is)

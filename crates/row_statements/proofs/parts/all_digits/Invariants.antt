@@ -1,15 +1,8 @@
--- `all_digits` meets its contract. The invariant: what is found so far and what the digits from i on tell is what all of them tell.
--- Assumes nothing.
-use Prim.Native.Nat.{◌-◌}
-use mathlib.Core.Path.{◌≡◌}
-use mathlib.Core.Bool.{◌&&◌}
-use lib.Seq.{slice}
+-- The codes so far are all of digits, or not.
+use Rattle.std.specs.Prelude.{◌≡◌, take}
 use Rattle.rules.specs.Bytes.{all}
 use Rattle.row_statements.specs.Parts.{is_digit}
 use Rattle.row_statements.proofs.parts.all_digits.Given as goal
 
-abbrev pub invariant-loop-i : goal.invariant-loop-i
-invariant-loop-i l = (l.good && all is_digit (slice l.i l.to l.bits)) ≡ all is_digit (slice l.from l.to l.bits)
-
-abbrev pub decreases-loop-i : goal.decreases-loop-i
-decreases-loop-i l = l.to - l.i
+abbrev pub invariant-loop-code : goal.invariant-loop-code
+invariant-loop-code l = l.good ≡ all is_digit (take l.code-index l.codes)
