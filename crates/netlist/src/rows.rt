@@ -91,10 +91,7 @@ pub fn has_name(names: &[u8], rows: &[u32], row: usize, kinds: Kinds, name: &[u8
     requires { row < many_rows }
     ensures { result ≡ is_kind kinds (kind_at rows.now row) && same name.now (name_at names.now rows.now row) }
 {
-    if is_kind(kinds, kind_at(rows, row)) {
-        return same_bytes(name, name_at(names, rows, row));
-    }
-    false
+    is_kind(kinds, kind_at(rows, row)) && same_bytes(name, name_at(names, rows, row))
 }
 
 // Whether a statement of these kinds, in count rows from `from` on, has this name.
@@ -108,13 +105,5 @@ pub fn name_taken(
 ) -> bool
     ensures { result ≡ any (same name.now) (names_between names.now rows.now (is_kind kinds) from count) }
 {
-    let mut k = count;
-    while 0 < k {
-        let last = k - 1;
-        if has_name(names, rows, from as usize + last as usize, kinds, name) {
-            return true;
-        }
-        k = last;
-    }
-    false
+    (0..count).any(|k| has_name(names, rows, from as usize + k as usize, kinds, name))
 }

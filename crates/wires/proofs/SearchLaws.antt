@@ -1,20 +1,22 @@
--- A turn of the search for a port over the rows of wires, and what a direction's code says of a port.
+-- The search for a port over the rows of wires, and what a direction's code says of a port.
 -- Assumes nothing.
-use Prim.Native.Nat.{ℕ, suc, ◌+◌, ◌/◌, ◌≤◌, ◌<◌}
-use mathlib.Core.Path.{◌≡◌}
+use Prim.Native.Nat.{ℕ, zero, suc, ◌+◌, ◌/◌, ◌≤◌, ◌<◌}
+use mathlib.Core.Path.{◌≡◌, refl, ap, ◌∙◌}
 use mathlib.Core.List.{List, Option-to_list}
 use mathlib.Core.Bool.{Bool, false, or-false, ◌||◌}
+use native.Mathlib.Omega.{arith}
 use lib.Dec.{eqb}
+use Rattle.std.specs.List.{list_any, range_with_len}
 use Rattle.rules.specs.Bytes.{any}
 use Rattle.rules.specs.Judgement.{port_numbers}
 use Rattle.wires.specs.Rows.{column, wire_of, wires_from, has_port}
-use Rattle.wires.specs.RowLaws.{port-by, port-none}
+use Rattle.wires.specs.RowLaws.{any-below, port-by, port-none}
 
--- the last of k wires is row first + j, with j wires before it
-module _ (names t : List ℕ) (first k j : ℕ) (e : k ≡ suc j) where
-  pub taken-turn : (p : ℕ) (b : Bool) → has_port p (wire_of t (first + j)) ≡ b → any (λ v. any (eqb p) (port_numbers v.1)) (wires_from names t first k) ≡ b || any (λ v. any (eqb p) (port_numbers v.1)) (wires_from names t first j)
+module _ (names t : List ℕ) (first p : ℕ) where
+  pub taken-rows : (count : ℕ) → list_any (λ k. has_port p (wire_of t (first + k))) (range_with_len 0 count) ≡ any (λ v. any (eqb p) (port_numbers v.1)) (wires_from names t first count)
   unfolding any wires_from has_port
-  taken-turn p b h = rw (e, h)
+  taken-rows zero = refl
+  taken-rows (suc k) = any-below (λ j. has_port p (wire_of t (first + j))) k ∙ ap (λ (b : Bool). has_port p (wire_of t (first + k)) || b) (taken-rows k)
 
 module _ (t : List ℕ) (row p d : ℕ) (e : d ≡ column t row 5 / 4) where
   -- a code other than 1, 2 and 3 is no port's

@@ -6,9 +6,10 @@ use Rattle.std.proofs.Common.{sym, ◌∙◌, get_or-take, get_or-drop, ne_eqb}
 use Rattle.std.proofs.Math.Path.{ap}
 use mathlib.Core.List.{List, [], reverse, reverse_aux}
 use Rattle.std.proofs.Math.Option.{Option, none, some, Option-elim}
-use Rattle.std.proofs.Math.Bool.{cond}
+use Rattle.std.proofs.Math.Bool.{cond, ◌||◌}
 use native.Mathlib.Omega.{arith}
 use Rattle.std.proofs.Math.ListN.{get_elem?}
+use Rattle.std.specs.List.{list_any, range_with_len}
 use Rattle.std.proofs.lemmas.List.{length-reverse}
 use Rattle.rules.specs.Signals.{Wires}
 use Rattle.rules.specs.Tokens.{Name}
@@ -166,3 +167,20 @@ module _ (names t : List ℕ) (first j : ℕ) where
   wire-past count h =
       let ws : Wires = wires_from names t first count in
       element-none (reverse ws) j (omega (arith, length-reverse ws, length-wires names t first count))
+
+-- ---- a search by numbers: of those below n the last one, or one before it
+
+or-swap : (a b c : Bool) → (a || (b || c)) ≡ (b || (a || c))
+or-swap true true c = refl
+or-swap true false c = refl
+or-swap false b c = refl
+
+any-last : (f : ℕ → Bool) (a n : ℕ) → list_any f (range_with_len a (suc n)) ≡ (f (a + n) || list_any f (range_with_len a n))
+any-last f a zero = ap (λ (i : ℕ). f i || false) (omega arith)
+any-last f a (suc k) =
+    ap (λ (b : Bool). f a || b) (any-last f (a + 1) k)
+    ∙ or-swap (f a) (f (a + 1 + k)) (list_any f (range_with_len (a + 1) k))
+    ∙ ap (λ (i : ℕ). f i || (f a || list_any f (range_with_len (a + 1) k))) (omega arith)
+
+pub any-below : (f : ℕ → Bool) (n : ℕ) → list_any f (range_with_len 0 (suc n)) ≡ (f n || list_any f (range_with_len 0 n))
+any-below f n = any-last f 0 n ∙ ap (λ (i : ℕ). f i || list_any f (range_with_len 0 n)) (omega arith)

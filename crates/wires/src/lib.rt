@@ -68,15 +68,7 @@ fn has_port(wires: &[u32], row: usize, port: u32) -> bool
 pub fn port_taken(wires: &[u32], first: u32, count: u32, port: u32) -> bool
     ensures { TakenIs wires.now first count port result }
 {
-    let mut k = count;
-    while 0 < k {
-        let last = k - 1;
-        if has_port(wires, first as usize + last as usize, port) {
-            return true;
-        }
-        k = last;
-    }
-    false
+    (0..count).any(|k| has_port(wires, first as usize + k as usize, port))
 }
 
 // The index that the author of row k's wire gave its bit.

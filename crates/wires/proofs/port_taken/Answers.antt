@@ -1,29 +1,20 @@
--- `port_taken` meets its contract. The invariant: the first k wires have the port just where all of them have it, whatever their names.
+-- `port_taken` meets its contract: the search by the rows' numbers is the search over their wires.
 -- Assumes nothing.
-use Prim.Native.Nat.{suc, ◌-◌}
-use mathlib.Core.Path.{◌≡◌, refl, sym, ◌∙◌}
-use mathlib.Core.Bool.{true, false}
+use Prim.Native.Nat.{ℕ, ◌+◌}
+use mathlib.Core.Path.{◌≡◌, ◌∙◌, refl}
 use native.Mathlib.Omega.{arith}
-use Rattle.rules.specs.Bytes.{any}
-use Rattle.wires.specs.Rows.{wires_from}
-use Rattle.wires.proofs.SearchLaws.{taken-turn}
+use Rattle.std.specs.List.{list_any, range_with_len}
+use Rattle.std.proofs.Common.{rules}
+use Rattle.std.proofs.lemmas.Iterator.{YieldsList-from_range}
+use Rattle.std.proofs.lemmas.Iterator.Search.{any_from_yields_List}
+use Rattle.wires.specs.Rows.{wire_of, has_port}
+use Rattle.wires.proofs.SearchLaws.{taken-rows}
 use Rattle.wires.proofs.port_taken.Goals as goal
 
-pub loop-k-init : goal.loop-k-init
-loop-k-init c = (omega arith, λ names. refl)
-
-pub returns-then-has_port : goal.returns-then-has_port
-returns-then-has_port c names =
-    let e : c.loop-k.k ≡ suc (c.loop-k.k - 1) = omega arith in
-    sym (c.loop-k.invariant.1 names ∙ taken-turn names _ _ _ _ e c.args.port true (sym c.has_port.ensures ∙ c.if-has_port.true))
-
-pub loop-k-preserved : goal.loop-k-preserved
-loop-k-preserved c =
-    let e : c.loop-k.k ≡ suc (c.loop-k.k - 1) = omega arith in
-    (omega arith, λ names. c.loop-k.invariant.1 names ∙ taken-turn names _ _ _ _ e c.args.port false (sym c.has_port.ensures ∙ c.if-has_port.false))
-
 pub returns : goal.returns
-unfolding any wires_from
 returns c names =
-    let e : c.loop-k.k ≡ 0 = omega arith in
-    sym (c.loop-k.invariant.1 names ∙ rw e)
+    let args = c.args in
+    let count = args.count in
+    let e : c.any.result ≡ list_any (λ k. has_port args.port (wire_of args.wires.now (args.first + k))) (range_with_len 0 count) =
+    any_from_yields_List _ _ _ _ c.any.ensures.ran (YieldsList-from_range 0 count count refl (omega arith)) (λ x b q h. search rules) in
+    e ∙ taken-rows names _ _ _ count

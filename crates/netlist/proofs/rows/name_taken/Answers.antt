@@ -1,28 +1,26 @@
--- `name_taken` meets its contract. The invariant: the first k rows have the name just where all of them have it.
+-- `name_taken` meets its contract: the search by the rows' numbers is the search over their names.
 -- Assumes nothing.
-use Prim.Native.Nat.{suc, ◌-◌}
-use mathlib.Core.Path.{◌≡◌, refl, sym, ◌∙◌}
+use Prim.Native.Nat.{ℕ, ◌+◌}
+use mathlib.Core.Path.{◌≡◌, ◌∙◌, refl}
+use mathlib.Core.Bool.{◌&&◌}
 use native.Mathlib.Omega.{arith}
-use Rattle.rules.specs.Bytes.{any}
-use Rattle.netlist.specs.Rows.{names_between}
-use Rattle.netlist.proofs.SearchLaws.{taken-turn}
+use Rattle.std.specs.List.{list_any, range_with_len}
+use Rattle.std.proofs.Common.{rules}
+use Rattle.std.proofs.lemmas.Iterator.{YieldsList-from_range}
+use Rattle.std.proofs.lemmas.Iterator.Search.{any_from_yields_List}
+use Rattle.rules.specs.Bytes.{same}
+use Rattle.netlist.specs.Kinds.{is_kind}
+use Rattle.netlist.specs.Rows.{kind_at, name_at}
+use Rattle.netlist.proofs.SearchLaws.{taken-rows}
 use Rattle.netlist.proofs.rows.name_taken.Goals as goal
 
-pub loop-k-init : goal.loop-k-init
-loop-k-init c = (omega arith, refl)
-
-pub returns-then-has_name : goal.returns-then-has_name
-returns-then-has_name c =
-    let e : c.loop-k.k ≡ suc (c.loop-k.k - 1) = omega arith in
-    sym (c.loop-k.invariant.1 ∙ taken-turn _ _ _ _ _ _ _ _ e c.has_name.ensures ∙ rw c.if-has_name.true)
-
-pub loop-k-preserved : goal.loop-k-preserved
-loop-k-preserved c =
-    let e : c.loop-k.k ≡ suc (c.loop-k.k - 1) = omega arith in
-    (omega arith, c.loop-k.invariant.1 ∙ taken-turn _ _ _ _ _ _ _ _ e c.has_name.ensures ∙ rw c.if-has_name.false)
-
 pub returns : goal.returns
-unfolding any names_between
 returns c =
-    let e : c.loop-k.k ≡ 0 = omega arith in
-    sym (c.loop-k.invariant.1 ∙ rw e)
+    let args = c.args in
+    let rows = args.rows.now in
+    let count = args.count in
+    let e :
+        c.any.result
+        ≡ list_any (λ k. is_kind args.kinds (kind_at rows (args.from + k)) && same args.name.now (name_at args.names.now rows (args.from + k))) (range_with_len 0 count) =
+    any_from_yields_List _ _ _ _ c.any.ensures.ran (YieldsList-from_range 0 count count refl (omega arith)) (λ x b q h. search rules) in
+    e ∙ taken-rows _ _ (is_kind args.kinds) _ _ count
