@@ -35,10 +35,8 @@ pub fn hash(name: &[u8]) -> usize
     ensures { result ≡ hash_of name.now }
 {
     let mut h: usize = 0;
-    let mut i = 0;
-    while i < name.len() {
-        h = (h * FACTOR + name[i] as usize) % HASHES;
-        i += 1;
+    for &b in name {
+        h = (h * FACTOR + b as usize) % HASHES;
     }
     h
 }
@@ -119,10 +117,8 @@ pub fn index_wires(names: &[u8], wires: &[u32], heads: &mut [u32], chain: &mut [
     requires count_in_bounds { count ≤ length chain.old }
     ensures { Indexed heads.new chain.new (wire_key names.now wires.now) count }
 {
-    let mut k = 0;
-    while k < count {
+    for k in 0..count {
         let h = hash(bytes_at(names, wires, k as usize, WIRE_NAME));
         put(heads, chain, k as usize, h, k + 1);
-        k = k + 1;
     }
 }

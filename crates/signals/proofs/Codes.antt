@@ -9,9 +9,10 @@ use lib.Seq.{slice, length-take-le, length-slice, take_at, drop_at, get_or-take,
 use Rattle.rules.specs.Statements.{Bit, bit, Signal}
 use Rattle.rules.specs.Signals.{wire_bits}
 use Rattle.rules.specs.Layout.{bit_code}
-use Rattle.tables.specs.Store.{store, store-behind, filled}
+use Rattle.std.specs.List.{copy_within}
+use Rattle.tables.specs.Store.{store, store-eq, filled}
 use Rattle.lists.specs.Lists.{length-wire, map_at, get_d_reverse}
-use Rattle.lists.specs.Parts.{length_part}
+use Rattle.lists.specs.Parts.{length_part, slice-span}
 use Rattle.signals.specs.Held.{codes}
 
 -- ---- codes
@@ -62,12 +63,11 @@ pub wire-put : (d l : List ℕ) (o n w k v : ℕ) → l ≡ store d o (take k (c
 wire-put d l o n w k v e h ev =
     filled d l (codes (wire_bits n 0 w)) o k e v (omega (arith, length-wire-codes n w)) (ev ∙ sym (wire-code-at n w k h))
 
--- one word more moved down
-pub move-put : (d l : List ℕ) (from count o k : ℕ) → l ≡ store d o (take k (slice from (from + count) d)) → k < count → o ≤ from → from + count ≤ length d → set l (o + k) (get_or l (from + k) 0) ≡ store d o (take (k + 1) (slice from (from + count) d))
-move-put d l from count o k e h q room =
+-- words copied down are stored there
+pub words-moved : (d : List ℕ) (from count o : ℕ) → o ≤ from → from + count ≤ length d → copy_within d from (from + count) o ≡ store d o (slice from (from + count) d)
+words-moved d from count o h room =
     let s : List ℕ = slice from (from + count) d in
-    let ls : length s ≡ count = length-slice from (from + count) d room ∙ omega arith in
-    let lk : length (take k s) ≡ k = length-take-le k s (omega arith) in
-    let a : get_or l (from + k) 0 ≡ get_or d (from + k) 0 = ap (λ (y : List ℕ). get_or y (from + k) 0) e ∙ store-behind d o (take k s) (from + k) (omega arith) (omega arith) in
-    let b : get_or s k 0 ≡ get_or d (from + k) 0 = get_or-drop from (take (from + count) d) k 0 ∙ get_or-take (from + count) d (from + k) 0 (omega arith) in
-    filled d l s o k e (get_or l (from + k) 0) (omega arith) (a ∙ sym b)
+    let e : from + count - from ≡ count = omega arith in
+    let l : length s ≡ count = length-slice from (from + count) d room ∙ e in
+    rw e (ap (λ (x : List ℕ). take o d ++ x ++ drop (o + count) d) (sym (slice-span from count d)) ∙ sym (store-eq d o s (omega (arith, l)) ∙ rw l))
+

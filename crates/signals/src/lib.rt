@@ -87,11 +87,9 @@ fn put_wire(scratch: &mut [u32], o: usize, number: WireNumber, width: usize)
     requires { (o + width ≤ length scratch.old) × (number.0 < most_wires) × (width ≤ most_width) }
     ensures { scratch.new ≡ store scratch.old o (codes (wire_bits number.0 0 width)) }
 {
-    let mut k = 0;
-    while k < width {
+    for k in 0..width {
         let i = (width - 1 - k) as u32;
         scratch[o + k] = numbers::kinds::encode(SignalBit::Wire(number, i));
-        k += 1;
     }
 }
 
@@ -132,11 +130,7 @@ fn move_down(scratch: &mut [u32], from: usize, count: usize, o: usize)
     requires { (o ≤ from) × (from + count ≤ length scratch.old) }
     ensures { scratch.new ≡ store scratch.old o (slice from (from + count) scratch.old) }
 {
-    let mut k = 0;
-    while k < count {
-        scratch[o + k] = scratch[from + k];
-        k += 1;
-    }
+    scratch.copy_within(from..from + count, o);
 }
 
 // Whether row i holds this mark.

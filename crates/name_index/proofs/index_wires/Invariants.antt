@@ -1,6 +1,6 @@
 -- The invariant: the first k wires are indexed.
 -- Assumes nothing.
-use Prim.Native.Nat.{◌-◌, ◌≤◌}
+use Prim.Native.Nat.{◌≤◌}
 use mathlib.Core.Path.{◌≡◌}
 use lib.ListN.{length}
 use Rattle.name_index.specs.Index.{wire_key, Indexed}
@@ -8,7 +8,4 @@ use Rattle.name_index.proofs.index_wires.Given as goal
 
 abbrev pub invariant-loop-k : goal.invariant-loop-k
 invariant-loop-k l =
-    (l.k ≤ l.count) × Indexed l.heads l.chain (wire_key l.names l.wires) l.k × (length l.heads ≡ length l.initial.heads) × (length l.chain ≡ length l.initial.chain) × (l.count ≤ length l.chain)
-
-abbrev pub decreases-loop-k : goal.decreases-loop-k
-decreases-loop-k l = l.count - l.k
+    Indexed l.heads l.chain (wire_key l.names l.wires) l.k × (length l.heads ≡ length l.initial.heads) × (length l.chain ≡ length l.initial.chain) × (l.count ≤ length l.chain)

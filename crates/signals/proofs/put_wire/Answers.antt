@@ -11,7 +11,7 @@ use Rattle.signals.proofs.Codes.{wire-put, length-wire-codes}
 use Rattle.signals.proofs.put_wire.Goals as goal
 
 pub loop-k-init : goal.loop-k-init
-loop-k-init c = (omega arith, refl, sym (store-none c.args.scratch.now c.args.o))
+loop-k-init c = (refl, sym (store-none c.args.scratch.now c.args.o))
 
 pub encode-requires : goal.encode-requires
 unfolding Valid
@@ -19,10 +19,10 @@ encode-requires c = (omega arith, omega arith)
 
 pub loop-k-preserved : goal.loop-k-preserved
 unfolding bit_of
-loop-k-preserved c = (omega arith, simp length-set c.loop-k.invariant.1, wire-put _ _ _ _ _ _ _ c.loop-k.invariant.2 c.loop-k-test.true c.encode.ensures)
+loop-k-preserved c = (simp length-set c.loop-k.invariant.0, wire-put _ _ _ _ _ _ _ c.loop-k.invariant.1 c.loop-k-test.true c.encode.ensures)
 
 pub returns : goal.returns
 returns c =
     let number = c.args.number.0 in
     let width = c.args.width in
-    filled-end _ _ (codes (wire_bits number 0 width)) _ c.loop-k.k c.loop-k.invariant.2 (omega (arith, length-wire-codes number width))
+    filled-end _ _ (codes (wire_bits number 0 width)) _ c.loop-k.k c.loop-k.invariant.1 (omega (arith, length-wire-codes number width))
