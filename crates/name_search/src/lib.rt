@@ -35,6 +35,7 @@ pub fn indexed_taken(
 {
     let h = hash(name);
     let mut at = heads[h];
+    // Which row comes next stands in the chain.
     while from < at {
         let row = (at - 1) as usize;
         if has_name(names, rows, row, kinds, name) {
@@ -91,6 +92,7 @@ pub fn indexed_wire(
 {
     let h = hash(name);
     let mut at = heads[ROW_HEADS + h];
+    // Which row comes next stands in the chain.
     while first < at {
         let last = at - 1;
         let row = last as usize;

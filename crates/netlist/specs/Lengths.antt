@@ -1,6 +1,6 @@
 -- The lengths of the five tables that are lent.
 -- Assumes nothing.
-use Rattle.std.specs.Prelude.{ℕ, ◌*◌, ◌≡◌, [], ◌∷◌, Bool, true, ◌&&◌, eqb, length}
+use Rattle.std.specs.Prelude.{ℕ, ◌≡◌, [], ◌∷◌, Bool, true, ◌&&◌, eqb, length}
 use Rattle.std.proofs.Common.{eqb-true}
 use Rattle.rules.specs.Limits.{names_length, strings_length, bits_length, wires_length, rows_length}
 use Rattle.rules.specs.Layout.{Memory}

@@ -167,6 +167,7 @@ pub fn signals_from(
         even: true,
         fault: 0,
     };
+    // Reading a signal tells where the next one stands.
     while at < end {
         let signal = next_signal(
             f,

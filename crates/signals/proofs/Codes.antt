@@ -5,7 +5,7 @@ use mathlib.Core.List.{List, ◌++◌, map, reverse, append_assoc, reverse-appen
 use Prim.Native.Nat.{ℕ, zero, suc, ◌+◌, ◌-◌, ◌<◌, ◌≤◌}
 use native.Mathlib.Omega.{arith}
 use lib.ListN.{length, take, drop, get_or, set, length-drop, length-reverse, length-map, take-append-drop}
-use lib.Seq.{slice, length-take-le, length-slice, take_at, drop_at, get_or-take, get_or-drop}
+use lib.Seq.{slice, length-slice, take_at, drop_at}
 use Rattle.rules.specs.Statements.{Bit, bit, Signal}
 use Rattle.rules.specs.Signals.{wire_bits}
 use Rattle.rules.specs.Layout.{bit_code}
@@ -70,4 +70,3 @@ words-moved d from count o h room =
     let e : from + count - from ≡ count = omega arith in
     let l : length s ≡ count = length-slice from (from + count) d room ∙ e in
     rw e (ap (λ (x : List ℕ). take o d ++ x ++ drop (o + count) d) (sym (slice-span from count d)) ∙ sym (store-eq d o s (omega (arith, l)) ∙ rw l))
-

@@ -3,7 +3,6 @@
 #![tactic(auto)]
 
 ghost use Rattle.std.specs.Prelude.{◌≡◌, ◌+◌, ◌*◌, ◌/◌, ◌≤◌, ◌<◌, length};
-ghost use Rattle.std.proofs.Math.Seq.{slice};
 ghost use Rattle.rules.specs.Limits.{most_wires, longest_file, most_width, tokens_length};
 ghost use Rattle.rules.specs.Statements as rules;
 ghost use Rattle.rules.specs.Signals.{wire_bits};
@@ -123,14 +122,6 @@ fn wire_bits(
             fault: NOT_THERE,
         },
     }
-}
-
-// Moves count words down to o.
-fn move_down(scratch: &mut [u32], from: usize, count: usize, o: usize)
-    requires { (o ≤ from) × (from + count ≤ length scratch.old) }
-    ensures { scratch.new ≡ store scratch.old o (slice from (from + count) scratch.old) }
-{
-    scratch.copy_within(from..from + count, o);
 }
 
 // Whether row i holds this mark.
@@ -301,7 +292,8 @@ fn move_part(scratch: &mut [u32], o: usize, width: usize, part: Part)
     }
     let above = width - (part.low + part.bits.width);
     if above != 0 {
-        move_down(scratch, o + above, part.bits.width, o);
+        let from = o + above;
+        scratch.copy_within(from..from + part.bits.width, o);
     }
 }
 
@@ -321,6 +313,7 @@ fn slices(
     let width = bits.width;
     let mut at = i;
     let mut part = Part { bits, low: 0 };
+    // Reading a slice tells where the next one stands.
     while is_mark(tokens, at, SLICE_OPENS) {
         let bounds = bounds_at(tokens, at + 1)?;
         part = slice(f, part, bounds.high, bounds.low);
@@ -399,6 +392,7 @@ fn bundle(
     let mut at = i;
     let mut width: usize = 0;
     let mut fault: u32 = 0;
+    // Reading a member tells where the next one stands.
     while !is_mark(tokens, at, BUNDLE_CLOSES) {
         let put = if width < MOST_BITS {
             o + width

@@ -1,6 +1,5 @@
 -- `hash` meets its contract. The invariant: what is left of the name, from the hash so far, gives the hash of the whole.
 -- Assumes nothing.
-use Prim.Native.Nat.{◌-◌}
 use mathlib.Core.Path.{refl, sym, ◌∙◌}
 use native.Mathlib.Nat.{mod-lt}
 use native.Mathlib.Omega.{arith}

@@ -1,6 +1,5 @@
 -- The invariant: the first k wires are indexed.
 -- Assumes nothing.
-use Prim.Native.Nat.{◌-◌}
 use mathlib.Core.Path.{refl, ap, ◌∙◌}
 use native.Mathlib.Omega.{arith}
 use Rattle.name_index.specs.Index.{hash_of}

@@ -1,6 +1,6 @@
 -- `port_taken` meets its contract: the search by the rows' numbers is the search over their wires.
 -- Assumes nothing.
-use Prim.Native.Nat.{ℕ, ◌+◌}
+use Prim.Native.Nat.{◌+◌}
 use mathlib.Core.Path.{◌≡◌, ◌∙◌, refl}
 use native.Mathlib.Omega.{arith}
 use Rattle.std.specs.List.{list_any, range_with_len}
