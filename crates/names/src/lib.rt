@@ -9,13 +9,11 @@ pub const SHORTEST_NAME: usize = 2;
 
 pub const LONGEST_NAME: usize = 255;
 
+#[tactic(auto, unfolding(rules::specs::Bytes::bytes_open))]
 fn starts_name(b: u8) -> bool
     ensures { result ≡ is_name_start b }
 {
-    if b == b'\\' {
-        return true;
-    }
-    b == b'$'
+    b == b'\\' || b == b'$'
 }
 
 // `\` or `$`, then bytes above 32; 2 to 255 bytes in all.
@@ -28,17 +26,7 @@ pub fn legal(n: &[u8]) -> bool
     if LONGEST_NAME < n.len() {
         return false;
     }
-    if !starts_name(n[0]) {
-        return false;
-    }
-    let mut i = 1;
-    while i < n.len() {
-        if n[i] <= b' ' {
-            return false;
-        }
-        i += 1;
-    }
-    true
+    starts_name(n[0]) && n[1..].iter().all(|b| b' ' < *b)
 }
 
 // The one comparison of names in the product. Lengths first, then the last byte, where numbered names differ, then the
@@ -49,19 +37,5 @@ pub fn same_bytes(a: &[u8], b: &[u8]) -> bool
     if a.len() != b.len() {
         return false;
     }
-    if a.len() == 0 {
-        return true;
-    }
-    let last = a.len() - 1;
-    if a[last] != b[last] {
-        return false;
-    }
-    let mut i = 0;
-    while i < last {
-        if a[i] != b[i] {
-            return false;
-        }
-        i += 1;
-    }
-    true
+    a.last() == b.last() && a == b
 }
