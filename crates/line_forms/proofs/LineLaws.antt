@@ -24,12 +24,17 @@ use Rattle.tokens.specs.declared.Token.{Token}
 use Rattle.tokens.specs.declared.Token.TheVariants as row
 use Rattle.tokens.specs.Parts.{IdIs, IntegerIs, id_gives, integer_gives}
 use Rattle.tokens.specs.declared.Integer.{Integer}
-use Rattle.std.specs.Prelude.{Option as Optional, Some}
+use Rattle.std.specs.Prelude.{Option as Optional, Some, None, MatchOption, IsSomeAnd, IfSome}
 use Rattle.scanner.specs.declared.parts.Span.{Span}
 use Rattle.tokens.proofs.TokenLaws.{line-end, line-there, line_row, by-line}
 use Rattle.tokens.proofs.Words.{word-is}
 use Rattle.line_forms.specs.Words.{starts, WordIs, announced, numbered}
-use Rattle.line_forms.specs.Forms.{ended}
+use Rattle.line_forms.specs.Forms.{ended, form_of, kind_of, cell_kind_of, shape_of, FormFrom, KindFrom, CellKindFrom}
+use Rattle.line_forms.specs.declared.Form.{Form}
+use Rattle.line_forms.specs.declared.Kind.{Kind}
+use Rattle.line_forms.specs.declared.Kind.TheVariants as kinds
+use Rattle.line_forms.specs.declared.CellKind.{CellKind}
+use Rattle.line_forms.specs.declared.CellKind.TheVariants as cell_kinds
 
 -- ---- rows that are there, and rows that are left
 
@@ -168,3 +173,25 @@ sort-word f t i c h = rw (either-word "signed" _ _ f t i c h refl, either-word "
 pub present-thing : {A : Type 0} (p : Parse A) (f t : List ℕ) (i : ℕ) → i < length t / 4 → or_end p (line f t i) ≡ of₁ some p (line f t i)
 unfolding or_end
 present-thing p f t i h = rw (line_row f t i h)
+
+-- ---- a form that is read, as a kind of line
+
+module _ {K : Type 0} (t : List ℕ) (make : Form → K) (kind : List ℕ → K → Option Shape) (Holds : K → Type 0) (same : (f : List ℕ) (x : Form) → kind f (make x) ≡ form_of f x) (held : (x : Form) → FormFrom t x → Holds (make x)) where
+  pub mapped :
+      (o : Optional Form) (r : Optional K) → MatchOption o (r ≡ None) (λ x. IsSomeAnd r (λ y. y ≡ make x)) →
+      (P : List ℕ → Option Shape) → ((f : List ℕ) → P f ≡ shape_of (form_of f) o) → IfSome o (FormFrom t) → ((f : List ℕ) → P f ≡ shape_of (kind f) r) × IfSome r Holds
+  mapped None r e P p h = rw e (p, tt)
+  mapped (Some x) None e P p h = absurd e
+  mapped (Some x) (Some y) e P p h = rw e (λ f. p f ∙ sym (same f x), held x h)
+
+pub form-kind :
+    (t : List ℕ) (o : Optional Form) (r : Optional Kind) → MatchOption o (r ≡ None) (λ x. IsSomeAnd r (λ y. y ≡ kinds.Form x)) →
+    (P : List ℕ → Option Shape) → ((f : List ℕ) → P f ≡ shape_of (form_of f) o) → IfSome o (FormFrom t) → ((f : List ℕ) → P f ≡ shape_of (kind_of f t) r) × IfSome r (KindFrom t)
+unfolding kind_of
+form-kind t = mapped t kinds.Form (λ f. kind_of f t) (KindFrom t) (λ f x. refl) (λ x h. h)
+
+pub form-cell_kind :
+    (t : List ℕ) (o : Optional Form) (r : Optional CellKind) → MatchOption o (r ≡ None) (λ x. IsSomeAnd r (λ y. y ≡ cell_kinds.Form x)) →
+    (P : List ℕ → Option Shape) → ((f : List ℕ) → P f ≡ shape_of (form_of f) o) → IfSome o (FormFrom t) → ((f : List ℕ) → P f ≡ shape_of (cell_kind_of f t) r) × IfSome r (CellKindFrom t)
+unfolding cell_kind_of
+form-cell_kind t = mapped t cell_kinds.Form (λ f. cell_kind_of f t) (CellKindFrom t) (λ f x. refl) (λ x h. h)

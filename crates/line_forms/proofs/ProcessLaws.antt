@@ -5,14 +5,15 @@ use native.Mathlib.Omega.{arith}
 use mathlib.Core.Path.{◌≡◌, refl, sym, ◌∙◌}
 use mathlib.Core.Bool.{Bool, true, false, not, cond, ◌&&◌, ◌||◌, false≢true}
 use mathlib.Core.List.{List, [], ◌∷◌}
-use mathlib.Core.Option.{none}
+use mathlib.Core.Option.{Option, none}
+use Rattle.std.specs.Prelude.{Option as Optional, None, MatchOption, IsSomeAnd, IfSome}
 use lib.Dec.{eqb, ltb}
 use lib.ListN.{length}
 use borrow.Author.Tests.{ne_eqb, eqb-true, eqb-false, lt-ltb, le-ltb, ltb-true, ltb-false}
 use Rattle.rules.specs.Limits.{most_switches}
 use Rattle.rules.specs.Bytes.{bytes, any}
 use Rattle.rules.specs.Tokens as rules
-use Rattle.rules.specs.Statements.{Step, assign, update, switch, case, low, high, posedge, negedge, edge, global, init, always, step_code}
+use Rattle.rules.specs.Statements.{Shape, Step, assign, update, switch, case, low, high, posedge, negedge, edge, global, init, always, step_code}
 use Rattle.rules.specs.Shapes as shapes
 use Rattle.rules.specs.Shapes.{Scope, in_process, in_tail, in_sync, in_switch, in_case, forms, sync_forms, choice, whole, shape}
 use Rattle.context.specs.Place.{scope_of}
@@ -20,9 +21,12 @@ use Rattle.scanner.specs.Words.{keyword_number}
 use Rattle.lists.specs.Tests.{by_cond, by-test, by_order, or-false-left, or-false-right, and-true-left, and-true-right}
 use Rattle.tokens.specs.Rows.{line}
 use Rattle.line_forms.specs.Words.{WordIs, announced, numbered, begins}
-use Rattle.line_forms.specs.Processes.{root_words, Inside, process_forms, step_forms, process_kind_of, StepFrom, step_parse}
+use Rattle.line_forms.specs.Processes.{root_words, Inside, process_forms, step_forms, process_kind_of, StepFrom, ProcessKindFrom, step_parse}
+use Rattle.line_forms.specs.Forms.{form_of, shape_of, FormFrom}
+use Rattle.line_forms.specs.declared.Form.{Form}
+use Rattle.line_forms.specs.declared.ProcessKind.{ProcessKind}
 use Rattle.line_forms.specs.declared.ProcessKind.TheVariants as process_kind
-use Rattle.line_forms.proofs.LineLaws.{word_below, choice-word, shape-word, forms_in_case, words_open}
+use Rattle.line_forms.proofs.LineLaws.{word_below, choice-word, shape-word, forms_in_case, words_open, mapped}
 
 unfoldable pub process_open : Unit {0}
 unfolding words_open begins process_forms step_forms step_code
@@ -268,3 +272,10 @@ step-read always ts = refl
 pub step-kind : (f t : List ℕ) (p i : ℕ) (s : Step) → step_code s ≡ p → process_kind_of f t (process_kind.Step p i) ≡ whole (step_parse p s (line f t i))
 unfolding process_kind_of
 step-kind f t p i s e = rw (sym e, step-read s (line f t i))
+
+-- a form that is read, as a kind of line in a process
+pub form-process_kind :
+    (t : List ℕ) (o : Optional Form) (r : Optional ProcessKind) → MatchOption o (r ≡ None) (λ x. IsSomeAnd r (λ y. y ≡ process_kind.Form x)) →
+    (P : List ℕ → Option Shape) → ((f : List ℕ) → P f ≡ shape_of (form_of f) o) → IfSome o (FormFrom t) → ((f : List ℕ) → P f ≡ shape_of (process_kind_of f t) r) × IfSome r (ProcessKindFrom t)
+unfolding process_kind_of
+form-process_kind t = mapped t process_kind.Form (λ f. process_kind_of f t) (ProcessKindFrom t) (λ f x. refl) (λ x h. h)

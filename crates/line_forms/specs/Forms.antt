@@ -1,5 +1,5 @@
 -- The shape that a form stands for, over a file's bytes.
-use Rattle.std.specs.Prelude.{ℕ, ◌≤◌, ◌≡◌, List, Bool, Option as Optional, Some, None}
+use Rattle.std.specs.Prelude.{ℕ, ◌≤◌, ◌≡◌, List, Bool, Option as Optional, Some, None, IfSome}
 use Rattle.std.proofs.Math.Option.{Option, none, some}
 use Rattle.std.proofs.Math.Seq.{slice}
 use Rattle.rules.specs.Tokens as rules
@@ -13,7 +13,7 @@ use Rattle.tokens.specs.declared.Token.TheVariants.{Constant as Constantly}
 use Rattle.line_forms.specs.Words.{announced}
 use Rattle.scanner.specs.declared.parts.Span.{Span}
 use Rattle.line_forms.specs.declared.Form.{Form}
-use Rattle.line_forms.specs.declared.Form.TheVariants.{Autoidx, Attribute, Module, Parameter, Cell, CellParameter, Process, End, NoShape}
+use Rattle.line_forms.specs.declared.Form.TheVariants.{Autoidx, Attribute, Module, Parameter, Cell, CellParameter, Process, End}
 use Rattle.line_forms.specs.declared.Kind.{Kind}
 use Rattle.line_forms.specs.declared.Kind.TheVariants as kind
 use Rattle.line_forms.specs.declared.CellKind.{CellKind}
@@ -37,7 +37,6 @@ form_of f (Cell k n) = some (cell-stmt (name_in f k) (name_in f n))
 form_of f (CellParameter s n c) = some (cell-param-stmt (sort_of s) (name_in f n) (literal_in f c))
 form_of f (Process n) = some (proc-stmt (name_in f n))
 form_of f End = some end-stmt
-form_of f NoShape = none
 
 -- a line in a module whose rows are t: of fixed shape, or read on behind its first word
 unfoldable pub kind_of : List ℕ → List ℕ → Kind → Option Shape
@@ -50,6 +49,11 @@ kind_of f t kind.Connect = whole (of₂ conn-stmt sigspec sigspec (line f t 1))
 unfoldable pub cell_kind_of : List ℕ → List ℕ → CellKind → Option Shape
 cell_kind_of f t (cell_kind.Form r) = form_of f r
 cell_kind_of f t cell_kind.Connect = whole (of₂ cell-conn-stmt id sigspec (line f t 1))
+
+-- the shape of what is read, if anything is
+abbrev pub shape_of : {A : Type 0} → (A → Option Shape) → Optional A → Option Shape
+shape_of g (Some x) = g x
+shape_of g None = none
 
 -- a shape, where no tokens are left
 unfoldable pub ended : Option Shape → List rules.Token → Option Shape
@@ -70,7 +74,6 @@ FormHolds P (Cell k n) = Unit {0}
 FormHolds P (CellParameter s n c) = (s ≤ 2) × P c
 FormHolds P (Process n) = Unit {0}
 FormHolds P End = Unit {0}
-FormHolds P NoShape = Unit {0}
 
 -- a constant of one of the rows
 abbrev pub InRows : List ℕ → ConstantSpan → Type 0
@@ -90,29 +93,31 @@ CellKindFrom t (cell_kind.Form r) = FormFrom t r
 CellKindFrom t cell_kind.Connect = Unit {0}
 
 -- over every file: the form where its line ends at row i; the line from row i on; the line by where it stands
-abbrev pub FinishedIs : List ℕ → ℕ → Form → Form → Type 0
-FinishedIs t i form r = ((f : List ℕ) → ended (form_of f form) (line f t i) ≡ form_of f r) × (FormFrom t form → FormFrom t r)
+abbrev pub FinishedIs : List ℕ → ℕ → Form → Optional Form → Type 0
+FinishedIs t i form r = ((f : List ℕ) → ended (form_of f form) (line f t i) ≡ shape_of (form_of f) r) × (FormFrom t form → IfSome r (FormFrom t))
 
-abbrev pub LineIs : Parse Shape → List ℕ → ℕ → Form → Type 0
-LineIs p t i r = ((f : List ℕ) → whole (p (line f t i)) ≡ form_of f r) × FormFrom t r
+abbrev pub LineIs : Parse Shape → List ℕ → ℕ → Optional Form → Type 0
+LineIs p t i r = ((f : List ℕ) → whole (p (line f t i)) ≡ shape_of (form_of f) r) × IfSome r (FormFrom t)
 
 -- (with a sort that is one of three)
-abbrev pub SortedIs : ℕ → Parse Shape → List ℕ → ℕ → Form → Type 0
-SortedIs s p t i r = ((f : List ℕ) → whole (p (line f t i)) ≡ form_of f r) × (s ≤ 2 → FormFrom t r)
+abbrev pub SortedIs : ℕ → Parse Shape → List ℕ → ℕ → Optional Form → Type 0
+SortedIs s p t i r = ((f : List ℕ) → whole (p (line f t i)) ≡ shape_of (form_of f) r) × (s ≤ 2 → IfSome r (FormFrom t))
 
-abbrev pub AnnouncedIs : List shapes.Form → List ℕ → ℕ → Kind → Type 0
-AnnouncedIs ps t c r = ((f : List ℕ) → whole (announced ps c (line f t 1)) ≡ kind_of f t r) × KindFrom t r
+abbrev pub AnnouncedIs : List shapes.Form → List ℕ → ℕ → Optional Kind → Type 0
+AnnouncedIs ps t c r = ((f : List ℕ) → whole (announced ps c (line f t 1)) ≡ shape_of (kind_of f t) r) × IfSome r (KindFrom t)
 
-abbrev pub TopIs : List ℕ → Bool → Form → Type 0
+abbrev pub TopIs : List ℕ → Bool → Optional Form → Type 0
 TopIs t first r =
-    ((f : List ℕ) (attributed : Bool) → shape (record { scope = top; first = first; attributed = attributed }) (line f t 0) ≡ form_of f r) × FormFrom t r
+    ((f : List ℕ) (attributed : Bool) → shape (record { scope = top; first = first; attributed = attributed }) (line f t 0) ≡ shape_of (form_of f) r)
+    × IfSome r (FormFrom t)
 
-abbrev pub ModuleIs : List ℕ → Bool → Kind → Type 0
+abbrev pub ModuleIs : List ℕ → Bool → Optional Kind → Type 0
 ModuleIs t attributed r =
-    ((f : List ℕ) (first : Bool) → shape (record { scope = in_module; first = first; attributed = attributed }) (line f t 0) ≡ kind_of f t r)
-    × KindFrom t r
+    ((f : List ℕ) (first : Bool) → shape (record { scope = in_module; first = first; attributed = attributed }) (line f t 0) ≡ shape_of (kind_of f t) r)
+    × IfSome r (KindFrom t)
 
-abbrev pub CellIs : List ℕ → CellKind → Type 0
+abbrev pub CellIs : List ℕ → Optional CellKind → Type 0
 CellIs t r =
-    ((f : List ℕ) (first attributed : Bool) → shape (record { scope = in_cell; first = first; attributed = attributed }) (line f t 0) ≡ cell_kind_of f t r)
-    × CellKindFrom t r
+    ((f : List ℕ) (first attributed : Bool) →
+    shape (record { scope = in_cell; first = first; attributed = attributed }) (line f t 0) ≡ shape_of (cell_kind_of f t) r)
+    × IfSome r (CellKindFrom t)

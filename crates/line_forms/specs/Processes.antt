@@ -1,5 +1,5 @@
 -- What the words of a line in a process announce.
-use Rattle.std.specs.Prelude.{ℕ, ◌/◌, ◌<◌, ◌≤◌, ◌≡◌, List, [], ◌∷◌, Bool, cond, ◌&&◌, ◌||◌, eqb, leb, length}
+use Rattle.std.specs.Prelude.{ℕ, ◌/◌, ◌<◌, ◌≤◌, ◌≡◌, List, [], ◌∷◌, Bool, cond, ◌&&◌, ◌||◌, eqb, leb, length, Option as Optional, IfSome}
 use Rattle.std.proofs.Math.Option.{Option}
 use Rattle.rules.specs.Bytes.{bytes}
 use Rattle.rules.specs.Statements.{Shape, Step, step_code, assign_step, case_step, global_step, always_step, update_step}
@@ -9,7 +9,7 @@ use Rattle.context.specs.Place.{scope_of}
 use Rattle.scanner.specs.Words.{keyword_number}
 use Rattle.tokens.specs.Rows.{line}
 use Rattle.line_forms.specs.Words.{announced}
-use Rattle.line_forms.specs.Forms.{form_of, FormFrom}
+use Rattle.line_forms.specs.Forms.{form_of, shape_of, FormFrom}
 use Rattle.line_forms.specs.declared.ProcessKind.{ProcessKind}
 use Rattle.line_forms.specs.declared.ProcessKind.TheVariants as process_kind
 
@@ -42,16 +42,17 @@ ProcessKindFrom t (process_kind.Form r) = FormFrom t r
 ProcessKindFrom t (process_kind.Step p i) = StepFrom t p i
 
 -- over every file: behind `sync`; by the first word; the line by where it stands
-abbrev pub SyncIs : List ℕ → ProcessKind → Type 0
-SyncIs t r = ((f : List ℕ) → whole (choice sync_forms (line f t 1)) ≡ process_kind_of f t r) × ProcessKindFrom t r
+abbrev pub SyncIs : List ℕ → Optional ProcessKind → Type 0
+SyncIs t r = ((f : List ℕ) → whole (choice sync_forms (line f t 1)) ≡ shape_of (process_kind_of f t) r) × IfSome r (ProcessKindFrom t)
 
-abbrev pub BegunIs : List ℕ → ℕ → ProcessKind → Type 0
-BegunIs t c r = ((f : List ℕ) → whole (announced process_forms c (line f t 1)) ≡ process_kind_of f t r) × ProcessKindFrom t r
+abbrev pub BegunIs : List ℕ → ℕ → Optional ProcessKind → Type 0
+BegunIs t c r = ((f : List ℕ) → whole (announced process_forms c (line f t 1)) ≡ shape_of (process_kind_of f t) r) × IfSome r (ProcessKindFrom t)
 
-abbrev pub ProcessIs : List ℕ → (scope depth : ℕ) → Bool → ProcessKind → Type 0
+abbrev pub ProcessIs : List ℕ → (scope depth : ℕ) → Bool → Optional ProcessKind → Type 0
 ProcessIs t scope depth attributed r =
-    ((f : List ℕ) (first : Bool) → shape (record { scope = scope_of scope depth; first = first; attributed = attributed }) (line f t 0) ≡ process_kind_of f t r)
-    × ProcessKindFrom t r
+    ((f : List ℕ) (first : Bool) →
+    shape (record { scope = scope_of scope depth; first = first; attributed = attributed }) (line f t 0) ≡ shape_of (process_kind_of f t) r)
+    × IfSome r (ProcessKindFrom t)
 
 -- how a step is read on, by its code: the values of a case, two signals, none, or one
 unfoldable pub step_parse : ℕ → Step → Parse Shape

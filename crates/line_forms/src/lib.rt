@@ -53,7 +53,6 @@ pub enum Form {
     },
     Process(Span),
     End,
-    NoShape,
 }
 
 // A line in a module: of fixed shape, or one of the others by its first word.
@@ -80,35 +79,29 @@ pub enum ProcessKind {
 }
 
 // The form, where no row from i on is left.
-fn finished(tokens: &[u32], i: usize, form: Form) -> Form
+fn finished(tokens: &[u32], i: usize, form: Form) -> Option<Form>
     ensures { FinishedIs tokens.now i form result }
 {
     if i < tokens.len() / ROW_WORDS {
-        return Form::NoShape;
+        return None;
     }
-    form
+    Some(form)
 }
 
-fn autoidx_line(tokens: &[u32], i: usize) -> Form
+fn autoidx_line(tokens: &[u32], i: usize) -> Option<Form>
     ensures { LineIs (of₁ autoidx-stmt int) tokens.now i result }
 {
-    let Some(z) = integer_at(tokens, i) else {
-        return Form::NoShape;
-    };
+    let z = integer_at(tokens, i)?;
     finished(tokens, i + 1, Form::Autoidx(z))
 }
 
 // An attribute's line, or a cell parameter's behind its sort: a name and a constant.
-fn valued_line(tokens: &[u32], i: usize, attribute: bool, sort: u32) -> Form
+fn valued_line(tokens: &[u32], i: usize, attribute: bool, sort: u32) -> Option<Form>
     ensures { SortedIs sort (of₂ (cond attribute attr-stmt (cell-param-stmt (sort_of sort))) id const) tokens.now i result }
 {
-    let Some(name) = id_at(tokens, i) else {
-        return Form::NoShape;
-    };
+    let name = id_at(tokens, i)?;
     let j = i + 1;
-    let Some(value) = literal_at(tokens, j) else {
-        return Form::NoShape;
-    };
+    let value = literal_at(tokens, j)?;
     let form = if attribute {
         Form::Attribute { name, value }
     } else {
@@ -118,12 +111,10 @@ fn valued_line(tokens: &[u32], i: usize, attribute: bool, sort: u32) -> Form
 }
 
 // A module's line, or a process's: one name.
-fn named_line(tokens: &[u32], i: usize, process: bool) -> Form
+fn named_line(tokens: &[u32], i: usize, process: bool) -> Option<Form>
     ensures { LineIs (of₁ (cond process proc-stmt module-stmt) id) tokens.now i result }
 {
-    let Some(name) = id_at(tokens, i) else {
-        return Form::NoShape;
-    };
+    let name = id_at(tokens, i)?;
     let form = if process {
         Form::Process(name)
     } else {
@@ -132,33 +123,24 @@ fn named_line(tokens: &[u32], i: usize, process: bool) -> Form
     finished(tokens, i + 1, form)
 }
 
-fn parameter_line(tokens: &[u32], i: usize) -> Form
+fn parameter_line(tokens: &[u32], i: usize) -> Option<Form>
     ensures { LineIs (of₂ param-stmt id (or_end const)) tokens.now i result }
 {
-    let Some(name) = id_at(tokens, i) else {
-        return Form::NoShape;
-    };
+    let name = id_at(tokens, i)?;
     let j = i + 1;
     if tokens.len() / ROW_WORDS <= j {
-        return Form::Parameter { name, value: None };
+        return Some(Form::Parameter { name, value: None });
     }
-    let Some(c) = literal_at(tokens, j) else {
-        return Form::NoShape;
-    };
-    let value = Some(c);
+    let value = Some(literal_at(tokens, j)?);
     finished(tokens, j + 1, Form::Parameter { name, value })
 }
 
-fn cell_line(tokens: &[u32], i: usize) -> Form
+fn cell_line(tokens: &[u32], i: usize) -> Option<Form>
     ensures { LineIs (of₂ cell-stmt id id) tokens.now i result }
 {
-    let Some(kind) = id_at(tokens, i) else {
-        return Form::NoShape;
-    };
+    let kind = id_at(tokens, i)?;
     let j = i + 1;
-    let Some(name) = id_at(tokens, j) else {
-        return Form::NoShape;
-    };
+    let name = id_at(tokens, j)?;
     finished(tokens, j + 1, Form::Cell { kind, name })
 }
 
@@ -172,96 +154,68 @@ fn word_at(tokens: &[u32], i: usize) -> usize
     }
 }
 
-fn cell_parameter_line(tokens: &[u32], i: usize) -> Form
+fn cell_parameter_line(tokens: &[u32], i: usize) -> Option<Form>
     ensures { LineIs (of₃ cell-param-stmt sort id const) tokens.now i result }
 {
-    let c = word_at(tokens, i);
-    if c == SIGNED {
-        return valued_line(tokens, i + 1, false, SIGNED_SORT);
+    match word_at(tokens, i) {
+        SIGNED => valued_line(tokens, i + 1, false, SIGNED_SORT),
+        REAL => valued_line(tokens, i + 1, false, REAL_SORT),
+        _ => valued_line(tokens, i, false, PLAIN_SORT),
     }
-    if c == REAL {
-        return valued_line(tokens, i + 1, false, REAL_SORT);
-    }
-    valued_line(tokens, i, false, PLAIN_SORT)
 }
 
 // A line outside of modules; first: no statement stands before it.
-pub fn top_line(tokens: &[u32], first: bool) -> Form
+pub fn top_line(tokens: &[u32], first: bool) -> Option<Form>
     ensures { TopIs tokens.now first result }
 {
-    let c = word_at(tokens, 0);
-    if c == AUTOIDX {
-        if first {
-            return autoidx_line(tokens, 1);
-        }
-        return Form::NoShape;
+    match word_at(tokens, 0) {
+        AUTOIDX if first => autoidx_line(tokens, 1),
+        ATTRIBUTE => valued_line(tokens, 1, true, PLAIN_SORT),
+        MODULE => named_line(tokens, 1, false),
+        _ => None,
     }
-    if c == ATTRIBUTE {
-        return valued_line(tokens, 1, true, PLAIN_SORT);
-    }
-    if c == MODULE {
-        return named_line(tokens, 1, false);
-    }
-    Form::NoShape
 }
 
 // What the keyword c announces among the lines that may follow attributes.
-fn object_line(tokens: &[u32], c: usize) -> Kind
+fn object_line(tokens: &[u32], c: usize) -> Option<Kind>
     ensures { AnnouncedIs object_forms tokens.now c result }
 {
-    if c == ATTRIBUTE {
-        return Kind::Form(valued_line(tokens, 1, true, PLAIN_SORT));
+    match c {
+        ATTRIBUTE => valued_line(tokens, 1, true, PLAIN_SORT).map(Kind::Form),
+        WIRE => Some(Kind::Wire),
+        MEMORY => Some(Kind::Memory),
+        CELL => cell_line(tokens, 1).map(Kind::Form),
+        PROCESS => named_line(tokens, 1, true).map(Kind::Form),
+        _ => None,
     }
-    if c == WIRE {
-        return Kind::Wire;
-    }
-    if c == MEMORY {
-        return Kind::Memory;
-    }
-    if c == CELL {
-        return Kind::Form(cell_line(tokens, 1));
-    }
-    if c == PROCESS {
-        return Kind::Form(named_line(tokens, 1, true));
-    }
-    Kind::Form(Form::NoShape)
 }
 
 // A line in a module; attributed: it follows attributes.
-pub fn module_line_kind(tokens: &[u32], attributed: bool) -> Kind
+pub fn module_line_kind(tokens: &[u32], attributed: bool) -> Option<Kind>
     ensures { ModuleIs tokens.now attributed result }
 {
     let c = word_at(tokens, 0);
     if attributed {
         return object_line(tokens, c);
     }
-    if c == PARAMETER {
-        return Kind::Form(parameter_line(tokens, 1));
+    match c {
+        PARAMETER => parameter_line(tokens, 1).map(Kind::Form),
+        CONNECT => Some(Kind::Connect),
+        END => finished(tokens, 1, Form::End).map(Kind::Form),
+        _ => object_line(tokens, c),
     }
-    if c == CONNECT {
-        return Kind::Connect;
-    }
-    if c == END {
-        return Kind::Form(finished(tokens, 1, Form::End));
-    }
-    object_line(tokens, c)
 }
 
 // A line in a cell.
-pub fn cell_line_kind(tokens: &[u32]) -> CellKind
+pub fn cell_line_kind(tokens: &[u32]) -> Option<CellKind>
     ensures { CellIs tokens.now result }
 {
-    let c = word_at(tokens, 0);
-    if c == PARAMETER {
-        return CellKind::Form(cell_parameter_line(tokens, 1));
+    match word_at(tokens, 0) {
+        PARAMETER => cell_parameter_line(tokens, 1).map(CellKind::Form),
+        CONNECT => Some(CellKind::Connect),
+        END => finished(tokens, 1, Form::End).map(CellKind::Form),
+        _ => None,
     }
-    if c == CONNECT {
-        return CellKind::Connect;
-    }
-    if c == END {
-        return CellKind::Form(finished(tokens, 1, Form::End));
-    }
-    CellKind::Form(Form::NoShape)
 }
 
 // Whether the keyword c begins a line outside of switches: the word w, `sync` or `end`.
@@ -324,51 +278,49 @@ fn begins_line(c: usize, scope: u32, depth: u32, attributed: bool) -> bool
 }
 
 // What stands behind `sync`: one of the eight words from `global` to `edge`.
-fn sync_line(tokens: &[u32]) -> ProcessKind
+fn sync_line(tokens: &[u32]) -> Option<ProcessKind>
     ensures { SyncIs tokens.now result }
 {
     let c = word_at(tokens, 1);
-    if c < GLOBAL {
-        return ProcessKind::Form(Form::NoShape);
+    if c < GLOBAL || EDGE < c {
+        return None;
     }
-    if EDGE < c {
-        return ProcessKind::Form(Form::NoShape);
-    }
-    ProcessKind::Step {
+    Some(ProcessKind::Step {
         step: c as u32,
         from: 2,
-    }
+    })
 }
 
 // What the keyword c announces, which begins a line of a process.
-fn begun_line(tokens: &[u32], c: usize) -> ProcessKind
+fn begun_line(tokens: &[u32], c: usize) -> Option<ProcessKind>
     requires word_is { WordIs tokens.now 0 c }
     requires c_value { begins process_forms c ≡ true }
     ensures { BegunIs tokens.now c result }
 {
-    if c == ATTRIBUTE {
-        return ProcessKind::Form(valued_line(tokens, 1, true, PLAIN_SORT));
-    }
-    if c == END {
-        return ProcessKind::Form(finished(tokens, 1, Form::End));
-    }
-    if c == SYNC {
-        return sync_line(tokens);
-    }
-    ProcessKind::Step {
-        step: c as u32,
-        from: 1,
+    match c {
+        ATTRIBUTE => valued_line(tokens, 1, true, PLAIN_SORT).map(ProcessKind::Form),
+        END => finished(tokens, 1, Form::End).map(ProcessKind::Form),
+        SYNC => sync_line(tokens),
+        _ => Some(ProcessKind::Step {
+            step: c as u32,
+            from: 1,
+        }),
     }
 }
 
 // A line in a scope of a process; depth: how many switches are open around the innermost one; attributed: it follows attributes.
-pub fn process_line_kind(tokens: &[u32], scope: u32, depth: u32, attributed: bool) -> ProcessKind
+pub fn process_line_kind(
+    tokens: &[u32],
+    scope: u32,
+    depth: u32,
+    attributed: bool,
+) -> Option<ProcessKind>
     requires { Inside scope }
     ensures { ProcessIs tokens.now scope depth attributed result }
 {
     let c = word_at(tokens, 0);
-    if begins_line(c, scope, depth, attributed) {
-        return begun_line(tokens, c);
+    if !begins_line(c, scope, depth, attributed) {
+        return None;
     }
-    ProcessKind::Form(Form::NoShape)
+    begun_line(tokens, c)
 }

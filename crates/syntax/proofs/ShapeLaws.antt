@@ -82,4 +82,3 @@ module _ (f t : List ℕ) (C : Closed f t) where
   form-whole (form.CellParameter s n c) h = (h.0, in_rows c h.1)
   form-whole (form.Process n) h = tt
   form-whole form.End h = tt
-  form-whole form.NoShape h = tt

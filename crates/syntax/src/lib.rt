@@ -142,7 +142,6 @@ fn form_statement(f: &[u8], form: Form) -> Statement
         }
         Form::Process(name) => Statement::Process(name),
         Form::End => Statement::End,
-        Form::NoShape => Statement::NoShape,
     }
 }
 
@@ -334,12 +333,13 @@ fn module_statement(
     ensures { ModuleIs attributed f.now tokens.now (wires_from names.now wires.now scope.first scope.count) scratch.new result }
 {
     match module_line_kind(tokens, attributed) {
-        Kind::Form(form) => form_statement(f, form),
-        Kind::Wire => wire_statement(f, tokens, wires, scope.first, scope.count),
-        Kind::Memory => memory_statement(f, tokens),
-        Kind::Connect => connection_statement(
+        Some(Kind::Form(form)) => form_statement(f, form),
+        Some(Kind::Wire) => wire_statement(f, tokens, wires, scope.first, scope.count),
+        Some(Kind::Memory) => memory_statement(f, tokens),
+        Some(Kind::Connect) => connection_statement(
             f, tokens, names, wires, scope, scratch, heads, chain,
         ),
+        None => Statement::NoShape,
     }
 }
 
@@ -358,10 +358,11 @@ fn cell_statement(
     ensures { CellIs f.now tokens.now (wires_from names.now wires.now scope.first scope.count) scratch.new result }
 {
     match cell_line_kind(tokens) {
-        CellKind::Form(form) => form_statement(f, form),
-        CellKind::Connect => cell_connection_statement(
+        Some(CellKind::Form(form)) => form_statement(f, form),
+        Some(CellKind::Connect) => cell_connection_statement(
             f, tokens, names, wires, scope, scratch, heads, chain,
         ),
+        None => Statement::NoShape,
     }
 }
 
@@ -421,10 +422,11 @@ fn process_statement(
     ensures { StatementIs place f.now tokens.now (wires_from names.now wires.now scope.first scope.count) scratch.new result }
 {
     match process_line_kind(tokens, place.scope, place.depth, place.attributed) {
-        ProcessKind::Form(form) => form_statement(f, form),
-        ProcessKind::Step { step, from } => step_statement(
+        Some(ProcessKind::Form(form)) => form_statement(f, form),
+        Some(ProcessKind::Step { step, from }) => step_statement(
             f, tokens, step, from, names, wires, scope, scratch, heads, chain,
         ),
+        None => Statement::NoShape,
     }
 }
 
@@ -445,7 +447,10 @@ pub fn line_statement(
     ensures { StatementIs place f.now tokens.now (wires_from names.now wires.now scope.first scope.count) scratch.new result }
 {
     if place.scope == TOP {
-        return form_statement(f, top_line(tokens, place.first));
+        let Some(form) = top_line(tokens, place.first) else {
+            return Statement::NoShape;
+        };
+        return form_statement(f, form);
     }
     if place.scope == IN_MODULE {
         return module_statement(

@@ -6,25 +6,20 @@ use Rattle.line_forms.specs.Forms.{form_of, name_in, ended}
 use Rattle.line_forms.proofs.LineLaws.{id_below}
 use Rattle.line_forms.proofs.cell_line.Goals as goal
 
-pub returns-in_default : goal.returns-in_default
-unfolding shapes.of₂ shapes.of₁ shapes.after shapes.give shapes.whole id_gives form_of
-returns-in_default c = (λ f. rw (c.id_at.ensures f, c.in_default.is), tt)
+pub returns-in_err-kind : goal.returns-in_err-kind
+unfolding shapes.of₂ shapes.after shapes.whole id_gives
+returns-in_err-kind c = (λ f. rw (c.id_at.ensures f, c.in_err-kind.was, c.from_residual.ensures), rw c.from_residual.ensures tt)
 
 pub overflow_add-j : goal.overflow_add-j
-overflow_add-j c = omega (arith, id_below _ _ _ _ c.id_at.ensures c.in-Some.is)
+overflow_add-j c = omega (arith, id_below _ _ _ _ c.id_at.ensures c.in_ok-kind.was)
 
-pub returns-in_default-id_at : goal.returns-in_default-id_at
-unfolding shapes.of₂ shapes.of₁ shapes.after shapes.give shapes.whole id_gives form_of
-returns-in_default-id_at c = (λ f. rw (c.id_at.ensures f, c.in-Some.is, c.id_at-2.ensures f, c.in_default-id_at.is), tt)
+pub returns-in_err-name : goal.returns-in_err-name
+unfolding shapes.of₂ shapes.of₁ shapes.after shapes.whole id_gives
+returns-in_err-name c = (λ f. rw (c.id_at.ensures f, c.in_ok-kind.was, c.id_at-2.ensures f, c.in_err-name.was, c.from_residual-in_err-name.ensures), rw c.from_residual-in_err-name.ensures tt)
 
 pub overflow_add-j-2 : goal.overflow_add-j-2
-overflow_add-j-2 c = omega (arith, id_below _ _ _ _ c.id_at.ensures c.in-Some.is)
+overflow_add-j-2 c = omega (arith, id_below _ _ _ _ c.id_at.ensures c.in_ok-kind.was)
 
 pub returns : goal.returns
 unfolding shapes.of₂ shapes.of₁ shapes.after shapes.give shapes.whole id_gives ended form_of name_in
-returns c =
-    let id-at = c.id_at in
-    let id-at2 = c.id_at-2 in (
-      λ f. rw (id-at.ensures f, c.in-Some.is, id-at2.ensures f, c.in-Some-id_at.is) (c.finished.ensures.0 f),
-      c.finished.ensures.1 tt,
-    )
+returns c = (λ f. rw (c.id_at.ensures f, c.in_ok-kind.was, c.id_at-2.ensures f, c.in_ok-name.was) (c.finished.ensures.0 f), c.finished.ensures.1 tt)

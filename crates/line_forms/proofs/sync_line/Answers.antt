@@ -1,17 +1,12 @@
 -- The word's number lies between two, or doesn't.
 use native.Mathlib.Omega.{arith}
-use Rattle.line_forms.specs.Forms.{form_of}
+use mathlib.Core.Logic.{⊎_elim}
 use Rattle.line_forms.specs.Processes.{process_kind_of}
 use Rattle.line_forms.proofs.ProcessLaws.{no-sync, synced, sync-from}
 use Rattle.line_forms.proofs.sync_line.Goals as goal
 
 pub returns-then-c-lt-GLOBAL : goal.returns-then-c-lt-GLOBAL
-unfolding process_kind_of form_of
-returns-then-c-lt-GLOBAL c = (λ f. no-sync _ _ c.word_at-c.ensures (λ a b. omega arith) f, tt)
-
-pub returns-then-c-gt-EDGE : goal.returns-then-c-gt-EDGE
-unfolding process_kind_of form_of
-returns-then-c-gt-EDGE c = (λ f. no-sync _ _ c.word_at-c.ensures (λ a b. omega arith) f, tt)
+returns-then-c-lt-GLOBAL c = (λ f. no-sync _ _ c.word_at-c.ensures (λ a b. ⊎_elim (λ l. omega arith) (λ l. omega arith) c.then-c-lt-GLOBAL.either) f, tt)
 
 pub returns : goal.returns
 unfolding process_kind_of

@@ -2,26 +2,25 @@
 use native.Mathlib.Omega.{arith}
 use borrow.Author.Tests.{ne_eqb}
 use Rattle.rules.specs.Shapes as shapes
-use Rattle.line_forms.specs.Forms.{form_of}
 use Rattle.line_forms.proofs.LineLaws.{shape-word, top-word, no-form, words_open}
 use Rattle.line_forms.proofs.top_line.Goals as goal
 
-pub returns-then-first : goal.returns-then-first
+pub returns-in-0 : goal.returns-in-0
 unfolding words_open
-returns-then-first c = (λ f attributed. rw (shape-word _ f _ _ c.word_at-c.ensures, c.if-c-eq-AUTOIDX.true, c.if-first.true) (c.autoidx_line.ensures.0 f), c.autoidx_line.ensures.1)
+returns-in-0 c = (λ f attributed. rw (shape-word _ f _ _ c.word_at.ensures, c.in-0.is, c.if-first.true) (c.autoidx_line.ensures.0 f), c.autoidx_line.ensures.1)
 
-pub returns-then-c-eq-AUTOIDX : goal.returns-then-c-eq-AUTOIDX
-unfolding words_open shapes.whole form_of
-returns-then-c-eq-AUTOIDX c = (λ f attributed. rw (shape-word _ f _ _ c.word_at-c.ensures, c.if-c-eq-AUTOIDX.true, c.if-first.false), tt)
-
-pub returns-then-c-eq-ATTRIBUTE : goal.returns-then-c-eq-ATTRIBUTE
+pub returns-in-4 : goal.returns-in-4
 unfolding words_open
-returns-then-c-eq-ATTRIBUTE c = (λ f attributed. rw (shape-word _ f _ _ c.word_at-c.ensures, top-word _ _ _ _ c.if-c-eq-AUTOIDX.false, c.if-c-eq-ATTRIBUTE.true) (c.valued_line.ensures.0 f), c.valued_line.ensures.1 (omega arith))
+returns-in-4 c = (λ f attributed. rw (shape-word _ f _ _ c.word_at.ensures, top-word _ _ c.word_at.result _ (omega arith), c.in-4.is) (c.valued_line.ensures.0 f), c.valued_line.ensures.1 (omega arith))
 
-pub returns-then-c-eq-MODULE : goal.returns-then-c-eq-MODULE
+pub returns-in-1 : goal.returns-in-1
 unfolding words_open
-returns-then-c-eq-MODULE c = (λ f attributed. rw (shape-word _ f _ _ c.word_at-c.ensures, top-word _ _ _ _ c.if-c-eq-AUTOIDX.false, c.if-c-eq-MODULE.true) (c.named_line.ensures.0 f), c.named_line.ensures.1)
+returns-in-1 c = (λ f attributed. rw (shape-word _ f _ _ c.word_at.ensures, top-word _ _ c.word_at.result _ (omega arith), c.in-1.is) (c.named_line.ensures.0 f), c.named_line.ensures.1)
 
-pub returns : goal.returns
-unfolding words_open form_of
-returns c = (λ f attributed. rw (shape-word _ f _ _ c.word_at-c.ensures, top-word _ _ _ _ c.if-c-eq-AUTOIDX.false, ne_eqb _ _ c.if-c-eq-ATTRIBUTE.false, ne_eqb _ _ c.if-c-eq-MODULE.false) no-form, tt)
+pub returns-in_default : goal.returns-in_default
+unfolding words_open shapes.whole
+returns-in_default c = (λ f attributed. rw (shape-word _ f _ _ c.word_at.ensures, c.in-0.is, c.if-first.false), tt)
+
+pub returns-in_default-2 : goal.returns-in_default-2
+unfolding words_open
+returns-in_default-2 c = (λ f attributed. rw (shape-word _ f _ _ c.word_at.ensures, top-word _ _ c.word_at.result _ (omega arith), ne_eqb c.word_at.result 4 (omega arith), ne_eqb c.word_at.result 1 (omega arith)) no-form, tt)

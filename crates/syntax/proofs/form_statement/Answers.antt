@@ -3,7 +3,7 @@ use mathlib.Core.Path.{refl, sym, ◌∙◌}
 use Rattle.numbers.specs.SignedLaws.{number-back}
 use Rattle.syntax.proofs.ShapeLaws.{plain_open, bad-number, stated}
 use Rattle.syntax.specs.declared.Statement.TheVariants.{Autoidx, Attribute, CellParameter, End}
-use Rattle.syntax.specs.Statements.{no-shape, judged}
+use Rattle.syntax.specs.Statements.{judged}
 use Rattle.syntax.proofs.form_statement.Goals as goal
 
 pub returns-in_default : goal.returns-in_default
@@ -51,7 +51,3 @@ returns-in-Process c w ws s = rw c.in-Process.is (judged (stated ws _ s _ refl r
 pub returns-in-End : goal.returns-in-End
 unfolding plain_open
 returns-in-End c w ws s = rw c.in-End.is (judged {r = End} (stated ws _ s End refl refl refl refl refl refl refl refl tt refl))
-
-pub returns-in-NoShape : goal.returns-in-NoShape
-unfolding plain_open
-returns-in-NoShape c w ws s = rw c.in-NoShape.is (no-shape refl)
