@@ -32,22 +32,14 @@ const MINUS_CODE: u32 = 5;
 fn digit_code(b: u8) -> u32
     ensures { result ≡ digit_code (digit b) }
 {
-    if b == b'0' {
-        return 0;
+    match b {
+        b'0' => 0,
+        b'1' => 1,
+        b'x' => X_CODE,
+        b'z' => Z_CODE,
+        b'm' => M_CODE,
+        _ => MINUS_CODE,
     }
-    if b == b'1' {
-        return 1;
-    }
-    if b == b'x' {
-        return X_CODE;
-    }
-    if b == b'z' {
-        return Z_CODE;
-    }
-    if b == b'm' {
-        return M_CODE;
-    }
-    MINUS_CODE
 }
 
 // The lowest k bits of a word, highest first.

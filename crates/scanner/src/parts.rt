@@ -13,7 +13,7 @@ pub struct Span {
 pub fn part<T>(s: &[T], start: usize, end: usize) -> &[T]
     ensures { result.now ≡ slice start end s.now }
 {
-    let stop = if end < s.len() { end } else { s.len() };
+    let stop = end.min(s.len());
     if stop <= start {
         return &s[0..0];
     }

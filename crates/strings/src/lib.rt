@@ -41,10 +41,7 @@ pub enum Turn {
 fn is_octal(b: u8) -> bool
     ensures { result ≡ is_octal b }
 {
-    if b < b'0' {
-        return false;
-    }
-    b <= b'7'
+    b'0' <= b && b <= b'7'
 }
 
 // A byte that may stand in a string raw.
@@ -63,47 +60,34 @@ fn is_string_byte(b: u8) -> bool
 fn plain_turn(b: u8) -> Turn
     ensures { turn_of result ≡ plain_turn b }
 {
-    if b == b'"' {
-        return Turn::Ends(Given::Nothing);
+    match b {
+        b'"' => Turn::Ends(Given::Nothing),
+        b'\\' => Turn::Goes(Given::Nothing, Inside::Escape),
+        _ if is_string_byte(b) => Turn::Goes(Given::One(b), Inside::Plain),
+        _ => Turn::Breaks,
     }
-    if b == b'\\' {
-        return Turn::Goes(Given::Nothing, Inside::Escape);
-    }
-    if is_string_byte(b) {
-        return Turn::Goes(Given::One(b), Inside::Plain);
-    }
-    Turn::Breaks
 }
 
 fn escape_turn(b: u8) -> Turn
     ensures { turn_of result ≡ escape_turn b }
 {
-    if is_octal(b) {
-        return Turn::Goes(Given::Nothing, Inside::OneDigit(b - b'0'));
+    match b {
+        b'0'..=b'7' => Turn::Goes(Given::Nothing, Inside::OneDigit(b - b'0')),
+        b'n' => Turn::Goes(Given::One(b'\n'), Inside::Plain),
+        b't' => Turn::Goes(Given::One(b'\t'), Inside::Plain),
+        _ if is_string_byte(b) => Turn::Goes(Given::One(b), Inside::Plain),
+        _ => Turn::Breaks,
     }
-    if b == b'n' {
-        return Turn::Goes(Given::One(b'\n'), Inside::Plain);
-    }
-    if b == b't' {
-        return Turn::Goes(Given::One(b'\t'), Inside::Plain);
-    }
-    if is_string_byte(b) {
-        return Turn::Goes(Given::One(b), Inside::Plain);
-    }
-    Turn::Breaks
 }
 
 // The byte of a whole octal, and plain text behind it.
 fn octal_whole(n: u32) -> Turn
     ensures { turn_of result ≡ octal_byte n (goes [] plain) }
 {
-    if n == 0 {
-        return Turn::Breaks;
+    match n {
+        1..=255 => Turn::Goes(Given::One(n as u8), Inside::Plain),
+        _ => Turn::Breaks,
     }
-    if 255 < n {
-        return Turn::Breaks;
-    }
-    Turn::Goes(Given::One(n as u8), Inside::Plain)
 }
 
 // The byte of an octal that `b` is no digit of, and what `b` does in plain text.

@@ -1,29 +1,32 @@
 -- By the byte: the digit that it writes.
-use borrow.Author.Tests.{eq-eqb, ne_eqb}
+use native.Mathlib.Omega.{arith}
+use borrow.Author.Tests.{ne_eqb}
 use Rattle.rules.specs.Tokens.{digit}
 use Rattle.rules.specs.Layout.{digit_code}
 use Rattle.literals.proofs.digit_code.Goals as goal
 
-pub returns-then-b-eq48 : goal.returns-then-b-eq48
+pub returns-in-48 : goal.returns-in-48
 unfolding digit digit_code
-returns-then-b-eq48 c = rw (eq-eqb _ _ c.if-b-eq48.true)
+returns-in-48 c = rw c.in-48.is
 
-pub returns-then-b-eq49 : goal.returns-then-b-eq49
+pub returns-in-49 : goal.returns-in-49
 unfolding digit digit_code
-returns-then-b-eq49 c = rw (ne_eqb _ _ c.if-b-eq48.false, eq-eqb _ _ c.if-b-eq49.true)
+returns-in-49 c = rw c.in-49.is
 
-pub returns-then-b-eq120 : goal.returns-then-b-eq120
+pub returns-in-120 : goal.returns-in-120
 unfolding digit digit_code
-returns-then-b-eq120 c = rw (ne_eqb _ _ c.if-b-eq48.false, ne_eqb _ _ c.if-b-eq49.false, eq-eqb _ _ c.if-b-eq120.true)
+returns-in-120 c = rw c.in-120.is
 
-pub returns-then-b-eq122 : goal.returns-then-b-eq122
+pub returns-in-122 : goal.returns-in-122
 unfolding digit digit_code
-returns-then-b-eq122 c = rw (ne_eqb _ _ c.if-b-eq48.false, ne_eqb _ _ c.if-b-eq49.false, ne_eqb _ _ c.if-b-eq120.false, eq-eqb _ _ c.if-b-eq122.true)
+returns-in-122 c = rw c.in-122.is
 
-pub returns-then-b-eq109 : goal.returns-then-b-eq109
+pub returns-in-109 : goal.returns-in-109
 unfolding digit digit_code
-returns-then-b-eq109 c = rw (ne_eqb _ _ c.if-b-eq48.false, ne_eqb _ _ c.if-b-eq49.false, ne_eqb _ _ c.if-b-eq120.false, ne_eqb _ _ c.if-b-eq122.false, eq-eqb _ _ c.if-b-eq109.true)
+returns-in-109 c = rw c.in-109.is
 
-pub returns : goal.returns
+pub returns-in_default : goal.returns-in_default
 unfolding digit digit_code
-returns c = rw (ne_eqb _ _ c.if-b-eq48.false, ne_eqb _ _ c.if-b-eq49.false, ne_eqb _ _ c.if-b-eq120.false, ne_eqb _ _ c.if-b-eq122.false, ne_eqb _ _ c.if-b-eq109.false)
+returns-in_default c =
+    let b = c.args.b in
+    rw (ne_eqb b 48 (λ e. omega arith), ne_eqb b 49 (λ e. omega arith), ne_eqb b 120 (λ e. omega arith), ne_eqb b 122 (λ e. omega arith), ne_eqb b 109 (λ e. omega arith))
