@@ -1,6 +1,7 @@
 -- Open memory holds a design; else the refusal of opening it.
 -- Assumes nothing.
 use native.Mathlib.Omega.{arith}
+use Rattle.std.proofs.lemmas.Result.{err_from_is_err_and}
 use Rattle.netlist.specs.Results.{lent}
 use Rattle.session.proofs.OpenLaws.{opened, not_opened}
 use Rattle.session.proofs.HoldLaws.{wire-fits}
@@ -19,8 +20,8 @@ returns-then-own-number c =
     _ open-memory.ensures _ c.in_ok-place.was) _ _ _ module-wires.ensures c.if-own-number.true in
     record { shown_at = all.0; in_range = all.1.0; shown_as = all.1.1 }
 
-pub overflow_add-own : goal.overflow_add-own
-overflow_add-own c =
+pub overflow_add-row : goal.overflow_add-row
+overflow_add-row c =
     let args = c.args in
     let open-memory = c.open_memory in
     let module-wires = c.module_wires-own in
@@ -50,12 +51,12 @@ returns c =
 pub returns-in_err-place : goal.returns-in_err-place
 returns-in_err-place c =
     let args = c.args in
-    let open-memory = c.open_memory in
-    let all = ?
+    let p = err_from_is_err_and c.from_residual.result c.from_residual.ensures.1 in
+    let all =
     shown-refused
     (lent args.names.now args.strings.now args.bits.now args.wires.now args.rows.now args.renames args.room)
     args.m.0 args.w.0 _
     (not_opened
     (lent args.names.now args.strings.now args.bits.now args.wires.now args.rows.now args.renames args.room)
-    _ open-memory.ensures _ c.in_err-place.was) in
-    record { shown_at = all.0; in_range = all.1.0; shown_as = all.1.1 }
+    _ c.open_memory.ensures _ c.in_err-place.was) in
+    rw (p.1, p.2) (record { shown_at = all.0; in_range = all.1.0; shown_as = all.1.1 })

@@ -1,6 +1,7 @@
 -- The part of each case of the place.
 -- Assumes nothing.
-use mathlib.Core.Path.{subst}
+use mathlib.Core.Path.{subst, ap, ◌∙◌}
+use Rattle.std.specs.Prelude.{Ok}
 use Rattle.netlist.specs.Results.{lent}
 use Rattle.show.specs.Parts.{InRange}
 use Rattle.show.proofs.ShowLaws.{shown-name, shown-text, shown-none}
@@ -10,7 +11,7 @@ pub slice_bounds-result-count : goal.slice_bounds-result-count
 slice_bounds-result-count c =
     let args = c.args in
     let find-shown = c.find_shown in
-    (subst (InRange args.names.now args.strings.now) c.in-Ok-Name.is
+    (subst (InRange args.names.now args.strings.now) (c.in-Ok-Name.is ∙ ap Ok c.in-Ok-Name.field-0-is)
     find-shown.ensures.in_range).0
 
 pub returns-in-Ok-Name : goal.returns-in-Ok-Name
@@ -20,15 +21,15 @@ returns-in-Ok-Name c =
     let all =
     shown-name
     (lent args.names.now args.strings.now args.bits.now args.wires.now args.rows.now args.renames args.room)
-    args.m.0 args.w.0 args.names.ref_ptr args.strings.ref_ptr _ (found.shown_at, (found.in_range, found.shown_as)) _ _
-    c.in-Ok-Name.is in
+    args.m.0 args.w.0 args.names.ref_ptr args.strings.ref_ptr _ (found.shown_at, (found.in_range, found.shown_as)) _
+    (c.in-Ok-Name.is ∙ ap Ok c.in-Ok-Name.field-0-is) in
     record { shown_as = all.0; lies_at = all.1 }
 
 pub slice_bounds-result-count-in-Ok-Text : goal.slice_bounds-result-count-in-Ok-Text
 slice_bounds-result-count-in-Ok-Text c =
     let args = c.args in
     let find-shown = c.find_shown in
-    (subst (InRange args.names.now args.strings.now) c.in-Ok-Text.is
+    (subst (InRange args.names.now args.strings.now) (c.in-Ok-Text.is ∙ ap Ok c.in-Ok-Text.field-0-is)
     find-shown.ensures.in_range).0
 
 pub returns-in-Ok-Text : goal.returns-in-Ok-Text
@@ -38,8 +39,8 @@ returns-in-Ok-Text c =
     let all =
     shown-text
     (lent args.names.now args.strings.now args.bits.now args.wires.now args.rows.now args.renames args.room)
-    args.m.0 args.w.0 args.names.ref_ptr args.strings.ref_ptr _ (found.shown_at, (found.in_range, found.shown_as)) _ _
-    c.in-Ok-Text.is in
+    args.m.0 args.w.0 args.names.ref_ptr args.strings.ref_ptr _ (found.shown_at, (found.in_range, found.shown_as)) _
+    (c.in-Ok-Text.is ∙ ap Ok c.in-Ok-Text.field-0-is) in
     record { shown_as = all.0; lies_at = all.1 }
 
 pub returns-in-Err : goal.returns-in-Err
