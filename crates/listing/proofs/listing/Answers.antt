@@ -10,7 +10,7 @@ returns-then-place-m c =
     let args = c.args in
     let held =
     opened (lent args.names.now args.strings.now args.bits.now args.wires.now args.rows.now args.renames args.room)
-    _ c.open_memory.ensures _ c.in-Open.is in
+    _ c.open_memory.ensures _ c.in-Ok.is in
     listed-missing held args.m.0 args.out.now c.if-place-m.true
 
 pub list_module-requires : goal.list_module-requires
@@ -18,7 +18,7 @@ list_module-requires c =
     let args = c.args in
     let held =
     opened (lent args.names.now args.strings.now args.bits.now args.wires.now args.rows.now args.renames args.room)
-    _ c.open_memory.ensures _ c.in-Open.is in
+    _ c.open_memory.ensures _ c.in-Ok.is in
     let all = fits held args.m.0 _ c.module_of.ensures in
     record { wires_bound = all.0; names_len = all.1 }
 
@@ -27,7 +27,7 @@ returns c =
     let args = c.args in
     let held =
     opened (lent args.names.now args.strings.now args.bits.now args.wires.now args.rows.now args.renames args.room)
-    _ c.open_memory.ensures _ c.in-Open.is in
+    _ c.open_memory.ensures _ c.in-Ok.is in
     listed-there held args.m.0 args.out.now c.if-place-m.false _ c.module_of.ensures _ c.list_module.ensures
 
 pub returns-in-Err : goal.returns-in-Err
