@@ -2,11 +2,11 @@
 -- Assumes nothing.
 use Prim.Native.Nat.{ℕ, suc, ◌+◌, ◌-◌, ◌*◌, ◌/◌, ◌<◌, ◌≤◌}
 use mathlib.Core.Path.{◌≡◌, refl, sym, ap, ◌∙◌, subst}
-use mathlib.Core.Bool.{Bool, true, false, not, not-not}
+use mathlib.Core.Bool.{Bool, true, false}
 use mathlib.Core.List.{List, [], ◌∷◌}
 use native.Mathlib.Omega.{arith}
 use lib.Dec.{ltb}
-use Rattle.std.specs.Prelude.{Some, None, Ok, Err, Result, Option as Optional}
+use Rattle.std.specs.Prelude.{Some, None, Ok, Err, Result, MatchResult, IsOkAnd, IsErrAnd, Option as Optional}
 use lib.ListN.{length, take, drop, take-append-drop}
 use lib.Seq.{slice, length-slice, length-take-le}
 use borrow.Author.Tests.{ltb-true}
@@ -37,7 +37,7 @@ use Rattle.judgement.specs.Judged as judgement
 use Rattle.judgement.specs.Judged.{Verdicts}
 use Rattle.judgement.specs.declared.Stated.{Stated}
 use Rattle.netlist.specs.declared.results.Refused.{Refused}
-use Rattle.reading_step.specs.Steps.{line_of, judged_as, AnswerIs, Storable}
+use Rattle.reading_step.specs.Steps.{line_of, refused_as, AnswerIs}
 
 -- ---- the rows of a line
 
@@ -142,22 +142,22 @@ module _ (ss : Past) (f old new : List ℕ) (l : Line) (x : Result ℕ BadToken)
   outcome-none n e z = by-lexed (Ok 0) (e ∙ ap (λ (k : ℕ). Ok k) z)
 
   module _ (n : ℕ) (e : x ≡ Ok n) (inside : l.end ≤ length f) (file : length f ≤ 32768) (old-long : 4 * (l.end - l.start) ≤ length old) where
-    some-tokens : (n ≡ 0 → ⊥) → (b : Bool) → not l.ended ≡ b → outcome ss (line_of f l) ≡ judged (place (line_of f l)) (stated ss (not b) (line f (take (4 * n) new) 0))
+    some-tokens : (n ≡ 0 → ⊥) → (b : Bool) → l.ended ≡ b → outcome ss (line_of f l) ≡ judged (place (line_of f l)) (stated ss b (line f (take (4 * n) new) 0))
     unfolding lexed_of line_of
     some-tokens h b k =
-        rw (← k, not-not) (by-lexed (Ok n) e ∙ lexed-some ss (line_of f l) _ (line-some f (take (4 * n) new) n (long f new n (rows_fit f old new l x L n e inside file old-long)) h))
+        rw (← k) (by-lexed (Ok n) e ∙ lexed-some ss (line_of f l) _ (line-some f (take (4 * n) new) n (long f new n (rows_fit f old new l x L n e inside file old-long)) h))
 
-    pub outcome-open : (n ≡ 0 → ⊥) → not l.ended ≡ true → outcome ss (line_of f l) ≡ reading.Outcome.refused 5 (place (line_of f l))
+    pub outcome-open : (n ≡ 0 → ⊥) → l.ended ≡ false → outcome ss (line_of f l) ≡ reading.Outcome.refused 5 (place (line_of f l))
     unfolding stated judged
-    outcome-open h k = some-tokens h true k
+    outcome-open h k = some-tokens h false k
 
     pub outcome-shaped :
-        (n ≡ 0 → ⊥) → not l.ended ≡ false →
+        (n ≡ 0 → ⊥) → l.ended ≡ true →
         outcome ss (line_of f l) ≡ judged (place (line_of f l)) (shaped ss (shape (context ss) (line f (take (4 * n - 0) (drop 0 new)) 0)))
     unfolding stated
     outcome-shaped h k =
         let q : 4 * n ≡ 4 * n - 0 = omega arith in
-        some-tokens h false k ∙ ap (λ (m : ℕ). judged (place (line_of f l)) (shaped ss (shape (context ss) (line f (take m new) 0)))) q
+        some-tokens h true k ∙ ap (λ (m : ℕ). judged (place (line_of f l)) (shaped ss (shape (context ss) (line f (take m new) 0)))) q
 
 -- ---- the verdict
 
@@ -172,31 +172,47 @@ end-small f l lo hi r e low high file =
     let q : length (take (l.end - 0) f) ≡ l.end - 0 = length-take-le (l.end - 0) f (omega arith) in
     omega (arith, end_of-high (in_class lo hi) (take (l.end - 0) f) l.start (omega arith))
 
-pub judged-refused :
-    (f : List ℕ) (l : Line) (j : Result Stated ℕ) (n p : ℕ) → j ≡ Err n → p ≡ end_of (in_class 3 3) (take (l.end - 0) (drop 0 f)) l.start →
-    ◌≡◌ {A = Result (Optional Stated) Refused} (Err (record { number = n; place = p })) (judged_as f l j)
-unfolding judged_as
-judged-refused f l j n p e q = rw (e, place_end f l, ← q) refl
+pub refused-is :
+    (f : List ℕ) (l : Line) (n p : ℕ) → p ≡ end_of (in_class 3 3) (take (l.end - 0) (drop 0 f)) l.start → ◌≡◌ {A = Refused} (record { number = n; place = p }) (refused_as f l n)
+unfolding refused_as
+refused-is f l n p q = rw (place_end f l, ← q) refl
 
-pub answer-judged :
-    (ss : Past) (f t s : List ℕ) (l : Line) (j : Result Stated ℕ) (r : Result (Optional Stated) Refused) → r ≡ judged_as f l j →
-    outcome ss (line_of f l) ≡ judged (place (line_of f l)) (shaped ss (shape (context ss) (line f t 0))) → Verdicts ss f t s j → AnswerIs ss (line_of f l) f s r
-unfolding judged_as judged
-answer-judged ss f t s l (Ok x) r q e v =
-    rw q (record { statement = v.statement; is = e ∙ ap (judged (place (line_of f l))) v.accepts; stated = v.stated; sums-are = v.sums-are })
-answer-judged ss f t s l (Err n) r q e v = rw q (e ∙ ap (judged (place (line_of f l))) v)
+-- an accepted one is what it was before its refusals were told otherwise
+pub mapped-ok :
+    {T E D : Type 0} (Q : E → D → Type 0) (x : Result T E) (m : Result T D) (n : T) → MatchResult x (λ k. m ≡ Ok k) (λ e. IsErrAnd m (Q e)) → m ≡ Ok n → x ≡ Ok n
+mapped-ok Q (Ok k) m n h e = cc
+mapped-ok Q (Err b) m n h e = absurd (rw e at h)
 
-pub storable-judged : (f : List ℕ) (l : Line) (j : Result Stated ℕ) (r : Result (Optional Stated) Refused) → r ≡ judged_as f l j → judgement.Storable f j → Storable f r
-unfolding judged_as
-storable-judged f l (Ok x) r q h = rw q h
-storable-judged f l (Err n) r q h = rw q tt
+module _ (ss : Past) (f old new : List ℕ) (l : Line) (x : Result ℕ BadToken) (L : LexedIs f l.start l.end old new x) (inside : l.end ≤ length f)
+    (Q : BadToken → Refused → Type 0) (told : (b : BadToken) (r : Refused) → Q b r → r ≡ record { number = 4; place = b.at }) where
+  told-bad :
+      (z : Result ℕ BadToken) (m : Result ℕ Refused) (y : Refused) → x ≡ z → MatchResult z (λ n. m ≡ Ok n) (λ b. IsErrAnd m (Q b)) → m ≡ Err y →
+      outcome ss (line_of f l) ≡ reading.Outcome.refused y.number y.place
+  told-bad (Ok n) m y ex h e = cc
+  told-bad (Err b) m y ex h e = rw (told b y (rw e at h)) (outcome-bad ss f old new l x L b ex inside)
 
--- a verdict that is refused
-module _ (f : List ℕ) (l : Line) (n : ℕ) (r : Result (Optional Stated) Refused) (q : r ≡ judged_as f l (Err n)) where
-  pub answer-refused : (ss : Past) (s : List ℕ) → outcome ss (line_of f l) ≡ reading.Outcome.refused n (place (line_of f l)) → AnswerIs ss (line_of f l) f s r
-  unfolding judged_as
-  answer-refused ss s e = rw q e
+  pub answer-bad :
+      (m : Result ℕ Refused) (y : Refused) → MatchResult x (λ n. m ≡ Ok n) (λ b. IsErrAnd m (Q b)) → m ≡ Err y →
+      outcome ss (line_of f l) ≡ reading.Outcome.refused y.number y.place
+  answer-bad m y h e = told-bad x m y refl h e
 
-  pub storable-refused : Storable f r
-  unfolding judged_as
-  storable-refused = rw q tt
+-- the verdict as an answer, where a refusal is at the line
+module _ (ss : Past) (f t s : List ℕ) (l : Line) (P : Stated → Optional Stated → Type 0) (Q : ℕ → Refused → Type 0)
+    (given : (x : Stated) (o : Optional Stated) → P x o → o ≡ Some x) (told : (n : ℕ) (r : Refused) → Q n r → r ≡ refused_as f l n) where
+  pub answer-judged :
+      (j : Result Stated ℕ) (m : Result (Optional Stated) ℕ) (r : Result (Optional Stated) Refused) →
+      MatchResult j (λ x. IsOkAnd m (P x)) (λ n. m ≡ Err n) → MatchResult m (λ o. r ≡ Ok o) (λ n. IsErrAnd r (Q n)) →
+      outcome ss (line_of f l) ≡ judged (place (line_of f l)) (shaped ss (shape (context ss) (line f t 0))) → Verdicts ss f t s j → AnswerIs ss (line_of f l) f s r
+  unfolding judged refused_as
+  answer-judged (Ok x) (Ok o) r a b e v =
+      rw (b ∙ ap (λ (z : Optional Stated). Ok z) (given x o a)) (record { statement = v.statement; is = e ∙ ap (judged (place (line_of f l))) v.accepts; stated = v.stated; sums-are = v.sums-are })
+  answer-judged (Ok x) (Err n) r a b e v = absurd a
+  answer-judged (Err n) (Ok o) r a b e v = cc
+  answer-judged (Err n) (Err k) (Ok o) a b e v = absurd b
+  answer-judged (Err n) (Err k) (Err y) a b e v =
+      let q : k ≡ n = cc in rw (told k y b, q) (e ∙ ap (judged (place (line_of f l))) v)
+
+pub answer-refused : (ss : Past) (f : List ℕ) (l : Line) (n : ℕ) (r : Refused) → r ≡ refused_as f l n →
+    outcome ss (line_of f l) ≡ reading.Outcome.refused n (place (line_of f l)) → outcome ss (line_of f l) ≡ reading.Outcome.refused r.number r.place
+unfolding refused_as
+answer-refused ss f l n r q e = rw q e

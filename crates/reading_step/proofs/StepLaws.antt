@@ -248,26 +248,6 @@ module _ {ss : Past} {p : Place} {u : Sizes} {t : Tables} (d : Done ss p u t) (l
   pub step-refused : (r : Refused) → x ≡ Err r → outcome ss l ≡ reading.Outcome.refused r.number r.place
   step-refused r e = subst (AnswerIs ss l f s) e st
 
--- an answer that is no step
-pub no_step : (r : Statement) → ((p w n l : ℕ) → r ≡ StepOf p w n l → ⊥) → 0 ≡ step_in r
-unfolding step_in
-no_step (Autoidx w) h = refl
-no_step (Attribute n c) h = refl
-no_step (Module n) h = refl
-no_step (Parameter n c) h = refl
-no_step (Wire n w t k p) h = refl
-no_step (Memory n w z t) h = refl
-no_step (Cell k n) h = refl
-no_step (CellParameter o n c) h = refl
-no_step (CellConnection n w l) h = refl
-no_step (Connection a b l) h = refl
-no_step (StepOf p w n l) h = absurd (h p w n l refl)
-no_step End h = refl
-no_step NoShape h = refl
-no_step (Process n) h = refl
-no_step BadNumber h = refl
-no_step MissingWire h = refl
-
 pub next-indexed :
     {heads chain names wires rows : List ℕ} {r : Result Standing Refused} {x : Standing} → r ≡ Ok x → StepIndexed heads chain names wires rows r →
     LinesIndexed heads chain names wires rows x.place.rows x.place.wires

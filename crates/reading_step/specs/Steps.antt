@@ -64,10 +64,9 @@ step_in (Process n) = 0
 step_in BadNumber = 0
 step_in MissingWire = 0
 
--- ONE LINE. The verdict as an answer; a refusal is at the line
-unfoldable pub judged_as : List ℕ → Line → Result Stated ℕ → Result (Optional Stated) Refused
-judged_as f l (Ok x) = Ok (Some x)
-judged_as f l (Err n) = Err (record { number = n; place = place (line_of f l) })
+-- ONE LINE. A refused verdict is at the line
+unfoldable pub refused_as : List ℕ → Line → ℕ → Refused
+refused_as f l n = record { number = n; place = place (line_of f l) }
 
 -- it states this statement, and these are the sums with it
 pub record States (ss : Past) (l : rules.Line) (f s : List ℕ) (r : Statement) (u : Sizes) : Type 0 where

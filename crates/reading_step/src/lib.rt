@@ -7,7 +7,7 @@ ghost use Rattle.rules.specs.Statements.{code};
 ghost use Rattle.syntax.specs.Statements.{kind_in};
 ghost use Rattle.name_index.specs.Index.{LinesIndexed};
 ghost use Rattle.netlist.specs.Tables.{tabled};
-ghost use Rattle.reading_step.specs.Steps.{LineFits, PlaceFits, step_in, judged_as, AnswerAs, Storable, SomeDone, StepAs, StepIndexed};
+ghost use Rattle.reading_step.specs.Steps.{LineFits, PlaceFits, step_in, refused_as, AnswerAs, Storable, SomeDone, StepAs, StepIndexed};
 
 use context::kinds::{
     ATTRIBUTE_KIND, AUTOIDX_KIND, CELL_CONNECTION_KIND, CELL_KIND, CELL_PARAMETER_KIND,
@@ -31,19 +31,14 @@ use syntax::Statement;
 const TOKEN_SIZE: usize = 4;
 
 // A refused verdict's place is the line's first byte that is neither space nor tab.
-fn judged(f: &[u8], line: Line, j: Result<Stated, u32>) -> Result<Option<Stated>, Refused>
+fn refused_at(f: &[u8], line: Line, number: u32) -> Refused
     requires { (line.start ≤ line.end) × (line.end ≤ length f.now) × (length f.now ≤ longest_file) }
-    ensures { result ≡ judged_as f.now line j }
+    ensures { result ≡ refused_as f.now line number }
 {
-    match j {
-        Ok(stated) => Ok(Some(stated)),
-        Err(number) => {
-            let end = line.end;
-            Err(Refused {
-                number,
-                place: blanks_end(&f[0..end], line.start) as u32,
-            })
-        }
+    let end = line.end;
+    Refused {
+        number,
+        place: blanks_end(&f[0..end], line.start) as u32,
     }
 }
 
@@ -67,38 +62,31 @@ fn line_answer(
     ensures storable { Storable f.now result }
     ensures answer_as { AnswerAs f.now scratch.new line standing.place standing.sums names.now wires.now rows.now result }
 {
-    let n = match lex_line(f, line.start, line.end, tokens) {
-        Ok(n) => n,
-        Err(bad) => {
-            return Err(Refused {
-                number: BAD_TOKEN,
-                place: bad.at as u32,
-            });
-        }
-    };
+    let n = lex_line(f, line.start, line.end, tokens).map_err(|bad| Refused {
+        number: BAD_TOKEN,
+        place: bad.at as u32,
+    })?;
     if n == 0 {
         return Ok(None);
     }
     if !line.ended {
-        return judged(f, line, Err(NO_SHAPE));
+        return Err(refused_at(f, line, NO_SHAPE));
     }
     let stop = TOKEN_SIZE * n;
-    judged(
+    judge_line(
         f,
-        line,
-        judge_line(
-            f,
-            &tokens[0..stop],
-            standing.place,
-            standing.sums,
-            names,
-            wires,
-            rows,
-            scratch,
-            heads,
-            chain,
-        ),
+        &tokens[0..stop],
+        standing.place,
+        standing.sums,
+        names,
+        wires,
+        rows,
+        scratch,
+        heads,
+        chain,
     )
+    .map(Some)
+    .map_err(|number| refused_at(f, line, number))
 }
 
 // Where the next line stands; or a refusal.
@@ -150,6 +138,7 @@ pub fn take_line(
 }
 
 // The code of a statement's kind.
+#[tactic(auto, unfolding(rules::specs::Statements::code, syntax::specs::Statements::kind_in))]
 fn kind_code(statement: Statement) -> u32
     ensures { result ≡ code (kind_in statement) }
 {
@@ -166,14 +155,15 @@ fn kind_code(statement: Statement) -> u32
         Statement::Connection { .. } => CONNECTION_KIND,
         Statement::Step { .. } => STEP_KIND,
         Statement::End => END_KIND,
-        Statement::NoShape => PROCESS_KIND,
-        Statement::Process(_) => PROCESS_KIND,
-        Statement::BadNumber => PROCESS_KIND,
-        Statement::MissingWire => PROCESS_KIND,
+        Statement::Process(_)
+        | Statement::NoShape
+        | Statement::BadNumber
+        | Statement::MissingWire => PROCESS_KIND,
     }
 }
 
 // The code of a line's step, if it is one.
+#[tactic(auto, unfolding(crate::specs::Steps::step_in))]
 fn step_code(statement: Statement) -> u32
     ensures { result ≡ step_in statement }
 {

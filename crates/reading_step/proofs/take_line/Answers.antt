@@ -9,13 +9,16 @@ use Rattle.reading_step.specs.Steps.{line_of}
 use Rattle.reading_step.proofs.StepLaws.{done-fits, done-stands, done-rows, put-storable, step-stated, step-skipped, step-refused, step-indexed, done-few, done-wires}
 use Rattle.reading_step.proofs.take_line.Goals as goal
 
-pub line_answer-requires : goal.line_answer-requires
-line_answer-requires c =
-    record {
-      line_fits = c.requires.line_fits;
-      place_fits = done-fits c.requires.some_done.done;
-      lines_indexed = c.requires.lines_indexed;
-    }
+pub line_answer-requires-clause-place_fits : goal.line_answer-requires-clause-place_fits
+line_answer-requires-clause-place_fits c = done-fits c.requires.some_done.done
+
+pub returns-in_err-answer-clause-step_as : goal.returns-in_err-answer-clause-step_as
+returns-in_err-answer-clause-step_as c =
+    let p = err_from_is_err_and c.from_residual.result c.from_residual.ensures.1 in
+    rw (p.1, p.2) (λ ss d. step-refused d _ _ _ (c.line_answer.ensures.answer_as ss (done-stands d)) _ c.in_err-answer.was)
+
+pub returns-in_default-clause-step_as : goal.returns-in_default-clause-step_as
+returns-in_default-clause-step_as c = λ ss d. step-skipped d _ _ _ (c.line_answer.ensures.answer_as ss (done-stands d)) _ c.in_ok-answer.was c.in_default.not-Some
 
 pub used_from-u-requires : goal.used_from-u-requires
 used_from-u-requires c = (done-fits c.requires.some_done.done).within
@@ -27,12 +30,6 @@ put_statement-requires c =
     put-storable pre.some_done.done (line_of c.args.f.now c.args.line) _ _ c.in_ok-answer.was c.in-Some.is
     (line-answer.ensures.answer_as _ (done-stands pre.some_done.done)) line-answer.ensures.storable _ c.used_from-u.ensures
     (line-answer.auto.scratch ∙ pre.line_fits.0.scratch-long)
-
-pub kind_code-kind-requires : goal.kind_code-kind-requires
-kind_code-kind-requires c = tt
-
-pub step_code-requires : goal.step_code-requires
-step_code-requires c = tt
 
 pub index_line-requires : goal.index_line-requires
 index_line-requires c =
@@ -50,20 +47,6 @@ after-requires c =
       rows_bound = done-rows c.requires.some_done.done;
       bounds = (done-fits c.requires.some_done.done).bounds;
     }
-
-pub returns-in_err-answer : goal.returns-in_err-answer
-returns-in_err-answer c =
-    let p = err_from_is_err_and c.from_residual.result c.from_residual.ensures.1 in
-    rw (p.1, p.2) (record {
-      step_as = λ ss d. step-refused d _ _ _ (c.line_answer.ensures.answer_as ss (done-stands d)) _ c.in_err-answer.was;
-      step_indexed = tt;
-    })
-
-pub returns-in_default : goal.returns-in_default
-returns-in_default c = record {
-  step_as = λ ss d. step-skipped d _ _ _ (c.line_answer.ensures.answer_as ss (done-stands d)) _ c.in_ok-answer.was c.in_default.not-Some;
-  step_indexed = c.requires.lines_indexed;
-}
 
 pub returns : goal.returns
 unfolding place_after
