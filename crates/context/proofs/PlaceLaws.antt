@@ -2,7 +2,7 @@
 -- module has. The wires behind one statement more.
 -- Assumes nothing.
 use Prim.Native.Nat.{ℕ, zero, suc, ◌+◌, ◌-◌, ◌≤◌}
-use mathlib.Core.Path.{◌≡◌, refl, sym, ap, ap₂, ◌∙◌}
+use mathlib.Core.Path.{◌≡◌, refl, ap}
 use mathlib.Core.Bool.{Bool, true, false, not, cond, ◌&&◌, ◌||◌}
 use mathlib.Core.List.{List, [], ◌∷◌, flat_map, zip, zip_with, foldl}
 use native.Mathlib.Omega.{arith}
@@ -18,7 +18,7 @@ use Rattle.rules.specs.Reading.{is_top}
 use Rattle.context.specs.Forms.{by_form, by-step}
 use Rattle.context.specs.Place.{scope_code, scope_of, wires_in, place_of, context_of, closes_at, Bounds, step_of, is_sync, end_scope, step_scope, scope_after, depth_after, place_after, AfterIs}
 use Rattle.context.specs.declared.place.Place.{Place}
-use Rattle.lists.specs.Tests.{by-test, by_cond, cond-le}
+use Rattle.lists.specs.Tests.{by-test, cond-le}
 use Rattle.lists.specs.Lists.{zip-none, flat_map-until}
 use Rattle.lists.specs.Sums.{sum_more, sum-le, sum-until, length-flat_map}
 use Rattle.context.proofs.KindLaws.{is_code, count-one, count-le}
@@ -110,15 +110,6 @@ pub wires-last : (ss : Past)
     → wires ss ≡ take ((place_of ss).wires - (place_of ss).wires_from) (flat_map (λ s. zip (contents s).names (contents s).wires) ss)
 unfolding wires of_module
 wires-last ss = rw (← length-wires ss) (flat_map-until (λ s. zip (contents s).names (contents s).wires) (is a_module) ss)
-
--- one less, where there is one
-pub less_one : (d : ℕ) → d - cond (eqb d 0) 0 1 ≡ d - 1
-less_one zero = refl
-less_one (suc d) = rw (ne_eqb (suc d) 0 (λ e. omega arith))
-
-pub less-fits : (d : ℕ) → cond (eqb d 0) 0 1 ≤ d
-less-fits zero = omega arith
-less-fits (suc d) = rw (ne_eqb (suc d) 0 (λ e. omega arith)) (omega arith)
 
 -- the place is carried on by one statement
 end-code : (z : Scope) → scope_code (outer z) ≡ end_scope (scope_code z) (nested z)

@@ -65,13 +65,10 @@ pub fn start() -> Place
 pub fn is_closed(p: Place) -> bool
     ensures { result ≡ closes_at p }
 {
-    if p.scope != TOP {
-        return false;
-    }
-    !p.attributed
+    p.scope == TOP && !p.attributed
 }
 
-fn pick(test: bool, a: u32, b: u32) -> u32
+pub(crate) fn pick(test: bool, a: u32, b: u32) -> u32
     ensures { result ≡ cond test a b }
 {
     if test { a } else { b }
@@ -81,7 +78,7 @@ fn pick(test: bool, a: u32, b: u32) -> u32
 fn is_sync(step: u32) -> bool
     ensures { result ≡ is_sync step }
 {
-    (GLOBAL_STEP <= step) & (step <= EDGE_STEP)
+    GLOBAL_STEP <= step && step <= EDGE_STEP
 }
 
 // `end` closes what was opened last.
@@ -140,14 +137,14 @@ fn depth_after(scope: u32, depth: u32, kind: u32, step: u32) -> u32
     requires { depth < 4294967295 }
     ensures { result ≡ depth_after scope depth kind step }
 {
-    if (kind == MODULE_KIND) | (kind == CELL_KIND) | (kind == PROCESS_KIND) {
+    if kind == MODULE_KIND || kind == CELL_KIND || kind == PROCESS_KIND {
         return 0;
     }
     if kind == END_KIND {
-        return depth - pick(depth == 0, 0, 1);
+        return depth.saturating_sub(1);
     }
     if step == SWITCH_STEP {
-        return depth + pick(scope == IN_CASE, 1, 0);
+        return depth + u32::from(scope == IN_CASE);
     }
     if is_sync(step) {
         return 0;
@@ -162,18 +159,18 @@ pub fn after(p: Place, kind: u32, step: u32) -> Place
     ensures { result ≡ place_after p kind step }
 {
     let rows = p.rows + 1;
-    let wires = p.wires + pick(kind == WIRE_KIND, 1, 0);
+    let wires = p.wires + u32::from(kind == WIRE_KIND);
     Place {
         scope: scope_after(p.scope, p.depth, kind, step),
         depth: depth_after(p.scope, p.depth, kind, step),
         first: false,
         attributed: kind == ATTRIBUTE_KIND,
-        rows: rows,
+        rows,
         module_from: pick(kind == MODULE_KIND, rows, p.module_from),
         cell_from: pick(kind == CELL_KIND, rows, p.cell_from),
         object_from: pick(kind == ATTRIBUTE_KIND, p.object_from, rows),
-        wires: wires,
+        wires,
         wires_from: pick(kind == MODULE_KIND, wires, p.wires_from),
-        modules: p.modules + pick(kind == MODULE_KIND, 1, 0),
+        modules: p.modules + u32::from(kind == MODULE_KIND),
     }
 }

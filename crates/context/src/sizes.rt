@@ -1,12 +1,12 @@
 // The sums of each size over the statements so far, and the limits of a design.
-ghost use Rattle.std.specs.Prelude.{◌≡◌, not, cond, []};
+ghost use Rattle.std.specs.Prelude.{◌≡◌, not, []};
 ghost use Rattle.context.specs.Sizes.{sums_of, plus_of, exceeds, AtMost, kind_sizes};
 
 use crate::kinds::{
     ATTRIBUTE_KIND, CELL_CONNECTION_KIND, CELL_KIND, CELL_PARAMETER_KIND, CONNECTION_KIND,
     MEMORY_KIND, MODULE_KIND, PARAMETER_KIND, PROCESS_KIND, STEP_KIND, WIRE_KIND,
 };
-use crate::place::Place;
+use crate::place::{Place, pick};
 
 // The most of each that a design has (document 01, "Sizes").
 pub const MOST_MODULES: u32 = 32;
@@ -140,18 +140,6 @@ pub fn plus(u: Sizes, d: Sizes) -> Sizes
     }
 }
 
-fn one_if(test: bool) -> u32
-    ensures { result ≡ cond test 1 0 }
-{
-    if test { 1 } else { 0 }
-}
-
-fn count_if(test: bool, n: u32) -> u32
-    ensures { result ≡ cond test n 0 }
-{
-    if test { n } else { 0 }
-}
-
 // The sizes of one statement of a kind that holds so many signals, bits and bytes.
 pub fn kind_sizes(
     kind: u32,
@@ -164,20 +152,20 @@ pub fn kind_sizes(
     ensures { result ≡ kind_sizes kind signals signal_bits value_bits string_bytes name_bytes }
 {
     Sizes {
-        modules: one_if(kind == MODULE_KIND),
-        wires: one_if(kind == WIRE_KIND),
-        memories: one_if(kind == MEMORY_KIND),
-        cells: one_if(kind == CELL_KIND),
-        parameters: one_if((kind == PARAMETER_KIND) | (kind == CELL_PARAMETER_KIND)),
-        attributes: one_if(kind == ATTRIBUTE_KIND),
-        ports: one_if(kind == CELL_CONNECTION_KIND),
-        connections: one_if(kind == CONNECTION_KIND),
-        processes: one_if(kind == PROCESS_KIND),
-        steps: one_if(kind == STEP_KIND),
-        step_signals: count_if(kind == STEP_KIND, signals),
-        signal_bits: signal_bits,
-        value_bits: value_bits,
-        string_bytes: string_bytes,
-        name_bytes: name_bytes,
+        modules: u32::from(kind == MODULE_KIND),
+        wires: u32::from(kind == WIRE_KIND),
+        memories: u32::from(kind == MEMORY_KIND),
+        cells: u32::from(kind == CELL_KIND),
+        parameters: u32::from(kind == PARAMETER_KIND || kind == CELL_PARAMETER_KIND),
+        attributes: u32::from(kind == ATTRIBUTE_KIND),
+        ports: u32::from(kind == CELL_CONNECTION_KIND),
+        connections: u32::from(kind == CONNECTION_KIND),
+        processes: u32::from(kind == PROCESS_KIND),
+        steps: u32::from(kind == STEP_KIND),
+        step_signals: pick(kind == STEP_KIND, signals, 0),
+        signal_bits,
+        value_bits,
+        string_bytes,
+        name_bytes,
     }
 }

@@ -54,16 +54,7 @@ pub fn put(heads: &mut [u32], chain: &mut [u32], at: usize, h: usize, more: u32)
 fn is_named(kind: u32) -> bool
     ensures { result ≡ has_name kind }
 {
-    if kind == AUTOIDX_KIND {
-        return false;
-    }
-    if kind == CONNECTION_KIND {
-        return false;
-    }
-    if kind == END_KIND {
-        return false;
-    }
-    kind != STEP_KIND
+    kind != AUTOIDX_KIND && kind != CONNECTION_KIND && kind != END_KIND && kind != STEP_KIND
 }
 
 fn row_key(names: &[u8], rows: &[u32], row: u32) -> usize

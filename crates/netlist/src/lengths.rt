@@ -15,17 +15,9 @@ pub const ROWS_LENGTH: usize = 55560;
 pub fn right_lengths(names: usize, strings: usize, bits: usize, wires: usize, rows: usize) -> bool
     ensures { result ≡ right_sizes names strings bits wires rows }
 {
-    if names != NAMES_LENGTH {
-        return false;
-    }
-    if strings != STRINGS_LENGTH {
-        return false;
-    }
-    if bits != BITS_LENGTH {
-        return false;
-    }
-    if wires != WIRES_LENGTH {
-        return false;
-    }
-    rows == ROWS_LENGTH
+    names == NAMES_LENGTH
+        && strings == STRINGS_LENGTH
+        && bits == BITS_LENGTH
+        && wires == WIRES_LENGTH
+        && rows == ROWS_LENGTH
 }

@@ -44,10 +44,7 @@ fn kind_at(rows: &[u32], row: usize) -> u32
 fn name_column(kind: u32) -> usize
     ensures { result ≡ name_column kind }
 {
-    if kind == CELL_KIND {
-        return CELL_NAME;
-    }
-    NAME
+    if kind == CELL_KIND { CELL_NAME } else { NAME }
 }
 
 fn name_at<'a>(names: &'a [u8], rows: &[u32], row: usize) -> &'a [u8]
@@ -74,16 +71,7 @@ pub fn row_name<'a>(names: &'a [u8], rows: &[u32], k: u32) -> &'a [u8]
 fn is_kind(kinds: Kinds, kind: u32) -> bool
     ensures { result ≡ is_kind kinds kind }
 {
-    if kinds.a == kind {
-        return true;
-    }
-    if kinds.b == kind {
-        return true;
-    }
-    if kinds.c == kind {
-        return true;
-    }
-    kinds.d == kind
+    kinds.a == kind || kinds.b == kind || kinds.c == kind || kinds.d == kind
 }
 
 // The kind first, which is one word; then the name.

@@ -36,8 +36,5 @@ pub fn used_from(place: Place, sums: Sizes) -> Used
 pub fn last_module(u: Used) -> u32
     ensures { result ≡ u.modules - 1 }
 {
-    if u.modules == 0 {
-        return 0;
-    }
-    u.modules - 1
+    u.modules.saturating_sub(1)
 }

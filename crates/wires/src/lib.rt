@@ -55,13 +55,7 @@ fn has_port(wires: &[u32], row: usize, port: u32) -> bool
     ensures { result ≡ has_port port (wire_of wires.now row) }
 {
     let direction = column(wires, row, WIRE_FLAGS) / 4;
-    if direction == 0 {
-        return false;
-    }
-    if 3 < direction {
-        return false;
-    }
-    port == column(wires, row, WIRE_PORT)
+    0 < direction && direction <= 3 && port == column(wires, row, WIRE_PORT)
 }
 
 // Whether one of the wires in count rows from first on is a port of this number.

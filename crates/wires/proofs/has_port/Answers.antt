@@ -2,16 +2,19 @@
 -- Assumes nothing.
 use Prim.Native.Nat.{ℕ, ◌/◌}
 use mathlib.Core.Path.{sym, ap, ◌∙◌}
-use native.Mathlib.Omega.{arith}
 use lib.Dec.{eqb}
+use Rattle.std.proofs.Common.{rules, arith}
+use Rattle.std.proofs.lemmas.Grind.{common_steps}
 use Rattle.wires.proofs.SearchLaws.{no-port, port-number}
 use Rattle.wires.proofs.has_port.Goals as goal
 
-pub returns-then-direction-eq0 : goal.returns-then-direction-eq0
-returns-then-direction-eq0 c = sym (no-port _ _ _ (c.column-direction.result / 4) (ap (λ (x : ℕ). x / 4) c.column-direction.ensures) (λ e. omega arith) (λ e. omega arith) (λ e. omega arith))
+pub returns-then-direction-le3 : goal.returns-then-direction-le3
+returns-then-direction-le3 c =
+    ap (eqb c.args.port) c.column.ensures
+    ∙ sym (port-number _ _ _ (c.column-direction.result / 4) (ap (λ (x : ℕ). x / 4) c.column-direction.ensures) c.if-direction-le3.true.0 c.if-direction-le3.true.1)
 
-pub returns-then-direction-gt3 : goal.returns-then-direction-gt3
-returns-then-direction-gt3 c = sym (no-port _ _ _ (c.column-direction.result / 4) (ap (λ (x : ℕ). x / 4) c.column-direction.ensures) (λ e. omega arith) (λ e. omega arith) (λ e. omega arith))
-
-pub returns : goal.returns
-returns c = ap (eqb c.args.port) c.column.ensures ∙ sym (port-number _ _ _ (c.column-direction.result / 4) (ap (λ (x : ℕ). x / 4) c.column-direction.ensures) (omega arith) (omega arith))
+pub returns-else-direction-le3 : goal.returns-else-direction-le3
+returns-else-direction-le3 c =
+    let outside = c.if-direction-le3.either in
+    let none = no-port _ _ c.args.port (c.column-direction.result / 4) (ap (λ (x : ℕ). x / 4) c.column-direction.ensures) (λ e. grind (arith, common_steps)) (λ e. grind (arith, common_steps)) (λ e. grind (arith, common_steps)) in
+    rw none (search rules)

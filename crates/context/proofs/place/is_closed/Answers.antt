@@ -4,10 +4,10 @@ use borrow.Author.Tests.{eq-eqb, ne_eqb}
 use Rattle.context.specs.Place.{closes_at}
 use Rattle.context.proofs.place.is_closed.Goals as goal
 
-pub returns-then-p-ne-TOP : goal.returns-then-p-ne-TOP
+pub returns-then-p-eq-TOP : goal.returns-then-p-eq-TOP
 unfolding closes_at
-returns-then-p-ne-TOP c = rw (ne_eqb _ _ c.if-p-ne-TOP.true)
+returns-then-p-eq-TOP c = rw (eq-eqb _ _ c.if-p-eq-TOP.true)
 
-pub returns : goal.returns
+pub returns-else-p-eq-TOP : goal.returns-else-p-eq-TOP
 unfolding closes_at
-returns c = rw (eq-eqb _ _ c.if-p-ne-TOP.false)
+returns-else-p-eq-TOP c = rw (ne_eqb _ _ c.if-p-eq-TOP.false)

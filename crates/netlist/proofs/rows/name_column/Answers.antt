@@ -8,6 +8,6 @@ pub returns-then-kind-eq-CELL_KIND : goal.returns-then-kind-eq-CELL_KIND
 unfolding name_column
 returns-then-kind-eq-CELL_KIND c = rw (eq-eqb _ _ c.if-kind-eq-CELL_KIND.true)
 
-pub returns : goal.returns
+pub returns-else-kind-eq-CELL_KIND : goal.returns-else-kind-eq-CELL_KIND
 unfolding name_column
-returns c = rw (ne_eqb _ _ c.if-kind-eq-CELL_KIND.false)
+returns-else-kind-eq-CELL_KIND c = rw (ne_eqb _ _ c.if-kind-eq-CELL_KIND.false)
