@@ -2,7 +2,6 @@
 #![tactic(auto)]
 
 ghost use Rattle.std.specs.Prelude.{◌≡◌, ◌&&◌};
-ghost use Rattle.rules.specs.Bytes.{within};
 ghost use Rattle.option_rules.specs.Numbers.{WordIs, slot_fits, options_good};
 ghost use Rattle.option_rules.specs.Limits.{ports_in, JoinedIs, PortIs, flag_bits, WireIs, MemoryIs};
 
@@ -56,13 +55,6 @@ struct Port {
     number: u32,
 }
 
-#[tactic(auto, unfolding(rules::specs::Bytes::within))]
-fn between(lo: u32, hi: u32, n: u32) -> bool
-    ensures { result ≡ within lo hi n }
-{
-    lo <= n && n <= hi
-}
-
 #[tactic(auto, unfolding(crate::specs::Numbers::slot_fits))]
 fn slot_fits(f: &[u8], s: Option<Integer>) -> bool
     ensures { result ≡ slot_fits f.now s }
@@ -109,7 +101,7 @@ fn joined(f: &[u8], s: Option<Integer>, code: u32, behind: Option<Port>) -> Opti
         return None;
     }
     let number = integer_of(f, z)?;
-    if !between(1, MOST_PORT, number) {
+    if !(1..=MOST_PORT).contains(&number) {
         return None;
     }
     Some(Port { code, number })
@@ -142,7 +134,7 @@ pub fn wire_rules(f: &[u8], o: Options) -> Option<WireRules>
         return None;
     }
     let width = word_or(f, o.width, 1);
-    if !between(0, MOST_WIDTH, width) {
+    if MOST_WIDTH < width {
         return None;
     }
     let port = port_of(f, o)?;
@@ -165,11 +157,11 @@ pub fn memory_rules(f: &[u8], o: Options) -> Option<MemoryRules>
         return None;
     }
     let width = word_or(f, o.width, 1);
-    if !between(1, MOST_WIDTH, width) {
+    if !(1..=MOST_WIDTH).contains(&width) {
         return None;
     }
     let size = word_or(f, o.size, 0);
-    if !between(0, MOST_SIZE, size) {
+    if MOST_SIZE < size {
         return None;
     }
     Some(MemoryRules {

@@ -1,8 +1,11 @@
 -- By what is given, by the ports behind, and by the number.
 -- Assumes nothing.
-use mathlib.Core.Path.{sym, ◌∙◌}
+use mathlib.Core.Path.{◌≡◌, sym, ◌∙◌}
+use mathlib.Core.Bool.{true, false}
+use borrow.Author.Rules.{rules}
 use mathlib.Core.Option.{Option-elim}
 use native.Mathlib.Omega.{arith}
+use Rattle.rules.specs.Bytes.{within}
 use Rattle.rules.specs.Numbers.{port_of}
 use Rattle.option_rules.specs.Limits.{with_port}
 use Rattle.option_rules.proofs.Numbers.{range-word, range-outside, range-abs}
@@ -28,18 +31,19 @@ returns-in_err-number c d ps e p =
     let q = rw c.in_err-number.was at c.integer_of.ensures in
     rw (c.in-Some.is, c.from_residual-in_err-number.ensures, no-port ps (p.1 ∙ c.if-branch-ne0.false)) (port-alone _ ∙ range-outside 1 1023 _ (omega arith) q)
 
-pub returns-then-not-between : goal.returns-then-not-between
-unfolding with_port
-returns-then-not-between c d ps e p =
+pub returns-then-not-contains : goal.returns-then-not-contains
+unfolding with_port within
+returns-then-not-contains c d ps e p =
     let p = rw c.in_ok-behind.was at p in
     let q = rw c.in_ok-number.was at c.integer_of.ensures in
-    let i = range-word 1 1023 _ (omega arith) q.0 q.1 ∙ sym c.between.ensures ∙ c.if-not-between.true in
-    rw (c.in-Some.is, no-port ps (p.1 ∙ c.if-branch-ne0.false)) (port-alone _ ∙ i)
+    let n : within 1 1023 c.in_ok-number.number ≡ false = search rules in
+    rw (c.in-Some.is, no-port ps (p.1 ∙ c.if-branch-ne0.false)) (port-alone _ ∙ range-word 1 1023 _ (omega arith) q.0 q.1 ∙ n)
 
 pub returns : goal.returns
-unfolding with_port port_of Option-elim
+unfolding with_port port_of Option-elim within
 returns c d ps e p =
     let p = rw c.in_ok-behind.was at p in
     let q = rw c.in_ok-number.was at c.integer_of.ensures in
-    let i = range-word 1 1023 _ (omega arith) q.0 q.1 ∙ sym c.between.ensures ∙ c.if-not-between.false in
+    let n : within 1 1023 c.in_ok-number.number ≡ true = search rules in
+    let i = range-word 1 1023 _ (omega arith) q.0 q.1 ∙ n in
     rw (c.in-Some.is, no-port ps (p.1 ∙ c.if-branch-ne0.false)) (port-alone _ ∙ i, e, range-abs 1 1023 _ i ∙ q.1)
