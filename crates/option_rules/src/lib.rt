@@ -1,7 +1,7 @@
 // What the options of a wire and of a memory mean, where the number and option rules allow them.
 #![tactic(auto)]
 
-ghost use Rattle.std.specs.Prelude.{◌≡◌, ◌&&◌};
+ghost use Rattle.std.specs.Prelude.{◌≡◌};
 ghost use Rattle.option_rules.specs.Numbers.{WordIs, slot_fits, options_good};
 ghost use Rattle.option_rules.specs.Limits.{ports_in, JoinedIs, PortIs, flag_bits, WireIs, MemoryIs};
 
@@ -59,10 +59,7 @@ struct Port {
 fn slot_fits(f: &[u8], s: Option<Integer>) -> bool
     ensures { result ≡ slot_fits f.now s }
 {
-    match s {
-        Some(z) => integer_of(f, z).is_some(),
-        None => true,
-    }
+    s.is_none_or(|z| integer_of(f, z).is_some())
 }
 
 // An option stands once, and every number is within 32 bits.
@@ -84,10 +81,7 @@ fn options_good(f: &[u8], o: Options) -> bool
 fn word_or(f: &[u8], s: Option<Integer>, d: u32) -> u32
     ensures { WordIs f.now s d result }
 {
-    match s {
-        Some(z) => integer_of(f, z).unwrap_or(d),
-        None => d,
-    }
+    s.and_then(|z| integer_of(f, z)).unwrap_or(d)
 }
 
 // The port of an option, or else of those behind it: at most one is given.
@@ -120,10 +114,11 @@ fn port_of(f: &[u8], o: Options) -> Option<Port>
 fn flag_bits(upto: bool, signed: bool) -> u32
     ensures { result ≡ flag_bits upto signed }
 {
-    if upto {
-        if signed { BOTH_FLAGS } else { UPTO_FLAG }
-    } else {
-        if signed { SIGNED_FLAG } else { 0 }
+    match (upto, signed) {
+        (true, true) => BOTH_FLAGS,
+        (true, false) => UPTO_FLAG,
+        (false, true) => SIGNED_FLAG,
+        (false, false) => 0,
     }
 }
 

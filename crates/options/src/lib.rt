@@ -1,7 +1,7 @@
 // The options of a `wire` line and of a `memory` line, as they were written.
 #![tactic(auto)]
 
-ghost use Rattle.std.specs.Prelude.{◌≡◌, Some, true, false, cond, ◌||◌, eqb};
+ghost use Rattle.std.specs.Prelude.{◌≡◌, true, false, ◌||◌};
 ghost use Rattle.rules.specs.Statements.{wire-stmt, memory-stmt};
 ghost use Rattle.rules.specs.Shapes.{wire_option_forms, memory_option_forms};
 ghost use Rattle.options.specs.Forms.{forms, statement, accepted, is_flag};
