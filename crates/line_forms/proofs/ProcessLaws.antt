@@ -3,7 +3,7 @@
 use Prim.Native.Nat.{ℕ, ◌+◌, ◌/◌, ◌<◌, ◌≤◌}
 use native.Mathlib.Omega.{arith}
 use mathlib.Core.Path.{◌≡◌, refl, sym, ◌∙◌}
-use mathlib.Core.Bool.{Bool, true, false, not, cond, ◌&&◌, ◌||◌, false≢true}
+use mathlib.Core.Bool.{Bool, true, false, not, cond, ◌&&◌, ◌||◌, false≢true, or-false}
 use mathlib.Core.List.{List, [], ◌∷◌}
 use mathlib.Core.Option.{Option, none}
 use Rattle.std.specs.Prelude.{Option as Optional, None, MatchOption, IsSomeAnd, IfSome}
@@ -39,10 +39,6 @@ abbrev pub Each : (ℕ → Type 0) → List shapes.Form → Type 0
 Each P [] = Unit {0}
 Each P (p ∷ ps) = P (keyword_number (bytes p.0)) × Each P ps
 
-or-true : (a b : Bool) → a ≡ false → a || b ≡ true → b ≡ true
-or-true true b e h = absurd (false≢true (sym e))
-or-true false b e h = h
-
 -- holds of a word that begins one of them
 pub by_word : (P : ℕ → Type 0) (ps : List shapes.Form) (c : ℕ) → begins ps c ≡ true → Each P ps → P c
 unfolding begins any
@@ -50,7 +46,7 @@ by_word P [] c h e = absurd (false≢true h)
 by_word P (p ∷ ps) c h e =
     by-test (eqb c (keyword_number (bytes p.0)))
     (λ q. rw (eqb-true c _ q) e.0)
-    (λ q. by_word P ps c (or-true _ _ q h) e.1)
+    (λ q. by_word P ps c (rw q at h) e.1)
 
 -- a word that begins none is none of them, and announces nothing
 pub no_word : (ps : List shapes.Form) (c : ℕ) → begins ps c ≡ false → Each (λ n. c ≡ n → ⊥) ps
@@ -71,13 +67,9 @@ begun-below [] t i c k h e = absurd (false≢true e)
 begun-below (p ∷ ps) t i c k h e =
     by-test (eqb c (keyword_number (bytes p.0)))
     (λ q. word_below p.0 t i c h (and-true-left _ _ k) (eqb-true c _ q))
-    (λ q. begun-below ps t i c (and-true-right (rules.is_keyword (bytes p.0)) _ k) h (or-true _ _ q e))
+    (λ q. begun-below ps t i c (and-true-right (rules.is_keyword (bytes p.0)) _ k) h (rw q at e))
 
 -- ---- the words that begin a line in each scope
-
-pub or-false : (b : Bool) → (b || false) ≡ b
-or-false true = refl
-or-false false = refl
 
 case-words : (deeper attributed : Bool) (c : ℕ) → begins (forms_in_case deeper attributed) c ≡ (eqb c 4 || (eqb c 21 || (cond (eqb c 20) deeper (not attributed && (eqb c 19 || eqb c 2)))))
 unfolding process_open forms_in_case
