@@ -9,11 +9,9 @@ ghost use Rattle.faults.specs.Faults.{merge};
 pub fn merge(a: u32, b: u32) -> u32
     ensures { result ≡ merge a b }
 {
-    if a == 0 {
-        return b;
+    match (a, b) {
+        (0, _) => b,
+        (_, 0) => a,
+        _ => a.min(b),
     }
-    if b == 0 {
-        return a;
-    }
-    if a < b { a } else { b }
 }
