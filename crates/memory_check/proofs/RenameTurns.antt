@@ -1,11 +1,12 @@
 -- Each return of the functions that look for renames.
 -- Assumes nothing.
 use Prim.Native.Nat.{ℕ, ◌+◌, ◌*◌, ◌≤◌, ◌<◌}
-use mathlib.Core.Path.{◌≡◌, sym, ap, ap₂, ◌∙◌, subst}
+use mathlib.Core.Path.{◌≡◌, refl, sym, ap, ap₂, ◌∙◌, subst}
 use mathlib.Core.List.{List, [], ◌∷◌, ◌++◌, reverse}
 use mathlib.Core.Bool.{true, false}
 use native.Mathlib.Omega.{arith}
-use Rattle.std.specs.Prelude.{Some, None}
+use Rattle.std.specs.Prelude.{Some, None, Result}
+use Rattle.std.specs.Result.{is_ok}
 use Rattle.std.specs.Prelude.{Option as Optional}
 use lib.ListN.{length, take, drop, length-append, length-take, length-drop}
 use lib.Seq.{slice}
@@ -24,8 +25,8 @@ use Rattle.netlist.specs.Spans.{Has}
 use Rattle.netlist.specs.Laid.{Laid, Wired}
 use Rattle.lists.specs.Tests.{never}
 use Rattle.lists.specs.Parts.{slice-span}
-use Rattle.rename_rules.specs.Judged.{Lies, judged}
-use Rattle.rename_rules.specs.JudgedLaws.{judged-is}
+use Rattle.rename_rules.specs.Judged.{Lies, refusal, judged}
+use Rattle.rename_rules.specs.JudgedLaws.{judged-is, refusal-ok}
 use Rattle.memory_check.specs.Renamed.{is_rename, RenameIs, RenamesAre}
 use Rattle.memory_check.specs.AllowedLaws.{allowed-next, allowed-more, number-accepted, accepted-number}
 use Rattle.memory_check.specs.RenameLaws.{RowOf, rename-eq, rename-words, words-rename, Next, laid_next, next-laid, file-last, eights-file, length-file, file-only, file-next}
@@ -76,32 +77,36 @@ module _ (names wires rows : List ℕ) (p : Place) (i used : ℕ) where
     unfolding RenameIs
     no_name h ss rs l q k e = omega (arith, (next_row l q k x ex).long, next-inside l q k)
 
-    module _ (n : Name) (en : n ≡ slice used (used + x.b) names) (number : ℕ) (j : number ≡ judged names wires rows p i used x.c x.d n) where
+    module _ (n : Name) (en : n ≡ slice used (used + x.b) names) (o : Result (Unit {0}) ℕ) (j : o ≡ refusal (judged names wires rows p i used x.c x.d n)) where
       span-is : n ≡ take x.b (drop used names)
       span-is = en ∙ slice-span used x.b names
 
       abbrev new : Rename
       new = record { module_number = x.c; wire_number = x.d; new_name = n }
 
-      number_is : {ss : List Statement} {rs : List Rename} → Lies names wires rows p i used ss rs → number_of (rename_call (design ss) rs new) ≡ number
-      number_is l = judged-is l new ∙ sym j
+      number_is : is_ok o ≡ true → {ss : List Statement} {rs : List Rename} → Lies names wires rows p i used ss rs → number_of (rename_call (design ss) rs new) ≡ 0
+      number_is z l = judged-is l new ∙ refusal-ok _ (rw j at z)
 
-      pub rename-refused : (number ≡ 0 → ⊥) → RenameIs names wires rows p i used None
+      is_refused : {ss : List Statement} {rs : List Rename} → Lies names wires rows p i used ss rs → number_of (rename_call (design ss) rs new) ≡ 0 → is_ok o ≡ true
+      unfolding refusal
+      is_refused l e = rw (j, ← judged-is l new, e) refl
+
+      pub rename-refused : is_ok o ≡ false → RenameIs names wires rows p i used None
       unfolding RenameIs Has
       rename-refused h ss rs l q k e =
           let f = next_row l q k x ex in
           let d : new ≡ q =
           rename-eq x.c q.module_number x.d q.wire_number n q.new_name f.module-number f.wire-number
           (span-is ∙ ap (λ (y : ℕ). take y (drop used names)) f.long ∙ next-name l q k) in
-          h (sym (number_is l) ∙ ap (λ (r : Rename). number_of (rename_call (design ss) rs r)) d ∙ accepted-number (design ss) rs q e)
+          never (is_ok o) (is_refused l (ap (λ (r : Rename). number_of (rename_call (design ss) rs r)) d ∙ accepted-number (design ss) rs q e)) h
 
       pub rename-next :
-          8 * (p.rows + i) + 8 ≤ length rows → is_rename x used ≡ true → used + x.b ≤ length names → number ≡ 0 →
+          8 * (p.rows + i) + 8 ≤ length rows → is_rename x used ≡ true → used + x.b ≤ length names → is_ok o ≡ true →
           RenameIs names wires rows p i used (Some (used + x.b))
       unfolding RenameIs Has
       rename-next long is inside z ss rs l =
           let S : Rooms = rooms ss rs in
-          let e : rename_call (design ss) rs new ≡ accepted (rs ++ new ∷ []) = number-accepted (design ss) rs new (number_is l ∙ z) in
+          let e : rename_call (design ss) rs new ≡ accepted (rs ++ new ∷ []) = number-accepted (design ss) rs new (number_is z l) in
           let m : length n ≡ x.b = ap length span-is ∙ length-take x.b (drop used names) ∙ (omega (arith, length-drop used names)) in
           let c : length S.rows ≡ p.rows + i = rows_are l in
           let w : words (row_at rows (8 * length S.rows)) ≡ rename_row (length S.names) new =

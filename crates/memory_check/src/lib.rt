@@ -74,7 +74,7 @@ fn one_rename(
         return None;
     }
     let new = part(names, start, end);
-    let number = indexed_rename(
+    indexed_rename(
         names,
         wires,
         rows,
@@ -88,10 +88,8 @@ fn one_rename(
         ModuleNumber(x.c),
         WireNumber(x.d),
         new,
-    );
-    if number != 0 {
-        return None;
-    }
+    )
+    .ok()?;
     Some(end as u32)
 }
 

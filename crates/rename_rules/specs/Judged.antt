@@ -1,5 +1,5 @@
 -- A rename's refusal by the tables that hold the design with its standing renames.
-use Rattle.std.specs.Prelude.{ℕ, ◌+◌, ◌≤◌, ◌≡◌, List, reverse, Bool, true, not, cond, ◌||◌, leb, ltb, length}
+use Rattle.std.specs.Prelude.{ℕ, zero, suc, ◌+◌, ◌≤◌, ◌≡◌, List, reverse, Bool, true, not, cond, ◌||◌, leb, ltb, length, Result, Ok, Err}
 use Rattle.rules.specs.Limits.{name_room, most_renames}
 use Rattle.rules.specs.Bytes.{same, any, legal}
 use Rattle.rules.specs.Tokens.{Name}
@@ -48,6 +48,11 @@ pub record ModuleIndexed (heads chain names wires : List ℕ) (m : Module) : Typ
   pub total : ℕ
   pub indexed : Indexed heads chain (wire_key names wires) total
   pub inside : m.first + m.wires ≤ total
+
+-- what is answered for a number: the refusal that has it, and for 0 none
+unfoldable pub refusal : ℕ → Result (Unit {0}) ℕ
+refusal zero = Ok tt
+refusal (suc n) = Err (suc n)
 
 -- the lowest number that applies, 0 if none does, where it is known whether the name is taken
 unfoldable pub number_by : (wires : List ℕ) → Module → (room w : ℕ) → Name → (taken : Bool) → ℕ

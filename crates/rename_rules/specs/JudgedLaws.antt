@@ -1,7 +1,8 @@
 -- The number by the tables is the rules' number.
 -- Assumes nothing.
-use Rattle.std.specs.Prelude.{ℕ, ◌+◌, ◌≤◌, ◌<◌, ◌≡◌, refl, List, [], ◌∷◌, ◌++◌, reverse, Bool, cond, ◌||◌, leb, ltb, length}
-use Rattle.std.proofs.Common.{ap, ◌∙◌}
+use Rattle.std.specs.Prelude.{ℕ, zero, suc, ◌+◌, ◌≤◌, ◌<◌, ◌≡◌, refl, Result, Ok, Err, List, [], ◌∷◌, ◌++◌, reverse, Bool, cond, ◌||◌, leb, ltb, length}
+use Rattle.std.specs.Result.{is_ok}
+use Rattle.std.proofs.Common.{ap, sym, ◌∙◌, arith, true≢false}
 use Rattle.std.proofs.lemmas.List.{reverse-reverse}
 use Rattle.std.proofs.Math.Bool.{true, false}
 use borrow.Author.Tests.{leb-true, leb-false}
@@ -14,10 +15,25 @@ use Rattle.rules.specs.Session.{Rename, now, room_used, taken, is_port, rename_c
 use Rattle.lists.specs.Tests.{by-test}
 use Rattle.context.specs.declared.place.Place.{Place}
 use Rattle.modules.specs.Ranges.{wire_range}
-use Rattle.rename_rules.specs.Judged.{name_taken, exceeds_room, module_by, judged, Lies}
+use Rattle.rename_rules.specs.Judged.{name_taken, exceeds_room, module_by, refusal, judged, Lies}
 use Rattle.rename_rules.specs.RoomLaws.{room-used}
 use Rattle.rename_rules.specs.TakenLaws.{taken-laid}
 use Rattle.rename_rules.specs.LiesLaws.{headed, offsets, laid, wired, there, missing}
+
+-- a refusal's number, which is not 0
+number_in : Result (Unit {0}) ℕ → ℕ
+number_in (Ok x) = 0
+number_in (Err n) = n
+
+pub refusal-err : (n k : ℕ) → refusal n ≡ Err k → (n ≡ k) × (k ≡ 0 → ⊥)
+unfolding refusal number_in
+refusal-err zero k e = absurd (true≢false (ap is_ok e))
+refusal-err (suc n) k e = let z : suc n ≡ k = ap number_in e in (z, λ q. omega (arith, z, q))
+
+pub refusal-ok : (n : ℕ) → is_ok (refusal n) ≡ true → n ≡ 0
+unfolding refusal
+refusal-ok zero e = refl
+refusal-ok (suc n) e = absurd (true≢false (sym e))
 
 -- the first test that holds
 lowest-number :

@@ -10,7 +10,7 @@ ghost use Rattle.wires.specs.Rows.{wire_of};
 ghost use Rattle.wire_names.specs.Now.{wires_in};
 ghost use Rattle.name_index.specs.Index.{key_at, wire_key, Indexed};
 ghost use Rattle.rename_rules.specs.Search.{search_now, named, Renamed, keeps_name, row_keeps};
-ghost use Rattle.rename_rules.specs.Judged.{object_taken, name_taken, exceeds_room, module_by, ModuleIndexed, number_by, judged};
+ghost use Rattle.rename_rules.specs.Judged.{object_taken, name_taken, exceeds_room, module_by, ModuleIndexed, refusal, number_by, judged};
 
 use context::kinds::{CELL_KIND, MEMORY_KIND, PROCESS_KIND};
 use context::place::Place;
@@ -289,30 +289,37 @@ pub fn module_of(wires: &[u32], place: Place, standing: u32, m: ModuleNumber) ->
     }
 }
 
-// The number of a rename's refusal, 0 if there is none: the lowest of 4, 6, 8, 9 and 11. `taken`: whether the module's name space has the name.
-fn rename_number(wires: &[u32], m: Module, room: u32, w: WireNumber, new: &[u8], taken: bool) -> u32
-    ensures { result ≡ number_by wires.now m room w.0 new.now taken }
+// A rename's refusal, by the lowest of 4, 6, 8, 9 and 11. `taken`: whether the module's name space has the name.
+fn judge_by(
+    wires: &[u32],
+    m: Module,
+    room: u32,
+    w: WireNumber,
+    new: &[u8],
+    taken: bool,
+) -> Result<(), u32>
+    ensures { result ≡ refusal (number_by wires.now m room w.0 new.now taken) }
 {
     if !legal(new) {
-        return BAD_TOKEN;
+        return Err(BAD_TOKEN);
     }
     let wire = w.0;
     if m.wires <= wire {
-        return NOT_THERE;
+        return Err(NOT_THERE);
     }
     if is_port(wires, m.first as usize + wire as usize) {
-        return PORT_RENAME;
+        return Err(PORT_RENAME);
     }
     if taken {
-        return TAKEN_NAME;
+        return Err(TAKEN_NAME);
     }
     if exceeds_room(m.renames, room, new.len()) {
-        return TOO_MANY;
+        return Err(TOO_MANY);
     }
-    0
+    Ok(())
 }
 
-// The number of a rename's refusal.
+// Whether a rename may stand behind those that stand, or the number of its refusal.
 pub fn judge_rename(
     names: &[u8],
     wires: &[u32],
@@ -323,12 +330,12 @@ pub fn judge_rename(
     m: ModuleNumber,
     w: WireNumber,
     new: &[u8],
-) -> u32
-    ensures { result ≡ judged names.now wires.now rows.now place standing room m.0 w.0 new.now }
+) -> Result<(), u32>
+    ensures { result ≡ refusal (judged names.now wires.now rows.now place standing room m.0 w.0 new.now) }
 {
     let module = module_of(wires, place, standing, m);
     let taken = is_taken(names, wires, rows, module, new);
-    rename_number(wires, module, room, w, new, taken)
+    judge_by(wires, module, room, w, new, taken)
 }
 
 // The same, over an index of all rows and one of all wires.
@@ -346,14 +353,14 @@ pub fn indexed_rename(
     m: ModuleNumber,
     w: WireNumber,
     new: &[u8],
-) -> u32
+) -> Result<(), u32>
     requires indexed { Indexed heads.now chain.now (key_at names.now rows.now) place.rows }
     requires indexed_2 { Indexed wire_heads.now wire_chain.now (wire_key names.now wires.now) place.wires }
-    ensures { result ≡ judged names.now wires.now rows.now place standing room m.0 w.0 new.now }
+    ensures { result ≡ refusal (judged names.now wires.now rows.now place standing room m.0 w.0 new.now) }
 {
     let module = module_of(wires, place, standing, m);
     let taken = indexed_is_taken(
         names, wires, rows, heads, chain, wire_heads, wire_chain, module, new,
     );
-    rename_number(wires, module, room, w, new, taken)
+    judge_by(wires, module, room, w, new, taken)
 }

@@ -4,6 +4,8 @@ use Prim.Native.Nat.{ℕ, ◌+◌, ◌-◌, ◌*◌, ◌≤◌, ◌<◌}
 use mathlib.Core.Path.{◌≡◌, refl, sym, ap, ◌∙◌}
 use mathlib.Core.List.{List, [], ◌∷◌, ◌++◌}
 use native.Mathlib.Omega.{arith}
+use Rattle.std.specs.Prelude.{true, Result, Err}
+use Rattle.std.specs.Result.{is_ok}
 use lib.ListN.{length, replicate, length-append}
 use Rattle.rules.specs.Statements.{Statement}
 use Rattle.rules.specs.Judgement.{accepted, refused}
@@ -16,8 +18,8 @@ use Rattle.context.specs.declared.place.Place.{Place}
 use Rattle.admitted.specs.Holds.{Allowed, no-renames, one-rename}
 use Rattle.netlist.specs.Laid.{Laid}
 use Rattle.netlist.specs.Results.{result, lent}
-use Rattle.rename_rules.specs.Judged.{judged}
-use Rattle.rename_rules.specs.JudgedLaws.{judged-is}
+use Rattle.rename_rules.specs.Judged.{refusal, judged}
+use Rattle.rename_rules.specs.JudgedLaws.{judged-is, refusal-err, refusal-ok}
 use Rattle.rename_rules.specs.RoomLaws.{room-used}
 use Rattle.rename_rules.specs.NowLaws.{last-rename-row}
 use Rattle.memory_check.specs.HeldLaws.{holds-laid}
@@ -53,17 +55,17 @@ module _ (m : Memory) (ss : List Statement) (rs : List Rename) (r : Rename) (row
 
 -- RENAME
 module _ {names strings bits wires rows : List ℕ} {renames room : ℕ} {p : Place} (h : Holding (lent names strings bits wires rows renames room) p) (r : Rename)
-    (n : ℕ) (j : n ≡ judged names wires rows p renames room r.module_number r.wire_number r.new_name) where
-  number_is : number_of (rename_call (design h.statements) h.renames r) ≡ n
-  number_is = judged-is (lies h) r ∙ sym j
+    (o : Result (Unit {0}) ℕ) (j : o ≡ refusal (judged names wires rows p renames room r.module_number r.wire_number r.new_name)) where
 
-  pub rename-refused : (n ≡ 0 → ⊥) → let m = lent names strings bits wires rows renames room in CalledAs m (Call.rename r) (result n 0 m)
+  pub rename-refused : (n : ℕ) → o ≡ Err n → let m = lent names strings bits wires rows renames room in CalledAs m (Call.rename r) (result n 0 m)
   unfolding after call
-  rename-refused z = holding h.statements h.renames h.lengths h.holds (rw (refused-by _ n number_is z))
+  rename-refused n e =
+      let f = refusal-err _ n (sym j ∙ e) in
+      holding h.statements h.renames h.lengths h.holds (rw (refused-by _ n (judged-is (lies h) r ∙ f.0) f.1))
 
-  module _ (z : n ≡ 0) where
+  module _ (z : is_ok o ≡ true) where
     passed : Passes (design h.statements) h.renames r
-    passed = passes (design h.statements) h.renames r (number_is ∙ z)
+    passed = passes (design h.statements) h.renames r (judged-is (lies h) r ∙ refusal-ok _ (rw j at z))
 
     pub rename-fits : (renames < 64) × (p.rows ≤ 6881) × (room + length r.new_name ≤ 16384) × (length r.new_name ≤ 255) × (length names ≡ 16384) × (length rows ≡ 8 * 6945)
     rename-fits =

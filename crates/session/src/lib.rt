@@ -97,8 +97,7 @@ fn rename_open(
     requires { Holding (lent names.old strings.now bits.now wires.now rows.old renames room) place }
     ensures { CalledAs (lent names.old strings.now bits.now wires.now rows.old renames room) (Call.rename (record { module_number = m.0; wire_number = w.0; new_name = new.now })) (outcome result.number result.place (lent names.new strings.now bits.now wires.now rows.new result.renames result.room)) }
 {
-    let number = judge_rename(names, wires, rows, place, renames, room, m, w, new);
-    if number != 0 {
+    if let Err(number) = judge_rename(names, wires, rows, place, renames, room, m, w, new) {
         return CallResult {
             number,
             place: 0,

@@ -15,22 +15,16 @@ returns-then-not-is_rename c = no-rename _ _ _ _ _ _ _ c.get_row-x.ensures (sym 
 pub returns-then-names-end : goal.returns-then-names-end
 returns-then-names-end c = no_name _ _ _ _ _ _ _ c.get_row-x.ensures c.if-names-end.true
 
-pub indexed_rename-number-requires : goal.indexed_rename-number-requires
-indexed_rename-number-requires c = record { indexed = c.requires.indexed; indexed_2 = c.requires.indexed_2 }
+pub indexed_rename-requires : goal.indexed_rename-requires
+indexed_rename-requires c = record { indexed = c.requires.indexed; indexed_2 = c.requires.indexed_2 }
 
-pub returns-then-number-ne0 : goal.returns-then-number-ne0
-returns-then-number-ne0 c = rename-refused _ _ _ _ _ _ _ c.get_row-x.ensures _ c.part-new.ensures _ c.indexed_rename-number.ensures c.if-number-ne0.true
+pub returns-in_err-ok : goal.returns-in_err-ok
+returns-in_err-ok c = rw c.from_residual.ensures (rename-refused _ _ _ _ _ _ _ c.get_row-x.ensures _ c.part-new.ensures _ c.indexed_rename.ensures (sym c.in_err-ok.ensures.variant))
 
 pub overflow_cast-result : goal.overflow_cast-result
 overflow_cast-result c = omega (arith, c.requires.names_len_bound)
 
 pub returns : goal.returns
 returns c =
-    let if1 = c.if-rows-at in
-    let get-row = c.get_row-x in
-    let is-rename = c.is_rename in
-    let if2 = c.if-not-is_rename in
-    let if3 = c.if-names-end in
-    let part = c.part-new in
-    rename-next _ _ _ _ _ _ _ get-row.ensures _ part.ensures _ c.indexed_rename-number.ensures if1.false
-    (sym is-rename.ensures ∙ not-false _ if2.false-raw) if3.false c.if-number-ne0.false
+    rename-next _ _ _ _ _ _ _ c.get_row-x.ensures _ c.part-new.ensures _ c.indexed_rename.ensures c.if-rows-at.false
+    (sym c.is_rename.ensures ∙ not-false _ c.if-not-is_rename.false-raw) c.if-names-end.false (sym c.in_ok-ok.ensures.variant)

@@ -1,8 +1,7 @@
--- `indexed_rename` meets its contract: its answer is the number by the tables.
--- Assumes nothing.
 use mathlib.Core.Path.{ap, ◌∙◌}
 use Rattle.name_index.specs.IndexLaws.{indexed-upto}
 use Rattle.wire_names.specs.declared.Module.{Module}
+use Rattle.rename_rules.specs.Judged.{refusal}
 use Rattle.rename_rules.proofs.IndexedLaws.{module-indexed, number-judged}
 use Rattle.rename_rules.proofs.indexed_rename.Goals as goal
 
@@ -16,4 +15,4 @@ indexed_is_taken-taken-requires c =
     }
 
 pub returns : goal.returns
-returns c = c.rename_number.ensures ∙ number-judged _ _ _ _ _ _ _ c.module_of-module.ensures _ _ _ _ c.indexed_is_taken-taken.ensures
+returns c = c.judge_by.ensures ∙ ap refusal (number-judged _ _ _ _ _ _ _ c.module_of-module.ensures _ _ _ _ c.indexed_is_taken-taken.ensures)

@@ -3,20 +3,20 @@
 use mathlib.Core.Path.{sym, ◌∙◌}
 use native.Mathlib.Omega.{arith}
 use borrow.Author.Tests.{le-leb, lt-leb, not-false}
-use Rattle.rename_rules.specs.Judged.{number_by}
+use Rattle.rename_rules.specs.Judged.{refusal, number_by}
 use Rattle.lists.specs.Bytes.{legal-short}
-use Rattle.rename_rules.proofs.rename_number.Goals as goal
+use Rattle.rename_rules.proofs.judge_by.Goals as goal
 
 pub returns-then-not-legal : goal.returns-then-not-legal
-unfolding number_by
+unfolding refusal number_by
 returns-then-not-legal c = rw (← c.legal.ensures, c.if-not-legal.true-raw)
 
 pub returns-then-m-wire : goal.returns-then-m-wire
-unfolding number_by
+unfolding refusal number_by
 returns-then-m-wire c = rw (← c.legal.ensures, c.if-not-legal.false-raw, le-leb c.args.m.wires c.args.w.0 (omega arith))
 
 pub returns-then-is_port : goal.returns-then-is_port
-unfolding number_by
+unfolding refusal number_by
 returns-then-is_port c =
     let args = c.args in
     let legal = c.legal in
@@ -25,7 +25,7 @@ returns-then-is_port c =
     (← legal.ensures, if1.false-raw, lt-leb args.m.wires args.w.0 (omega arith), ← c.is_port.ensures, c.if-is_port.true)
 
 pub returns-then-taken : goal.returns-then-taken
-unfolding number_by
+unfolding refusal number_by
 returns-then-taken c =
     let args = c.args in
     let legal = c.legal in
@@ -42,7 +42,7 @@ exceeds_room-requires c =
     legal-short args.new.now (sym legal.ensures ∙ not-false _ if1.false-raw)
 
 pub returns-then-exceeds_room : goal.returns-then-exceeds_room
-unfolding number_by
+unfolding refusal number_by
 returns-then-exceeds_room c =
     let args = c.args in
     let legal = c.legal in
@@ -62,7 +62,7 @@ returns-then-exceeds_room c =
     )
 
 pub returns : goal.returns
-unfolding number_by
+unfolding refusal number_by
 returns c =
     let args = c.args in
     let legal = c.legal in
