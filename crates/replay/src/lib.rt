@@ -47,17 +47,7 @@ pub fn replay(
     };
     while is_statement(word(rows, ROW_WORDS * behind.place.rows as usize)) {
         let row = behind.place.rows;
-        behind = one_more(
-            names,
-            strings,
-            bits,
-            wires,
-            rows,
-            heads,
-            chain,
-            behind.place,
-            behind.sums,
-        )?;
+        behind = one_more(names, strings, bits, wires, rows, heads, chain, behind)?;
         index_row(names, rows, heads, chain, row);
     }
     is_closed(behind.place).then_some(behind)

@@ -16,14 +16,14 @@ use context::kinds::{
 };
 use context::place::{IN_CELL, IN_MODULE, IN_SYNC, IN_TAIL, Place, TOP, after};
 use context::sizes::{
-    MOST_SIGNAL_BITS, MOST_STRING_BYTES, MOST_VALUE_BITS, NAME_ROOM, Sizes, Standing, kind_sizes,
-    plus, within,
+    MOST_SIGNAL_BITS, MOST_STRING_BYTES, MOST_VALUE_BITS, NAME_ROOM, Standing, kind_sizes, plus,
+    within,
 };
 use context::steps::NO_STEP;
 use name_search::indexed_found;
 use netlist::rows::row_name;
 use netlist::used::used_from;
-use row_statements::statements::statement_at;
+use row_statements::statements::{Found, statement_at};
 use steps::{asked_width, step_stands};
 use tables::{ROW_WORDS, Row, get_row};
 
@@ -146,19 +146,14 @@ fn step_of(kind: u32, a: u32) -> u32
     NO_STEP
 }
 
-fn small_parts(signals: u32, values: u32, strings: u32, names: u32) -> bool
-    ensures { result ≡ small_parts signals values strings names }
+// No part of a statement alone exceeds its size.
+fn small_parts(found: Found) -> bool
+    ensures { result ≡ small_parts found.signals found.values found.strings found.names }
 {
-    if MOST_SIGNAL_BITS < signals {
-        return false;
-    }
-    if MOST_VALUE_BITS < values {
-        return false;
-    }
-    if MOST_STRING_BYTES < strings {
-        return false;
-    }
-    names <= NAME_ROOM
+    found.signals <= MOST_SIGNAL_BITS
+        && found.values <= MOST_VALUE_BITS
+        && found.strings <= MOST_STRING_BYTES
+        && found.names <= NAME_ROOM
 }
 
 // The place and the sums behind a statement whose row stands there, with what it holds: its name is new, and no size is exceeded.
@@ -167,21 +162,17 @@ fn counted(
     rows: &[u32],
     heads: &[u32],
     chain: &[u32],
-    p: Place,
-    u: Sizes,
+    behind: Standing,
     kind: u32,
     step: u32,
-    count: u32,
-    signals: u32,
-    values: u32,
-    strings: u32,
-    bytes: u32,
+    found: Found,
 ) -> Option<Standing>
-    requires ready { Ready p u }
-    requires told { Told kind count signals values strings bytes }
-    requires indexed { Indexed heads.now chain.now (key_at names.now rows.now) p.rows }
-    ensures { Counted names.now rows.now p u kind step count signals values strings bytes result }
+    requires ready { Ready behind.place behind.sums }
+    requires told { Told kind found.count found.signals found.values found.strings found.names }
+    requires indexed { Indexed heads.now chain.now (key_at names.now rows.now) behind.place.rows }
+    ensures { Counted names.now rows.now behind.place behind.sums kind step found.count found.signals found.values found.strings found.names result }
 {
+    let p = behind.place;
     if indexed_found(
         names,
         rows,
@@ -193,10 +184,18 @@ fn counted(
     ) {
         return None;
     }
-    if !small_parts(signals, values, strings, bytes) {
+    if !small_parts(found) {
         return None;
     }
-    let sums = plus(u, kind_sizes(kind, count, signals, values, strings, bytes));
+    let more = kind_sizes(
+        kind,
+        found.count,
+        found.signals,
+        found.values,
+        found.strings,
+        found.names,
+    );
+    let sums = plus(behind.sums, more);
     if !within(sums) {
         return None;
     }
@@ -215,13 +214,13 @@ pub fn one_more(
     rows: &[u32],
     heads: &[u32],
     chain: &[u32],
-    p: Place,
-    u: Sizes,
+    behind: Standing,
 ) -> Option<Standing>
-    requires ready { Ready p u }
-    requires indexed { Indexed heads.now chain.now (key_at names.now rows.now) p.rows }
-    ensures { TurnIs (part_tables names.now strings.now bits.now wires.now) rows.now p u result }
+    requires ready { Ready behind.place behind.sums }
+    requires indexed { Indexed heads.now chain.now (key_at names.now rows.now) behind.place.rows }
+    ensures { TurnIs (part_tables names.now strings.now bits.now wires.now) rows.now behind.place behind.sums result }
 {
+    let p = behind.place;
     let at = ROW_WORDS * (p.rows as usize);
     if rows.len() < at + ROW_WORDS {
         return None;
@@ -230,21 +229,16 @@ pub fn one_more(
     if !line_stands(rows, p, r) {
         return None;
     }
-    let x = used_from(p, u);
-    let found = statement_at(names, strings, bits, wires, x, p.wires_from, r)?;
+    let used = used_from(p, behind.sums);
+    let found = statement_at(names, strings, bits, wires, used, p.wires_from, r)?;
     counted(
         names,
         rows,
         heads,
         chain,
-        p,
-        u,
+        behind,
         r.kind,
         step_of(r.kind, r.a),
-        found.count,
-        found.signals,
-        found.values,
-        found.strings,
-        found.names,
+        found,
     )
 }

@@ -29,7 +29,7 @@ plus-sums-requires c =
     let pre = c.requires in
     let small-parts = c.small_parts in record {
       at_most = within-small _ 2147483647 (omega arith) pre.ready.within;
-      at_most_2 = told-small _ _ _ _ _ _ _ pre.told (kind-sizes-are _ _ _ _ _ _ _ c.kind_sizes.ensures)
+      at_most_2 = told-small _ _ _ _ _ _ _ pre.told (kind-sizes-are _ _ _ _ _ _ _ c.kind_sizes-more.ensures)
           (sym small-parts.ensures ∙ not-false _ c.if-not-small_parts.false-raw);
     }
 
@@ -37,7 +37,7 @@ pub returns-then-not-within : goal.returns-then-not-within
 returns-then-not-within c =
     let row-name = c.row_name in
     let indexed-found = c.indexed_found in
-    let kind-sizes = c.kind_sizes in
+    let kind-sizes = c.kind_sizes-more in
     let plus = c.plus-sums in
     counted-exceeds _ _ _ _ _ _ _ _ _ _ _ _ row-name.ensures indexed-found.ensures _
     (kind-sizes-are _ _ _ _ _ _ _ kind-sizes.ensures) _ plus.ensures c.within.ensures
@@ -56,7 +56,7 @@ returns c =
     let row-name = c.row_name in
     let indexed-found = c.indexed_found in
     let if1 = c.if-indexed_found in
-    let kind-sizes = c.kind_sizes in
+    let kind-sizes = c.kind_sizes-more in
     let plus = c.plus-sums in
     let within = c.within in
     counted_next _ _ _ _ _ _ _ _ _ _ _ _ row-name.ensures indexed-found.ensures _

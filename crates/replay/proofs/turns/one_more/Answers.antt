@@ -10,15 +10,15 @@ returns-then-rows-at c = turn-short _ _ _ _ c.if-rows-at.true
 pub returns-then-not-line_stands : goal.returns-then-not-line_stands
 returns-then-not-line_stands c = turn-line _ _ _ _ _ c.get_row-r.ensures c.line_stands.ensures (not-true _ c.if-not-line_stands.true-raw)
 
-pub used_from-x-requires : goal.used_from-x-requires
-used_from-x-requires c = c.requires.ready.within
+pub used_from-used-requires : goal.used_from-used-requires
+used_from-used-requires c = c.requires.ready.within
 
 pub statement_at-requires : goal.statement_at-requires
 statement_at-requires c =
     let args = c.args in
     let pre = c.requires in record {
-      small = small-used (used_of c.used_from-x.result) args.p args.u c.used_from-x.ensures pre.ready.within;
-      first_le_wires = wires-fit (used_of c.used_from-x.result) args.p args.u c.used_from-x.ensures pre.ready.bounds;
+      small = small-used (used_of c.used_from-used.result) args.behind.place args.behind.sums c.used_from-used.ensures pre.ready.within;
+      first_le_wires = wires-fit (used_of c.used_from-used.result) args.behind.place args.behind.sums c.used_from-used.ensures pre.ready.bounds;
     }
 
 pub counted-requires : goal.counted-requires
@@ -26,11 +26,11 @@ counted-requires c =
     let pre = c.requires in
     let args = c.args in
     let get-row = c.get_row-r in
-    let used-from = c.used_from-x in
+    let used-from = c.used_from-used in
     let statement-at = c.statement_at in record {
       ready = pre.ready;
       told = turn-told (part_tables args.names.now args.strings.now args.bits.now args.wires.now)
-          args.rows.now args.p args.u get-row.result get-row.ensures (used_of used-from.result)
+          args.rows.now args.behind.place args.behind.sums get-row.result get-row.ensures (used_of used-from.result)
           used-from.ensures statement-at.result statement-at.ensures _ c.in_ok-found.was;
       indexed = pre.indexed;
     }
@@ -42,10 +42,10 @@ returns c =
     let line-stands = c.line_stands in
     let step_of_lem = c.step_of in
     let if2 = c.if-not-line_stands in
-    let used-from = c.used_from-x in
+    let used-from = c.used_from-used in
     let statement-at = c.statement_at in
     turn-counted _ _ _ _ _ get-row.ensures _ used-from.ensures _ statement-at.ensures _ c.in_ok-found.was
     if1.false line-stands.ensures (not-false _ if2.false-raw) _ step_of_lem.ensures _ (c.counted.ensures _ _ _)
 
 pub returns-in_err-found : goal.returns-in_err-found
-returns-in_err-found c = rw c.from_residual.ensures (turn-not _ _ c.args.p c.args.u _ c.get_row-r.ensures _ c.used_from-x.ensures _ c.statement_at.ensures c.in_err-found.was)
+returns-in_err-found c = rw c.from_residual.ensures (turn-not _ _ c.args.behind.place c.args.behind.sums _ c.get_row-r.ensures _ c.used_from-used.ensures _ c.statement_at.ensures c.in_err-found.was)
