@@ -10,7 +10,7 @@ ghost use Rattle.memory_check.specs.Held.{memory_in, rest_zero, HeldIs};
 
 use context::kinds::RENAME_KIND;
 use context::place::Place;
-use context::sizes::{Sizes, Standing};
+use context::sizes::Standing;
 use name_index::{ROW_CHAIN, ROW_HEADS, index_wires};
 use netlist::lengths::right_lengths;
 use numbers::kinds::{ModuleNumber, WireNumber};
@@ -27,19 +27,7 @@ const WIRE_CHAIN: usize = 512;
 fn is_rename(x: Row, used: u32) -> bool
     ensures { result ≡ is_rename x used }
 {
-    if x.kind != RENAME_KIND {
-        return false;
-    }
-    if x.a != used {
-        return false;
-    }
-    if x.e != 0 {
-        return false;
-    }
-    if x.f != 0 {
-        return false;
-    }
-    x.g == 0
+    x.kind == RENAME_KIND && x.a == used && x.e == 0 && x.f == 0 && x.g == 0
 }
 
 // One more rename, behind i of them: the bytes of names that are used behind it.
@@ -171,25 +159,17 @@ fn rest_is_zero(
     rows: &[u32],
     renames: u32,
     room: u32,
-    place: Place,
-    sums: Sizes,
+    behind: Standing,
 ) -> bool
-    ensures { result ≡ rest_zero (memory_in names.now strings.now bits.now wires.now rows.now renames room) place sums }
+    ensures { result ≡ rest_zero (memory_in names.now strings.now bits.now wires.now rows.now renames room) behind.place behind.sums }
 {
-    let behind = ROW_WORDS * (place.rows as usize + renames as usize);
-    if !zero_bytes_from(names, room as usize) {
-        return false;
-    }
-    if !zero_bytes_from(strings, sums.string_bytes as usize) {
-        return false;
-    }
-    if !zero_from(bits, bits_used(sums.value_bits, sums.signal_bits)) {
-        return false;
-    }
-    if !zero_from(wires, ROW_WORDS * place.wires as usize) {
-        return false;
-    }
-    zero_from(rows, behind)
+    let place = behind.place;
+    let sums = behind.sums;
+    zero_bytes_from(names, room as usize)
+        && zero_bytes_from(strings, sums.string_bytes as usize)
+        && zero_from(bits, bits_used(sums.value_bits, sums.signal_bits))
+        && zero_from(wires, ROW_WORDS * place.wires as usize)
+        && zero_from(rows, ROW_WORDS * (place.rows as usize + renames as usize))
 }
 
 // Whether the tables have their exact lengths.
@@ -238,17 +218,7 @@ fn judge_indexed(
     if used != room {
         return None;
     }
-    if rest_is_zero(
-        names,
-        strings,
-        bits,
-        wires,
-        rows,
-        renames,
-        room,
-        behind.place,
-        behind.sums,
-    ) {
+    if rest_is_zero(names, strings, bits, wires, rows, renames, room, behind) {
         return Some(behind);
     }
     None

@@ -38,16 +38,21 @@ const DIRECTION_FLAG: u32 = 4;
 // The last direction of a port, `inout`.
 const LAST_DIRECTION: u32 = 3;
 
+// What shares the names of a module with its wires.
+const OBJECT_KINDS: Kinds = Kinds {
+    a: MEMORY_KIND,
+    b: CELL_KIND,
+    c: PROCESS_KIND,
+    d: PROCESS_KIND,
+};
+
 // Whether the wire in a row is a port.
 fn is_port(wires: &[u32], row: usize) -> bool
     requires { row < many_rows }
     ensures { result ≡ is_port (wire_of wires.now row) }
 {
     let direction = word(wires, ROW_WORDS * row + WIRE_FLAGS) / DIRECTION_FLAG;
-    if direction == 0 {
-        return false;
-    }
-    direction <= LAST_DIRECTION
+    direction != 0 && direction <= LAST_DIRECTION
 }
 
 // The least wire so far; or the wire of rename row i, where it is less, has its name by that rename, and the name is this one.
@@ -93,10 +98,7 @@ fn keeps_name(
     ensures { result ≡ keeps_name names.now wires.now rows.now m name.now wire.0 }
 {
     let own = bytes_at(names, wires, m.first as usize + wire.0 as usize, WIRE_NAME);
-    if !same_bytes(own, name) {
-        return false;
-    }
-    last_rename(rows, m.from, m.renames, m.number, wire) == 0
+    same_bytes(own, name) && last_rename(rows, m.from, m.renames, m.number, wire) == 0
 }
 
 // The first wire of the module that has this name now.
@@ -133,30 +135,15 @@ fn object_name_taken(names: &[u8], rows: &[u32], total: u32, m: ModuleNumber, na
     ensures { result ≡ object_taken names.now rows.now total m.0 name.now }
 {
     let r = module_rows(rows, total, m);
-    name_taken(
-        names,
-        rows,
-        r.first,
-        r.count,
-        Kinds {
-            a: MEMORY_KIND,
-            b: CELL_KIND,
-            c: PROCESS_KIND,
-            d: PROCESS_KIND,
-        },
-        name,
-    )
+    name_taken(names, rows, r.first, r.count, OBJECT_KINDS, name)
 }
 
 // Whether the module's name space has this name now.
 fn is_taken(names: &[u8], wires: &[u32], rows: &[u32], m: Module, name: &[u8]) -> bool
     ensures { result ≡ name_taken names.now wires.now rows.now m name.now }
 {
-    if wire_name_taken(names, wires, rows, m, name) {
-        return true;
-    }
-    let number = m.number;
-    object_name_taken(names, rows, m.from, number, name)
+    wire_name_taken(names, wires, rows, m, name)
+        || object_name_taken(names, rows, m.from, m.number, name)
 }
 
 // Whether the wire in a row is the module's, has this name from its own line, and no rename.
@@ -172,10 +159,7 @@ fn row_keeps_name(
     ensures { result ≡ row_keeps names.now wires.now rows.now m name.now row }
 {
     let k = row - m.first;
-    if m.wires <= k {
-        return false;
-    }
-    keeps_name(names, wires, rows, m, WireNumber(k), name)
+    k < m.wires && keeps_name(names, wires, rows, m, WireNumber(k), name)
 }
 
 // The answer of `wire_name_taken` where no rename gives the name: of the wires with the name's hash only.
@@ -218,24 +202,8 @@ fn indexed_object(
     requires { Indexed heads.now chain.now (key_at names.now rows.now) total }
     ensures { result ≡ object_taken names.now rows.now total m.0 name.now }
 {
-    if !indexed_taken(
-        names,
-        rows,
-        heads,
-        chain,
-        0,
-        total,
-        Kinds {
-            a: MEMORY_KIND,
-            b: CELL_KIND,
-            c: PROCESS_KIND,
-            d: PROCESS_KIND,
-        },
-        name,
-    ) {
-        return false;
-    }
-    object_name_taken(names, rows, total, m, name)
+    indexed_taken(names, rows, heads, chain, 0, total, OBJECT_KINDS, name)
+        && object_name_taken(names, rows, total, m, name)
 }
 
 // The answer of `is_taken`, over an index of the names.
@@ -257,11 +225,8 @@ fn indexed_is_taken(
     if renamed_to(names, rows, m, name) < m.wires {
         return true;
     }
-    if indexed_kept(names, wires, rows, wire_heads, wire_chain, m, name) {
-        return true;
-    }
-    let number = m.number;
-    indexed_object(names, rows, heads, chain, m.from, number, name)
+    indexed_kept(names, wires, rows, wire_heads, wire_chain, m, name)
+        || indexed_object(names, rows, heads, chain, m.from, m.number, name)
 }
 
 // 64 renames stand, or the names pass 16,384 bytes.
@@ -269,10 +234,7 @@ fn exceeds_room(standing: u32, room: u32, size: usize) -> bool
     requires { size ≤ longest_name }
     ensures { result ≡ exceeds_room standing room size }
 {
-    if MOST_RENAMES <= standing {
-        return true;
-    }
-    NAMES_LENGTH < room as usize + size
+    MOST_RENAMES <= standing || NAMES_LENGTH < room as usize + size
 }
 
 // The module of this number, with the renames that stand.

@@ -20,10 +20,7 @@ use turns::one_more;
 fn is_statement(kind: u32) -> bool
     ensures { result ≡ is_statement kind }
 {
-    if kind == 0 {
-        return false;
-    }
-    kind <= STEP_KIND
+    kind != 0 && kind <= STEP_KIND
 }
 
 // The place and the sums behind the statements that the tables hold. It fills an index of their rows by their names, which stays with the caller.

@@ -56,7 +56,6 @@ module _ (m : Memory) (ss : List Statement) (rs : List Rename) (r : Rename) (row
 -- RENAME
 module _ {names strings bits wires rows : List ℕ} {renames room : ℕ} {p : Place} (h : Holding (lent names strings bits wires rows renames room) p) (r : Rename)
     (o : Result (Unit {0}) ℕ) (j : o ≡ refusal (judged names wires rows p renames room r.module_number r.wire_number r.new_name)) where
-
   pub rename-refused : (n : ℕ) → o ≡ Err n → let m = lent names strings bits wires rows renames room in CalledAs m (Call.rename r) (result n 0 m)
   unfolding after call
   rename-refused n e =

@@ -31,10 +31,7 @@ fn renames(rows: &[u32], row: usize, m: ModuleNumber, wire: WireNumber) -> bool
     requires { row < many_rows }
     ensures { result ≡ renames rows.now row m.0 wire.0 }
 {
-    if column(rows, row, RENAME_MODULE) != m.0 {
-        return false;
-    }
-    column(rows, row, RENAME_WIRE) == wire.0
+    column(rows, row, RENAME_MODULE) == m.0 && column(rows, row, RENAME_WIRE) == wire.0
 }
 
 // How many of the rename rows from a row on there are up to the last one of this wire; 0 if it has none.

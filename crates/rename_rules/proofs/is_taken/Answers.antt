@@ -1,5 +1,3 @@
--- `is_taken` meets its contract.
--- Assumes nothing.
 use Rattle.rename_rules.specs.Judged.{name_taken}
 use Rattle.rename_rules.proofs.is_taken.Goals as goal
 
@@ -7,6 +5,6 @@ pub returns-then-wire_name_taken : goal.returns-then-wire_name_taken
 unfolding name_taken
 returns-then-wire_name_taken c = rw (← c.wire_name_taken.ensures, c.if-wire_name_taken.true)
 
-pub returns : goal.returns
+pub returns-else-wire_name_taken : goal.returns-else-wire_name_taken
 unfolding name_taken
-returns c = rw (← c.wire_name_taken.ensures, c.if-wire_name_taken.false) c.object_name_taken.ensures
+returns-else-wire_name_taken c = rw (← c.wire_name_taken.ensures, c.if-wire_name_taken.false) c.object_name_taken.ensures

@@ -1,19 +1,11 @@
--- By both tests.
--- Assumes nothing.
-use Prim.Native.Nat.{◌-◌}
-use borrow.Author.Tests.{le-leb, lt-leb}
-use native.Mathlib.Omega.{arith}
+use Rattle.std.proofs.Common.{rules}
 use Rattle.rename_rules.specs.Search.{row_keeps}
 use Rattle.rename_rules.proofs.row_keeps_name.Goals as goal
 
-pub returns-then-m-k : goal.returns-then-m-k
+pub returns-then-k-m : goal.returns-then-k-m
 unfolding row_keeps
-returns-then-m-k c =
-    let args = c.args in
-    rw (le-leb args.m.wires (args.row - args.m.first) (omega arith))
+returns-then-k-m c = search rules
 
-pub returns : goal.returns
+pub returns-else-k-m : goal.returns-else-k-m
 unfolding row_keeps
-returns c =
-    let args = c.args in
-    rw (lt-leb args.m.wires (args.row - args.m.first) (omega arith)) c.keeps_name.ensures
+returns-else-k-m c = search rules

@@ -1,15 +1,12 @@
--- By the two bounds.
--- Assumes nothing.
-use borrow.Author.Tests.{le-leb}
+use Rattle.std.proofs.Common.{rules}
 use Rattle.rules.specs.Bytes.{within}
 use Rattle.replay.specs.Begins.{is_statement}
-use Rattle.row_statements.proofs.PartLaws.{positive}
 use Rattle.replay.proofs.is_statement.Goals as goal
 
-pub returns-then-kind-eq0 : goal.returns-then-kind-eq0
+pub returns-then-kind-ne0 : goal.returns-then-kind-ne0
 unfolding is_statement within
-returns-then-kind-eq0 c = rw c.if-kind-eq0.true
+returns-then-kind-ne0 c = search rules
 
-pub returns : goal.returns
+pub returns-else-kind-ne0 : goal.returns-else-kind-ne0
 unfolding is_statement within
-returns c = rw (le-leb 1 _ (positive _ c.if-kind-eq0.false))
+returns-else-kind-ne0 c = search rules
