@@ -1,3 +1,4 @@
+pub mod Designs
 pub mod Rows
 pub mod Steps
 pub mod StepLaws
