@@ -32,48 +32,44 @@ use Rattle.tokens.specs.declared.ConstantSpan.{ConstantSpan}
 use Rattle.literal_rules.proofs.ReadLaws.{value-few, value-width}
 use Rattle.line_forms.specs.Forms.{name_in, value_in}
 use Rattle.scanner.specs.declared.parts.Span.{Span}
-use Rattle.syntax.specs.Statements.{number_of, fault_of, signals_in, statement_in, kind_in, names_in, steps_of, widths_in, Sound, GoodOptional}
+use Rattle.syntax.specs.Statements.{fault_of, signals_in, statement_in, kind_in, names_in, steps_of, widths_in, Sound, GoodOptional}
 use Rattle.syntax.specs.declared.Statement.{Statement}
-use Rattle.syntax.specs.declared.Statement.TheVariants.{Autoidx, Attribute, Module, Parameter, Wire, Memory, Cell, CellParameter, CellConnection, Connection, Step, End, NoShape, Process, BadNumber, MissingWire}
+use Rattle.syntax.specs.declared.Statement.TheVariants.{Autoidx, Attribute, Module, Parameter, Wire, Memory, Cell, CellParameter, CellConnection, Connection, Step, End, Process}
 use Rattle.context.specs.Sizes.{KindSizesAre, sizes_of, AtMost}
 use Rattle.context.specs.declared.sizes.Sizes.{Sizes}
 use Rattle.context.proofs.SizeLaws.{sizes-small}
 use Rattle.faults.specs.Faults.{merge}
 use Rattle.faults.proofs.FaultLaws.{merge-zero}
 use Rattle.syntax.specs.SignalLaws.{signal-long}
-use Rattle.judgement.specs.Parts.{named_parts, refusal_parts, connection_parts, step_parts, parts_of, bits_in, constants_in, digits_in, bytes_in, SizesAre, Coded}
+use Rattle.judgement.specs.Parts.{named_parts, connection_parts, step_parts, parts_of, bits_in, constants_in, digits_in, bytes_in, SizesAre, Coded}
 use Rattle.judgement.specs.declared.Parts.{Parts}
 
 unfoldable parts_open : Unit {0}
-unfolding parts_of named_parts refusal_parts connection_parts step_parts number_of fault_of kind_in names_in name_in
+unfolding parts_of named_parts connection_parts step_parts fault_of kind_in names_in name_in
 parts_open = tt
 
--- ---- the numbers, the kind and the own name of an answer
+-- ---- the number that its signals leave, the kind and the own name of an answer
 
 pub record Tells (a : Statement) : Type 0 where
-  pub number : number_of a ≡ cond (eqb (parts_of a).number 0) none (some (parts_of a).number)
   pub fault : (parts_of a).fault ≡ fault_of a
   pub kind : (parts_of a).kind ≡ code (kind_in a)
   pub own : (f : List ℕ) → name_in f (parts_of a).name ≡ own_name (names_in f a)
 
 pub tells : (a : Statement) → Tells a
 unfolding parts_open code own_name
-tells (Autoidx w) = record { number = refl; fault = refl; kind = refl; own = λ f. refl }
-tells (Attribute n c) = record { number = refl; fault = refl; kind = refl; own = λ f. refl }
-tells (Module n) = record { number = refl; fault = refl; kind = refl; own = λ f. refl }
-tells (Parameter n c) = record { number = refl; fault = refl; kind = refl; own = λ f. refl }
-tells (Wire n w t k p) = record { number = refl; fault = refl; kind = refl; own = λ f. refl }
-tells (Memory n w z t) = record { number = refl; fault = refl; kind = refl; own = λ f. refl }
-tells (Cell k n) = record { number = refl; fault = refl; kind = refl; own = λ f. refl }
-tells (CellParameter o n c) = record { number = refl; fault = refl; kind = refl; own = λ f. refl }
-tells (CellConnection n w l) = record { number = refl; fault = refl; kind = refl; own = λ f. refl }
-tells (Connection l r k) = record { number = refl; fault = refl; kind = refl; own = λ f. refl }
-tells (Step p w n l) = record { number = refl; fault = refl; kind = refl; own = λ f. refl }
-tells End = record { number = refl; fault = refl; kind = refl; own = λ f. refl }
-tells NoShape = record { number = refl; fault = refl; kind = refl; own = λ f. refl }
-tells (Process n) = record { number = refl; fault = refl; kind = refl; own = λ f. refl }
-tells BadNumber = record { number = refl; fault = refl; kind = refl; own = λ f. refl }
-tells MissingWire = record { number = refl; fault = refl; kind = refl; own = λ f. refl }
+tells (Autoidx w) = record { fault = refl; kind = refl; own = λ f. refl }
+tells (Attribute n c) = record { fault = refl; kind = refl; own = λ f. refl }
+tells (Module n) = record { fault = refl; kind = refl; own = λ f. refl }
+tells (Parameter n c) = record { fault = refl; kind = refl; own = λ f. refl }
+tells (Wire n w t k p) = record { fault = refl; kind = refl; own = λ f. refl }
+tells (Memory n w z t) = record { fault = refl; kind = refl; own = λ f. refl }
+tells (Cell k n) = record { fault = refl; kind = refl; own = λ f. refl }
+tells (CellParameter o n c) = record { fault = refl; kind = refl; own = λ f. refl }
+tells (CellConnection n w l) = record { fault = refl; kind = refl; own = λ f. refl }
+tells (Connection l r k) = record { fault = refl; kind = refl; own = λ f. refl }
+tells (Step p w n l) = record { fault = refl; kind = refl; own = λ f. refl }
+tells End = record { fault = refl; kind = refl; own = λ f. refl }
+tells (Process n) = record { fault = refl; kind = refl; own = λ f. refl }
 
 -- ---- its step and the widths of its signals
 
@@ -96,10 +92,7 @@ asks (Connection a b l) =
     record { steps = refl; even = λ e. ap (λ (n : ℕ). a ∷ n ∷ []) (sym (eqb-true a b (and-true-left (eqb a b) true e))) }
 asks (Step p w n l) = record { steps = refl; even = λ e. refl }
 asks End = record { steps = refl; even = λ e. refl }
-asks NoShape = record { steps = refl; even = λ e. refl }
 asks (Process n) = record { steps = refl; even = λ e. refl }
-asks BadNumber = record { steps = refl; even = λ e. refl }
-asks MissingWire = record { steps = refl; even = λ e. refl }
 
 -- ---- its constant keeps the number rules, its step has a code, and its signals are few and narrow
 
@@ -126,17 +119,11 @@ fits f (CellConnection n w l) h = record { value = tt; coded = λ g. absurd (g r
 fits f (Connection a b l) h = record { value = tt; coded = λ g. absurd (g refl); few = omega arith; narrow = λ e. omega (arith, h e) }
 fits f (Step p w n l) h = record { value = tt; coded = λ g. h.1; few = h.0; narrow = λ e. (h.2 e).1 }
 fits f End h = no-signals f End tt refl refl refl
-fits f NoShape h = no-signals f NoShape tt refl refl refl
 fits f (Process n) h = no-signals f (Process n) tt refl refl refl
-fits f BadNumber h = no-signals f BadNumber tt refl refl refl
-fits f MissingWire h = no-signals f MissingWire tt refl refl refl
 
--- ---- an answer without a number, and one whose signals leave none
+-- ---- an answer whose signals leave no number
 
 module _ (a : Statement) where
-  pub no_number : (parts_of a).number ≡ 0 → number_of a ≡ none
-  no_number e = (tells a).number ∙ rw e
-
   pub no-fault : (parts_of a).fault ≡ 0 → fault_of a ≡ 0
   no-fault e = sym (tells a).fault ∙ e
 
@@ -272,30 +259,24 @@ meant-all f s (Step p w n l) h e b =
       names = omega arith;
     }
 meant-all f s End h e b = record { kind-of = refl; many = refl; signals = refl; values = refl; strings = refl; names = omega arith }
-meant-all f s NoShape h e b = tt
 meant-all f s (Process n) h e b = record { kind-of = refl; many = refl; signals = refl; values = refl; strings = refl; names = omega arith }
-meant-all f s BadNumber h e b = tt
-meant-all f s MissingWire h e b = tt
 
--- an answer that is no refusal stands for a statement
-pub stands-for : (f s : List ℕ) (a : Statement) → Sound f a → number_of a ≡ none → (x : rules.Statement) × (statement_in f s a ≡ some x)
-unfolding statement_in number_of
-stands-for f s (Autoidx w) h e = (_, refl)
-stands-for f s (Attribute n c) h e = (_, refl)
-stands-for f s (Module n) h e = (_, refl)
-stands-for f s (Parameter n c) h e = (_, refl)
-stands-for f s (Wire n w t k p) h e = (_, refl)
-stands-for f s (Memory n w z t) h e = (_, refl)
-stands-for f s (Cell k n) h e = (_, refl)
-stands-for f s (CellParameter o n c) h e = (_, refl)
-stands-for f s (CellConnection n w l) h e = (_, refl)
-stands-for f s (Connection i j l) h e = (_, refl)
-stands-for f s (Step p w n l) h e = rw h.1.1 (_, refl)
-stands-for f s End h e = (_, refl)
-stands-for f s NoShape h e = let z : ◌≡◌ {A = ℕ} 0 1 = cc in absurd (omega arith)
-stands-for f s (Process n) h e = (_, refl)
-stands-for f s BadNumber h e = let z : ◌≡◌ {A = ℕ} 0 1 = cc in absurd (omega arith)
-stands-for f s MissingWire h e = let z : ◌≡◌ {A = ℕ} 0 1 = cc in absurd (omega arith)
+-- a sound answer stands for a statement
+pub stands-for : (f s : List ℕ) (a : Statement) → Sound f a → (x : rules.Statement) × (statement_in f s a ≡ some x)
+unfolding statement_in
+stands-for f s (Autoidx w) h = (_, refl)
+stands-for f s (Attribute n c) h = (_, refl)
+stands-for f s (Module n) h = (_, refl)
+stands-for f s (Parameter n c) h = (_, refl)
+stands-for f s (Wire n w t k p) h = (_, refl)
+stands-for f s (Memory n w z t) h = (_, refl)
+stands-for f s (Cell k n) h = (_, refl)
+stands-for f s (CellParameter o n c) h = (_, refl)
+stands-for f s (CellConnection n w l) h = (_, refl)
+stands-for f s (Connection i j l) h = (_, refl)
+stands-for f s (Step p w n l) h = rw h.1.1 (_, refl)
+stands-for f s End h = (_, refl)
+stands-for f s (Process n) h = (_, refl)
 
 -- ---- the sizes that the code makes of the parts
 
@@ -313,11 +294,11 @@ module _ (f : List ℕ) (a : Statement) (p : Parts) (c g v t m n : ℕ) (r : Siz
       (et ∙ ap (λ (q : Parts). bytes_in f q.value) e ∙ M.strings)
       (ap₂ (λ (i j : ℕ). i + j) em en ∙ ap (λ (q : Parts). length (name_in f q.first) + length (name_in f q.name)) e ∙ M.names)
 
-  pub sizes-few : number_of a ≡ none → length f ≤ 32768 → AtMost 2147483647 r
-  sizes-few ok few =
+  pub sizes-few : length f ≤ 32768 → AtMost 2147483647 r
+  sizes-few few =
       let s : List ℕ = replicate 8192 0 in
       let room : 8192 ≤ length s = omega (arith, length-replicate {A = ℕ} 8192 0) in
-      let w = stands-for f s a sound ok in
+      let w = stands-for f s a sound in
       let M : Meant f a w.0 = on_some (Meant f a) (meant-all f s a sound fault room) w.1 in
       let q : sizes_of w.0 ≡ r = sizes-are s w.0 room w.1 in
       let k = fits f a sound in

@@ -1,6 +1,7 @@
 -- What the rules say of a line by its answer, after the statements so far.
 -- Assumes nothing.
 use Prim.Native.Nat.{ℕ, ◌-◌, ◌≤◌}
+use Rattle.std.specs.Prelude.{Result, Ok}
 use mathlib.Core.Path.{◌≡◌, refl, sym, ap, ap₂, ◌∙◌}
 use mathlib.Core.Bool.{Bool, true, false, not, cond, ◌&&◌, ◌||◌}
 use mathlib.Core.List.{List, [], ◌∷◌, ◌++◌, map, flat_map, Option-to_list}
@@ -19,9 +20,10 @@ use Rattle.rules.specs.Reading.{shaped}
 use Rattle.tokens.specs.Rows.{line}
 use Rattle.wires.specs.Rows.{wires_from}
 use Rattle.line_forms.specs.Forms.{name_in}
-use Rattle.syntax.specs.Statements.{number_of, fault_of, overfull, width_fault, Sound, Judged, Says, no-shape, judged, StatementIs}
+use Rattle.syntax.specs.Statements.{fault_of, overfull, width_fault, Sound, Judged, Says, StatementIs}
+use Rattle.syntax.specs.declared.LineFault.{LineFault}
 use Rattle.syntax.specs.declared.Statement.{Statement}
-use Rattle.syntax.proofs.Verdicts.{behind, judged-early, judged-late, says-judged, says-sound}
+use Rattle.syntax.proofs.Verdicts.{behind, judged-late, says-judged}
 use Rattle.context.specs.Sizes.{sums_of, plus_of, exceeds}
 use Rattle.context.specs.declared.place.Place.{Place}
 use Rattle.context.specs.declared.sizes.Sizes.{Sizes}
@@ -35,15 +37,9 @@ use Rattle.netlist.specs.FoundLaws.{takes-found}
 use Rattle.judgement.specs.Parts.{parts_of, taken_in, SizesAre, uneven_in, UnevenIs}
 use Rattle.judgement.specs.declared.Parts.{Parts}
 use Rattle.judgement.specs.Judged.{Stands, Accepts}
-use Rattle.judgement.proofs.PartLaws.{tells, asks, no_number, no-fault}
+use Rattle.judgement.proofs.PartLaws.{tells, asks, no-fault}
 
--- a refusal of 5 to 8
-refused-early : (ss : Past) (f s : List ℕ) (o : Option Shape) (a : Statement) (n : ℕ) → Says (wires ss) f s o a → number_of a ≡ some n → shaped ss o ≡ Verdict.refused n
-unfolding shaped number_of
-refused-early ss f s o a n (no-shape h) e = let q : 5 ≡ n = cc in rw (h, q)
-refused-early ss f s o a n (judged j) e = judged-early ss f s j n e
-
--- ---- the tests behind them, by their answers
+-- ---- the tests of a statement, by their answers
 
 module _ {A : Type 0} (m : A) where
   first_taken : (b c : Bool) → verdict m (lowest ((9, true) ∷ (10, b) ∷ (11, c) ∷ [])) ≡ Verdict.refused 9
@@ -96,80 +92,75 @@ fault-is {ss} {names} st a {q} e k m =
 -- ---- the verdict
 
 module _ (ss : Past) (f s names ws rows : List ℕ) (o : Option Shape) (a : Statement) (p : Place) (u : Sizes)
-    (st : Stands ss p u names ws rows) (says : Says (wires ss) f s o a) where
-  pub number-refused : ((parts_of a).number ≡ 0 → ⊥) → shaped ss o ≡ Verdict.refused (parts_of a).number
-  number-refused h =
-      let e : number_of a ≡ some (parts_of a).number = (tells a).number ∙ rw (ne_eqb (parts_of a).number 0 h) in
-      refused-early ss f s o a (parts_of a).number says e
+    (st : Stands ss p u names ws rows) (says : Says (wires ss) f s o (Ok a)) where
+  J : Judged (wires ss) f s o a
+  J = says-judged (wires ss) f s o a says
 
-  module _ (e : (parts_of a).number ≡ 0) where
-    J : Judged (wires ss) f s o a
-    J = says-judged (wires ss) f s o a (no_number a e) says
+  taken_is : takes_name ss J.sh ≡ taken_in f names rows p a
+  unfolding taken_in
+  taken_is =
+      takes-found ss J.sh _ _ st.laid J.kind (ap own_name J.names ∙ sym ((tells a).own f))
+      ∙ ap₂ (λ (w : Place) (k : ℕ). found_in names rows w k (name_in f (parts_of a).name)) st.place_is (sym (tells a).kind)
 
-    taken_is : takes_name ss J.sh ≡ taken_in f names rows p a
-    unfolding taken_in
-    taken_is =
-        takes-found ss J.sh _ _ st.laid (J.kind (no_number a e)) (ap own_name (J.names (no_number a e)) ∙ sym ((tells a).own f))
-        ∙ ap₂ (λ (w : Place) (k : ℕ). found_in names rows w k (name_in f (parts_of a).name)) st.place_is (sym (tells a).kind)
+  left : shaped ss o ≡ verdict (meaning (wires ss) J.sh) (behind ss J.sh (meaning (wires ss) J.sh) (fault_of a))
+  left = judged-late ss f s J
 
-    left : shaped ss o ≡ verdict (meaning (wires ss) J.sh) (behind ss J.sh (meaning (wires ss) J.sh) (fault_of a))
-    left = judged-late ss f s J (no_number a e)
+  pub taken_refused : taken_in f names rows p a ≡ true → shaped ss o ≡ Verdict.refused 9
+  unfolding behind
+  taken_refused t = left ∙ rw (taken_is, t) (first_taken _ _ _)
 
-    pub taken_refused : taken_in f names rows p a ≡ true → shaped ss o ≡ Verdict.refused 9
-    unfolding behind
-    taken_refused t = left ∙ rw (taken_is, t) (first_taken _ _ _)
+  fits-are : (fault_of a ≡ 10 → ⊥) → fit_widths ss J.sh (map (width (wires ss)) (contents J.sh).signals) ≡ fits_asked ss a
+  unfolding fit_widths fits_asked width_fault
+  fits-are h =
+      let vs = wires ss in
+      let sh = J.sh in
+      let are = J.widths h in
+      let even =
+      left-even (all (good_slice vs) (all_parts sh)) (equal (map (width vs) (contents sh).signals)) (part_too_wide vs sh || overfull vs sh) (fault_of a)
+      J.width_fault h in
+      ap₂ (λ (ps : List rules.Step) (ns : List ℕ). equal (flat_map (step_widths ss) ps ++ ns)) (J.steps ∙ (asks a).steps)
+      (are ∙ (asks a).even (rw are at even))
 
-    fits-are : (fault_of a ≡ 10 → ⊥) → fit_widths ss J.sh (map (width (wires ss)) (contents J.sh).signals) ≡ fits_asked ss a
-    unfolding fit_widths fits_asked width_fault
-    fits-are h =
-        let vs = wires ss in
-        let sh = J.sh in
-        let are = J.widths (no_number a e) h in
-        let even =
-        left-even (all (good_slice vs) (all_parts sh)) (equal (map (width vs) (contents sh).signals)) (part_too_wide vs sh || overfull vs sh) (fault_of a)
-        (J.width_fault (no_number a e)) h in
-        ap₂ (λ (ps : List rules.Step) (ns : List ℕ). equal (flat_map (step_widths ss) ps ++ ns)) (J.steps (no_number a e) ∙ (asks a).steps)
-        (are ∙ (asks a).even (rw are at even))
+  module _ (t : taken_in f names rows p a ≡ false) where
+    pub fault-refused : (n : ℕ) → n ≡ fault_in ss a → (n ≡ 0 → ⊥) → shaped ss o ≡ Verdict.refused n
+    unfolding behind width_fault fault_in uneven_in fits_asked
+    fault-refused n q h =
+        left
+        ∙ rw (taken_is, t, q, (tells a).fault)
+        (then-fault _ _ _ _ (fits_asked ss a) _ (fault_of a) J.width_fault fits-are (λ z. h (q ∙ rw (tells a).fault z)))
 
-    module _ (t : taken_in f names rows p a ≡ false) where
-      pub fault-refused : (n : ℕ) → n ≡ fault_in ss a → (n ≡ 0 → ⊥) → shaped ss o ≡ Verdict.refused n
-      unfolding behind width_fault fault_in uneven_in fits_asked
-      fault-refused n q h =
-          left
-          ∙ rw (taken_is, t, q, (tells a).fault)
-          (then-fault _ _ _ _ (fits_asked ss a) _ (fault_of a) (J.width_fault (no_number a e)) fits-are (λ z. h (q ∙ rw (tells a).fault z)))
+    module _ (z : fault_in ss a ≡ 0) (d : Sizes) (room : 8192 ≤ length s) (sized : SizesAre f a d) where
+      no-left : fault_of a ≡ 0
+      unfolding fault_in
+      no-left = no-fault a (merge-zero _ _ z).0
 
-      module _ (z : fault_in ss a ≡ 0) (d : Sizes) (room : 8192 ≤ length s) (sized : SizesAre f a d) where
-        no-left : fault_of a ≡ 0
-        unfolding fault_in
-        no-left = no-fault a (merge-zero _ _ z).0
+      fit : fit_widths ss J.sh (map (width (wires ss)) (contents J.sh).signals) ≡ true
+      unfolding fault_in uneven_in fits_asked
+      fit = fits-are (λ q. omega (arith, no-left)) ∙ zero-cond (fits_asked ss a) (merge-zero _ _ z).1
 
-        fit : fit_widths ss J.sh (map (width (wires ss)) (contents J.sh).signals) ≡ true
-        unfolding fault_in uneven_in fits_asked
-        fit = fits-are (λ q. omega (arith, no-left)) ∙ zero-cond (fits_asked ss a) (merge-zero _ _ z).1
+      abbrev m : rules.Statement
+      m = meaning (wires ss) J.sh
 
-        abbrev m : rules.Statement
-        m = meaning (wires ss) J.sh
+      sums : sums_of (m ∷ ss) ≡ plus_of u d
+      sums = sums-step ss m ∙ rw (st.sums-are, sized s m room (J.means no-left))
 
-        sums : sums_of (m ∷ ss) ≡ plus_of u d
-        sums = sums-step ss m ∙ rw (st.sums-are, sized s m room (J.means (no_number a e) no-left))
+      by-sizes : shaped ss o ≡ cond (exceeds (plus_of u d)) (Verdict.refused 11) (Verdict.accepted m)
+      unfolding behind
+      by-sizes = left ∙ rw (taken_is, t, no-left, ← exceeds-sums (m ∷ ss), sums) (last-sizes _ _ _ fit)
 
-        by-sizes : shaped ss o ≡ cond (exceeds (plus_of u d)) (Verdict.refused 11) (Verdict.accepted m)
-        unfolding behind
-        by-sizes = left ∙ rw (taken_is, t, no-left, ← exceeds-sums (m ∷ ss), sums) (last-sizes _ _ _ fit)
+      pub sizes-refused : exceeds (plus_of u d) ≡ true → shaped ss o ≡ Verdict.refused 11
+      sizes-refused x = by-sizes ∙ rw x
 
-        pub sizes-refused : exceeds (plus_of u d) ≡ true → shaped ss o ≡ Verdict.refused 11
-        sizes-refused x = by-sizes ∙ rw x
-
-        pub accepted : exceeds (plus_of u d) ≡ false → Accepts ss o f s a (plus_of u d)
-        accepted x = record { statement = m; accepts = by-sizes ∙ rw x; stated = J.means (no_number a e) no-left; sums-are = sums }
+      pub accepted : exceeds (plus_of u d) ≡ false → Accepts ss o f s a (plus_of u d)
+      accepted x = record { statement = m; accepts = by-sizes ∙ rw x; stated = J.means no-left; sums-are = sums }
 
 -- ---- the line of these rows, where the statements so far stand so
 
-module _ (p : Place) (f t names ws s : List ℕ) (a : Statement)
-    (h : StatementIs p f t (wires_from names ws p.wires_from (p.wires - p.wires_from)) s a) where
-  pub line-sound : Sound f a
-  line-sound = says-sound _ _ _ _ a h
+module _ (p : Place) (f t names ws s : List ℕ) where
+  pub line-sound : (a : Statement) → StatementIs p f t (wires_from names ws p.wires_from (p.wires - p.wires_from)) s (Ok a) → Sound f a
+  line-sound a h = (says-judged _ _ _ _ a h).sound
 
-  pub line-says : (ss : Past) (u : Sizes) (rows : List ℕ) → Stands ss p u names ws rows → Says (wires ss) f s (shape (context ss) (line f t 0)) a
-  line-says ss u rows st = rw (context-is ss, st.place_is, ← st.wires-are) h
+  pub line-says :
+      (r : Result Statement LineFault) → StatementIs p f t (wires_from names ws p.wires_from (p.wires - p.wires_from)) s r →
+      (ss : Past) (u : Sizes) (rows : List ℕ) → Stands ss p u names ws rows → Says (wires ss) f s (shape (context ss) (line f t 0)) r
+  line-says r h ss u rows st = rw (context-is ss, st.place_is, ← st.wires-are) h

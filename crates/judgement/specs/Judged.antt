@@ -51,7 +51,7 @@ Storable f (Err n) = Unit {0}
 -- r is the verdict on each shape that the answer is about, and on the line, after any statements that stand so
 abbrev pub JudgesAs : (f names rows : List ℕ) → Place → Sizes → Statement → Result Stated ℕ → Type 0
 JudgesAs f names rows p u a r =
-    (ss : Past) (wires s : List ℕ) (o : Option Shape) → Stands ss p u names wires rows → most_signal_bits ≤ length s → Says (judgement.wires ss) f s o a → VerdictOn ss o f s r
+    (ss : Past) (wires s : List ℕ) (o : Option Shape) → Stands ss p u names wires rows → most_signal_bits ≤ length s → Says (judgement.wires ss) f s o (Ok a) → VerdictOn ss o f s r
 
 abbrev pub JudgedAs : (f t : List ℕ) → Place → Sizes → (names wires rows s : List ℕ) → Result Stated ℕ → Type 0
 JudgedAs f t p u names wires rows s r = (ss : Past) → Stands ss p u names wires rows → Verdicts ss f t s r

@@ -12,7 +12,7 @@ use Rattle.line_forms.specs.Forms.{name_in, value_in}
 use Rattle.scanner.specs.declared.parts.Span.{Span}
 use Rattle.syntax.specs.Statements.{statement_in, Named}
 use Rattle.syntax.specs.declared.Statement.{Statement}
-use Rattle.syntax.specs.declared.Statement.TheVariants.{Autoidx, Attribute, Module, Parameter, Wire, Memory, Cell, CellParameter, CellConnection, Connection, Step, End, NoShape, Process, BadNumber, MissingWire}
+use Rattle.syntax.specs.declared.Statement.TheVariants.{Autoidx, Attribute, Module, Parameter, Wire, Memory, Cell, CellParameter, CellConnection, Connection, Step, End, Process}
 use Rattle.context.specs.Place.{place_of}
 use Rattle.context.specs.Sizes.{sizes_of}
 use Rattle.context.specs.declared.sizes.Sizes.{Sizes}
@@ -27,18 +27,15 @@ use Rattle.judgement.specs.declared.Parts.{Parts}
 abbrev pub no_name : Span
 no_name = record { start = 0; end = 0 }
 
--- the parts of a statement without signals, of a refusal, of a connection, of a line inside a process
+-- the parts of a statement without signals, of a connection, of a line inside a process
 unfoldable pub named_parts : ℕ → Span → Span → Optional ConstantSpan → Parts
-named_parts k m n c = record { number = 0; kind = k; first = m; name = n; value = c; step = 0; count = 0; left = 0; right = 0; fault = 0 }
-
-unfoldable pub refusal_parts : ℕ → Parts
-refusal_parts x = record { number = x; kind = 11; first = no_name; name = no_name; value = None; step = 0; count = 0; left = 0; right = 0; fault = 0 }
+named_parts k m n c = record { kind = k; first = m; name = n; value = c; step = 0; count = 0; left = 0; right = 0; fault = 0 }
 
 unfoldable pub connection_parts : ℕ → Span → (count left right fault : ℕ) → Parts
-connection_parts k n c a b l = record { number = 0; kind = k; first = no_name; name = n; value = None; step = 0; count = c; left = a; right = b; fault = l }
+connection_parts k n c a b l = record { kind = k; first = no_name; name = n; value = None; step = 0; count = c; left = a; right = b; fault = l }
 
 unfoldable pub step_parts : (step width count fault : ℕ) → Parts
-step_parts t w n l = record { number = 0; kind = 13; first = no_name; name = no_name; value = None; step = t; count = n; left = w; right = 0; fault = l }
+step_parts t w n l = record { kind = 13; first = no_name; name = no_name; value = None; step = t; count = n; left = w; right = 0; fault = l }
 
 -- of each answer about a line, with its kind's code
 unfoldable pub parts_of : Statement → Parts
@@ -54,10 +51,7 @@ parts_of (CellConnection n w l) = connection_parts 9 n 1 w 0 l
 parts_of (Connection a b l) = connection_parts 10 no_name 2 a b l
 parts_of (Step p w n l) = step_parts p w n l
 parts_of End = named_parts 12 no_name no_name None
-parts_of NoShape = refusal_parts 5
 parts_of (Process n) = named_parts 11 no_name n None
-parts_of BadNumber = refusal_parts 7
-parts_of MissingWire = refusal_parts 8
 
 -- whether the own name of an answer is found in its name space
 unfoldable pub taken_in : (f names rows : List ℕ) → Place → Statement → Bool

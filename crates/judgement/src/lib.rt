@@ -2,14 +2,13 @@
 #![tactic(auto)]
 
 ghost use Rattle.std.specs.Prelude.{◌≡◌, ◌-◌, ◌≤◌, length};
-ghost use Rattle.std.proofs.Math.Option.{none};
 ghost use Rattle.rules.specs.Limits.{longest_file, most_signal_bits};
 ghost use Rattle.line_forms.specs.Forms.{name_in};
-ghost use Rattle.syntax.specs.Statements.{number_of, fault_of, Sound, GoodOptional, Ready};
+ghost use Rattle.syntax.specs.Statements.{fault_of, Sound, GoodOptional, Ready};
 ghost use Rattle.name_index.specs.Index.{key_at, Indexed, LinesIndexed};
 ghost use Rattle.context.specs.Place.{Bounds};
 ghost use Rattle.context.specs.Sizes.{Within, AtMost};
-ghost use Rattle.judgement.specs.Parts.{named_parts, refusal_parts, connection_parts, step_parts, parts_of, bits_in, digits_in, bytes_in, SizesAre, taken_in, Coded, UnevenIs};
+ghost use Rattle.judgement.specs.Parts.{named_parts, connection_parts, step_parts, parts_of, bits_in, digits_in, bytes_in, SizesAre, taken_in, Coded, UnevenIs};
 ghost use Rattle.judgement.specs.Judged.{JudgedAs, JudgesAs, Storable};
 
 use context::kinds::{
@@ -23,7 +22,7 @@ use context::steps::NO_STEP;
 use faults::merge;
 use literal_rules::literal_width;
 use name_search::indexed_found;
-use netlist::results::{BAD_NUMBER, BAD_WIDTH, NO_SHAPE, NOT_THERE, TAKEN_NAME, TOO_MANY};
+use netlist::results::{BAD_WIDTH, TAKEN_NAME, TOO_MANY};
 use scanner::parts::{Span, part};
 use signals::ModuleWires;
 use steps::asked_width;
@@ -31,12 +30,11 @@ use strings::string_size;
 use syntax::{Statement, line_statement};
 use tokens::ConstantSpan;
 
-// What the tests of a statement go by: the number of its refusal, or 0; its kind by its code; a cell's type, and the own name, empty where there is
+// What the tests of a statement go by: its kind by its code; a cell's type, and the own name, empty where there is
 // none; its constant; its step by its code; how many signals it has, the widths of the first two (those of a step are all as wide as its first), and
 // the number that they leave, or 0.
 #[derive(Clone, Copy)]
 struct Parts {
-    number: u32,
     kind: u32,
     first: Span,
     name: Span,
@@ -66,30 +64,10 @@ fn named(kind: u32, first: Span, name: Span, value: Option<ConstantSpan>) -> Par
     ensures { result ≡ named_parts kind first name value }
 {
     Parts {
-        number: 0,
         kind,
         first,
         name,
         value,
-        step: NO_STEP,
-        count: 0,
-        left: 0,
-        right: 0,
-        fault: 0,
-    }
-}
-
-// A line that is refused; its kind says nothing.
-fn refusing(number: u32) -> Parts
-    ensures { result ≡ refusal_parts number }
-{
-    let name = no_name();
-    Parts {
-        number,
-        kind: PROCESS_KIND,
-        first: name,
-        name,
-        value: None,
         step: NO_STEP,
         count: 0,
         left: 0,
@@ -103,7 +81,6 @@ fn connecting(kind: u32, name: Span, count: usize, left: usize, right: usize, fa
     ensures { result ≡ connection_parts kind name count left right fault }
 {
     Parts {
-        number: 0,
         kind,
         first: no_name(),
         name,
@@ -122,7 +99,6 @@ fn stepping(step: u32, width: usize, count: usize, fault: u32) -> Parts
 {
     let name = no_name();
     Parts {
-        number: 0,
         kind: STEP_KIND,
         first: name,
         name,
@@ -176,10 +152,7 @@ fn parts_of(statement: Statement) -> Parts
             fault,
         } => stepping(step, width, count, fault),
         Statement::End => named(END_KIND, empty, empty, None),
-        Statement::NoShape => refusing(NO_SHAPE),
         Statement::Process(name) => named(PROCESS_KIND, empty, name, None),
-        Statement::BadNumber => refusing(BAD_NUMBER),
-        Statement::MissingWire => refusing(NOT_THERE),
     }
 }
 
@@ -234,8 +207,7 @@ fn signal_bits(parts: Parts) -> u32
 // The sizes of one statement whose signals leave no number.
 fn statement_sizes(f: &[u8], statement: Statement) -> Sizes
     requires f_len_bound { length f.now ≤ longest_file }
-    requires statement_value { number_of statement ≡ none }
-    requires statement_value_2 { fault_of statement ≡ 0 }
+    requires statement_value { fault_of statement ≡ 0 }
     requires sound { Sound f.now statement }
     ensures sizes_are { SizesAre f.now statement result }
     ensures at_most { AtMost 2147483647 result }
@@ -298,7 +270,7 @@ fn uneven(rows: &[u32], place: Place, step: u32, width: usize, count: usize) -> 
     }
 }
 
-// The verdict on a statement or a refusal of 5 to 8: then a taken name, then what its signals leave or 10 for what is asked of them, then the sums.
+// The verdict on a statement: a taken name, then what its signals leave or 10 for what is asked of them, then the sums.
 fn judge_statement(
     f: &[u8],
     names: &[u8],
@@ -318,9 +290,6 @@ fn judge_statement(
     ensures judges_as { JudgesAs f.now names.now rows.now place sums statement result }
 {
     let parts = parts_of(statement);
-    if parts.number != 0 {
-        return Err(parts.number);
-    }
     if name_is_taken(f, names, rows, place, statement, heads, chain) {
         return Err(TAKEN_NAME);
     }
@@ -338,7 +307,7 @@ fn judge_statement(
     Err(TOO_MANY)
 }
 
-// The verdict on a line that has a token.
+// The verdict on a line that has a token: what its reading refuses, and then what its statement is refused with.
 pub fn judge_line(
     f: &[u8],
     tokens: &[u32],
@@ -362,6 +331,6 @@ pub fn judge_line(
         first: place.wires_from,
         count: place.wires - place.wires_from,
     };
-    let statement = line_statement(f, tokens, place, names, wires, scope, scratch, heads, chain);
+    let statement = line_statement(f, tokens, place, names, wires, scope, scratch, heads, chain)?;
     judge_statement(f, names, rows, place, sums, statement, heads, chain)
 }

@@ -25,7 +25,7 @@ use Rattle.line_forms.specs.Forms.{name_in, value_in}
 use Rattle.scanner.specs.declared.parts.Span.{Span}
 use Rattle.syntax.specs.Statements.{fault_of, wire_from, memory_from, signal_in, statement_in, GoodConstant, GoodOptional, Sound}
 use Rattle.syntax.specs.declared.Statement.{Statement}
-use Rattle.syntax.specs.declared.Statement.TheVariants.{Autoidx, Attribute, Module, Parameter, Wire as WireOf, Memory as MemoryOf, Cell, CellParameter, CellConnection, Connection, Step as StepOf, End, NoShape, Process, BadNumber, MissingWire}
+use Rattle.syntax.specs.declared.Statement.TheVariants.{Autoidx, Attribute, Module, Parameter, Wire as WireOf, Memory as MemoryOf, Cell, CellParameter, CellConnection, Connection, Step as StepOf, End, Process}
 use Rattle.netlist.specs.Tables.{Tables, tabled}
 use Rattle.layout.specs.Put.{names_put, bits_put_at, rows_put, Puts, RoomFor, Fits, constant_in, optional_in, optional_columns, optional_bytes, optional_digits, valued_row, OptionalFits, WireHas, WirePut}
 use Rattle.layout.specs.PartLaws.{no_names, no-string, one-string, no_bits, one_value}
@@ -199,29 +199,24 @@ module _ (f s : List ℕ) (r : Statement) (u : Used) (names names' bits wires wi
         rows-put = z.2;
       })
 
--- any other answer that is plain is a refusal
-module _ (f s : List ℕ) (u : Used) (names bits wires rows : List ℕ) where
-  pub refusal-put :
-      (r : Statement) → ((w : ℕ) → r ≡ Autoidx w → ⊥) → ((n : Span) (w o k p : ℕ) → r ≡ WireOf n w o k p → ⊥) → ((n : Span) (w z t : ℕ) → r ≡ MemoryOf n w z t → ⊥) →
-      ((k n : Span) → r ≡ Cell k n → ⊥) → ((n : Span) (w l : ℕ) → r ≡ CellConnection n w l → ⊥) → ((a b l : ℕ) → r ≡ Connection a b l → ⊥) → (r ≡ End → ⊥) →
-      PlainPut f s r u names names bits bits wires wires rows rows
-  unfolding statement_in
-  refusal-put (Autoidx w) autoidx wire memory cell cell-connection connection end = absurd (autoidx w refl)
-  refusal-put (Attribute n c) autoidx wire memory cell cell-connection connection end = λ k. absurd k
-  refusal-put (Module n) autoidx wire memory cell cell-connection connection end = λ k. absurd k
-  refusal-put (Parameter n c) autoidx wire memory cell cell-connection connection end = λ k. absurd k
-  refusal-put (WireOf n w t g p) autoidx wire memory cell cell-connection connection end = absurd (wire n w t g p refl)
-  refusal-put (MemoryOf n w z t) autoidx wire memory cell cell-connection connection end = absurd (memory n w z t refl)
-  refusal-put (Cell t n) autoidx wire memory cell cell-connection connection end = absurd (cell t n refl)
-  refusal-put (CellParameter z n c) autoidx wire memory cell cell-connection connection end = λ k. absurd k
-  refusal-put (CellConnection n w l) autoidx wire memory cell cell-connection connection end = absurd (cell-connection n w l refl)
-  refusal-put (Connection a b l) autoidx wire memory cell cell-connection connection end = absurd (connection a b l refl)
-  refusal-put (StepOf p w n l) autoidx wire memory cell cell-connection connection end = λ k. absurd k
-  refusal-put End autoidx wire memory cell cell-connection connection end = absurd (end refl)
-  refusal-put NoShape autoidx wire memory cell cell-connection connection end = λ k strings. refl
-  refusal-put (Process n) autoidx wire memory cell cell-connection connection end = λ k. absurd k
-  refusal-put BadNumber autoidx wire memory cell cell-connection connection end = λ k strings. refl
-  refusal-put MissingWire autoidx wire memory cell cell-connection connection end = λ k strings. refl
+-- no other answer is plain
+pub none_other :
+    (r : Statement) → ((w : ℕ) → r ≡ Autoidx w → ⊥) → ((n : Span) (w o k p : ℕ) → r ≡ WireOf n w o k p → ⊥) → ((n : Span) (w z t : ℕ) → r ≡ MemoryOf n w z t → ⊥) →
+    ((k n : Span) → r ≡ Cell k n → ⊥) → ((n : Span) (w l : ℕ) → r ≡ CellConnection n w l → ⊥) → ((a b l : ℕ) → r ≡ Connection a b l → ⊥) → (r ≡ End → ⊥) →
+    Plain r → ⊥
+none_other (Autoidx w) autoidx wire memory cell cell-connection connection end k = autoidx w refl
+none_other (Attribute n c) autoidx wire memory cell cell-connection connection end k = k
+none_other (Module n) autoidx wire memory cell cell-connection connection end k = k
+none_other (Parameter n c) autoidx wire memory cell cell-connection connection end k = k
+none_other (WireOf n w t g p) autoidx wire memory cell cell-connection connection end k = wire n w t g p refl
+none_other (MemoryOf n w z t) autoidx wire memory cell cell-connection connection end k = memory n w z t refl
+none_other (Cell t n) autoidx wire memory cell cell-connection connection end k = cell t n refl
+none_other (CellParameter z n c) autoidx wire memory cell cell-connection connection end k = k
+none_other (CellConnection n w l) autoidx wire memory cell cell-connection connection end k = cell-connection n w l refl
+none_other (Connection a b l) autoidx wire memory cell cell-connection connection end k = connection a b l refl
+none_other (StepOf p w n l) autoidx wire memory cell cell-connection connection end k = k
+none_other End autoidx wire memory cell cell-connection connection end k = end refl
+none_other (Process n) autoidx wire memory cell cell-connection connection end k = k
 
 pub plain-rest :
     (r : Statement) → ((n : Span) (c : ConstantSpan) → r ≡ Attribute n c → ⊥) → ((n : Span) → r ≡ Module n → ⊥) → ((n : Span) (c : Optional ConstantSpan) → r ≡ Parameter n c → ⊥) →
@@ -238,10 +233,7 @@ plain-rest (CellConnection n w l) attribute block parameter cell-parameter step 
 plain-rest (Connection a b l) attribute block parameter cell-parameter step process = tt
 plain-rest (StepOf p w n l) attribute block parameter cell-parameter step process = absurd (step p w n l refl)
 plain-rest End attribute block parameter cell-parameter step process = tt
-plain-rest NoShape attribute block parameter cell-parameter step process = tt
 plain-rest (Process n) attribute block parameter cell-parameter step process = absurd (process n refl)
-plain-rest BadNumber attribute block parameter cell-parameter step process = tt
-plain-rest MissingWire attribute block parameter cell-parameter step process = tt
 
 -- ---- answers of a name and, if they have one, a constant
 

@@ -12,7 +12,7 @@ use Rattle.line_forms.specs.Forms.{name_in}
 use Rattle.scanner.specs.declared.parts.Span.{Span}
 use Rattle.syntax.specs.Statements.{fault_of, statement_in, GoodOptional, Sound}
 use Rattle.syntax.specs.declared.Statement.{Statement}
-use Rattle.syntax.specs.declared.Statement.TheVariants.{Autoidx, Attribute, Module, Parameter, Wire as WireOf, Memory as MemoryOf, Cell, CellParameter, CellConnection, Connection, Step as StepOf, End, NoShape, Process, BadNumber, MissingWire}
+use Rattle.syntax.specs.declared.Statement.TheVariants.{Autoidx, Attribute, Module, Parameter, Wire as WireOf, Memory as MemoryOf, Cell, CellParameter, CellConnection, Connection, Step as StepOf, End, Process}
 use Rattle.netlist.specs.Tables.{Tables, tabled}
 use Rattle.layout.specs.Put.{Puts, RoomFor, optional_in, valued_row}
 use Rattle.netlist.specs.declared.used.Used.{Used}
@@ -69,10 +69,7 @@ Plain (CellConnection n w l) = Unit {0}
 Plain (Connection a b l) = Unit {0}
 Plain (StepOf p w n l) = ⊥
 Plain End = Unit {0}
-Plain NoShape = Unit {0}
 Plain (Process n) = ⊥
-Plain BadNumber = Unit {0}
-Plain MissingWire = Unit {0}
 
 abbrev pub ValuedIs : Statement → Valued → Type 0
 ValuedIs r (Named kind n c sort) = (f s : List ℕ) → Sound f r → ValuedHas f s r kind n c sort

@@ -12,7 +12,7 @@ use put::{Valued, as_valued, put_plain, put_valued};
 use step::put_step;
 use syntax::Statement;
 
-// Stores a statement behind what is used. A refusing answer stores nothing.
+// Stores a statement behind what is used.
 pub fn put_statement(
     f: &[u8],
     statement: Statement,

@@ -426,7 +426,7 @@ fn put_connection(
     );
 }
 
-// A statement of any other kind; a refusing answer puts nothing.
+// A statement of any other kind: none of those that `as_valued` takes.
 pub fn put_plain(
     f: &[u8],
     statement: Statement,

@@ -36,7 +36,7 @@ use Rattle.syntax.specs.Statements.{fault_of, signals_in, statement_in, kind_in,
 use Rattle.netlist.specs.Steps.{step_named}
 use Rattle.netlist.specs.StepLaws.{by-named}
 use Rattle.syntax.specs.declared.Statement.{Statement}
-use Rattle.syntax.specs.declared.Statement.TheVariants.{Autoidx, Attribute, Module, Parameter, Wire, Memory, Cell, CellParameter, CellConnection, Connection, Step as StepOf, End, NoShape, Process, BadNumber, MissingWire}
+use Rattle.syntax.specs.declared.Statement.TheVariants.{Autoidx, Attribute, Module, Parameter, Wire, Memory, Cell, CellParameter, CellConnection, Connection, Step as StepOf, End, Process}
 use Rattle.netlist.specs.Tables.{Tables}
 use Rattle.layout.specs.Put.{tables_of, RoomFor}
 use Rattle.layout.specs.RoomLaws.{tables-put}
@@ -129,10 +129,7 @@ kind-is f s (CellConnection n w l) x e = kind-some f s (CellConnection n w l) x 
 kind-is f s (Connection a b l) x e = kind-some f s (Connection a b l) x _ refl refl e
 kind-is f s (StepOf p w n l) x e = kind-step (step_named p) (signals_in s w n) x e
 kind-is f s End x e = kind-some f s End x _ refl refl e
-kind-is f s NoShape x e = cc
 kind-is f s (Process n) x e = kind-some f s (Process n) x _ refl refl e
-kind-is f s BadNumber x e = cc
-kind-is f s MissingWire x e = cc
 
 -- and its step
 steps-some : (f s : List ℕ) (r : Statement) (x y : statements.Statement) → statement_in f s r ≡ some y → (contents y).steps ≡ [] → statement_in f s r ≡ some x → 0 ≡ step_of (contents x).steps
@@ -158,10 +155,7 @@ step_is f s (CellConnection n w l) x e = steps-some f s (CellConnection n w l) x
 step_is f s (Connection a b l) x e = steps-some f s (Connection a b l) x _ refl refl e
 step_is f s (StepOf p w n l) x e = steps-step p (signals_in s w n) x e
 step_is f s End x e = steps-some f s End x _ refl refl e
-step_is f s NoShape x e = cc
 step_is f s (Process n) x e = steps-some f s (Process n) x _ refl refl e
-step_is f s BadNumber x e = cc
-step_is f s MissingWire x e = cc
 
 laid-now : (ss : Past) (t : Tables) → t ≡ tables_of (memory (rooms_of ss) 0) → Laid (rooms_of ss) t.names t.rows
 unfolding tables_of memory

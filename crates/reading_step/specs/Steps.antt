@@ -20,7 +20,7 @@ use Rattle.admitted.specs.Admitted.{admitted}
 use Rattle.netlist.specs.Laid.{rooms_of}
 use Rattle.syntax.specs.Statements.{fault_of, statement_in, Sound}
 use Rattle.syntax.specs.declared.Statement.{Statement}
-use Rattle.syntax.specs.declared.Statement.TheVariants.{Autoidx, Attribute, Module, Parameter, Wire, Memory, Cell, CellParameter, CellConnection, Connection, Step as StepOf, End, NoShape, Process, BadNumber, MissingWire}
+use Rattle.syntax.specs.declared.Statement.TheVariants.{Autoidx, Attribute, Module, Parameter, Wire, Memory, Cell, CellParameter, CellConnection, Connection, Step as StepOf, End, Process}
 use Rattle.netlist.specs.Tables.{Tables}
 use Rattle.netlist.specs.declared.results.Refused.{Refused}
 use Rattle.layout.specs.Put.{tables_of}
@@ -59,10 +59,7 @@ step_in (CellConnection n w l) = 0
 step_in (Connection a b l) = 0
 step_in (StepOf p w n l) = p
 step_in End = 0
-step_in NoShape = 0
 step_in (Process n) = 0
-step_in BadNumber = 0
-step_in MissingWire = 0
 
 -- ONE LINE. A refused verdict is at the line
 unfoldable pub refused_as : List ℕ → Line → ℕ → Refused

@@ -155,10 +155,7 @@ fn kind_code(statement: Statement) -> u32
         Statement::Connection { .. } => CONNECTION_KIND,
         Statement::Step { .. } => STEP_KIND,
         Statement::End => END_KIND,
-        Statement::Process(_)
-        | Statement::NoShape
-        | Statement::BadNumber
-        | Statement::MissingWire => PROCESS_KIND,
+        Statement::Process(_) => PROCESS_KIND,
     }
 }
 

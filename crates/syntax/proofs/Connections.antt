@@ -21,10 +21,10 @@ use Rattle.faults.specs.Faults.{faults, fault, merge, mild}
 use Rattle.signals.specs.Held.{Held}
 use Rattle.signals.specs.declared.Bits.{Bits}
 use Rattle.faults.proofs.FaultLaws.{faults-none, faults-append, merge_none, merge-zero, mild-merge, late-merge}
-use Rattle.syntax.specs.Statements.{number_of, fault_of, early, overfull, width_fault, statement_in, kind_in, names_in, steps_of, widths_in, Judged, Says, judged, faulted}
+use Rattle.syntax.specs.Statements.{number_of, fault_of, early, overfull, width_fault, statement_in, kind_in, names_in, steps_of, widths_in, Judged, Says, refused, judged, faulted}
 use Rattle.syntax.specs.declared.Statement.{Statement}
 use Rattle.syntax.specs.declared.Statement.TheVariants as statement
-use Rattle.syntax.proofs.ShapeLaws.{refused}
+use Rattle.syntax.specs.declared.LineFault.TheVariants.{BadNumber, MissingWire}
 use Rattle.syntax.proofs.Bits.{signal-back}
 
 -- ---- the numbers of parts, of which 7 and 8 come before a taken name
@@ -96,11 +96,11 @@ narrow-signal ws (x ∷ ss) h =
     (leb-true _ _ (own-part (λ y. leb (width ws y) 2048) x (all_left _ (parts x) _ h)), narrow-signal ws ss (all_right _ (parts x) _ h))
 
 module _ (ws : Wires) (f s : List ℕ) (sh : Shape) where
-  pub by-fault : (n : ℕ) (r : Statement) → early ws sh ≡ early_of n → (early_of n ≡ none → Judged ws f s (some sh) r) → Says ws f s (some sh) (faulted n r)
+  pub by-fault : (n : ℕ) (a : Statement) → early ws sh ≡ early_of n → (early_of n ≡ none → Judged ws f s (some sh) a) → Says ws f s (some sh) (faulted n a)
   unfolding early_of faulted number_of
-  by-fault n r e k =
-      by_cond (λ x. Says ws f s (some sh) x) (eqb n 7) (λ h. judged (refused ws f s statement.BadNumber 7 refl tt (e ∙ rw h)))
-      (λ h. by_cond (λ x. Says ws f s (some sh) x) (eqb n 8) (λ g. judged (refused ws f s statement.MissingWire 8 refl tt (e ∙ rw (h, g)))) (λ g. judged (k (rw (h, g)))))
+  by-fault n a e k =
+      by_cond (λ x. Says ws f s (some sh) x) (eqb n 7) (λ h. refused {e = BadNumber} refl (e ∙ rw h))
+      (λ h. by_cond (λ x. Says ws f s (some sh) x) (eqb n 8) (λ g. refused {e = MissingWire} refl (e ∙ rw (h, g))) (λ g. judged (k (rw (h, g)))))
 
 -- ---- the parts of one signal and of two
 
@@ -142,7 +142,7 @@ module _ (ws : Wires) (f s : List ℕ) (n : Span) (a : Sig) (b : Bits) (H : Held
   cell-early = early-faults ws cell_shape cell-numbers ∙ ap early_of cell-fault
 
   pub cell-connected : Says ws f s (some cell_shape) (faulted b.fault (statement.CellConnection n b.width b.fault))
-  unfolding statements_open equal all merge number_of fault_of statement_in kind_in names_in steps_of widths_in meaning
+  unfolding statements_open equal all merge fault_of statement_in kind_in names_in steps_of widths_in meaning
   cell-connected =
       by-fault ws f s cell_shape b.fault (statement.CellConnection n b.width b.fault) cell-early
       (λ h.
@@ -150,13 +150,13 @@ module _ (ws : Wires) (f s : List ℕ) (n : Span) (a : Sig) (b : Bits) (H : Held
         sh = cell_shape;
         is = refl;
         early = cell-early ∙ h;
-        kind = λ _. refl;
-        names = λ _. refl;
-        steps = λ _. refl;
-        widths = λ _ m. ap (λ (x : ℕ). x ∷ []) (H.wide (mild-faults ws (all_parts cell_shape) b.fault cell-fault h m));
+        kind = refl;
+        names = refl;
+        steps = refl;
+        widths = λ m. ap (λ (x : ℕ). x ∷ []) (H.wide (mild-faults ws (all_parts cell_shape) b.fault cell-fault h m));
         sound = H.small;
-        width_fault = λ _. late-faults ws cell_shape cell-numbers cell_room (ap early_of cell-fault ∙ h) ∙ cell-fault;
-        means = λ _ z. rw (signal-back ws a 0 s b H z);
+        width_fault = late-faults ws cell_shape cell-numbers cell_room (ap early_of cell-fault ∙ h) ∙ cell-fault;
+        means = λ z. rw (signal-back ws a 0 s b H z);
       })
 
 module _ (ws : Wires) (f s : List ℕ) (a b : Sig) (l r : Bits) (A : Held ws a 0 s l) (B : Held ws b 2048 s r) where
@@ -208,7 +208,7 @@ module _ (ws : Wires) (f s : List ℕ) (a b : Sig) (l r : Bits) (A : Held ws a 0
   pub both-connected :
       (u : ℕ) → u ≡ cond (eqb l.width r.width) 0 10 →
       Says ws f s (some shape) (faulted (merge l.fault r.fault) (statement.Connection l.width r.width (merge u (merge l.fault r.fault))))
-  unfolding statements_open equal all number_of fault_of statement_in kind_in names_in steps_of widths_in meaning
+  unfolding statements_open equal all fault_of statement_in kind_in names_in steps_of widths_in meaning
   both-connected u e =
       by-fault ws f s shape (merge l.fault r.fault) _ both-early
       (λ h.
@@ -216,18 +216,18 @@ module _ (ws : Wires) (f s : List ℕ) (a b : Sig) (l r : Bits) (A : Held ws a 0
         sh = shape;
         is = refl;
         early = both-early ∙ h;
-        kind = λ _. refl;
-        names = λ _. refl;
-        steps = λ _. refl;
-        widths = λ _ m. let q = both-wide u e h m in ap₂ (λ (x y : ℕ). x ∷ y ∷ []) q.0 q.1;
+        kind = refl;
+        names = refl;
+        steps = refl;
+        widths = λ m. let q = both-wide u e h m in ap₂ (λ (x y : ℕ). x ∷ y ∷ []) q.0 q.1;
         sound = λ z. let m = unfaulted u z in (A.small m.0, B.small m.1);
-        width_fault = λ _.
+        width_fault =
             late-faults ws shape numbers both-room (ap early_of both-fault ∙ h)
             ∙ ap (λ (x : Bool). merge (cond x 0 10) (faults ws (all_parts shape))) (and-true (eqb (width ws a) (width ws b)))
             ∙ ap (merge _) both-fault
             ∙ uneven (eqb (width ws a) (width ws b)) (eqb l.width r.width) _ widths
             ∙ ap (λ (x : ℕ). merge x (merge l.fault r.fault)) (sym e);
-        means = λ _ z.
+        means = λ z.
             let m = unfaulted u z in
             rw (signal-back ws a 0 s l A m.0, signal-back ws b 2048 s r B m.1);
       })

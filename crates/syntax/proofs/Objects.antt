@@ -1,6 +1,7 @@
 -- A wire's and a memory's line, judged by their options.
 -- Assumes nothing.
 use Prim.Native.Nat.{ℕ, ◌+◌, ◌*◌, ◌≤◌, ◌<◌}
+use Rattle.std.specs.Prelude.{Ok, Err}
 use mathlib.Core.Path.{◌≡◌, refl}
 use mathlib.Core.List.{List, [], Option-to_list}
 use mathlib.Core.Option.{Option, none, some, Option-elim}
@@ -22,8 +23,9 @@ use Rattle.scanner.specs.declared.parts.Span.{Span}
 use Rattle.option_rules.specs.Limits.{port_number, flag_bits, WireGood, MemoryGood}
 use Rattle.option_rules.proofs.Ports.{code-range}
 use Rattle.option_rules.proofs.Meaning.{bits_most}
-use Rattle.syntax.specs.Statements.{wire_from, memory_from, Judged}
+use Rattle.syntax.specs.Statements.{wire_from, memory_from, Says}
 use Rattle.syntax.specs.declared.Statement.TheVariants as statement
+use Rattle.syntax.specs.declared.LineFault.TheVariants.{BadNumber}
 use Rattle.numbers.specs.SignedLaws.{number-back}
 use Rattle.syntax.proofs.ShapeLaws.{plain_open, bad-number, stated}
 
@@ -66,15 +68,15 @@ module _ (ws : Wires) (os : List Opt) {w t k p : ℕ} (G : WireGood os w t k p) 
 -- ---- judged
 
 module _ (ws : Wires) (f s : List ℕ) (os : List Opt) (n : Name) where
-  pub wire-bad : good_wire os ≡ false → Judged ws f s (some (wire-stmt os n)) statement.BadNumber
+  pub wire-bad : good_wire os ≡ false → Says ws f s (some (wire-stmt os n)) (Err BadNumber)
   unfolding plain_open
   wire-bad h = bad-number ws f s (rw h)
 
-  pub port-bad : good_wire os ≡ true → new_port ws os ≡ false → Judged ws f s (some (wire-stmt os n)) statement.BadNumber
+  pub port-bad : good_wire os ≡ true → new_port ws os ≡ false → Says ws f s (some (wire-stmt os n)) (Err BadNumber)
   unfolding plain_open
   port-bad g h = bad-number ws f s (rw (g, h))
 
-  pub memory-bad : good_memory os ≡ false → Judged ws f s (some (memory-stmt os n)) statement.BadNumber
+  pub memory-bad : good_memory os ≡ false → Says ws f s (some (memory-stmt os n)) (Err BadNumber)
   unfolding plain_open
   memory-bad h = bad-number ws f s (rw h)
 
@@ -92,12 +94,12 @@ wire-sound os G =
     )
 
 module _ (ws : Wires) (f s : List ℕ) (os : List Opt) (n : Span) where
-  pub wire-stated : {w t k p : ℕ} → WireGood os w t k p → new_port ws os ≡ true → Judged ws f s (some (wire-stmt os (name_in f n))) (statement.Wire n w t k p)
+  pub wire-stated : {w t k p : ℕ} → WireGood os w t k p → new_port ws os ≡ true → Says ws f s (some (wire-stmt os (name_in f n))) (Ok (statement.Wire n w t k p))
   unfolding plain_open
-  wire-stated G h = stated ws f s _ refl refl refl (rw (G.good, h)) refl refl refl refl (wire-sound os G) (rw (wire-means os G))
+  wire-stated G h = stated ws f s _ refl refl (rw (G.good, h)) refl refl refl refl (wire-sound os G) (rw (wire-means os G))
 
-  pub memory-stated : {w z t : ℕ} → MemoryGood os w z t → Judged ws f s (some (memory-stmt os (name_in f n))) (statement.Memory n w z t)
+  pub memory-stated : {w z t : ℕ} → MemoryGood os w z t → Says ws f s (some (memory-stmt os (name_in f n))) (Ok (statement.Memory n w z t))
   unfolding plain_open memory_of memory_from
   memory-stated G =
-      stated ws f s _ refl refl refl (rw G.good) refl refl refl refl tt
+      stated ws f s _ refl refl (rw G.good) refl refl refl refl tt
       (rw (← G.width, ← G.size, number-back _ _ (memory-offset os G.good) G.offset))

@@ -1,10 +1,13 @@
 -- A shape without signals is judged by its numbers.
 -- Assumes nothing.
 use Prim.Native.Nat.{ℕ}
-use Rattle.std.specs.Prelude.{Some, None}
+use Rattle.std.specs.Prelude.{Option as Optional, Some, None, Result, Ok, Err}
+use Rattle.std.specs.Option.{ok_or}
+use Rattle.std.specs.Result.{IsErr, IsErrAnd}
+use Rattle.std.proofs.lemmas.Result.{err_from_is_err_and}
 use mathlib.Core.Path.{◌≡◌, refl}
 use mathlib.Core.List.{List, []}
-use mathlib.Core.Option.{none, some}
+use mathlib.Core.Option.{Option, none, some}
 use mathlib.Core.Bool.{true, false}
 use native.Mathlib.Omega.{arith}
 use Rattle.rules.specs.Bytes.{all}
@@ -17,55 +20,52 @@ use Rattle.line_forms.specs.declared.Form.TheVariants as form
 use Rattle.tokens.specs.declared.ConstantSpan.{ConstantSpan}
 use Rattle.literals.specs.Codes.{Whole}
 use Rattle.signals.specs.Reads.{Closed}
-use Rattle.syntax.specs.Statements.{number_of, fault_of, early, overfull, width_fault, statement_in, kind_in, names_in, steps_of, widths_in, Sound, WholeForm, Judged}
+use Rattle.syntax.specs.Statements.{number_of, fault_of, early, overfull, width_fault, statement_in, kind_in, names_in, steps_of, widths_in, Sound, WholeForm, Says, refused, judged}
 use Rattle.syntax.specs.declared.Statement.{Statement}
-use Rattle.syntax.specs.declared.Statement.TheVariants.{BadNumber}
+use Rattle.syntax.specs.declared.LineFault.{LineFault}
+use Rattle.syntax.specs.declared.LineFault.TheVariants.{BadNumber}
 
 -- what the judgement of a line without signals computes
 unfoldable pub plain_open : Unit {0}
-unfolding form_of value_in number_of early fault_of statement_in kind_in names_in steps_of widths_in statements_open judgement_open all
+unfolding form_of value_in early fault_of statement_in kind_in names_in steps_of widths_in statements_open judgement_open all
 plain_open = tt
 
 module _ (ws : Wires) (f s : List ℕ) {sh : Shape} where
-  -- a refusal
-  pub refused : (r : Statement) (n : ℕ) → number_of r ≡ some n → Sound f r → early ws sh ≡ some n → Judged ws f s (some sh) r
-  refused r n h q e =
-      record {
-        sh = sh;
-        is = refl;
-        early = cc;
-        kind = λ g. let z : ◌≡◌ {A = ℕ} 0 1 = cc in absurd (omega arith);
-        names = λ g. let z : ◌≡◌ {A = ℕ} 0 1 = cc in absurd (omega arith);
-        steps = λ g. let z : ◌≡◌ {A = ℕ} 0 1 = cc in absurd (omega arith);
-        widths = λ g l. let z : ◌≡◌ {A = ℕ} 0 1 = cc in absurd (omega arith);
-        sound = q;
-        width_fault = λ g. let z : ◌≡◌ {A = ℕ} 0 1 = cc in absurd (omega arith);
-        means = λ g l. let z : ◌≡◌ {A = ℕ} 0 1 = cc in absurd (omega arith);
-      }
-
-  pub bad-number : breaks_number ws sh ≡ true → Judged ws f s (some sh) BadNumber
+  pub bad-number : breaks_number ws sh ≡ true → Says ws f s (some sh) (Err BadNumber)
   unfolding number_of early lowest
-  bad-number h = refused BadNumber 7 refl tt (rw h)
+  bad-number h = refused refl (rw h)
 
   -- without signals no wire is missing and no width is wrong
   pub stated :
-      (r : Statement) → number_of r ≡ none → fault_of r ≡ 0 → (contents sh).signals ≡ [] → breaks_number ws sh ≡ false →
-      (contents sh).kind ≡ kind_in r → (contents sh).names ≡ names_in f r → (contents sh).steps ≡ steps_of r → widths_in r ≡ [] → Sound f r → statement_in f s r ≡ some (meaning ws sh) →
-      Judged ws f s (some sh) r
+      (a : Statement) → fault_of a ≡ 0 → (contents sh).signals ≡ [] → breaks_number ws sh ≡ false →
+      (contents sh).kind ≡ kind_in a → (contents sh).names ≡ names_in f a → (contents sh).steps ≡ steps_of a → widths_in a ≡ [] → Sound f a → statement_in f s a ≡ some (meaning ws sh) →
+      Says ws f s (some sh) (Ok a)
   unfolding early width_fault lowest lacks_wire overfull part_too_wide equal all_parts judgement_open all
-  stated r g l e h k n d v q m =
-      record {
+  stated a l e h k n d v q m =
+      judged
+      (record {
         sh = sh;
         is = refl;
-        early = rw (g, h, e);
-        kind = λ _. k;
-        names = λ _. n;
-        steps = λ _. d;
-        widths = λ _ _. rw (e, v);
+        early = rw (h, e);
+        kind = k;
+        names = n;
+        steps = d;
+        widths = λ _. rw (e, v);
         sound = q;
-        width_fault = λ _. rw (e, l);
-        means = λ _ _. m;
-      }
+        width_fault = rw (e, l);
+        means = λ _. m;
+      })
+
+err_is : {A : Type 0} {x y : LineFault} → ◌≡◌ {A = Result A LineFault} (Err x) (Err y) → x ≡ y
+err_is e = cc
+
+-- the answer where a `?` ends the line: behind another answer, and behind `ok_or`
+module _ {ws : Wires} {f s : List ℕ} {sh : Option Shape} {r : Result Statement LineFault} {x y : LineFault} (q : IsErr r × IsErrAnd r (λ e. e ≡ x)) where
+  pub left_with : x ≡ y → Says ws f s sh (Err y) → Says ws f s sh r
+  left_with e k = let p = err_from_is_err_and r q.1 in rw (p.1, p.2, e) k
+
+  pub left_by : {A : Type 0} {o : Optional A} → Err x ≡ ok_or o y → o ≡ None → Says ws f s sh (Err y) → Says ws f s sh r
+  left_by e n = left_with (err_is (rw n at e))
 
 -- a constant of rows whose strings have their ends, and a form of such rows
 module _ (f t : List ℕ) (C : Closed f t) where

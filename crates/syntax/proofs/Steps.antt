@@ -1,7 +1,7 @@
 -- A line with a step, judged by the list of its signals.
 -- Assumes nothing.
 use Prim.Native.Nat.{ℕ, ◌≤◌}
-use Rattle.std.specs.Prelude.{Some, None}
+use Rattle.std.specs.Prelude.{Some, None, Err}
 use mathlib.Core.Path.{◌≡◌, refl, sym, ap, ◌∙◌}
 use mathlib.Core.List.{List, [], ◌∷◌, map, flat_map, Option-to_list}
 use mathlib.Core.Option.{none, some, get_or}
@@ -29,8 +29,9 @@ use Rattle.signal_list.specs.Lists.{listed, step_with, list_fault}
 use Rattle.signal_list.specs.ListLaws.{none-taken, one-taken, two-taken, case-taken}
 use Rattle.signal_list.specs.Reads.{ListHeld, ListRead}
 use Rattle.signal_list.specs.declared.Listed.{Listed}
-use Rattle.syntax.specs.Statements.{number_of, fault_of, early, overfull, width_fault, signals_in, statement_in, kind_in, names_in, steps_of, widths_in, Says, no-shape, faulted}
+use Rattle.syntax.specs.Statements.{fault_of, early, overfull, width_fault, signals_in, statement_in, kind_in, names_in, steps_of, widths_in, Says, no-shape, faulted}
 use Rattle.syntax.specs.declared.Statement.TheVariants as statement
+use Rattle.syntax.specs.declared.LineFault.TheVariants.{NoShape}
 use Rattle.syntax.proofs.Bits.{signals-back}
 use Rattle.syntax.proofs.Connections.{early_of, first, early-first, mild-late, by-fault}
 
@@ -107,7 +108,7 @@ module _ (ws : Wires) (f s : List ℕ) (p : ℕ) (q : Step) (code : step_code q 
   step-means z = rw (named, H.coded z, signals-back ws ss (narrow-list ws ss l H.refused z))
 
   pub step-said : n ≤ longest_file → Says ws f s (some shape) (faulted l (statement.Step p w n l))
-  unfolding statements_open number_of fault_of kind_in names_in steps_of widths_in
+  unfolding statements_open fault_of kind_in names_in steps_of widths_in
   step-said few =
       by-fault ws f s shape l (statement.Step p w n l) step-early
       (λ h.
@@ -115,13 +116,13 @@ module _ (ws : Wires) (f s : List ℕ) (p : ℕ) (q : Step) (code : step_code q 
         sh = shape;
         is = refl;
         early = step-early ∙ h;
-        kind = λ _. refl;
-        names = λ _. refl;
-        steps = λ _. sym (ap Option-to_list named);
-        widths = λ _ m. H.widths (mild-list ws ss l H.refused h m);
+        kind = refl;
+        names = refl;
+        steps = sym (ap Option-to_list named);
+        widths = λ m. H.widths (mild-list ws ss l H.refused h m);
         sound = (few, (q, named), λ z. (H.small z, H.room z));
-        width_fault = λ _. step-late h;
-        means = λ _ z. step-means z;
+        width_fault = step-late h;
+        means = λ z. step-means z;
       })
 
 -- ---- the answer, from what the list answered
@@ -133,7 +134,7 @@ module _ (ws : Wires) (f t s : List ℕ) (p i : ℕ) (q : Step) (code : step_cod
       ∙ rw (← code) (step-listed q (line f t i))
       ∙ ap (λ (b : Bool). step_with q (arity q) (listed b (line f t i))) (ap (λ (n : ℕ). eqb n case_step) code ∙ sym c)
 
-  pub step-broken : ListRead f t ws i comma s None → Says ws f s (process_kind_of f t (process_kind.Step p i)) statement.NoShape
+  pub step-broken : ListRead f t ws i comma s None → Says ws f s (process_kind_of f t (process_kind.Step p i)) (Err NoShape)
   unfolding step_with
   step-broken e = no-shape (step_line ∙ rw e)
 
@@ -141,7 +142,7 @@ module _ (ws : Wires) (f t s : List ℕ) (p i : ℕ) (q : Step) (code : step_cod
     counted : arity q (length L.sigs) ≡ arity q r.count
     counted = ap (arity q) L.held.many
 
-    pub step-miscounted : arity q r.count ≡ false → Says ws f s (process_kind_of f t (process_kind.Step p i)) statement.NoShape
+    pub step-miscounted : arity q r.count ≡ false → Says ws f s (process_kind_of f t (process_kind.Step p i)) (Err NoShape)
     unfolding step_with
     step-miscounted h = no-shape (step_line ∙ rw (L.is, counted, h))
 

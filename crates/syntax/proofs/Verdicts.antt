@@ -1,6 +1,7 @@
 -- What a judged line is refused with, or states, after the statements so far.
 -- Assumes nothing.
 use Prim.Native.Nat.{ℕ, ◌+◌}
+use Rattle.std.specs.Prelude.{Ok, Err}
 use mathlib.Core.Path.{◌≡◌, refl, ap, ap₂, ◌∙◌}
 use mathlib.Core.List.{List, [], ◌∷◌, map, flat_map}
 use mathlib.Core.Option.{Option, none, some, get_or}
@@ -16,7 +17,7 @@ use Rattle.rules.specs.Bytes.{all}
 use Rattle.rules.specs.Numbers.{int32, good_literal, good_numbers, good_wire, good_memory, wire_of, memory_of}
 use Rattle.rules.specs.Judgement.{Past, sum, new_port, breaks_number, wires, Verdict, verdict, lowest, meaning, takes_name, all_parts, equal, step_widths, fit_widths, breaks_width, part_too_wide, signal_size, exceeds_size, judge_in, judge}
 use Rattle.rules.specs.Reading.{shaped}
-use Rattle.syntax.specs.Statements.{number_of, fault_of, early, overfull, width_fault, Sound, Judged, Says, no-shape, judged}
+use Rattle.syntax.specs.Statements.{number_of, fault_of, early, overfull, width_fault, Sound, Judged, Says, no-shape, refused, judged}
 use Rattle.lists.specs.Tests.{by-test}
 use Rattle.lists.specs.Elements.{all_left, all_right, test_at}
 use Rattle.lists.specs.Sums.{sum-map}
@@ -26,6 +27,8 @@ use Rattle.context.specs.Sizes.{sizes_by, sums_of}
 use Rattle.context.proofs.SizeLaws.{within-past}
 use Rattle.netlist.specs.StepLaws.{equal-last}
 use Rattle.syntax.specs.declared.Statement.{Statement}
+use Rattle.syntax.specs.declared.LineFault.{LineFault}
+use Rattle.syntax.specs.declared.LineFault.TheVariants.{NoShape}
 
 -- two tests, and those behind them
 two : (a b : Bool) → List (ℕ × Bool) → Option ℕ
@@ -102,31 +105,29 @@ behind ss sh m n =
     ∷ (11, eqb n 11 || exceeds_size (m ∷ ss))
     ∷ [])
 
-module _ (ss : Past) (f s : List ℕ) {o : Option Shape} {r : Statement} (J : Judged (wires ss) f s o r) where
-  -- refused before a taken name
-  pub judged-early : (n : ℕ) → number_of r ≡ some n → shaped ss o ≡ Verdict.refused n
-  unfolding shaped judge judge_in verdict early two
-  judged-early n e = rw (J.is, tests-early _ _ _ n (J.early ∙ e))
+-- refused before a taken name
+pub refused-early : (ss : Past) {o : Option Shape} {sh : Shape} {n : ℕ} → o ≡ some sh → early (wires ss) sh ≡ some n → shaped ss o ≡ Verdict.refused n
+unfolding shaped judge judge_in verdict early two
+refused-early ss is e = rw (is, tests-early _ _ _ _ e)
 
-  -- or judged by its name, by what its signals leave, and by the sizes
-  pub judged-late :
-      number_of r ≡ none → shaped ss o ≡ verdict (meaning (wires ss) J.sh) (behind ss J.sh (meaning (wires ss) J.sh) (fault_of r))
+-- or judged by its name, by what its signals leave, and by the sizes
+module _ (ss : Past) (f s : List ℕ) {o : Option Shape} {a : Statement} (J : Judged (wires ss) f s o a) where
+  pub judged-late : shaped ss o ≡ verdict (meaning (wires ss) J.sh) (behind ss J.sh (meaning (wires ss) J.sh) (fault_of a))
   unfolding shaped judge judge_in early two width_fault behind breaks_width fit_widths
-  judged-late e =
+  judged-late =
       let sh = J.sh in
       let ws = wires ss in
-      rw (J.is, tests-late _ _ _ (J.early ∙ e), ← J.width_fault e)
+      rw (J.is, tests-late _ _ _ J.early, ← J.width_fault)
       (ap (verdict (meaning ws sh))
       (tests-behind _ (all (good_slice ws) (all_parts sh)) (equal (map (width ws) (contents sh).signals)) _ (part_too_wide ws sh) (overfull ws sh) _
-      (equal-last (flat_map (step_widths ss) (contents sh).steps) _) (λ g. overfull-exceeds ws sh (early-good ws sh (J.early ∙ e)) g ss)))
+      (equal-last (flat_map (step_widths ss) (contents sh).steps) _) (λ g. overfull-exceeds ws sh (early-good ws sh J.early) g ss)))
 
--- an answer without a number is judged, and any answer is sound
 module _ (ws : Wires) (f s : List ℕ) (o : Option Shape) where
-  pub says-judged : (r : Statement) → number_of r ≡ none → Says ws f s o r → Judged ws f s o r
-  unfolding number_of
-  says-judged r e (no-shape h) = let z : ◌≡◌ {A = ℕ} 0 1 = cc in absurd (omega arith)
-  says-judged r e (judged j) = j
+  pub says-judged : (a : Statement) → Says ws f s o (Ok a) → Judged ws f s o a
+  says-judged a (judged j) = j
 
-  pub says-sound : (r : Statement) → Says ws f s o r → Sound f r
-  says-sound r (no-shape h) = tt
-  says-sound r (judged j) = j.sound
+-- the verdict on an answer without a statement
+pub says-refused : (ss : Past) (f s : List ℕ) (o : Option Shape) (e : LineFault) → Says (wires ss) f s o (Err e) → shaped ss o ≡ Verdict.refused (number_of e)
+unfolding shaped number_of
+says-refused ss f s o NoShape (no-shape h) = rw h
+says-refused ss f s o e (refused i h) = refused-early ss i h

@@ -1,5 +1,5 @@
 -- What the answer about a line says of the rules: the line's shape, its first refusal of 5, 7 and 8, and what it means.
-use Rattle.std.specs.Prelude.{ℕ, ◌+◌, ◌*◌, ◌≤◌, ◌<◌, ◌≡◌, Bool, true, not, cond, ◌&&◌, ◌||◌, eqb, ltb, length, replicate, Option as Optional}
+use Rattle.std.specs.Prelude.{ℕ, ◌+◌, ◌*◌, ◌≤◌, ◌<◌, ◌≡◌, Bool, true, false, not, cond, ◌&&◌, ◌||◌, eqb, ltb, length, replicate, Option as Optional, Result, Ok, Err}
 use mathlib.Core.List.{List, [], ◌∷◌, map, reverse, Option-to_list}
 use Rattle.std.proofs.Math.Option
 use Rattle.std.proofs.Math.Option.{Option, none, some, get_or}
@@ -29,26 +29,15 @@ use Rattle.signals.specs.Held.{Held}
 use Rattle.signals.specs.Reads.{Readable}
 use Rattle.signals.specs.declared.Bits.{Bits}
 use Rattle.syntax.specs.declared.Statement.{Statement}
-use Rattle.syntax.specs.declared.Statement.TheVariants.{Autoidx, Attribute, Module, Parameter, Wire as WireOf, Memory as MemoryOf, Cell, CellParameter, CellConnection, Connection, Step as StepOf, End, NoShape, Process, BadNumber, MissingWire}
+use Rattle.syntax.specs.declared.Statement.TheVariants.{Autoidx, Attribute, Module, Parameter, Wire as WireOf, Memory as MemoryOf, Cell, CellParameter, CellConnection, Connection, Step as StepOf, End, Process}
+use Rattle.syntax.specs.declared.LineFault.{LineFault}
+use Rattle.syntax.specs.declared.LineFault.TheVariants.{NoShape, BadNumber, MissingWire}
 
 -- the number of a refusal
-unfoldable pub number_of : Statement → Option ℕ
-number_of (Autoidx w) = none
-number_of (Attribute n c) = none
-number_of (Module n) = none
-number_of (Parameter n c) = none
-number_of (WireOf n w t k p) = none
-number_of (MemoryOf n w z t) = none
-number_of (Cell k n) = none
-number_of (CellParameter s n c) = none
-number_of (CellConnection n w l) = none
-number_of (Connection a b l) = none
-number_of (StepOf p w n l) = none
-number_of End = none
-number_of NoShape = some 5
-number_of (Process n) = none
-number_of BadNumber = some 7
-number_of MissingWire = some 8
+unfoldable pub number_of : LineFault → ℕ
+number_of NoShape = 5
+number_of BadNumber = 7
+number_of MissingWire = 8
 
 -- the number that comes behind a taken name: of the statements with signals
 unfoldable pub fault_of : Statement → ℕ
@@ -64,10 +53,7 @@ fault_of (CellConnection n w l) = l
 fault_of (Connection a b l) = l
 fault_of (StepOf p w n l) = l
 fault_of End = 0
-fault_of NoShape = 0
 fault_of (Process n) = 0
-fault_of BadNumber = 0
-fault_of MissingWire = 0
 
 -- of a shape: the number before a taken name, and the one behind it but for the sizes of the design and for the width that the lines before it
 -- ask for; the bits of a line are among the sizes, but a line has room for no more
@@ -112,12 +98,9 @@ statement_in f s (CellConnection n w l) = some (rules.cell-conn-stmt (name_in f 
 statement_in f s (Connection a b l) = some (rules.conn-stmt (signal_in s 0 a) (signal_in s 2048 b))
 statement_in f s (StepOf p w n l) = Option.map (λ q. rules.step-stmt q (signals_in s w n)) (step_named p)
 statement_in f s End = some rules.end-stmt
-statement_in f s NoShape = none
 statement_in f s (Process n) = some (rules.proc-stmt (name_in f n))
-statement_in f s BadNumber = none
-statement_in f s MissingWire = none
 
--- an answer's kind and its names; of a refusal they say nothing
+-- an answer's kind and its names
 unfoldable pub kind_in : Statement → rules.Kind
 kind_in (Autoidx w) = rules.an_autoidx
 kind_in (Attribute n c) = rules.an_attribute
@@ -131,10 +114,7 @@ kind_in (CellConnection n w l) = rules.a_cell_connection
 kind_in (Connection a b l) = rules.a_connection
 kind_in (StepOf p w n l) = rules.a_step
 kind_in End = rules.an_end
-kind_in NoShape = rules.a_process
 kind_in (Process n) = rules.a_process
-kind_in BadNumber = rules.a_process
-kind_in MissingWire = rules.a_process
 
 unfoldable pub names_in : List ℕ → Statement → List Name
 names_in f (Autoidx w) = []
@@ -149,10 +129,7 @@ names_in f (CellConnection n w l) = name_in f n ∷ []
 names_in f (Connection a b l) = []
 names_in f (StepOf p w n l) = []
 names_in f End = []
-names_in f NoShape = []
 names_in f (Process n) = name_in f n ∷ []
-names_in f BadNumber = []
-names_in f MissingWire = []
 
 -- its step, if it is one; the widths of its signals, if they are equal
 unfoldable pub steps_of : Statement → List Step
@@ -168,10 +145,7 @@ steps_of (CellConnection n w l) = []
 steps_of (Connection a b l) = []
 steps_of (StepOf p w n l) = Option-to_list (step_named p)
 steps_of End = []
-steps_of NoShape = []
 steps_of (Process n) = []
-steps_of BadNumber = []
-steps_of MissingWire = []
 
 unfoldable pub widths_in : Statement → List ℕ
 widths_in (Autoidx w) = []
@@ -186,10 +160,7 @@ widths_in (CellConnection n w l) = w ∷ []
 widths_in (Connection a b l) = a ∷ b ∷ []
 widths_in (StepOf p w n l) = replicate n w
 widths_in End = []
-widths_in NoShape = []
 widths_in (Process n) = []
-widths_in BadNumber = []
-widths_in MissingWire = []
 
 -- a code that names a step
 abbrev pub Named : ℕ → Type 0
@@ -216,63 +187,66 @@ Sound f (CellConnection n w l) = l ≡ 0 → w ≤ most_width
 Sound f (Connection a b l) = l ≡ 0 → (a ≤ most_width) × (b ≤ most_width)
 Sound f (StepOf p w n l) = (n ≤ longest_file) × Named p × (l ≡ 0 → (w ≤ most_width) × (n * w ≤ most_signal_bits))
 Sound f End = Unit {0}
-Sound f NoShape = Unit {0}
 Sound f (Process n) = Unit {0}
-Sound f BadNumber = Unit {0}
-Sound f MissingWire = Unit {0}
 
--- The line has a shape, which the answer judges: its number; and where it has none, its kind and names, what is left for later, and if that is
--- nothing its meaning
-pub record Judged (ws : Wires) (f s : List ℕ) (o : Option Shape) (r : Statement) : Type 0 where
+-- The line has a shape that no number before a taken name refuses, which the answer states: its kind and names, what is left for later, and if that
+-- is nothing its meaning
+pub record Judged (ws : Wires) (f s : List ℕ) (o : Option Shape) (a : Statement) : Type 0 where
   pub sh : Shape
   pub is : o ≡ some sh
-  pub early : early ws sh ≡ number_of r
-  pub kind : number_of r ≡ none → (contents sh).kind ≡ kind_in r
-  pub names : number_of r ≡ none → (contents sh).names ≡ names_in f r
-  pub steps : number_of r ≡ none → (contents sh).steps ≡ steps_of r
-  pub widths : number_of r ≡ none → (fault_of r ≡ 10 → ⊥) → map (width ws) (contents sh).signals ≡ widths_in r
-  pub sound : Sound f r
-  pub width_fault : number_of r ≡ none → width_fault ws sh ≡ fault_of r
-  pub means : number_of r ≡ none → fault_of r ≡ 0 → statement_in f s r ≡ some (meaning ws sh)
+  pub early : early ws sh ≡ none
+  pub kind : (contents sh).kind ≡ kind_in a
+  pub names : (contents sh).names ≡ names_in f a
+  pub steps : (contents sh).steps ≡ steps_of a
+  pub widths : (fault_of a ≡ 10 → ⊥) → map (width ws) (contents sh).signals ≡ widths_in a
+  pub sound : Sound f a
+  pub width_fault : width_fault ws sh ≡ fault_of a
+  pub means : fault_of a ≡ 0 → statement_in f s a ≡ some (meaning ws sh)
 
--- an answer about a line: it has no shape, or it is judged
-pub data Says (ws : Wires) (f s : List ℕ) (o : Option Shape) : Statement → Type 0 where
-  no-shape : o ≡ none → Says ws f s o NoShape
-  judged : {r : Statement} → Judged ws f s o r → Says ws f s o r
+-- an answer about a line: it has no shape, its shape is refused with a number before a taken name, or it is judged
+pub data Says (ws : Wires) (f s : List ℕ) (o : Option Shape) : Result Statement LineFault → Type 0 where
+  no-shape : o ≡ none → Says ws f s o (Err NoShape)
+  refused : {sh : Shape} {e : LineFault} → o ≡ some sh → early ws sh ≡ some (number_of e) → Says ws f s o (Err e)
+  judged : {a : Statement} → Judged ws f s o a → Says ws f s o (Ok a)
 
 -- a line without signals: whatever the wires and the scratch table are; a wire's line
-abbrev pub PlainIs : List ℕ → Option Shape → Statement → Type 0
+abbrev pub PlainIs : List ℕ → Option Shape → Result Statement LineFault → Type 0
 PlainIs f o r = (ws : Wires) (s : List ℕ) → Says ws f s o r
 
 -- a form's constant, if it is a string, has its end
 abbrev pub WholeForm : List ℕ → Form → Type 0
 WholeForm f x = FormHolds (Whole f) x
 
-abbrev pub FormIs : List ℕ → Form → Statement → Type 0
+-- a constant that keeps the number rules, or is refused
+abbrev pub GoodIs : List ℕ → ConstantSpan → Result (Unit {0}) LineFault → Type 0
+GoodIs f c (Ok u) = good_literal (literal_in f c) ≡ true
+GoodIs f c (Err e) = (good_literal (literal_in f c) ≡ false) × (e ≡ BadNumber)
+
+abbrev pub FormIs : List ℕ → Form → Result Statement LineFault → Type 0
 FormIs f x r = WholeForm f x → PlainIs f (form_of f x) r
 
-abbrev pub WireIs : (f t wires : List ℕ) (first count : ℕ) → Statement → Type 0
+abbrev pub WireIs : (f t wires : List ℕ) (first count : ℕ) → Result Statement LineFault → Type 0
 WireIs f t wires first count r = (names s : List ℕ) → Says (wires_from names wires first count) f s (kind_of f t kind.Wire) r
 
 -- the line in its context
-abbrev pub StatementIs : Place → (f t : List ℕ) → Wires → (s : List ℕ) → Statement → Type 0
+abbrev pub StatementIs : Place → (f t : List ℕ) → Wires → (s : List ℕ) → Result Statement LineFault → Type 0
 StatementIs p f t ws s r = Says ws f s (shapes.shape (context_of p) (line f t 0)) r
 
-abbrev pub ModuleIs : Bool → (f t : List ℕ) → Wires → (s : List ℕ) → Statement → Type 0
+abbrev pub ModuleIs : Bool → (f t : List ℕ) → Wires → (s : List ℕ) → Result Statement LineFault → Type 0
 ModuleIs attributed f t ws s r =
     (first : Bool) → Says ws f s (shapes.shape (record { scope = shapes.in_module; first = first; attributed = attributed }) (line f t 0)) r
 
-abbrev pub CellIs : (f t : List ℕ) → Wires → (s : List ℕ) → Statement → Type 0
+abbrev pub CellIs : (f t : List ℕ) → Wires → (s : List ℕ) → Result Statement LineFault → Type 0
 CellIs f t ws s r =
     (first attributed : Bool) →
     Says ws f s (shapes.shape (record { scope = shapes.in_cell; first = first; attributed = attributed }) (line f t 0)) r
 
 -- a statement whose signals' parts have this number
-unfoldable pub faulted : ℕ → Statement → Statement
-faulted n r = cond (eqb n 7) BadNumber (cond (eqb n 8) MissingWire r)
+unfoldable pub faulted : ℕ → Statement → Result Statement LineFault
+faulted n a = cond (eqb n 7) (Err BadNumber) (cond (eqb n 8) (Err MissingWire) (Ok a))
 
 -- the connection of two signals in the scratch table, whatever they are
-abbrev pub ConnectedIs : Bits → Bits → Statement → Type 0
+abbrev pub ConnectedIs : Bits → Bits → Result Statement LineFault → Type 0
 ConnectedIs a b r =
     (ws : Wires) (f s : List ℕ) (x y : rules.Sig) → Held ws x 0 s a → Held ws y 2048 s b → Says ws f s (some (rules.conn-stmt x y)) r
 

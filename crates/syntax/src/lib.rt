@@ -11,7 +11,7 @@ ghost use Rattle.line_forms.specs.declared.CellKind.TheVariants as cell_kind;
 ghost use Rattle.line_forms.specs.declared.Form.TheVariants as form;
 ghost use Rattle.line_forms.specs.declared.Kind.TheVariants as kind;
 ghost use Rattle.line_forms.specs.declared.ProcessKind.TheVariants as process_kind;
-ghost use Rattle.syntax.specs.Statements.{FormIs, PlainIs, WireIs, faulted, ConnectedIs, Says, ModuleIs, CellIs, StatementIs, Ready};
+ghost use Rattle.syntax.specs.Statements.{number_of, GoodIs, FormIs, PlainIs, WireIs, faulted, ConnectedIs, Says, ModuleIs, CellIs, StatementIs, Ready};
 
 use context::place::{IN_CELL, IN_MODULE, Place, TOP};
 use context::steps::CASE_STEP;
@@ -21,7 +21,7 @@ use line_forms::{
     top_line,
 };
 use literal_rules::{good_literal, integer_of};
-use netlist::results::{BAD_NUMBER, BAD_WIDTH, NOT_THERE};
+use netlist::results::{BAD_NUMBER, BAD_WIDTH, NO_SHAPE, NOT_THERE};
 use option_rules::{memory_rules, wire_rules};
 use options::{memory_line, wire_line};
 use scanner::parts::Span;
@@ -43,7 +43,28 @@ const SIGNAL_DEPTH: usize = 16;
 // Where the right signal of a connection starts in the scratch table.
 pub const RIGHT_SIGNAL: usize = 2048;
 
-// A line's statement, or its first refusal of 5, 7 and 8. Offsets and the number of `autoidx` are words in two's complement.
+// What a line is refused with before its name is looked up: it has no shape, a number breaks its rule, or a wire is not there.
+#[derive(Clone, Copy, PartialEq, Eq)]
+pub enum LineFault {
+    NoShape,
+    BadNumber,
+    MissingWire,
+}
+
+// The number of a refusal.
+impl From<LineFault> for u32 {
+    ghost from_gives = { λ fault n. n ≡ number_of fault };
+
+    fn from(fault: LineFault) -> u32 {
+        match fault {
+            LineFault::NoShape => NO_SHAPE,
+            LineFault::BadNumber => BAD_NUMBER,
+            LineFault::MissingWire => NOT_THERE,
+        }
+    }
+}
+
+// A line's statement. Offsets and the number of `autoidx` are words in two's complement.
 #[derive(Clone, Copy)]
 pub enum Statement {
     Autoidx(u32),
@@ -96,111 +117,109 @@ pub enum Statement {
         fault: u32,
     },
     End,
-    NoShape,
     Process(Span),
-    BadNumber,
-    MissingWire,
 }
 
-fn parameter_statement(f: &[u8], name: Span, value: Option<ConstantSpan>) -> Statement
+// A constant that keeps the number rules.
+fn good_constant(f: &[u8], c: ConstantSpan) -> Result<(), LineFault>
+    ensures { GoodIs f.now c result }
+{
+    if good_literal(f, c) {
+        return Ok(());
+    }
+    Err(LineFault::BadNumber)
+}
+
+fn parameter_statement(
+    f: &[u8],
+    name: Span,
+    value: Option<ConstantSpan>,
+) -> Result<Statement, LineFault>
     ensures { FormIs f.now (form.Parameter name value) result }
 {
-    let Some(c) = value else {
-        return Statement::Parameter { name, value };
-    };
-    if good_literal(f, c) {
-        return Statement::Parameter { name, value };
+    if let Some(c) = value {
+        good_constant(f, c)?;
     }
-    Statement::BadNumber
+    Ok(Statement::Parameter { name, value })
 }
 
 // The statement of a line of fixed shape.
-fn form_statement(f: &[u8], form: Form) -> Statement
+fn form_statement(f: &[u8], form: Form) -> Result<Statement, LineFault>
     ensures { FormIs f.now form result }
 {
     match form {
         Form::Autoidx(z) => {
-            let Some(w) = integer_of(f, z) else {
-                return Statement::BadNumber;
-            };
-            Statement::Autoidx(w)
+            let word = integer_of(f, z).ok_or(LineFault::BadNumber)?;
+            Ok(Statement::Autoidx(word))
         }
         Form::Attribute { name, value } => {
-            if good_literal(f, value) {
-                return Statement::Attribute { name, value };
-            }
-            Statement::BadNumber
+            good_constant(f, value)?;
+            Ok(Statement::Attribute { name, value })
         }
-        Form::Module(name) => Statement::Module(name),
+        Form::Module(name) => Ok(Statement::Module(name)),
         Form::Parameter { name, value } => parameter_statement(f, name, value),
-        Form::Cell { kind, name } => Statement::Cell { kind, name },
+        Form::Cell { kind, name } => Ok(Statement::Cell { kind, name }),
         Form::CellParameter { sort, name, value } => {
-            if good_literal(f, value) {
-                return Statement::CellParameter { sort, name, value };
-            }
-            Statement::BadNumber
+            good_constant(f, value)?;
+            Ok(Statement::CellParameter { sort, name, value })
         }
-        Form::Process(name) => Statement::Process(name),
-        Form::End => Statement::End,
+        Form::Process(name) => Ok(Statement::Process(name)),
+        Form::End => Ok(Statement::End),
     }
 }
 
-fn memory_statement(f: &[u8], tokens: &[u32]) -> Statement
+fn memory_statement(f: &[u8], tokens: &[u32]) -> Result<Statement, LineFault>
     ensures { PlainIs f.now (kind_of f.now tokens.now kind.Memory) result }
 {
-    let Some(line) = memory_line(tokens, 1) else {
-        return Statement::NoShape;
-    };
-    let Some(rules) = memory_rules(f, line.options) else {
-        return Statement::BadNumber;
-    };
-    Statement::Memory {
+    let line = memory_line(tokens, 1).ok_or(LineFault::NoShape)?;
+    let rules = memory_rules(f, line.options).ok_or(LineFault::BadNumber)?;
+    Ok(Statement::Memory {
         name: line.name,
         width: rules.width,
         size: rules.size,
         offset: rules.offset,
-    }
+    })
 }
 
 // Without a port the flags are below 4.
-fn wire_statement(f: &[u8], tokens: &[u32], wires: &[u32], first: u32, count: u32) -> Statement
+fn wire_statement(
+    f: &[u8],
+    tokens: &[u32],
+    wires: &[u32],
+    first: u32,
+    count: u32,
+) -> Result<Statement, LineFault>
     ensures { WireIs f.now tokens.now wires.now first count result }
 {
-    let Some(line) = wire_line(tokens, 1) else {
-        return Statement::NoShape;
-    };
-    let Some(rules) = wire_rules(f, line.options) else {
-        return Statement::BadNumber;
-    };
-    if MOST_PLAIN_FLAGS < rules.flags {
-        if port_taken(wires, first, count, rules.port) {
-            return Statement::BadNumber;
-        }
+    let line = wire_line(tokens, 1).ok_or(LineFault::NoShape)?;
+    let rules = wire_rules(f, line.options).ok_or(LineFault::BadNumber)?;
+    if MOST_PLAIN_FLAGS < rules.flags && port_taken(wires, first, count, rules.port) {
+        return Err(LineFault::BadNumber);
     }
-    Statement::Wire {
+    Ok(Statement::Wire {
         name: line.name,
         width: rules.width,
         offset: rules.offset,
         flags: rules.flags,
         port: rules.port,
-    }
+    })
 }
 
 // A signal's fault of 7 or 8 refuses its statement.
-fn refused(fault: u32, statement: Statement) -> Statement
+fn refused(fault: u32, statement: Statement) -> Result<Statement, LineFault>
     ensures { result ≡ faulted fault statement }
 {
     if fault == BAD_NUMBER {
-        return Statement::BadNumber;
+        return Err(LineFault::BadNumber);
     }
     if fault == NOT_THERE {
-        return Statement::MissingWire;
+        return Err(LineFault::MissingWire);
     }
-    statement
+    Ok(statement)
 }
 
 // A module's connection of two signals; unequal widths leave 10.
-fn connected(left: Bits, right: Bits) -> Statement
+fn connected(left: Bits, right: Bits) -> Result<Statement, LineFault>
     ensures { ConnectedIs left right result }
 {
     let signals = merge(left.fault, right.fault);
@@ -230,12 +249,12 @@ fn connection_statement(
     scratch: &mut [u32],
     heads: &[u32],
     chain: &[u32],
-) -> Statement
+) -> Result<Statement, LineFault>
     requires ready { Ready f.now tokens.now scratch.old scope.count }
     requires wires_indexed { WiresIndexed heads.now chain.now names.now wires.now (scope.first + scope.count) }
     ensures { Says (wires_from names.now wires.now scope.first scope.count) f.now scratch.new (kind_of f.now tokens.now kind.Connect) result }
 {
-    let Some(left) = signal(
+    let left = signal(
         f,
         tokens,
         1,
@@ -247,10 +266,9 @@ fn connection_statement(
         0,
         heads,
         chain,
-    ) else {
-        return Statement::NoShape;
-    };
-    let Some(right) = signal(
+    )
+    .ok_or(LineFault::NoShape)?;
+    let right = signal(
         f,
         tokens,
         left.next,
@@ -262,11 +280,10 @@ fn connection_statement(
         RIGHT_SIGNAL,
         heads,
         chain,
-    ) else {
-        return Statement::NoShape;
-    };
+    )
+    .ok_or(LineFault::NoShape)?;
     if right.next < tokens.len() / TOKEN_SIZE {
-        return Statement::NoShape;
+        return Err(LineFault::NoShape);
     }
     connected(left.bits, right.bits)
 }
@@ -280,15 +297,13 @@ fn cell_connection_statement(
     scratch: &mut [u32],
     heads: &[u32],
     chain: &[u32],
-) -> Statement
+) -> Result<Statement, LineFault>
     requires ready { Ready f.now tokens.now scratch.old scope.count }
     requires wires_indexed { WiresIndexed heads.now chain.now names.now wires.now (scope.first + scope.count) }
     ensures { Says (wires_from names.now wires.now scope.first scope.count) f.now scratch.new (cell_kind_of f.now tokens.now cell_kind.Connect) result }
 {
-    let Some(name) = id_at(tokens, 1) else {
-        return Statement::NoShape;
-    };
-    let Some(read) = signal(
+    let name = id_at(tokens, 1).ok_or(LineFault::NoShape)?;
+    let read = signal(
         f,
         tokens,
         2,
@@ -300,11 +315,10 @@ fn cell_connection_statement(
         0,
         heads,
         chain,
-    ) else {
-        return Statement::NoShape;
-    };
+    )
+    .ok_or(LineFault::NoShape)?;
     if read.next < tokens.len() / TOKEN_SIZE {
-        return Statement::NoShape;
+        return Err(LineFault::NoShape);
     }
     let bits = read.bits;
     refused(
@@ -327,19 +341,19 @@ fn module_statement(
     scratch: &mut [u32],
     heads: &[u32],
     chain: &[u32],
-) -> Statement
+) -> Result<Statement, LineFault>
     requires ready { Ready f.now tokens.now scratch.old scope.count }
     requires wires_indexed { WiresIndexed heads.now chain.now names.now wires.now (scope.first + scope.count) }
     ensures { ModuleIs attributed f.now tokens.now (wires_from names.now wires.now scope.first scope.count) scratch.new result }
 {
-    match module_line_kind(tokens, attributed) {
-        Some(Kind::Form(form)) => form_statement(f, form),
-        Some(Kind::Wire) => wire_statement(f, tokens, wires, scope.first, scope.count),
-        Some(Kind::Memory) => memory_statement(f, tokens),
-        Some(Kind::Connect) => connection_statement(
+    let kind = module_line_kind(tokens, attributed).ok_or(LineFault::NoShape)?;
+    match kind {
+        Kind::Form(form) => form_statement(f, form),
+        Kind::Wire => wire_statement(f, tokens, wires, scope.first, scope.count),
+        Kind::Memory => memory_statement(f, tokens),
+        Kind::Connect => connection_statement(
             f, tokens, names, wires, scope, scratch, heads, chain,
         ),
-        None => Statement::NoShape,
     }
 }
 
@@ -352,17 +366,17 @@ fn cell_statement(
     scratch: &mut [u32],
     heads: &[u32],
     chain: &[u32],
-) -> Statement
+) -> Result<Statement, LineFault>
     requires ready { Ready f.now tokens.now scratch.old scope.count }
     requires wires_indexed { WiresIndexed heads.now chain.now names.now wires.now (scope.first + scope.count) }
     ensures { CellIs f.now tokens.now (wires_from names.now wires.now scope.first scope.count) scratch.new result }
 {
-    match cell_line_kind(tokens) {
-        Some(CellKind::Form(form)) => form_statement(f, form),
-        Some(CellKind::Connect) => cell_connection_statement(
+    let kind = cell_line_kind(tokens).ok_or(LineFault::NoShape)?;
+    match kind {
+        CellKind::Form(form) => form_statement(f, form),
+        CellKind::Connect => cell_connection_statement(
             f, tokens, names, wires, scope, scratch, heads, chain,
         ),
-        None => Statement::NoShape,
     }
 }
 
@@ -378,20 +392,19 @@ fn step_statement(
     scratch: &mut [u32],
     heads: &[u32],
     chain: &[u32],
-) -> Statement
+) -> Result<Statement, LineFault>
     requires ready { Ready f.now tokens.now scratch.old scope.count }
     requires wires_indexed { WiresIndexed heads.now chain.now names.now wires.now (scope.first + scope.count) }
     requires step_from { StepFrom tokens.now step from }
     ensures { Says (wires_from names.now wires.now scope.first scope.count) f.now scratch.new (process_kind_of f.now tokens.now (process_kind.Step step from)) result }
 {
     let comma = step == CASE_STEP;
-    let Some(list) = signals_from(
+    let list = signals_from(
         f, tokens, from, comma, names, wires, scope, scratch, heads, chain,
-    ) else {
-        return Statement::NoShape;
-    };
+    )
+    .ok_or(LineFault::NoShape)?;
     if !arity_fits(step, list.count as u32) {
-        return Statement::NoShape;
+        return Err(LineFault::NoShape);
     }
     refused(
         list.fault,
@@ -415,18 +428,20 @@ fn process_statement(
     scratch: &mut [u32],
     heads: &[u32],
     chain: &[u32],
-) -> Statement
+) -> Result<Statement, LineFault>
     requires ready { Ready f.now tokens.now scratch.old scope.count }
     requires wires_indexed { WiresIndexed heads.now chain.now names.now wires.now (scope.first + scope.count) }
     requires inside { Inside place.scope }
     ensures { StatementIs place f.now tokens.now (wires_from names.now wires.now scope.first scope.count) scratch.new result }
 {
-    match process_line_kind(tokens, place.scope, place.depth, place.attributed) {
-        Some(ProcessKind::Form(form)) => form_statement(f, form),
-        Some(ProcessKind::Step { step, from }) => step_statement(
+    let kind = process_line_kind(tokens, place.scope, place.depth, place.attributed).ok_or(
+        LineFault::NoShape,
+    )?;
+    match kind {
+        ProcessKind::Form(form) => form_statement(f, form),
+        ProcessKind::Step { step, from } => step_statement(
             f, tokens, step, from, names, wires, scope, scratch, heads, chain,
         ),
-        None => Statement::NoShape,
     }
 }
 
@@ -441,15 +456,13 @@ pub fn line_statement(
     scratch: &mut [u32],
     heads: &[u32],
     chain: &[u32],
-) -> Statement
+) -> Result<Statement, LineFault>
     requires ready { Ready f.now tokens.now scratch.old scope.count }
     requires wires_indexed { WiresIndexed heads.now chain.now names.now wires.now (scope.first + scope.count) }
     ensures { StatementIs place f.now tokens.now (wires_from names.now wires.now scope.first scope.count) scratch.new result }
 {
     if place.scope == TOP {
-        let Some(form) = top_line(tokens, place.first) else {
-            return Statement::NoShape;
-        };
+        let form = top_line(tokens, place.first).ok_or(LineFault::NoShape)?;
         return form_statement(f, form);
     }
     if place.scope == IN_MODULE {

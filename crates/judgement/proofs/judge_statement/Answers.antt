@@ -1,35 +1,23 @@
 -- The tests in the order of their numbers.
-use mathlib.Core.Path.{sym, ap, subst, ◌∙◌}
+use mathlib.Core.Path.{sym, subst, ◌∙◌}
 use native.Mathlib.Omega.{arith}
 use borrow.Author.Tests.{not-true, not-false}
-use Rattle.rules.specs.Judgement.{Verdict}
 use Rattle.context.specs.Sizes.{exceeds}
 use Rattle.context.proofs.SizeLaws.{within-limits, within-small}
 use Rattle.context.specs.declared.sizes.Sizes.{Sizes}
-use Rattle.judgement.specs.declared.Parts.{Parts}
 use Rattle.judgement.specs.Judged.{Accepts}
-use Rattle.judgement.proofs.PartLaws.{no_number, parts-coded, merged-none}
-use Rattle.judgement.proofs.Verdicts.{number-refused, taken_refused, fault-is, fault-refused, sizes-refused, accepted}
+use Rattle.judgement.proofs.PartLaws.{parts-coded, merged-none}
+use Rattle.judgement.proofs.Verdicts.{taken_refused, fault-is, fault-refused, sizes-refused, accepted}
 use Rattle.judgement.proofs.judge_statement.Goals as goal
-
-pub returns-then-parts-ne0 : goal.returns-then-parts-ne0
-returns-then-parts-ne0 c =
-    let args = c.args in
-    let parts-of = c.parts_of-parts in record {
-      storable = tt;
-      judges_as = λ ss ws s o st room says. number-refused ss args.f.now s args.names.now ws args.rows.now o
-          args.statement args.place args.sums st says (rw parts-of.ensures at c.if-parts-ne0.true)
-          ∙ ap (λ (q : Parts). Verdict.refused q.number) (sym parts-of.ensures);
-    }
 
 pub returns-then-name_is_taken : goal.returns-then-name_is_taken
 returns-then-name_is_taken c =
     let args = c.args in
     let parts-of = c.parts_of-parts in
-    let if1 = c.if-parts-ne0 in record {
+    record {
       storable = tt;
       judges_as = λ ss ws s o st room says. taken_refused ss args.f.now s args.names.now ws args.rows.now o
-          args.statement args.place args.sums st says (rw parts-of.ensures at if1.false)
+          args.statement args.place args.sums st says
           (sym c.name_is_taken.ensures ∙ c.if-name_is_taken.true);
     }
 
@@ -43,14 +31,13 @@ pub returns-then-fault-ne0 : goal.returns-then-fault-ne0
 returns-then-fault-ne0 c =
     let args = c.args in
     let parts-of = c.parts_of-parts in
-    let if1 = c.if-parts-ne0 in
     let name-is-taken = c.name_is_taken in
     let if2 = c.if-name_is_taken in
     let uneven = c.uneven in
     let merge = c.merge-fault in record {
       storable = tt;
       judges_as = λ ss ws s o st room says. fault-refused ss args.f.now s args.names.now ws args.rows.now o
-          args.statement args.place args.sums st says (rw parts-of.ensures at if1.false)
+          args.statement args.place args.sums st says
           (sym name-is-taken.ensures ∙ if2.false) _
           (fault-is st args.statement parts-of.ensures uneven.ensures merge.ensures)
           c.if-fault-ne0.true;
@@ -60,10 +47,9 @@ pub statement_sizes-requires : goal.statement_sizes-requires
 statement_sizes-requires c =
     let pre = c.requires in
     let parts-of = c.parts_of-parts in
-    let if1 = c.if-parts-ne0 in record {
+    record {
       f_len_bound = pre.f_len_bound;
-      statement_value = no_number _ (rw parts-of.ensures at if1.false);
-      statement_value_2 = merged-none _ parts-of.result _ _ parts-of.ensures c.merge-fault.ensures c.if-fault-ne0.false;
+      statement_value = merged-none _ parts-of.result _ _ parts-of.ensures c.merge-fault.ensures c.if-fault-ne0.false;
       sound = pre.sound;
     }
 
@@ -78,7 +64,6 @@ returns-then-within c =
     let pre = c.requires in
     let args = c.args in
     let parts-of = c.parts_of-parts in
-    let if1 = c.if-parts-ne0 in
     let name-is-taken = c.name_is_taken in
     let if2 = c.if-name_is_taken in
     let uneven = c.uneven in
@@ -93,7 +78,7 @@ returns-then-within c =
       );
       judges_as = λ ss ws s o st room says. subst (λ (u : Sizes). Accepts ss o args.f.now s args.statement u) (sym plus.ensures)
           (accepted ss args.f.now s args.names.now ws args.rows.now o args.statement args.place
-          args.sums st says (rw parts-of.ensures at if1.false) (sym name-is-taken.ensures ∙ if2.false)
+          args.sums st says (sym name-is-taken.ensures ∙ if2.false)
           (sym (fault-is st args.statement parts-of.ensures uneven.ensures merge.ensures) ∙ if3.false)
           statement-sizes.result room statement-sizes.ensures.sizes_are
           (rw plus.ensures at (not-true (exceeds plus.result) (sym c.within.ensures ∙ c.if-within.true))));
@@ -103,7 +88,6 @@ pub returns : goal.returns
 returns c =
     let args = c.args in
     let parts-of = c.parts_of-parts in
-    let if1 = c.if-parts-ne0 in
     let name-is-taken = c.name_is_taken in
     let if2 = c.if-name_is_taken in
     let uneven = c.uneven in
@@ -113,7 +97,7 @@ returns c =
     let plus = c.plus-sums in record {
       storable = tt;
       judges_as = λ ss ws s o st room says. sizes-refused ss args.f.now s args.names.now ws args.rows.now o
-          args.statement args.place args.sums st says (rw parts-of.ensures at if1.false)
+          args.statement args.place args.sums st says
           (sym name-is-taken.ensures ∙ if2.false)
           (sym (fault-is st args.statement parts-of.ensures uneven.ensures merge.ensures) ∙ if3.false)
           statement-sizes.result room statement-sizes.ensures.sizes_are

@@ -50,18 +50,6 @@ pub returns-in-End : goal.returns-in-End
 unfolding parts_of
 returns-in-End c = rw c.in-End.is (rw c.no_name-empty.ensures at c.named-in-End.ensures)
 
-pub returns-in-NoShape : goal.returns-in-NoShape
-unfolding parts_of
-returns-in-NoShape c = rw c.in-NoShape.is c.refusing.ensures
-
 pub returns-in-Process : goal.returns-in-Process
 unfolding parts_of
 returns-in-Process c = rw c.in-Process.is (rw c.no_name-empty.ensures at c.named-in-Process.ensures)
-
-pub returns-in-BadNumber : goal.returns-in-BadNumber
-unfolding parts_of
-returns-in-BadNumber c = rw c.in-BadNumber.is c.refusing-in-BadNumber.ensures
-
-pub returns-in-MissingWire : goal.returns-in-MissingWire
-unfolding parts_of
-returns-in-MissingWire c = rw c.in-MissingWire.is c.refusing-in-MissingWire.ensures

@@ -26,7 +26,7 @@ pub signal_bits-requires : goal.signal_bits-requires
 signal_bits-requires c =
     let args = c.args in
     let pre = c.requires in
-    parts-narrow args.f.now _ _ c.parts_of-parts.ensures pre.sound pre.statement_value_2
+    parts-narrow args.f.now _ _ c.parts_of-parts.ensures pre.sound pre.statement_value
 
 pub value_bits-requires : goal.value_bits-requires
 value_bits-requires c =
@@ -43,10 +43,10 @@ returns c =
     let span-size2 = c.span_size-2 in
     let signal-bits = c.signal_bits in
     let value-bits = c.value_bits in record {
-      sizes_are = sizes-are args.f.now _ _ _ _ _ _ _ _ _ parts-of.ensures pre.sound pre.statement_value_2 refl signal-bits.ensures
+      sizes_are = sizes-are args.f.now _ _ _ _ _ _ _ _ _ parts-of.ensures pre.sound pre.statement_value refl signal-bits.ensures
           value-bits.ensures c.string_bytes.ensures span-size.ensures span-size2.ensures
           (kind-sizes-are _ _ _ _ _ _ _ c.kind_sizes.ensures);
-      at_most = sizes-few args.f.now _ _ _ _ _ _ _ _ _ parts-of.ensures pre.sound pre.statement_value_2 refl signal-bits.ensures
+      at_most = sizes-few args.f.now _ _ _ _ _ _ _ _ _ parts-of.ensures pre.sound pre.statement_value refl signal-bits.ensures
           value-bits.ensures c.string_bytes.ensures span-size.ensures span-size2.ensures
-          (kind-sizes-are _ _ _ _ _ _ _ c.kind_sizes.ensures) pre.statement_value pre.f_len_bound;
+          (kind-sizes-are _ _ _ _ _ _ _ c.kind_sizes.ensures) pre.f_len_bound;
     }

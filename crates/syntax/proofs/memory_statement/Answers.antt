@@ -1,25 +1,25 @@
 -- By the options.
+use Rattle.syntax.proofs.ShapeLaws.{left_by}
 use Rattle.line_forms.specs.Forms.{kind_of, name_in}
 use Rattle.syntax.proofs.Objects.{memory-bad, memory-stated}
-use Rattle.syntax.specs.Statements.{no-shape, judged}
+use Rattle.syntax.specs.Statements.{no-shape}
 use Rattle.syntax.proofs.memory_statement.Goals as goal
 
-pub returns-in_default : goal.returns-in_default
+pub returns-in_err-line : goal.returns-in_err-line
 unfolding kind_of name_in
-returns-in_default c ws s = no-shape (rw c.in_default.is at (c.memory_line.ensures c.args.f.now))
+returns-in_err-line c ws s =
+    let e = c.in_err-line.ensures in
+    left_by c.from_residual.ensures e.value e.ok_part (no-shape (rw e.ok_part at (c.memory_line.ensures c.args.f.now)))
 
-pub returns-in_default-memory_rules : goal.returns-in_default-memory_rules
+pub returns-in_err-rules : goal.returns-in_err-rules
 unfolding kind_of name_in
-returns-in_default-memory_rules c ws s =
-    let g = rw c.in-Some.is at (c.memory_line.ensures c.args.f.now) in
-    rw g.1 (judged (memory-bad ws _ s g.0 _ (rw c.in_default-memory_rules.is at (c.memory_rules.ensures g.0 g.2))))
+returns-in_err-rules c ws s =
+    let e = c.in_err-rules.ensures in
+    let g = rw c.in_ok-line.ensures.ok_part at (c.memory_line.ensures c.args.f.now) in
+    left_by c.from_residual-in_err-rules.ensures e.value e.ok_part (rw g.1 (memory-bad ws _ s g.0 _ (rw e.ok_part at (c.memory_rules.ensures g.0 g.2))))
 
 pub returns : goal.returns
 unfolding kind_of name_in
 returns c ws s =
-    let args = c.args in
-    let memory-line = c.memory_line in
-    let memory-rules = c.memory_rules in
-    let g = rw c.in-Some.is at (memory-line.ensures args.f.now) in
-    rw g.1
-    (judged (memory-stated ws _ s g.0 _ (rw c.in-Some-memory_rules.is at (memory-rules.ensures g.0 g.2))))
+    let g = rw c.in_ok-line.ensures.ok_part at (c.memory_line.ensures c.args.f.now) in
+    rw g.1 (memory-stated ws _ s g.0 _ (rw c.in_ok-rules.ensures.ok_part at (c.memory_rules.ensures g.0 g.2)))

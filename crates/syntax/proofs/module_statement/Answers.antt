@@ -1,16 +1,17 @@
 -- By the kind of line.
 use Rattle.line_forms.specs.Forms.{kind_of}
 use Rattle.syntax.specs.Statements.{no-shape}
-use Rattle.syntax.proofs.ShapeLaws.{form-whole}
+use Rattle.syntax.proofs.ShapeLaws.{form-whole, left_by}
 use Rattle.syntax.proofs.module_statement.Goals as goal
 
-pub returns-in-Some-Form : goal.returns-in-Some-Form
-unfolding kind_of
-returns-in-Some-Form c first =
-    rw (c.module_line_kind.ensures.0 c.args.f.now first, c.in-Some-Form.is, c.in-Some-Form.field-0-is)
-    (c.form_statement.ensures
-    (form-whole _ _ c.requires.ready.rows.closed c.in-Some-Form.form (rw (c.in-Some-Form.is, c.in-Some-Form.field-0-is) at c.module_line_kind.ensures.1))
-    _ _)
+pub returns-in_err-kind : goal.returns-in_err-kind
+returns-in_err-kind c first =
+    let e = c.in_err-kind.ensures in
+    left_by c.from_residual.ensures e.value e.ok_part (no-shape (rw e.ok_part at (c.module_line_kind.ensures.0 c.args.f.now first)))
 
-pub returns-in-None : goal.returns-in-None
-returns-in-None c first = no-shape (rw c.in-None.is at (c.module_line_kind.ensures.0 c.args.f.now first))
+pub returns-in-Form : goal.returns-in-Form
+unfolding kind_of
+returns-in-Form c first =
+    let k = c.in_ok-kind.ensures.ok_part in
+    rw (c.module_line_kind.ensures.0 c.args.f.now first, k, c.in-Form.is)
+    (c.form_statement.ensures (form-whole _ _ c.requires.ready.rows.closed c.in-Form.form (rw (k, c.in-Form.is) at c.module_line_kind.ensures.1)) _ _)
