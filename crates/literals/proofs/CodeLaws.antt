@@ -5,8 +5,8 @@ use mathlib.Core.Bool.{true}
 use mathlib.Core.List.{List, [], ◌∷◌, ◌++◌, map, map-append, flat_map, reverse, reverse-cons, reverse-append, reverse-reverse, map-map}
 use Prim.Native.Nat.{ℕ, ◌+◌, ◌-◌, ◌*◌, ◌/◌, ◌%◌, ◌^◌, ◌≤◌, ◌<◌}
 use native.Mathlib.Omega.{arith}
-use lib.ListN.{length, get_or, take, replicate, length-append, length-map, length-replicate, length-reverse, get_or-replicate, get_or-append}
-use lib.Seq.{length-take-le, take_all, get_or-append-add}
+use lib.ListN.{length, get_or, take, replicate, length-append, length-map, length-replicate, length-reverse}
+use lib.Seq.{length-take-le, take_all}
 use lib.IntN.{ℤ}
 use Rattle.std.proofs.lemmas.Slice.{put_mid-paste}
 use borrow.Rule.Slice.PartMut.{put_mid}
@@ -19,7 +19,7 @@ use Rattle.rules.specs.Layout.{digit_code}
 use Rattle.numbers.specs.SignedLaws.{binary-length, binary-at}
 use Rattle.literal_rules.proofs.ReadLaws.{literal-long}
 use Rattle.literals.specs.Codes.{codes, word_codes, filled_codes, filler_code}
-use Rattle.lists.specs.Lists.{flat_map-snoc, get_d_reverse, map_at, map-replicate, map-reverse, flat_map-more}
+use Rattle.lists.specs.Lists.{flat_map-snoc, get_d_reverse, map-replicate, map-reverse, flat_map-more}
 use Rattle.lists.specs.Sums.{length-equal}
 use Rattle.lists.specs.Elements.{each_all}
 

@@ -1,6 +1,5 @@
 -- A turn takes a token and puts it into the next row.
 use mathlib.Core.Path.{refl}
-use native.Mathlib.Omega.{arith}
 use Rattle.std.specs.Prelude.{None, Ok}
 use Rattle.std.proofs.lemmas.Result.{err_from_is_err_and}
 use Rattle.lexer.proofs.Reached.{start, told, step-on, ended, broke}

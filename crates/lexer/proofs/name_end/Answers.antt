@@ -1,6 +1,6 @@
 -- The invariant: from i on the name ends where it ends from p on.
 -- Assumes nothing.
-use mathlib.Core.Path.{◌≡◌, refl, sym, ap, ◌∙◌}
+use mathlib.Core.Path.{◌≡◌, sym, ap, ◌∙◌}
 use mathlib.Core.Bool.{Bool, true, false}
 use Prim.Native.Nat.{ℕ, ◌<◌, ◌≤◌}
 use native.Mathlib.Omega.{arith}
@@ -21,9 +21,6 @@ in-name b h k = by_byte b true (within-yes 33 255 b (omega arith) (omega arith))
 behind : (b : ℕ) → b ≤ 32 → in_class 4 14 b ≡ false
 unfolding is_name_byte
 behind b h = by_byte b false (within-below 33 255 b (omega arith))
-
-pub loop-i-init : goal.loop-i-init
-loop-i-init c = refl
 
 pub returns-then-s-i-le32 : goal.returns-then-s-i-le32
 returns-then-s-i-le32 c = sym (c.loop-i.invariant ∙ end_of-stop _ _ _ c.loop-i-test.true (behind _ c.if-s-i-le32.true))

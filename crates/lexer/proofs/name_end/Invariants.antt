@@ -1,8 +1,6 @@
 -- The invariant: from i on the name ends where it ends from p on.
 -- Assumes nothing.
 use mathlib.Core.Path.{◌≡◌}
-use Prim.Native.Nat.{◌-◌}
-use lib.ListN.{length}
 use Rattle.scanner.specs.Class.{in_class}
 use Rattle.scanner.specs.Runs.{end_of}
 use Rattle.lexer.proofs.name_end.Given as goal

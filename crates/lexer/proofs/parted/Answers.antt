@@ -10,9 +10,6 @@ use Rattle.lexer.proofs.parted.Goals as goal
 pub returns-then-s-at : goal.returns-then-s-at
 returns-then-s-at c = sym (parted-end _ _ c.if-s-at.true)
 
-pub class_in-k-requires : goal.class_in-k-requires
-class_in-k-requires c = c.requires
-
 pub returns-then-k-lt-BLANK : goal.returns-then-k-lt-BLANK
 returns-then-k-lt-BLANK c = sym (parted-at _ _ c.if-s-at.false ∙ below _ _ _ _ c.class_in-k.ensures c.if-k-lt-BLANK.true)
 

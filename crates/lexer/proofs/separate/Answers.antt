@@ -2,9 +2,6 @@
 use Rattle.lexer.proofs.Steps.{separate-token, separate-wrong}
 use Rattle.lexer.proofs.separate.Goals as goal
 
-pub parted-requires : goal.parted-requires
-parted-requires c = c.requires.class_value
-
 pub returns-then-parted : goal.returns-then-parted
 returns-then-parted c = separate-token _ _ _ _ _ c.parted.ensures c.requires.p_lt_e c.if-parted.true
 

@@ -5,14 +5,11 @@ use Rattle.strings.proofs.StringLaws.{close-between, close-closes}
 use Rattle.lexer.proofs.Steps.{steps-by, string-token, string-wrong}
 use Rattle.lexer.proofs.string_step.Goals as goal
 
-pub separate-requires : goal.separate-requires
-separate-requires c =
+pub separate-requires-clause-p_lt_e : goal.separate-requires-clause-p_lt_e
+separate-requires-clause-p_lt_e c =
     let closed = c.in_ok-e.ensures.ok_part in
     let b = close-between _ _ _ c.string_end.ensures _ closed in
-    record {
-      class_value = c.requires.class_value;
-      p_lt_e = (omega (arith, b.0), b.1, (omega (arith, c.requires.starts.inside), close-closes _ _ _ c.string_end.ensures _ closed));
-    }
+    (omega (arith, b.0), b.1, (omega (arith, c.requires.starts.inside), close-closes _ _ _ c.string_end.ensures _ closed))
 
 pub returns-in_err-e : goal.returns-in_err-e
 returns-in_err-e c =

@@ -1,6 +1,5 @@
 -- The loop's invariant: the codes of the first j places are stored.
 use mathlib.Core.Path.{◌≡◌}
-use Prim.Native.Nat.{◌-◌, ◌≤◌}
 use lib.ListN.{length, take}
 use Rattle.tables.specs.Store.{store}
 use Rattle.literals.specs.Codes.{word_codes}

@@ -1,7 +1,6 @@
 -- The loop's invariant: the bits of the first j bytes are stored.
 use mathlib.Core.Path.{refl, sym, ap, ◌∙◌}
 use mathlib.Core.List.{flat_map}
-use native.Mathlib.Omega.{arith}
 use Rattle.tables.specs.Store.{store, store-none}
 use Rattle.literals.proofs.CodeLaws.{bytes-more, bytes-all}
 use Rattle.literals.proofs.put_bytes_bits.Goals as goal
@@ -9,9 +8,6 @@ use Rattle.literals.proofs.put_bytes_bits.Goals as goal
 pub loop-j-init : goal.loop-j-init
 unfolding flat_map
 loop-j-init c = (refl, sym (store-none _ _))
-
-pub put_bits-requires : goal.put_bits-requires
-put_bits-requires c = (omega arith, omega arith)
 
 pub loop-j-preserved : goal.loop-j-preserved
 loop-j-preserved c =

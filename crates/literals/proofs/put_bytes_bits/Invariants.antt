@@ -1,7 +1,6 @@
 -- The loop's invariant: the bits of the first j bytes are stored.
 use mathlib.Core.Path.{◌≡◌}
 use mathlib.Core.List.{flat_map}
-use Prim.Native.Nat.{◌-◌, ◌≤◌}
 use lib.ListN.{length, take}
 use Rattle.tables.specs.Store.{store}
 use Rattle.literals.specs.Codes.{word_codes}

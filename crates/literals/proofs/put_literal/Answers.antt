@@ -12,12 +12,6 @@ put_integer-requires c = record {
   at_in_bounds = rw c.in-Integer.is at c.requires.c_in_bounds;
 }
 
-pub put_value-requires : goal.put_value-requires
-put_value-requires c = record {
-  end_value = rw c.in-Value.is at c.requires.c_value;
-  end_in_bounds = rw c.in-Value.is at c.requires.c_in_bounds;
-}
-
 pub put_text-requires : goal.put_text-requires
 unfolding literal_in literal_width
 put_text-requires c =

@@ -2,18 +2,11 @@
 use mathlib.Core.Path.{ap, ◌∙◌}
 use mathlib.Core.List.{List}
 use Prim.Native.Nat.{ℕ}
-use native.Mathlib.Omega.{arith}
-use lib.ListN.{length}
 use Rattle.rules.specs.Tokens.{string}
 use Rattle.tables.specs.Store.{store}
 use Rattle.literals.specs.Codes.{codes}
 use Rattle.literals.proofs.Stored.{stored-front}
 use Rattle.literals.proofs.put_text.Goals as goal
-
-pub put_bytes_bits-requires : goal.put_bytes_bits-requires
-put_bytes_bits-requires c =
-    let e = stored-front _ _ _ _ _ c.requires.f_len_bound c.put_string-n.ensures.out_after c.put_string-n.ensures.value c.part.ensures in
-    omega (arith, ap length e, c.requires.f_in_bounds)
 
 pub returns : goal.returns
 returns c =

@@ -1,13 +1,8 @@
 -- The loop has reached `i`, and the run of plain bytes ends where it ends from `at` on.
-use mathlib.Core.Path.{refl, sym, ◌∙◌}
-use Prim.Native.Nat.{◌-◌}
+use mathlib.Core.Path.{sym, ◌∙◌}
 use borrow.Author.Tests.{not-true, not-false}
 use Rattle.scanner.proofs.RunLaws.{end_of-all, end_of-more, end_of-stop}
-use Rattle.strings.specs.Decoded.{is_plain}
 use Rattle.strings.proofs.plain_end.Goals as goal
-
-pub loop-i-init : goal.loop-i-init
-loop-i-init c = refl
 
 pub returns-then-not-is_plain : goal.returns-then-not-is_plain
 returns-then-not-is_plain c = sym (c.loop-i.invariant ∙ end_of-stop _ _ _ c.loop-i-test.true (sym c.is_plain.ensures ∙ not-true _ c.if-not-is_plain.true-raw))

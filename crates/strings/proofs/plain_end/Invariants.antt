@@ -1,7 +1,5 @@
 -- The loop has reached `i`, and the run of plain bytes ends where it ends from `at` on.
 use mathlib.Core.Path.{◌≡◌}
-use Prim.Native.Nat.{◌-◌}
-use lib.ListN.{length}
 use Rattle.scanner.specs.Runs.{end_of}
 use Rattle.strings.specs.Decoded.{is_plain}
 use Rattle.strings.proofs.plain_end.Given as goal

@@ -1,5 +1,5 @@
 use native.Mathlib.Omega.{arith}
-use borrow.Author.Tests.{eq-eqb, ne_eqb}
+use borrow.Author.Tests.{ne_eqb}
 use Rattle.rules.specs.Tokens.{plain_turn}
 use Rattle.strings.specs.Machine.{machine_open}
 use Rattle.strings.proofs.plain_turn.Goals as goal

@@ -1,4 +1,3 @@
-use Prim.Native.Nat.{◌-◌}
 use native.Mathlib.Omega.{arith}
 use Rattle.strings.specs.Machine.{inside_of, turn_of}
 use Rattle.strings.proofs.Reached.{reached-plain, reached-goes, reached-ends, reached-breaks, reached-end, closed_is, broken-is}

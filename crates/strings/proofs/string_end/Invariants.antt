@@ -1,6 +1,5 @@
 use mathlib.Core.List.{List}
-use Prim.Native.Nat.{ℕ, ◌-◌}
-use lib.ListN.{length}
+use Prim.Native.Nat.{ℕ}
 use Rattle.strings.specs.Machine.{inside_of}
 use Rattle.strings.proofs.Reached.{Reached}
 use Rattle.strings.proofs.string_end.Given as goal

@@ -1,7 +1,6 @@
 -- `decimal` meets its contract. The invariant: going on with n from there on gives, capped, the whole number.
 -- Assumes nothing.
 use mathlib.Core.Path.{refl, sym, ◌∙◌}
-use Prim.Native.Nat.{◌-◌}
 use borrow.Author.Rules.{rules}
 use Rattle.rules.specs.Tokens.{decimal}
 use Rattle.scanner.proofs.NumberLaws.{capped_le, number_more, number-end}

@@ -1,8 +1,8 @@
 -- `decimal` meets its contract. The invariant: going on with n from i on gives, capped, the whole number.
 -- Assumes nothing.
 use mathlib.Core.Path.{◌≡◌}
-use Prim.Native.Nat.{◌-◌, ◌≤◌}
-use lib.ListN.{length, drop}
+use Prim.Native.Nat.{◌≤◌}
+use lib.ListN.{drop}
 use Rattle.rules.specs.Tokens.{number, decimal}
 use Rattle.scanner.specs.Numbers.{capped}
 use Rattle.scanner.proofs.decimals.decimal.Given as goal

@@ -1,14 +1,10 @@
 -- `line_end` meets its contract. The invariant: from i on the line ends where it ends from `at` on.
 -- Assumes nothing.
-use mathlib.Core.Path.{refl, sym, ap, ◌∙◌}
+use mathlib.Core.Path.{sym, ap, ◌∙◌}
 use mathlib.Core.Bool.{not}
-use Prim.Native.Nat.{◌-◌}
 use Rattle.scanner.proofs.ClassLaws.{in-line}
 use Rattle.scanner.proofs.RunLaws.{end_of-all, end_of-more, end_of-stop}
 use Rattle.scanner.proofs.lines.line_end.Goals as goal
-
-pub loop-i-init : goal.loop-i-init
-loop-i-init c = refl
 
 pub returns-then-ends_line : goal.returns-then-ends_line
 returns-then-ends_line c = sym (c.loop-i.invariant ∙ end_of-stop _ _ _ c.loop-i-test.true (in-line _ _ c.ends_line.ensures ∙ ap not c.if-ends_line.true))

@@ -1,17 +1,10 @@
 -- `run_end` meets its contract. The invariant: from i on the run ends where it ends from `at` on.
 -- Assumes nothing.
-use mathlib.Core.Path.{refl, sym, ◌∙◌}
-use Prim.Native.Nat.{◌-◌}
+use mathlib.Core.Path.{sym, ◌∙◌}
 use Rattle.scanner.proofs.ClassLaws.{inside, below, above}
 use Rattle.scanner.proofs.RunLaws.{end_of-all, end_of-more, end_of-stop}
 use Rattle.scanner.proofs.runs.run_end.Goals as goal
 use Rattle.scanner.proofs.runs.run_end.Goals.{then-c-lo-via-then-c-lo, then-c-lo-via-else-c-lo+then-hi-c}
-
-pub loop-i-init : goal.loop-i-init
-loop-i-init c = refl
-
-pub class_in-c-requires : goal.class_in-c-requires
-class_in-c-requires c = c.requires
 
 pub returns-then-c-lo : goal.returns-then-c-lo
 returns-then-c-lo c =

@@ -1,8 +1,6 @@
 -- `run_end` meets its contract. The invariant: from i on the run ends where it ends from `at` on.
 -- Assumes nothing.
 use mathlib.Core.Path.{◌≡◌}
-use Prim.Native.Nat.{◌-◌}
-use lib.ListN.{length}
 use Rattle.scanner.specs.Class.{in_class}
 use Rattle.scanner.specs.Runs.{end_of}
 use Rattle.scanner.proofs.runs.run_end.Given as goal

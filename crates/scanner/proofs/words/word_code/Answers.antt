@@ -13,9 +13,6 @@ loop-i-init c = let w = c.args.w.now in (omega arith, code-start w (length w) re
 pub overflow_mul-n : goal.overflow_mul-n
 overflow_mul-n c = omega (arith, code_fits _ _ _ c.loop-i-test.true c.loop-i.invariant.1 (λ k. omega (arith, c.type_inv.w k)) c.requires)
 
-pub overflow_cast-n : goal.overflow_cast-n
-overflow_cast-n c = omega (arith, c.type_inv.w (c.loop-i.i - 1))
-
 pub overflow_add-n : goal.overflow_add-n
 overflow_add-n c = omega (arith, code_fits _ _ _ c.loop-i-test.true c.loop-i.invariant.1 (λ k. omega (arith, c.type_inv.w k)) c.requires, c.type_inv.w (c.loop-i.i - 1))
 

@@ -1,7 +1,7 @@
 -- `word_code` meets its contract. The invariant: n is the code of the bytes from i on.
 -- Assumes nothing.
 use mathlib.Core.Path.{◌≡◌}
-use Prim.Native.Nat.{◌-◌, ◌≤◌}
+use Prim.Native.Nat.{◌≤◌}
 use lib.ListN.{length, drop}
 use Rattle.scanner.specs.Words.{word_code}
 use Rattle.scanner.proofs.words.word_code.Given as goal
