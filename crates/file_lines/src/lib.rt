@@ -28,6 +28,7 @@ pub enum Reach {
 }
 
 // The file ends inside a module or after attributes: its length is the place.
+#[tactic(auto, unfolding(crate::specs::Lines::finish_of))]
 fn finish(size: usize, standing: Standing) -> Result<Standing, Refused>
     requires { size ≤ longest_file }
     ensures { result ≡ finish_of size standing }
