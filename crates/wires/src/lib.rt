@@ -25,6 +25,9 @@ pub const WIRE_FLAGS: usize = 5;
 
 pub const WIRE_PORT: usize = 6;
 
+// The codes of a port's direction are 1 up to this one, that of inout.
+const INOUT: u32 = 3;
+
 // A wire that a search by its name finds: its number in its module and its width.
 #[derive(Clone, Copy)]
 pub struct FoundWire {
@@ -55,7 +58,7 @@ fn has_port(wires: &[u32], row: usize, port: u32) -> bool
     ensures { result ≡ has_port port (wire_of wires.now row) }
 {
     let direction = column(wires, row, WIRE_FLAGS) / 4;
-    0 < direction && direction <= 3 && port == column(wires, row, WIRE_PORT)
+    0 < direction && direction <= INOUT && port == column(wires, row, WIRE_PORT)
 }
 
 // Whether one of the wires in count rows from first on is a port of this number.

@@ -8,13 +8,13 @@ use Rattle.std.proofs.lemmas.Grind.{common_steps}
 use Rattle.wires.proofs.SearchLaws.{no-port, port-number}
 use Rattle.wires.proofs.has_port.Goals as goal
 
-pub returns-then-direction-le3 : goal.returns-then-direction-le3
-returns-then-direction-le3 c =
+pub returns-then-direction-le-INOUT : goal.returns-then-direction-le-INOUT
+returns-then-direction-le-INOUT c =
     ap (eqb c.args.port) c.column.ensures
-    ∙ sym (port-number _ _ _ (c.column-direction.result / 4) (ap (λ (x : ℕ). x / 4) c.column-direction.ensures) c.if-direction-le3.true.0 c.if-direction-le3.true.1)
+    ∙ sym (port-number _ _ _ (c.column-direction.result / 4) (ap (λ (x : ℕ). x / 4) c.column-direction.ensures) c.if-direction-le-INOUT.true.0 c.if-direction-le-INOUT.true.1)
 
-pub returns-else-direction-le3 : goal.returns-else-direction-le3
-returns-else-direction-le3 c =
-    let outside = c.if-direction-le3.either in
+pub returns-else-direction-le-INOUT : goal.returns-else-direction-le-INOUT
+returns-else-direction-le-INOUT c =
+    let outside = c.if-direction-le-INOUT.either in
     let none = no-port _ _ c.args.port (c.column-direction.result / 4) (ap (λ (x : ℕ). x / 4) c.column-direction.ensures) (λ e. grind (arith, common_steps)) (λ e. grind (arith, common_steps)) (λ e. grind (arith, common_steps)) in
     rw none (search rules)
