@@ -11,7 +11,7 @@ use Rattle.wires.proofs.has_port.Goals as goal
 pub returns-then-direction-le-INOUT : goal.returns-then-direction-le-INOUT
 returns-then-direction-le-INOUT c =
     ap (eqb c.args.port) c.column.ensures
-    ∙ sym (port-number _ _ _ (c.column-direction.result / 4) (ap (λ (x : ℕ). x / 4) c.column-direction.ensures) c.if-direction-le-INOUT.true.0 c.if-direction-le-INOUT.true.1)
+    ∙ sym (port-number _ _ _ (c.column-direction.result / 4) (ap (λ (x : ℕ). x / 4) c.column-direction.ensures) c.if-direction-le-INOUT.true.0 (omega (arith, c.if-direction-le-INOUT.true.1)))
 
 pub returns-else-direction-le-INOUT : goal.returns-else-direction-le-INOUT
 returns-else-direction-le-INOUT c =
