@@ -1,12 +1,13 @@
 -- A loop over rows that writes: one step further for each loop.
 -- Assumes nothing.
-use Prim.Native.Nat.{ℕ, suc, ◌+◌, ◌-◌, ◌≤◌, ◌<◌}
-use mathlib.Core.Path.{◌≡◌}
-use mathlib.Core.Bool.{cond}
+use Prim.Native.Nat.{ℕ, zero, suc, min, ◌+◌, ◌-◌, ◌≤◌, ◌<◌}
+use mathlib.Core.Path.{◌≡◌, refl}
+use mathlib.Core.Bool.{Bool, true, false, cond}
 use mathlib.Core.List.{List, [], ◌++◌}
 use native.Mathlib.Omega.{arith}
 use lib.Dec.{eqb}
 use borrow.Author.Tests.{eq-eqb, ne_eqb}
+use mir.Val.{bool_byte}
 use Rattle.rules.specs.Bytes.{bytes}
 use Rattle.lists.specs.Tests.{cond-le}
 use Rattle.netlist.specs.Rows.{kind_at}
@@ -114,6 +115,16 @@ pub modules-start : (t : Tables) (C : Counts) (at : ℕ) (o : List ℕ) → at �
 modules-start t C at o h =
     let e : C.statements - 0 ≡ C.statements = omega arith in
     rw e (reaches-start at (module_rows t C 0 0 0 C.statements) o h)
+
+-- none or the first
+pub one_or_none : (n : ℕ) → cond (eqb n 0) 0 1 ≡ min n 1
+one_or_none zero = omega arith
+one_or_none (suc n) = rw (ne_eqb (suc n) 0 (λ e. omega arith)) (omega arith)
+
+-- a test as a number
+pub as_number : (b : Bool) → bool_byte b ≡ cond b 1 0
+as_number true = refl
+as_number false = refl
 
 pub one_at_most : (x y : ℕ) → y ≡ cond (eqb x 3) 1 0 → y ≤ 1
 one_at_most x y e = rw e (cond-le (eqb x 3) 1)

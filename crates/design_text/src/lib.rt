@@ -2,8 +2,7 @@
 // All of it is total: a word past a table's end counts as 0, and a row that holds no statement is not written.
 #![tactic(auto)]
 
-ghost use Rattle.std.specs.Prelude.{◌≡◌, cond, ◌+◌, ◌-◌, ◌≤◌, ◌<◌, eqb, length};
-ghost use Rattle.rules.specs.Statements.{module_kind};
+ghost use Rattle.std.specs.Prelude.{◌≡◌, ◌+◌, ◌-◌, ◌≤◌, ◌<◌, length};
 ghost use Rattle.rules.specs.Limits.{bits_length, past_text};
 ghost use Rattle.text.specs.Written.{Written};
 ghost use Rattle.netlist.specs.Tables.{tabled};
@@ -123,10 +122,7 @@ fn put_cell(
 {
     let from = k + 1;
     let end = next_row(rows, END_KIND, from, to);
-    let span = Span {
-        from: from,
-        to: end,
-    };
+    let span = Span { from, to: end };
     let line = put_line(names, strings, bits, wires, rows, m, k, 1, out, at);
     let set = put_kind(
         names,
@@ -324,7 +320,7 @@ fn module_of(wires: &[u32], counts: Counts, number: ModuleNumber) -> Module
 {
     let range = module_wires(wires, counts.wires, number);
     Module {
-        number: number,
+        number,
         first: range.first,
         wires: range.count,
         from: counts.statements,
@@ -356,7 +352,7 @@ fn put_module(
     let from = k + 1;
     let to = next_row(rows, MODULE_KIND, from, counts.statements);
     let before = Span { from: first, to: k };
-    let inside = Span { from: from, to: to };
+    let inside = Span { from, to };
     let set = put_kind(
         names,
         strings,
@@ -373,15 +369,6 @@ fn put_module(
     let line = put_line(names, strings, bits, wires, rows, m, k, 0, out, set);
     let body = put_body(names, strings, bits, wires, rows, m, inside, out, line);
     put_bytes(out, body, b"end\n")
-}
-
-fn one_if_module(kind: u32) -> u32
-    ensures { result ≡ cond (eqb kind module_kind) 1 0 }
-{
-    if kind == MODULE_KIND {
-        return 1;
-    }
-    0
 }
 
 // The modules, in their order; a module's number is how many module lines stand before its own.
@@ -416,19 +403,10 @@ fn put_modules(
             out,
             end,
         );
-        number += one_if_module(kind);
+        number += u32::from(kind == MODULE_KIND);
         first = waiting_from(kind, first, k);
     }
     end
-}
-
-fn at_most_one(n: u32) -> u32
-    ensures { result ≡ cond (eqb n 0) 0 1 }
-{
-    if n == 0 {
-        return 0;
-    }
-    1
 }
 
 // The `autoidx` line, if the first statement is one, then each module.
@@ -447,7 +425,7 @@ pub fn put_text(
     let m = module_of(wires, counts, ModuleNumber(0));
     let span = Span {
         from: 0,
-        to: at_most_one(counts.statements),
+        to: counts.statements.min(1),
     };
     let end = put_kind(
         names,

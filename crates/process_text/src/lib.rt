@@ -84,22 +84,13 @@ fn deepens(step: u32) -> bool
     (step == SWITCH_STEP) | (step == CASE_STEP) | is_sync(step)
 }
 
-fn one_less(n: u32) -> u32
-    ensures { result ≡ n - 1 }
-{
-    if n == 0 {
-        return 0;
-    }
-    n - 1
-}
-
 // How many switches are open behind a line.
 fn opened_by(opened: u32, kind: u32, step: u32) -> u32
     requires { opened < 4294967295 }
     ensures { result ≡ opened_by opened kind step }
 {
     if kind == END_KIND {
-        return one_less(opened);
+        return opened.saturating_sub(1);
     }
     if step == SWITCH_STEP {
         return opened + 1;
@@ -116,14 +107,11 @@ fn behind(z: Inside, kind: u32, step: u32) -> Inside
     let level = level_of(z, kind, step);
     if deepens(step) {
         return Inside {
-            opened: opened,
+            opened,
             level: level + 1,
         };
     }
-    Inside {
-        opened: opened,
-        level: level,
-    }
+    Inside { opened, level }
 }
 
 // The lines of some rows, all at one level.

@@ -106,6 +106,7 @@ fn put_runs(
 {
     let mut end = at;
     let mut i = s.len();
+    // A run may have any number of bits: where it begins is found, not counted.
     while 0 < i {
         let j = run_low(s, i);
         end = put_run(names, wires, rows, m, s, j, i, out, end);

@@ -22,6 +22,7 @@ fn read_full<R: Read>(reader: &mut R, room: &mut [u8]) -> io::Result<usize>
     ensures { IfOk result (λ n. n ≤ length room.old) }
 {
     let mut n = 0;
+    // read_exact doesn't tell how much a short file gave, and read_to_end has no bound.
     while n < room.len() {
         let more = reader.read(&mut room[n..])?;
         if more == 0 {

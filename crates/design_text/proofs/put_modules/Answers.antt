@@ -1,10 +1,11 @@
 -- The loop's invariant: the modules whose lines stand before row k are written, and there are as many as their lines.
 -- Assumes nothing.
 use Prim.Native.Nat.{◌≤◌}
+use mathlib.Core.Path.{◌∙◌}
 use native.Mathlib.Omega.{arith}
 use Rattle.text.specs.Written.{written-most}
 use Rattle.text.specs.Reaches.{reaches-next, reaches_end}
-use Rattle.design_text.proofs.Loops.{module-next, module-none, modules-start, one_at_most}
+use Rattle.design_text.proofs.Loops.{as_number, module-next, module-none, modules-start, one_at_most}
 use Rattle.design_text.proofs.put_modules.Goals as goal
 
 pub loop-k-init : goal.loop-k-init
@@ -16,20 +17,17 @@ row_kind-kind-requires c = tt
 pub put_module-end-requires : goal.put_module-end-requires
 put_module-end-requires c = (written-most c.loop-k.invariant.1.written, c.requires.1, omega arith)
 
-pub one_if_module-number-requires : goal.one_if_module-number-requires
-one_if_module-number-requires c = tt
-
 pub overflow_add-number : goal.overflow_add-number
-overflow_add-number c = let h : c.one_if_module-number.result ≤ 1 = one_at_most c.row_kind-kind.result _ c.one_if_module-number.ensures in omega (arith, h, c.loop-k.invariant.0)
+overflow_add-number c = omega (arith, one_at_most _ _ (c.from-number.ensures ∙ as_number _), c.loop-k.invariant.0)
 
 pub loop-k-preserved : goal.loop-k-preserved
 loop-k-preserved c =
     let loop = c.loop-k in
     let row-kind = c.row_kind-kind in
     let put-module = c.put_module-end in (
-      omega (arith, one_at_most row-kind.result _ c.one_if_module-number.ensures, loop.invariant.0),
+      omega (arith, one_at_most row-kind.result _ (c.from-number.ensures ∙ as_number _), loop.invariant.0),
       reaches-next loop.invariant.1 put-module.ensures
-          (module-next _ _ _ _ _ _ _ _ _ (omega arith) row-kind.ensures c.waiting_from-first.ensures c.one_if_module-number.ensures),
+          (module-next _ _ _ _ _ _ _ _ _ (omega arith) row-kind.ensures c.waiting_from-first.ensures (c.from-number.ensures ∙ as_number _)),
     )
 
 pub shape_of-out : goal.shape_of-out

@@ -1,15 +1,13 @@
 -- The first line, then the modules.
 -- Assumes nothing.
+use mathlib.Core.Path.{sym, ◌∙◌}
 use native.Mathlib.Omega.{arith}
 use Rattle.text.specs.Written.{written-most}
-use Rattle.design_text.proofs.Loops.{text-written}
+use Rattle.design_text.proofs.Loops.{one_or_none, text-written}
 use Rattle.design_text.proofs.put_text.Goals as goal
 
 pub module_of-m-requires : goal.module_of-m-requires
 module_of-m-requires c = tt
-
-pub at_most_one-requires : goal.at_most_one-requires
-at_most_one-requires c = tt
 
 pub put_kind-end-requires : goal.put_kind-end-requires
 put_kind-end-requires c = (omega arith, c.requires, omega arith)
@@ -20,10 +18,10 @@ put_modules-requires c = (written-most c.put_kind-end.ensures, c.requires)
 pub returns : goal.returns
 returns c =
     let module-of = c.module_of-m in
-    let at_most_one = c.at_most_one in
+    let least = c.min in
     let put-kind = c.put_kind-end in
     let put-modules = c.put_modules in
-    text-written _ _ module-of.result at_most_one.result module-of.ensures at_most_one.ensures
+    text-written _ _ module-of.result least.result module-of.ensures (least.ensures ∙ sym (one_or_none _))
     put-kind.ensures put-modules.ensures
 
 pub shape_of-out : goal.shape_of-out

@@ -7,7 +7,7 @@ use Rattle.process_text.proofs.opened_by.Goals as goal
 
 pub returns-then-kind-eq-END_KIND : goal.returns-then-kind-eq-END_KIND
 unfolding opened_by
-returns-then-kind-eq-END_KIND c = rw (eq-eqb c.args.kind 12 c.if-kind-eq-END_KIND.true) c.one_less.ensures
+returns-then-kind-eq-END_KIND c = rw (eq-eqb c.args.kind 12 c.if-kind-eq-END_KIND.true) c.saturating_sub.ensures
 
 pub returns-then-step-eq-SWITCH_STEP : goal.returns-then-step-eq-SWITCH_STEP
 unfolding opened_by
