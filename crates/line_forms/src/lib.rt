@@ -177,6 +177,7 @@ pub fn top_line(tokens: &[u32], first: bool) -> Option<Form>
 }
 
 // What the keyword c announces among the lines that may follow attributes.
+#[tactic(auto, unfolding(crate::proofs::LineLaws::words_open, crate::specs::Forms::kind_of, rules::specs::Shapes::whole))]
 fn object_line(tokens: &[u32], c: usize) -> Option<Kind>
     ensures { AnnouncedIs object_forms tokens.now c result }
 {

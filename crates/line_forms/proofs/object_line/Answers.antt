@@ -1,22 +1,11 @@
 -- The form that the first word announces.
 use native.Mathlib.Omega.{arith}
-use borrow.Author.Tests.{ne_eqb}
-use Rattle.rules.specs.Shapes as shapes
-use Rattle.line_forms.specs.Forms.{kind_of}
 use Rattle.line_forms.proofs.LineLaws.{form-kind, words_open}
 use Rattle.line_forms.proofs.object_line.Goals as goal
 
 pub returns-in-4 : goal.returns-in-4
 unfolding words_open
 returns-in-4 c = form-kind _ _ _ c.map.ensures.cases _ (λ f. rw c.in-4.is (c.valued_line.ensures.0 f)) (c.valued_line.ensures.1 (omega arith))
-
-pub returns-in-6 : goal.returns-in-6
-unfolding words_open kind_of
-returns-in-6 c = (λ f. rw c.in-6.is, tt)
-
-pub returns-in-14 : goal.returns-in-14
-unfolding words_open kind_of
-returns-in-14 c = (λ f. rw c.in-14.is, tt)
 
 pub returns-in-16 : goal.returns-in-16
 unfolding words_open
@@ -25,7 +14,3 @@ returns-in-16 c = form-kind _ _ _ c.map-in-16.ensures.cases _ (λ f. rw c.in-16.
 pub returns-in-18 : goal.returns-in-18
 unfolding words_open
 returns-in-18 c = form-kind _ _ _ c.map-in-18.ensures.cases _ (λ f. rw c.in-18.is (c.named_line.ensures.0 f)) c.named_line.ensures.1
-
-pub returns-in_default : goal.returns-in_default
-unfolding words_open shapes.whole
-returns-in_default c = (λ f. rw (ne_eqb c.args.c 4 (omega arith), ne_eqb c.args.c 6 (omega arith), ne_eqb c.args.c 14 (omega arith), ne_eqb c.args.c 16 (omega arith), ne_eqb c.args.c 18 (omega arith)), tt)
