@@ -1,6 +1,6 @@
 -- Byte order is an order, and of two names that differ one comes before the other; the comparison byte by byte.
 -- Assumes nothing.
-use Rattle.std.specs.Prelude.{ℕ, ◌+◌, ◌≤◌, ◌<◌, ◌≡◌, refl, List, [], ◌∷◌, true, false, ◌&&◌, ◌⊎◌, ltb, eqb, length, get_or, drop}
+use Rattle.std.specs.Prelude.{ℕ, ◌+◌, ◌≤◌, ◌<◌, ◌≡◌, refl, [], ◌∷◌, true, false, ◌&&◌, ◌⊎◌, ltb, eqb, length, get_or, drop}
 use Rattle.std.proofs.Common.{sym, ◌∙◌, inl, inr, arith}
 use Rattle.std.proofs.lemmas.Bool.{false≢true}
 use Rattle.std.proofs.Math.Numerals.{add-one}
@@ -11,7 +11,7 @@ use Rattle.rules.specs.Bytes.{same}
 use Rattle.rules.specs.Tokens.{Name}
 use Rattle.rules.specs.Sorted.{before}
 use Rattle.lists.specs.Tests.{by-test, and-true-left, and-true-right, or-false-left, never}
-use Rattle.lists.specs.Bytes.{same_refl, same-eq, same-sym}
+use Rattle.lists.specs.Bytes.{same-eq}
 
 before-cons : (x y : ℕ) (xs ys : Name) → before (x ∷ xs) (y ∷ ys) ≡ true → (x < y) ⊎ ((x ≡ y) × (before xs ys ≡ true))
 unfolding before

@@ -55,10 +55,8 @@ fn all_plain(s: &[u8]) -> bool
     ensures { result ≡ all plain s.now }
 {
     let mut good = true;
-    let mut i = 0;
-    while i < s.len() {
-        good = good & is_plain(s[i]);
-        i += 1;
+    for b in s {
+        good = good & is_plain(*b);
     }
     good
 }
@@ -69,10 +67,8 @@ fn put_mixed(out: &mut [u8], at: usize, s: &[u8]) -> usize
     ensures { Written at (flat_map escaped s.now) out.old out.new result }
 {
     let mut end = at;
-    let mut i = 0;
-    while i < s.len() {
-        end = put_escaped(out, end, s[i]);
-        i += 1;
+    for b in s {
+        end = put_escaped(out, end, *b);
     }
     end
 }
@@ -124,9 +120,7 @@ fn put_digits(out: &mut [u8], at: usize, bits: &[u32]) -> usize
     ensures { Written at (map digit_byte (reverse (map digit_of bits.now))) out.old out.new result }
 {
     let mut end = at;
-    let mut i = bits.len();
-    while 0 < i {
-        i -= 1;
+    for i in (0..bits.len()).rev() {
         end = put_byte(out, end, digit_byte(bits[i]));
     }
     end

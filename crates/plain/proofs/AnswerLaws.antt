@@ -14,7 +14,7 @@ use Rattle.rules.specs.Judgement.{verdict, lowest}
 use Rattle.rules.specs.Plain.{plain_byte, plain_form, form_bytes, name_of, is_form, turned, turned_back}
 use Rattle.lists.specs.Tests.{by-test}
 use Rattle.tables.specs.Store.{store}
-use Rattle.plain.specs.Put.{PutAt, wrote, put-none, put_then, put_as, put-part}
+use Rattle.plain.specs.Put.{PutAt, wrote, put_then, put_as, put-part}
 use Rattle.plain.specs.FormLaws.{form-length, form-legal, form-one, name-short}
 
 -- ANY BYTES: none, or a first one and those behind it, as code cuts them

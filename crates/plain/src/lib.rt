@@ -91,10 +91,8 @@ fn later_size(s: &[u8]) -> usize
     ensures { result ≡ length (flat_map plain_byte s.now) }
 {
     let mut size = 0;
-    let mut i = 0;
-    while i < s.len() {
-        size += plain_size(s[i]);
-        i += 1;
+    for b in s {
+        size += plain_size(*b);
     }
     size
 }
@@ -104,10 +102,8 @@ fn put_later(out: &mut [u8], at: usize, s: &[u8]) -> usize
     ensures { PutAt at (flat_map plain_byte s.now) out.old out.new result }
 {
     let mut end = at;
-    let mut i = 0;
-    while i < s.len() {
-        end = put_plain(out, end, s[i]);
-        i += 1;
+    for b in s {
+        end = put_plain(out, end, *b);
     }
     end
 }
@@ -310,10 +306,8 @@ pub fn shown_size(s: &[u8]) -> usize
     ensures { result ≡ length (flat_map low s.now) }
 {
     let mut size = 0;
-    let mut i = 0;
-    while i < s.len() {
-        size += low_size(s[i]);
-        i += 1;
+    for b in s {
+        size += low_size(*b);
     }
     size
 }
@@ -324,10 +318,8 @@ pub fn put_shown(out: &mut [u8], at: usize, s: &[u8]) -> usize
     ensures { PutAt at (flat_map low s.now) out.old out.new result }
 {
     let mut end = at;
-    let mut i = 0;
-    while i < s.len() {
-        end = put_low(out, end, s[i]);
-        i += 1;
+    for b in s {
+        end = put_low(out, end, *b);
     }
     end
 }

@@ -48,12 +48,10 @@ pub fn run_low(s: &[u32], i: usize) -> usize
     requires apart { Apart s.now i }
     ensures { Lowest s.now i result }
 {
-    let mut j = i - 1;
-    while 0 < j {
+    for j in (1..i).rev() {
         if !joins(s[j - 1], s[j]) {
             return j;
         }
-        j -= 1;
     }
-    j
+    0
 }

@@ -36,10 +36,8 @@ fn put_each(out: &mut [u8], at: usize, s: &[u8]) -> usize
     ensures { Written at s.now out.old out.new result }
 {
     let mut end = at;
-    let mut i = 0;
-    while i < s.len() {
-        end = put_byte(out, end, s[i]);
-        i += 1;
+    for b in s {
+        end = put_byte(out, end, *b);
     }
     end
 }
@@ -68,10 +66,8 @@ pub fn put_spaces(out: &mut [u8], at: usize, n: usize) -> usize
     ensures { Written at (replicate n 32) out.old out.new result }
 {
     let mut end = at;
-    let mut i = 0;
-    while i < n {
+    for _ in 0..n {
         end = put_byte(out, end, b' ');
-        i += 1;
     }
     end
 }

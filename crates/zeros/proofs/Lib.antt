@@ -1,1 +1,1 @@
-mod TurnLaws
+mod BlockLaws

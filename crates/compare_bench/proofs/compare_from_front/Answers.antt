@@ -1,7 +1,7 @@
 -- `compare_from_front` meets its contract. The invariant: what is left from i on is the same just where the whole is.
 -- Assumes nothing.
 use mathlib.Core.Path.{refl, sym, ◌∙◌}
-use Prim.Native.Nat.{◌-◌, ◌<◌, ◌≤◌}
+use Prim.Native.Nat.{◌<◌, ◌≤◌}
 use lib.ListN.{length}
 use native.Mathlib.Omega.{arith}
 use Rattle.lists.specs.Bytes.{same_length, same_more, same_end, same-apart}

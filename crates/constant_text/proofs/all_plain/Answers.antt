@@ -5,14 +5,14 @@ use Rattle.constant_text.specs.Plain.{plain}
 use Rattle.lists.specs.Elements.{all-turn, all_told}
 use Rattle.constant_text.proofs.all_plain.Goals as goal
 
-pub loop-i-init : goal.loop-i-init
-loop-i-init c = refl
+pub loop-b-init : goal.loop-b-init
+loop-b-init c = refl
 
 pub is_plain-good-requires : goal.is_plain-good-requires
 is_plain-good-requires c = tt
 
-pub loop-i-preserved : goal.loop-i-preserved
-loop-i-preserved c = all-turn plain c.args.s.now c.loop-i.i c.loop-i.good c.is_plain-good.result (omega arith) (sym c.is_plain-good.ensures) ∙ c.loop-i.invariant
+pub loop-b-preserved : goal.loop-b-preserved
+loop-b-preserved c = all-turn plain c.args.s.now c.loop-b.b-index c.loop-b.good c.is_plain-good.result (omega arith) (sym c.is_plain-good.ensures) ∙ c.loop-b.invariant
 
 pub returns : goal.returns
-returns c = sym (all_told plain c.args.s.now c.loop-i.i c.loop-i.good (omega arith)) ∙ c.loop-i.invariant
+returns c = sym (all_told plain c.args.s.now c.loop-b.b-index c.loop-b.good (omega arith)) ∙ c.loop-b.invariant

@@ -9,6 +9,3 @@ use Rattle.constant_text.proofs.put_digits.Given as goal
 
 abbrev pub invariant-loop-i : goal.invariant-loop-i
 invariant-loop-i l = (l.i ≤ length l.bits) × Written l.at (map digit_byte (reverse (map digit_of (drop l.i l.bits)))) l.initial.out l.out l.end
-
-abbrev pub decreases-loop-i : goal.decreases-loop-i
-decreases-loop-i l = l.i

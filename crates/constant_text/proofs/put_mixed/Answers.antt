@@ -9,27 +9,27 @@ use Rattle.text.specs.Written.{written_none, written-most, written_then, written
 use Rattle.lists.specs.Lists.{flat_map-more}
 use Rattle.constant_text.proofs.put_mixed.Goals as goal
 
-pub loop-i-init : goal.loop-i-init
+pub loop-b-init : goal.loop-b-init
 unfolding flat_map
-loop-i-init c = (omega arith, written_none c.args.at c.args.out.now c.requires)
+loop-b-init c = (omega arith, written_none c.args.at c.args.out.now c.requires)
 
 pub put_escaped-end-requires : goal.put_escaped-end-requires
-put_escaped-end-requires c = written-most c.loop-i.invariant.1
+put_escaped-end-requires c = written-most c.loop-b.invariant.1
 
-pub loop-i-preserved : goal.loop-i-preserved
-loop-i-preserved c =
+pub loop-b-preserved : goal.loop-b-preserved
+loop-b-preserved c =
     let args = c.args in
-    let loop = c.loop-i in
+    let loop = c.loop-b in
     let put-escaped = c.put_escaped-end in (
       omega arith,
       written_as (written_then loop.invariant.1 put-escaped.ensures)
-          (flat_map-more escaped args.s.now loop.i 0 (omega arith)),
+          (flat_map-more escaped args.s.now loop.b-index 0 (omega arith)),
     )
 
 pub shape_of-out : goal.shape_of-out
-shape_of-out c = c.loop-i.invariant.1.kept
+shape_of-out c = c.loop-b.invariant.1.kept
 
 pub returns : goal.returns
 returns c =
-    let e : c.loop-i.i ≡ length c.args.s.now = omega arith in
-    written_as c.loop-i.invariant.1 (ap (flat_map escaped) (rw e (take-length c.args.s.now)))
+    let e : c.loop-b.b-index ≡ length c.args.s.now = omega arith in
+    written_as c.loop-b.invariant.1 (ap (flat_map escaped) (rw e (take-length c.args.s.now)))

@@ -2,7 +2,7 @@
 use mathlib.Core.Path.{sym, ◌∙◌}
 use native.Mathlib.Omega.{arith}
 use borrow.Author.Tests.{not-true, not-false}
-use Rattle.plain.specs.Put.{put-part, put-kept}
+use Rattle.plain.specs.Put.{put-part}
 use Rattle.plain.specs.FormLaws.{form-length}
 use Rattle.plain.proofs.is_form_of.Goals as goal
 

@@ -1,7 +1,6 @@
 -- The loop's invariant: what the first i bytes become is put.
 use mathlib.Core.Path.{ap}
 use mathlib.Core.List.{flat_map}
-use Prim.Native.Nat.{◌-◌}
 use native.Mathlib.Omega.{arith}
 use lib.Seq.{take_all}
 use Rattle.rules.specs.Plain.{plain_byte}
@@ -9,27 +8,27 @@ use Rattle.lists.specs.Lists.{flat_map-more}
 use Rattle.plain.specs.Put.{put-none, put-kept, put_then, put_as, part-fits}
 use Rattle.plain.proofs.put_later.Goals as goal
 
-pub loop-i-init : goal.loop-i-init
+pub loop-b-init : goal.loop-b-init
 unfolding flat_map
-loop-i-init c = (omega arith, put-none c.args.at c.args.out.now)
+loop-b-init c = (omega arith, put-none c.args.at c.args.out.now)
 
 pub put_plain-end-requires : goal.put_plain-end-requires
 put_plain-end-requires c =
     let args = c.args in
     let pre = c.requires in
-    let loop = c.loop-i in
-    let loop-test = c.loop-i-test in
-    omega (arith, pre, loop.invariant.1.place, put-kept loop.invariant.1, part-fits plain_byte args.s.now loop.i loop-test.true)
+    let loop = c.loop-b in
+    let loop-test = c.loop-b-test in
+    omega (arith, pre, loop.invariant.1.place, put-kept loop.invariant.1, part-fits plain_byte args.s.now loop.b-index loop-test.true)
 
-pub loop-i-preserved : goal.loop-i-preserved
-loop-i-preserved c =
+pub loop-b-preserved : goal.loop-b-preserved
+loop-b-preserved c =
     let args = c.args in
-    let loop = c.loop-i in
+    let loop = c.loop-b in
     let put-plain = c.put_plain-end in
-    (omega arith, put_as (put_then loop.invariant.1 put-plain.ensures) (flat_map-more plain_byte args.s.now loop.i 0 (omega arith)))
+    (omega arith, put_as (put_then loop.invariant.1 put-plain.ensures) (flat_map-more plain_byte args.s.now loop.b-index 0 (omega arith)))
 
 pub shape_of-out : goal.shape_of-out
-shape_of-out c = put-kept c.loop-i.invariant.1
+shape_of-out c = put-kept c.loop-b.invariant.1
 
 pub returns : goal.returns
-returns c = put_as c.loop-i.invariant.1 (ap (flat_map plain_byte) (take_all c.loop-i.i c.args.s.now (omega arith)))
+returns c = put_as c.loop-b.invariant.1 (ap (flat_map plain_byte) (take_all c.loop-b.b-index c.args.s.now (omega arith)))

@@ -1,7 +1,6 @@
 -- The loop's invariant: what the first i bytes become is put.
 use mathlib.Core.Path.{ap}
 use mathlib.Core.List.{flat_map}
-use Prim.Native.Nat.{◌-◌}
 use native.Mathlib.Omega.{arith}
 use lib.Seq.{take_all}
 use Rattle.rules.specs.Plain.{low}
@@ -9,27 +8,27 @@ use Rattle.lists.specs.Lists.{flat_map-more}
 use Rattle.plain.specs.Put.{put-none, put-kept, put_then, put_as, part-fits}
 use Rattle.plain.proofs.put_shown.Goals as goal
 
-pub loop-i-init : goal.loop-i-init
+pub loop-b-init : goal.loop-b-init
 unfolding flat_map
-loop-i-init c = (omega arith, put-none c.args.at c.args.out.now)
+loop-b-init c = (omega arith, put-none c.args.at c.args.out.now)
 
 pub put_low-end-requires : goal.put_low-end-requires
 put_low-end-requires c =
     let args = c.args in
     let pre = c.requires in
-    let loop = c.loop-i in
-    let loop-test = c.loop-i-test in
-    omega (arith, pre, loop.invariant.1.place, put-kept loop.invariant.1, part-fits low args.s.now loop.i loop-test.true)
+    let loop = c.loop-b in
+    let loop-test = c.loop-b-test in
+    omega (arith, pre, loop.invariant.1.place, put-kept loop.invariant.1, part-fits low args.s.now loop.b-index loop-test.true)
 
-pub loop-i-preserved : goal.loop-i-preserved
-loop-i-preserved c =
+pub loop-b-preserved : goal.loop-b-preserved
+loop-b-preserved c =
     let args = c.args in
-    let loop = c.loop-i in
+    let loop = c.loop-b in
     let put_low = c.put_low-end in
-    (omega arith, put_as (put_then loop.invariant.1 put_low.ensures) (flat_map-more low args.s.now loop.i 0 (omega arith)))
+    (omega arith, put_as (put_then loop.invariant.1 put_low.ensures) (flat_map-more low args.s.now loop.b-index 0 (omega arith)))
 
 pub shape_of-out : goal.shape_of-out
-shape_of-out c = put-kept c.loop-i.invariant.1
+shape_of-out c = put-kept c.loop-b.invariant.1
 
 pub returns : goal.returns
-returns c = put_as c.loop-i.invariant.1 (ap (flat_map low) (take_all c.loop-i.i c.args.s.now (omega arith)))
+returns c = put_as c.loop-b.invariant.1 (ap (flat_map low) (take_all c.loop-b.b-index c.args.s.now (omega arith)))

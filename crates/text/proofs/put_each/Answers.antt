@@ -7,26 +7,26 @@ use Rattle.text.specs.Written.{written_none, written-most, written_then, written
 use Rattle.text.proofs.TextLaws.{bytes-more}
 use Rattle.text.proofs.put_each.Goals as goal
 
-pub loop-i-init : goal.loop-i-init
-loop-i-init c = (omega arith, written_none c.args.at c.args.out.now c.requires)
+pub loop-b-init : goal.loop-b-init
+loop-b-init c = (omega arith, written_none c.args.at c.args.out.now c.requires)
 
 pub put_byte-end-requires : goal.put_byte-end-requires
-put_byte-end-requires c = written-most c.loop-i.invariant.1
+put_byte-end-requires c = written-most c.loop-b.invariant.1
 
-pub loop-i-preserved : goal.loop-i-preserved
-loop-i-preserved c =
+pub loop-b-preserved : goal.loop-b-preserved
+loop-b-preserved c =
     let args = c.args in
-    let loop = c.loop-i in
+    let loop = c.loop-b in
     let put_byte = c.put_byte-end in (
       omega arith,
       written_as (written_then loop.invariant.1 put_byte.ensures)
-          (bytes-more args.s.now loop.i (omega arith)),
+          (bytes-more args.s.now loop.b-index (omega arith)),
     )
 
 pub shape_of-out : goal.shape_of-out
-shape_of-out c = c.loop-i.invariant.1.kept
+shape_of-out c = c.loop-b.invariant.1.kept
 
 pub returns : goal.returns
 returns c =
-    let e : c.loop-i.i ≡ length c.args.s.now = omega arith in
-    written_as c.loop-i.invariant.1 (rw e (take-length c.args.s.now))
+    let e : c.loop-b.b-index ≡ length c.args.s.now = omega arith in
+    written_as c.loop-b.invariant.1 (rw e (take-length c.args.s.now))

@@ -5,19 +5,19 @@ use Rattle.text.specs.Written.{written_none, written-most, written_then, written
 use Rattle.text.proofs.TextLaws.{spaces-more}
 use Rattle.text.proofs.put_spaces.Goals as goal
 
-pub loop-i-init : goal.loop-i-init
-loop-i-init c = (omega arith, written_none c.args.at c.args.out.now c.requires)
+pub loop-init : goal.loop-init
+loop-init c = (omega arith, written_none c.args.at c.args.out.now c.requires)
 
 pub put_byte-end-requires : goal.put_byte-end-requires
-put_byte-end-requires c = written-most c.loop-i.invariant.1
+put_byte-end-requires c = written-most c.loop.invariant.1
 
-pub loop-i-preserved : goal.loop-i-preserved
-loop-i-preserved c = (omega arith, written_as (written_then c.loop-i.invariant.1 c.put_byte-end.ensures) (spaces-more c.loop-i.i))
+pub loop-preserved : goal.loop-preserved
+loop-preserved c = (omega arith, written_as (written_then c.loop.invariant.1 c.put_byte-end.ensures) (spaces-more c.loop.counter))
 
 pub shape_of-out : goal.shape_of-out
-shape_of-out c = c.loop-i.invariant.1.kept
+shape_of-out c = c.loop.invariant.1.kept
 
 pub returns : goal.returns
 returns c =
-    let e : c.loop-i.i ≡ c.args.n = omega arith in
-    rw e at c.loop-i.invariant.1
+    let e : c.loop.counter ≡ c.args.n = omega arith in
+    rw e at c.loop.invariant.1
