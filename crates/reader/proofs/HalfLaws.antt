@@ -71,13 +71,6 @@ module _ (f : List ℕ) (short : length f ≤ 32768) (t : Tables) (a : Either St
 
 -- ---- the fill
 
--- tables that keep their lengths
-pub still-sized :
-    {n s b w r : List ℕ} (n₀ s₀ b₀ w₀ r₀ : List ℕ) → Sized (tabled n₀ s₀ b₀ w₀ r₀) →
-    length n ≡ length n₀ → length s ≡ length s₀ → length b ≡ length b₀ → length w ≡ length w₀ → length r ≡ length r₀ → Sized (tabled n s b w r)
-still-sized n₀ s₀ b₀ w₀ r₀ z en es eb ew er =
-    record { names = en ∙ z.names; strings = es ∙ z.strings; bits = eb ∙ z.bits; wires = ew ∙ z.wires; rows = er ∙ z.rows }
-
 module _ {n s b w r : List ℕ} where
   lent_is : (R : Rooms) (m : ℕ) → tabled n s b w r ≡ tables_of (memory R 0) → m ≡ length R.names → lent n s b w r 0 m ≡ memory R 0
   unfolding tables_of memory

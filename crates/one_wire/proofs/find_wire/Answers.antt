@@ -1,14 +1,10 @@
 use mathlib.Core.Path.{refl, sym, ◌∙◌}
 use Rattle.std.specs.Prelude.{Ok}
-use native.Mathlib.Omega.{arith}
 use Rattle.one_wire.proofs.RowLaws.{named, from_start, from_more, sought-row, sought-none}
 use Rattle.one_wire.proofs.find_wire.Goals as goal
 
 pub loop-k-init : goal.loop-k-init
 loop-k-init c = from_start _ _ _ _
-
-pub bytes_at-requires : goal.bytes_at-requires
-bytes_at-requires c = (omega arith, omega arith)
 
 pub returns-then-same_bytes : goal.returns-then-same_bytes
 returns-then-same_bytes c =

@@ -7,11 +7,8 @@ use Rattle.one_wire.proofs.seek_wire.Goals as goal
 pub returns-then-size-gt-MOST_FILE_BYTES : goal.returns-then-size-gt-MOST_FILE_BYTES
 returns-then-size-gt-MOST_FILE_BYTES c = sought-long _ _ _ c.if-size-gt-MOST_FILE_BYTES.true
 
-pub read_until-requires : goal.read_until-requires
-read_until-requires c = record {
-  f_len_bound = c.if-size-gt-MOST_FILE_BYTES.false;
-  rows_value = zero-tables refl refl refl refl refl;
-}
+pub read_until-requires-clause-rows_value : goal.read_until-requires-clause-rows_value
+read_until-requires-clause-rows_value c = zero-tables refl refl refl refl refl
 
 pub returns-in_err-standing : goal.returns-in_err-standing
 returns-in_err-standing c =

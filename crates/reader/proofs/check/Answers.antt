@@ -6,11 +6,8 @@ use Rattle.reader.proofs.check.Goals as goal
 pub returns-then-size-gt-MOST_FILE_BYTES : goal.returns-then-size-gt-MOST_FILE_BYTES
 returns-then-size-gt-MOST_FILE_BYTES c = checked-long _ c.if-size-gt-MOST_FILE_BYTES.true
 
-pub read_file-requires : goal.read_file-requires
-read_file-requires c = record {
-  f_len_bound = c.if-size-gt-MOST_FILE_BYTES.false;
-  rows_value = zero-tables refl refl refl refl refl;
-}
+pub read_file-requires-clause-rows_value : goal.read_file-requires-clause-rows_value
+read_file-requires-clause-rows_value c = zero-tables refl refl refl refl refl
 
 pub returns-in-Ok : goal.returns-in-Ok
 returns-in-Ok c =
