@@ -60,6 +60,7 @@ fn no_name() -> Span
 }
 
 // A statement without signals.
+#[tactic(auto, unfolding(crate::specs::Parts::named_parts))]
 fn named(kind: u32, first: Span, name: Span, value: Option<ConstantSpan>) -> Parts
     ensures { result ≡ named_parts kind first name value }
 {
@@ -77,6 +78,7 @@ fn named(kind: u32, first: Span, name: Span, value: Option<ConstantSpan>) -> Par
 }
 
 // A connection of a cell or of a module.
+#[tactic(auto, unfolding(crate::specs::Parts::connection_parts))]
 fn connecting(kind: u32, name: Span, count: usize, left: usize, right: usize, fault: u32) -> Parts
     ensures { result ≡ connection_parts kind name count left right fault }
 {
@@ -94,6 +96,7 @@ fn connecting(kind: u32, name: Span, count: usize, left: usize, right: usize, fa
 }
 
 // A line inside a process.
+#[tactic(auto, unfolding(crate::specs::Parts::step_parts))]
 fn stepping(step: u32, width: usize, count: usize, fault: u32) -> Parts
     ensures { result ≡ step_parts step width count fault }
 {
@@ -111,6 +114,7 @@ fn stepping(step: u32, width: usize, count: usize, fault: u32) -> Parts
     }
 }
 
+#[tactic(auto, unfolding(crate::specs::Parts::parts_of))]
 fn parts_of(statement: Statement) -> Parts
     ensures { result ≡ parts_of statement }
 {
@@ -226,6 +230,7 @@ fn statement_sizes(f: &[u8], statement: Statement) -> Sizes
 }
 
 // Whether the statement's own name is taken in its name space.
+#[tactic(auto, unfolding(crate::specs::Parts::taken_in, line_forms::specs::Forms::name_in))]
 fn name_is_taken(
     f: &[u8],
     names: &[u8],

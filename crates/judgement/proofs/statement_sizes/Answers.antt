@@ -34,19 +34,12 @@ value_bits-requires c =
     let pre = c.requires in
     parts-good args.f.now _ _ c.parts_of-parts.ensures pre.sound
 
-pub returns : goal.returns
-returns c =
-    let args = c.args in
-    let pre = c.requires in
-    let parts-of = c.parts_of-parts in
-    let span-size = c.span_size in
-    let span-size2 = c.span_size-2 in
-    let signal-bits = c.signal_bits in
-    let value-bits = c.value_bits in record {
-      sizes_are = sizes-are args.f.now _ _ _ _ _ _ _ _ _ parts-of.ensures pre.sound pre.statement_value refl signal-bits.ensures
-          value-bits.ensures c.string_bytes.ensures span-size.ensures span-size2.ensures
-          (kind-sizes-are _ _ _ _ _ _ _ c.kind_sizes.ensures);
-      at_most = sizes-few args.f.now _ _ _ _ _ _ _ _ _ parts-of.ensures pre.sound pre.statement_value refl signal-bits.ensures
-          value-bits.ensures c.string_bytes.ensures span-size.ensures span-size2.ensures
-          (kind-sizes-are _ _ _ _ _ _ _ c.kind_sizes.ensures) pre.f_len_bound;
-    }
+pub returns-clause-sizes_are : goal.returns-clause-sizes_are
+returns-clause-sizes_are c =
+    sizes-are c.args.f.now _ _ _ _ _ _ _ _ _ c.parts_of-parts.ensures c.requires.sound c.requires.statement_value refl c.signal_bits.ensures c.value_bits.ensures c.string_bytes.ensures c.span_size.ensures c.span_size-2.ensures
+    (kind-sizes-are _ _ _ _ _ _ _ c.kind_sizes.ensures)
+
+pub returns-clause-at_most : goal.returns-clause-at_most
+returns-clause-at_most c =
+    sizes-few c.args.f.now _ _ _ _ _ _ _ _ _ c.parts_of-parts.ensures c.requires.sound c.requires.statement_value refl c.signal_bits.ensures c.value_bits.ensures c.string_bytes.ensures c.span_size.ensures c.span_size-2.ensures
+    (kind-sizes-are _ _ _ _ _ _ _ c.kind_sizes.ensures) c.requires.f_len_bound
