@@ -8,7 +8,7 @@ use Rattle.std.proofs.Math.Option
 use Rattle.std.proofs.Math.Option.{Option, none, some}
 use borrow.Author.Tests.{ne_eqb}
 use Rattle.rules.specs.Bytes.{bytes}
-use Rattle.rules.specs.Tokens.{Name, Literal, value, integer, string, literal}
+use Rattle.rules.specs.Tokens.{Name, Literal, name, word, value, integer, string, literal}
 use Rattle.rules.specs.Statements.{Sig, Opt, Sort, autoidx-stmt, attr-stmt, module-stmt, param-stmt, wire-stmt, memory-stmt, cell-stmt, cell-param-stmt, cell-conn-stmt, conn-stmt, proc-stmt, step-stmt, Step, Signal, translate}
 use Rattle.rules.specs.Signals.{Wires}
 use Rattle.rules.specs.Numbers.{in_range}
@@ -94,13 +94,8 @@ module _ (n n' : Name) (en : n ≡ n') where
   unfolding shape_tokens word_token
   line-attribute c = rw (← en) (sym (spaced-two (bytes "attribute") (piece-name n) (piece-literal c) ∙ rw (spread-name n)))
 
-  pub line-module : bytes "module" ++ (32 ∷ n) ≡ spaced (shape_tokens (module-stmt n'))
-  unfolding shape_tokens word_token
-  line-module = rw (← en) (sym (spaced-word (bytes "module") (piece-name n) ∙ rw (spread-name n)))
-
-  pub line-process : bytes "process" ++ (32 ∷ n) ≡ spaced (shape_tokens (proc-stmt n'))
-  unfolding shape_tokens word_token
-  line-process = rw (← en) (sym (spaced-word (bytes "process") (piece-name n) ∙ rw (spread-name n)))
+  pub line-named : (w : List ℕ) → w ++ (32 ∷ n) ≡ spaced (word w ∷ name n' ∷ [])
+  line-named w = rw (← en) (sym (spaced-word w (piece-name n) ∙ rw (spread-name n)))
 
   -- x is the constant's kind
   module _ (strings bits rows : List ℕ) (k c x : ℕ) (ex : x ≡ column rows k c) where

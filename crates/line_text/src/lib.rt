@@ -5,8 +5,8 @@
 ghost use Rattle.std.specs.Prelude.{◌≡◌, not, [], ◌∷◌, ◌≤◌, ◌<◌, eqb, pos, length};
 ghost use Rattle.std.proofs.Math.Option.{none, some, map};
 ghost use Rattle.rules.specs.Limits.{bits_length, past_text, many_rows};
-ghost use Rattle.rules.specs.Tokens.{literal};
-ghost use Rattle.rules.specs.Statements.{autoidx-stmt, attr-stmt, module-stmt, param-stmt, wire-stmt, memory-stmt, cell-stmt, cell-param-stmt, cell-conn-stmt, conn-stmt, proc-stmt};
+ghost use Rattle.rules.specs.Tokens.{name, word, literal};
+ghost use Rattle.rules.specs.Statements.{autoidx-stmt, attr-stmt, param-stmt, wire-stmt, memory-stmt, cell-stmt, cell-param-stmt, cell-conn-stmt, conn-stmt};
 ghost use Rattle.rules.specs.Text.{sig, literal_of, setting, unless, port_options, wire_options, memory_options, option_tokens, sort_tokens, shape_tokens, decimal_text, integer_text, spaced};
 ghost use Rattle.rules.specs.Numbers.{in_range};
 ghost use Rattle.numbers.specs.Signed.{signed_of};
@@ -250,20 +250,20 @@ fn put_attribute(
     put_constant(strings, bits, rows, row, ROW_CONSTANT, out, end)
 }
 
-fn put_module(names: &[u8], rows: &[u32], row: usize, out: &mut [u8], at: usize) -> usize
+// A statement of a word and a name.
+fn put_named(
+    names: &[u8],
+    rows: &[u32],
+    row: usize,
+    first: &[u8],
+    out: &mut [u8],
+    at: usize,
+) -> usize
     requires { (at ≤ past_text) × (row < many_rows) }
-    ensures { Written at (spaced (shape_tokens (module-stmt (name_from names.now rows.now row 1)))) out.old out.new result }
+    ensures { Written at (spaced (word first.now ∷ name (name_from names.now rows.now row 1) ∷ [])) out.old out.new result }
 {
-    let first = put_bytes(out, at, b"module");
-    put_token(out, first, bytes_at(names, rows, row, ROW_NAME))
-}
-
-fn put_process(names: &[u8], rows: &[u32], row: usize, out: &mut [u8], at: usize) -> usize
-    requires { (at ≤ past_text) × (row < many_rows) }
-    ensures { Written at (spaced (shape_tokens (proc-stmt (name_from names.now rows.now row 1)))) out.old out.new result }
-{
-    let first = put_bytes(out, at, b"process");
-    put_token(out, first, bytes_at(names, rows, row, ROW_NAME))
+    let end = put_bytes(out, at, first);
+    put_token(out, end, bytes_at(names, rows, row, ROW_NAME))
 }
 
 fn put_parameter(
@@ -427,7 +427,7 @@ fn put_plain(
         return put_attribute(names, strings, bits, rows, row, out, at);
     }
     if kind == MODULE_KIND {
-        return put_module(names, rows, row, out, at);
+        return put_named(names, rows, row, b"module", out, at);
     }
     if kind == PARAMETER_KIND {
         return put_parameter(names, strings, bits, rows, row, out, at);
@@ -442,7 +442,7 @@ fn put_plain(
         return put_cell_parameter(names, strings, bits, rows, row, out, at);
     }
     if kind == PROCESS_KIND {
-        return put_process(names, rows, row, out, at);
+        return put_named(names, rows, row, b"process", out, at);
     }
     if kind == END_KIND {
         return put_bytes(out, at, b"end");

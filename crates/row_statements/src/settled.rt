@@ -9,28 +9,14 @@ use tables::Row;
 pub fn same_row(x: Row, y: Row) -> bool
     ensures { result ≡ same (words x) (words y) }
 {
-    if x.kind != y.kind {
-        return false;
-    }
-    if x.a != y.a {
-        return false;
-    }
-    if x.b != y.b {
-        return false;
-    }
-    if x.c != y.c {
-        return false;
-    }
-    if x.d != y.d {
-        return false;
-    }
-    if x.e != y.e {
-        return false;
-    }
-    if x.f != y.f {
-        return false;
-    }
-    x.g == y.g
+    (x.kind == y.kind)
+        & (x.a == y.a)
+        & (x.b == y.b)
+        & (x.c == y.c)
+        & (x.d == y.d)
+        & (x.e == y.e)
+        & (x.f == y.f)
+        & (x.g == y.g)
 }
 
 // A statement whose row has to be this one.

@@ -23,11 +23,11 @@ unfolding statement_by body_text written translate
 returns-then-kind-eq-ATTRIBUTE_KIND c = λ wires ws h k l z. rw c.if-kind-eq-ATTRIBUTE_KIND.true c.put_attribute.ensures
 
 pub shape_of-out-then-kind-eq-MODULE_KIND : goal.shape_of-out-then-kind-eq-MODULE_KIND
-shape_of-out-then-kind-eq-MODULE_KIND c = c.put_module.ensures.kept
+shape_of-out-then-kind-eq-MODULE_KIND c = c.put_named.ensures.kept
 
 pub returns-then-kind-eq-MODULE_KIND : goal.returns-then-kind-eq-MODULE_KIND
-unfolding statement_by body_text written translate
-returns-then-kind-eq-MODULE_KIND c = λ wires ws h k l z. rw c.if-kind-eq-MODULE_KIND.true c.put_module.ensures
+unfolding statement_by body_text written translate shape_tokens word_token
+returns-then-kind-eq-MODULE_KIND c = λ wires ws h k l z. rw c.if-kind-eq-MODULE_KIND.true c.put_named.ensures
 
 pub shape_of-out-then-kind-eq-PARAMETER_KIND : goal.shape_of-out-then-kind-eq-PARAMETER_KIND
 shape_of-out-then-kind-eq-PARAMETER_KIND c = c.put_parameter.ensures.kept
@@ -58,11 +58,11 @@ unfolding statement_by body_text written translate
 returns-then-kind-eq-CELL_PARAMETER_KIND c = λ wires ws h k l z. rw c.if-kind-eq-CELL_PARAMETER_KIND.true c.put_cell_parameter.ensures
 
 pub shape_of-out-then-kind-eq-PROCESS_KIND : goal.shape_of-out-then-kind-eq-PROCESS_KIND
-shape_of-out-then-kind-eq-PROCESS_KIND c = c.put_process.ensures.kept
+shape_of-out-then-kind-eq-PROCESS_KIND c = c.put_named-then-kind-eq-PROCESS_KIND.ensures.kept
 
 pub returns-then-kind-eq-PROCESS_KIND : goal.returns-then-kind-eq-PROCESS_KIND
-unfolding statement_by body_text written translate
-returns-then-kind-eq-PROCESS_KIND c = λ wires ws h k l z. rw c.if-kind-eq-PROCESS_KIND.true c.put_process.ensures
+unfolding statement_by body_text written translate shape_tokens word_token
+returns-then-kind-eq-PROCESS_KIND c = λ wires ws h k l z. rw c.if-kind-eq-PROCESS_KIND.true c.put_named-then-kind-eq-PROCESS_KIND.ensures
 
 pub shape_of-out-then-kind-eq-END_KIND : goal.shape_of-out-then-kind-eq-END_KIND
 shape_of-out-then-kind-eq-END_KIND c = c.put_bytes.ensures.kept
