@@ -11,7 +11,7 @@ ghost use Rattle.tokens.specs.Rows.{integer_in, literal_in};
 ghost use Rattle.literal_rules.specs.Words.{NumberIs};
 
 use numbers::signed::{fits, word_of};
-use scanner::decimals::decimal;
+use scanner::decimals::{CAP, decimal};
 use scanner::parts::part;
 use strings::string_size;
 use tokens::{ConstantSpan, Integer};
@@ -24,9 +24,7 @@ pub const INTEGER_BITS: usize = 32;
 
 pub const BYTE_BITS: usize = 8;
 
-// The width that stands for every higher one, and the most bytes whose bits are below it.
-const CAP: usize = 2147483649;
-
+// The most bytes whose bits are fewer than the cap of a decimal.
 const MOST_BYTES: usize = 268435456;
 
 // An integer's word of 32 bits in two's complement; none if it lies outside of them.
@@ -55,10 +53,7 @@ fn good_value(f: &[u8], start: usize, quote: usize, end: usize) -> bool
     ensures { result ≡ good_literal (literal_in f.now (ConstantSpan.Value start quote end)) }
 {
     let width = decimal(part(f, start, quote));
-    if MOST_WIDTH < width {
-        return false;
-    }
-    value_digits(f, quote, end).len() <= width as usize
+    width <= MOST_WIDTH && value_digits(f, quote, end).len() <= width as usize
 }
 
 // Whether a constant keeps the number rules.
@@ -78,7 +73,7 @@ fn text_width(f: &[u8], start: usize) -> usize
 {
     let size = string_size(f, start);
     if MOST_BYTES < size {
-        return CAP;
+        return CAP as usize;
     }
     BYTE_BITS * size
 }

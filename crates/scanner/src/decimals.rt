@@ -4,7 +4,7 @@ ghost use Rattle.rules.specs.Tokens.{decimal};
 ghost use Rattle.scanner.specs.Numbers.{capped};
 
 // What every number from it on is read as.
-const CAP: u32 = 2147483649;
+pub const CAP: u32 = 2147483649;
 
 // The highest number that may get one more digit: a higher one would pass the cap.
 const MOST_BEFORE: u32 = 214748364;
