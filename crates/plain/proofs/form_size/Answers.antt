@@ -9,9 +9,6 @@ use Rattle.plain.proofs.form_size.Goals as goal
 pub returns-then-name-eq0 : goal.returns-then-name-eq0
 returns-then-name-eq0 c = sym (ap length (form-none _ c.if-name-eq0.true))
 
-pub later_size-requires : goal.later_size-requires
-later_size-requires c = omega (arith, c.requires)
-
 pub overflow_add-result : goal.overflow_add-result
 overflow_add-result c = omega (arith, c.requires, c.later_size.ensures, ap length (form-some c.args.name.now c.if-name-eq0.false), form-most c.args.name.now)
 

@@ -1,13 +1,10 @@
 -- A legal name's form is made in a room of its own.
 use mathlib.Core.Path.{sym, ◌∙◌}
 use native.Mathlib.Omega.{arith}
-use borrow.Author.Tests.{not-true, not-false}
+use borrow.Author.Tests.{not-false}
 use Rattle.plain.specs.Put.{put-part}
 use Rattle.plain.specs.FormLaws.{form-length}
 use Rattle.plain.proofs.is_form_of.Goals as goal
-
-pub returns-then-not-legal : goal.returns-then-not-legal
-returns-then-not-legal c = rw (sym c.legal.ensures ∙ not-true _ c.if-not-legal.true-raw)
 
 pub put_form-end-requires : goal.put_form-end-requires
 put_form-end-requires c = omega (arith, form-length c.args.name.now (sym c.legal.ensures ∙ not-false _ c.if-not-legal.false-raw))

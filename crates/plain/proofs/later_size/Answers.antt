@@ -1,10 +1,10 @@
 -- The loop's invariant: the size of what the first i bytes become.
-use mathlib.Core.Path.{refl, ap, ◌∙◌}
-use mathlib.Core.List.{List, flat_map}
-use Prim.Native.Nat.{ℕ, ◌+◌}
+use mathlib.Core.Path.{refl}
+use mathlib.Core.List.{flat_map}
+use Prim.Native.Nat.{◌+◌}
 use native.Mathlib.Omega.{arith}
-use lib.ListN.{length, take}
-use lib.Seq.{take_all, length-take-le}
+use lib.ListN.{take}
+use lib.Seq.{length-take-le}
 use Rattle.rules.specs.Plain.{plain_byte}
 use Rattle.plain.specs.Put.{flat_map-most, size-more}
 use Rattle.plain.specs.FormLaws.{byte-most}
@@ -24,6 +24,3 @@ overflow_add-size c =
 
 pub loop-b-preserved : goal.loop-b-preserved
 loop-b-preserved c = (omega arith, size-more plain_byte c.args.s.now c.loop-b.b-index c.loop-b.size c.plain_size-size.result c.loop-b-test.true c.loop-b.invariant.1 c.plain_size-size.ensures)
-
-pub returns : goal.returns
-returns c = c.loop-b.invariant.1 ∙ ap (λ (l : List ℕ). length (flat_map plain_byte l)) (take_all c.loop-b.b-index c.args.s.now (omega arith))

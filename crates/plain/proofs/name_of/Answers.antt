@@ -30,13 +30,6 @@ returns-then-out-end c =
     let if3 = c.if-out-end in
     back-short args.form.now put-name.ensures if1.false (search rules) _ is-form-of.ensures args.out.now (not-false _ if2.false-raw) if3.true
 
-pub overflow_cast-result : goal.overflow_cast-result
-overflow_cast-result c =
-    let args = c.args in
-    let if1 = c.if-form-gt-LONGEST_FORM in
-    let put-name = c.put_name-end in
-    omega (arith, name-end args.form.now put-name.ensures if1.false (search rules))
-
 pub returns : goal.returns
 returns c =
     let args = c.args in

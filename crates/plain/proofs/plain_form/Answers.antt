@@ -16,9 +16,6 @@ form_size-size-requires c = omega (arith, legal-short c.args.name.now (sym c.leg
 pub returns-then-out-size : goal.returns-then-out-size
 returns-then-out-size c = turned-short c.args.name.now c.args.out.now (sym c.legal.ensures ∙ not-false _ c.if-not-legal.false-raw) _ c.form_size-size.ensures c.if-out-size.true
 
-pub put_form-requires : goal.put_form-requires
-put_form-requires c = omega (arith, c.form_size-size.ensures)
-
 pub overflow_cast-result : goal.overflow_cast-result
 overflow_cast-result c =
     let args = c.args in

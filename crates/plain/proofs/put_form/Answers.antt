@@ -14,9 +14,6 @@ returns-then-name-eq0 c = put_as (put-none c.args.at c.args.out.now) (sym (form-
 pub bounds-out-at : goal.bounds-out-at
 bounds-out-at c = omega (arith, c.requires, ap length (form-some c.args.name.now c.if-name-eq0.false))
 
-pub overflow_add-at : goal.overflow_add-at
-overflow_add-at c = omega (arith, c.requires)
-
 pub put_later-requires : goal.put_later-requires
 put_later-requires c =
     let args = c.args in

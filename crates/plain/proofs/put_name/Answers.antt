@@ -1,27 +1,13 @@
 -- The first byte, and those behind it.
 use mathlib.Core.Path.{sym}
-use Prim.Native.Nat.{◌-◌}
-use native.Mathlib.Omega.{arith}
-use lib.ListN.{length, length-set}
-use Rattle.lists.specs.Parts.{length_part}
 use borrow.Author.Tests.{eq-eqb, ne_eqb}
-use Rattle.plain.specs.Put.{put-none, put_as, put-kept}
+use Rattle.plain.specs.Put.{put-none, put_as}
 use Rattle.plain.proofs.AnswerLaws.{name-none, name-some, first_then}
 use Rattle.plain.proofs.put_name.Goals as goal
 use Rattle.plain.proofs.put_name.Goals.{else-form-eq112, then-form-eq112}
 
 pub returns-then-form-eq0 : goal.returns-then-form-eq0
 returns-then-form-eq0 c = put_as (put-none 0 c.args.out.now) (sym (name-none _ c.if-form-eq0.true))
-
-pub bounds-out-0 : goal.bounds-out-0
-bounds-out-0 c = omega (arith, c.requires)
-
-pub put_taken-requires : goal.put_taken-requires
-put_taken-requires c =
-    let args = c.args in
-    let pre = c.requires in
-    let if2 = c.if-form-eq112 in
-    omega (arith, pre, length-set args.out.now 0 if2.first, length_part args.form.now 1 (length args.form.now - 1) (omega arith))
 
 pub returns : goal.returns
 returns c =
@@ -30,6 +16,3 @@ returns c =
     let if2 = c.if-form-eq112 in
     let put-taken = c.put_taken in
     first_then (name-some args.form.now if1.false) ((elim if2.branch [ then-form-eq112 w ↦ rw (eq-eqb _ _ w.if-form-eq112.true) w.first-is | else-form-eq112 w ↦ rw (ne_eqb _ _ w.if-form-eq112.false) w.first-is ])) put-taken.ensures
-
-pub shape_of-out : goal.shape_of-out
-shape_of-out c = put-kept (returns c)

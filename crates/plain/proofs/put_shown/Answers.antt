@@ -1,8 +1,6 @@
 -- The loop's invariant: what the first i bytes become is put.
-use mathlib.Core.Path.{ap}
 use mathlib.Core.List.{flat_map}
 use native.Mathlib.Omega.{arith}
-use lib.Seq.{take_all}
 use Rattle.rules.specs.Plain.{low}
 use Rattle.lists.specs.Lists.{flat_map-more}
 use Rattle.plain.specs.Put.{put-none, put-kept, put_then, put_as, part-fits}
@@ -26,9 +24,3 @@ loop-b-preserved c =
     let loop = c.loop-b in
     let put_low = c.put_low-end in
     (omega arith, put_as (put_then loop.invariant.1 put_low.ensures) (flat_map-more low args.s.now loop.b-index 0 (omega arith)))
-
-pub shape_of-out : goal.shape_of-out
-shape_of-out c = put-kept c.loop-b.invariant.1
-
-pub returns : goal.returns
-returns c = put_as c.loop-b.invariant.1 (ap (flat_map low) (take_all c.loop-b.b-index c.args.s.now (omega arith)))
