@@ -32,6 +32,7 @@ pub struct Indexed {
 }
 
 // The first wire of a module that has this name now.
+#[tactic(auto, unfolding(session::specs::Called::answer, rename_rules::specs::Search::named))]
 fn find(names: &[u8], wires: &[u32], rows: &[u32], m: Module, name: &[u8]) -> Found
     ensures { (result.number, result.wire.0) ≡ answer 0 (search_now names.now wires.now rows.now m name.now m.wires 0) }
 {
@@ -73,6 +74,7 @@ pub fn look_up(
 }
 
 // The index of a bit of the wire in a row.
+#[tactic(auto, unfolding(session::specs::Called::answer, numbers::specs::Signed::verdict_of))]
 fn row_index(wires: &[u32], row: u32, bit: u32) -> Indexed
     ensures { (result.number, result.index) ≡ answer (pos 0) (index_in (wire_of wires.now row) bit) }
 {

@@ -1,9 +1,7 @@
 use native.Mathlib.Omega.{arith}
-use lib.IntN.{pos}
 use Rattle.netlist.specs.Results.{lent}
-use Rattle.session.proofs.OpenLaws.{opened, not_opened}
+use Rattle.session.proofs.OpenLaws.{opened}
 use Rattle.session.proofs.HoldLaws.{wire-fits}
-use Rattle.session.proofs.CallLaws.{not-open}
 use Rattle.look_up.proofs.AskLaws.{index-there, index-missing}
 use Rattle.look_up.proofs.index.Goals as goal
 
@@ -42,12 +40,3 @@ returns-else-own-number c =
     (lent args.names.now args.strings.now args.bits.now args.wires.now args.rows.now args.renames args.room)
     _ open-memory.ensures _ c.in-Ok.is) args.m.0 args.w.0 args.bit _ module-wires.ensures
     _ if1.false c.row_index.ensures
-
-pub returns-in-Err : goal.returns-in-Err
-returns-in-Err c =
-    let args = c.args in
-    let open-memory = c.open_memory in
-    not-open (λ n. (n, pos 0)) _ _
-    (not_opened
-    (lent args.names.now args.strings.now args.bits.now args.wires.now args.rows.now args.renames args.room)
-    _ open-memory.ensures _ c.in-Err.is)

@@ -1,6 +1,5 @@
 use Rattle.netlist.specs.Results.{lent}
-use Rattle.session.proofs.OpenLaws.{opened, not_opened}
-use Rattle.session.proofs.CallLaws.{not-open}
+use Rattle.session.proofs.OpenLaws.{opened}
 use Rattle.look_up.proofs.AskLaws.{looked-up}
 use Rattle.look_up.proofs.look_up.Goals as goal
 
@@ -13,12 +12,3 @@ returns-in-Ok c =
     (lent args.names.now args.strings.now args.bits.now args.wires.now args.rows.now args.renames args.room)
     _ open-memory.ensures _ c.in-Ok.is) args.m.0 args.name.now _ _
     c.module_of.ensures c.find.ensures
-
-pub returns-in-Err : goal.returns-in-Err
-returns-in-Err c =
-    let args = c.args in
-    let open-memory = c.open_memory in
-    not-open (λ n. (n, 0)) _ _
-    (not_opened
-    (lent args.names.now args.strings.now args.bits.now args.wires.now args.rows.now args.renames args.room)
-    _ open-memory.ensures _ c.in-Err.is)
