@@ -1,7 +1,8 @@
 -- Laws of the rows that pass a test and of module lines, for any table.
 -- Assumes nothing.
 use Prim.Native.Nat.{ℕ, zero, suc, ◌+◌, ◌-◌, ◌≤◌, ◌<◌}
-use Rattle.std.specs.Prelude.{◌≡◌, List, Bool, cond, eqb, ltb}
+use Rattle.std.specs.Prelude.{◌≡◌, List, Bool, true, false, cond, eqb, ltb}
+use Rattle.std.specs.Int.{from_bool}
 use Rattle.std.proofs.Math.Path.{refl}
 use Rattle.std.proofs.Common.{sym, ap, ◌∙◌}
 use Rattle.std.proofs.Math.Numerals.{lt_of_le_of_ne}
@@ -10,6 +11,10 @@ use borrow.Author.Tests.{eq-eqb, ne_eqb, eqb-true, eqb-false, ltb-true, ltb-fals
 use Rattle.wires.specs.Rows.{column}
 use Rattle.lists.specs.Tests.{by-test, by_le, by_order, cond-le}
 use Rattle.modules.specs.Ranges.{rows_where, lines_in, line_of, row_range}
+
+bool-one : (b : Bool) → from_bool b ≡ cond b 1 0
+bool-one true = refl
+bool-one false = refl
 
 -- one row more, and all of them
 pub where-more : (f : ℕ → Bool) (t : List ℕ) (k : ℕ) → rows_where f t (k + 1) ≡ rows_where f t k + cond (f (column t k 0)) 1 0
@@ -23,10 +28,10 @@ where-le f t (suc k) = omega (arith, where-le f t k, cond-le (f (column t k 0)) 
 
 -- the same of numbers that count them
 module _ (f : ℕ → Bool) (t : List ℕ) (k n : ℕ) (e : n ≡ rows_where f t k) where
-  pub where-turn : (x r : ℕ) → x ≡ column t k 0 → r ≡ cond (f x) 1 0 → n + r ≡ rows_where f t (k + 1)
-  where-turn x r ex er = rw (er, ex, e) (sym (where-more f t k))
+  pub where-turn : (x r : ℕ) → x ≡ column t k 0 → r ≡ from_bool (f x) → n + r ≡ rows_where f t (k + 1)
+  where-turn x r ex er = rw (er, ex, e, bool-one) (sym (where-more f t k))
 
-  pub where-sum : (x r : ℕ) → x ≡ column t k 0 → r ≡ cond (f x) 1 0 → n + r ≤ k + 1
+  pub where-sum : (x r : ℕ) → x ≡ column t k 0 → r ≡ from_bool (f x) → n + r ≤ k + 1
   where-sum x r ex er = omega (arith, where-turn x r ex er, where-le f t (k + 1))
 
 -- rows of a number or below it are below the next

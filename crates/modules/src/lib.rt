@@ -2,7 +2,7 @@
 // All of it is total: a word past a table's end counts as 0.
 #![tactic(auto)]
 
-ghost use Rattle.std.specs.Prelude.{◌≡◌, cond, eqb, ltb};
+ghost use Rattle.std.specs.Prelude.{◌≡◌};
 ghost use Rattle.wires.specs.Rows.{column};
 ghost use Rattle.modules.specs.Ranges.{wire_range, line_of, row_range};
 
@@ -24,24 +24,6 @@ fn first_column(table: &[u32], k: u32) -> u32
     column(table, k as usize, 0)
 }
 
-fn one_if_below(a: u32, b: u32) -> u32
-    ensures { result ≡ cond (ltb a b) 1 0 }
-{
-    if a < b {
-        return 1;
-    }
-    0
-}
-
-fn one_if_same(a: u32, b: u32) -> u32
-    ensures { result ≡ cond (eqb a b) 1 0 }
-{
-    if a == b {
-        return 1;
-    }
-    0
-}
-
 // The rows of a module's wires, of `total` in all.
 pub fn module_wires(wires: &[u32], total: u32, m: ModuleNumber) -> Range
     ensures { result ≡ wire_range wires.now total m.0 }
@@ -51,8 +33,8 @@ pub fn module_wires(wires: &[u32], total: u32, m: ModuleNumber) -> Range
     let mut count = 0;
     for k in 0..total {
         let module = first_column(wires, k);
-        first += one_if_below(module, number);
-        count += one_if_same(module, number);
+        first += u32::from(module < number);
+        count += u32::from(module == number);
     }
     Range { first, count }
 }
@@ -63,7 +45,7 @@ fn module_line(rows: &[u32], total: u32, number: usize) -> u32
 {
     let mut lines = 0;
     for k in 0..total {
-        lines += one_if_same(first_column(rows, k), MODULE_KIND);
+        lines += u32::from(first_column(rows, k) == MODULE_KIND);
         if number < lines as usize {
             return k;
         }

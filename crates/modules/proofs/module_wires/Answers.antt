@@ -12,15 +12,15 @@ unfolding rows_where
 loop-k-init c = record { below = refl; own = refl }
 
 pub overflow_add-first : goal.overflow_add-first
-overflow_add-first c = omega (arith, where-sum (λ x. ltb x _) _ _ _ c.loop-k.invariant.below _ _ c.first_column-module.ensures c.one_if_below-first.ensures)
+overflow_add-first c = omega (arith, where-sum (λ x. ltb x _) _ _ _ c.loop-k.invariant.below _ _ c.first_column-module.ensures c.from-first.ensures)
 
 pub overflow_add-count : goal.overflow_add-count
-overflow_add-count c = omega (arith, where-sum (λ x. eqb x _) _ _ _ c.loop-k.invariant.own _ _ c.first_column-module.ensures c.one_if_same-count.ensures)
+overflow_add-count c = omega (arith, where-sum (λ x. eqb x _) _ _ _ c.loop-k.invariant.own _ _ c.first_column-module.ensures c.from-count.ensures)
 
 pub loop-k-preserved : goal.loop-k-preserved
 loop-k-preserved c = record {
-  below = where-turn (λ x. ltb x _) _ _ _ c.loop-k.invariant.below _ _ c.first_column-module.ensures c.one_if_below-first.ensures;
-  own = where-turn (λ x. eqb x _) _ _ _ c.loop-k.invariant.own _ _ c.first_column-module.ensures c.one_if_same-count.ensures;
+  below = where-turn (λ x. ltb x _) _ _ _ c.loop-k.invariant.below _ _ c.first_column-module.ensures c.from-first.ensures;
+  own = where-turn (λ x. eqb x _) _ _ _ c.loop-k.invariant.own _ _ c.first_column-module.ensures c.from-count.ensures;
 }
 
 pub returns : goal.returns
