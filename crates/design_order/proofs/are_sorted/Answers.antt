@@ -12,14 +12,6 @@ pub loop-m-init : goal.loop-m-init
 unfolding indexes_up
 loop-m-init c = refl
 
-pub offset_bounds-index-first : goal.offset_bounds-index-first
-offset_bounds-index-first c =
-    let args = c.args in
-    let pre = c.requires in
-    let loop = c.loop-m in
-    let module-at = c.module_at-module in
-    omega (arith, module-fits args.names.now args.wires.now args.rows.now args.place args.renames loop.m module-at.result module-at.ensures args.index.now pre.wires_in_bounds)
-
 pub slice_bounds-is_sorted-end : goal.slice_bounds-is_sorted-end
 slice_bounds-is_sorted-end c =
     let args = c.args in
@@ -27,18 +19,6 @@ slice_bounds-is_sorted-end c =
     let loop = c.loop-m in
     let module-at = c.module_at-module in
     module-fits args.names.now args.wires.now args.rows.now args.place args.renames loop.m module-at.result module-at.ensures args.index.now pre.wires_in_bounds
-
-pub is_sorted-requires : goal.is_sorted-requires
-is_sorted-requires c =
-    let args = c.args in
-    let pre = c.requires in
-    let loop = c.loop-m in
-    let if1 = c.loop-m-test in
-    let module-at = c.module_at-module in
-    record {
-      index_len = part-long args.names.now args.wires.now args.rows.now args.place args.renames loop.m module-at.result module-at.ensures args.index.now pre.wires_in_bounds;
-      apart = module-apart args.names.now args.wires.now args.rows.now args.place args.renames loop.m module-at.result module-at.ensures pre.names_apart if1.true;
-    }
 
 pub returns-then-not-is_sorted : goal.returns-then-not-is_sorted
 returns-then-not-is_sorted c =

@@ -20,9 +20,3 @@ order_module-requires c =
 
 pub loop-m-preserved : goal.loop-m-preserved
 loop-m-preserved c = module-built _ _ _ c.args.place _ _ _ c.module_at-module.ensures _ _ _ c.loop-m.invariant c.order_module.ensures
-
-pub shape_of-index : goal.shape_of-index
-shape_of-index c = ap length c.loop-m.invariant ∙ length-store _ _ _
-
-pub returns : goal.returns
-returns c = built-all _ _ _ c.args.place _ _ _ c.loop-m.m c.loop-m.auto.m-end c.loop-m-test.false c.loop-m.invariant

@@ -5,17 +5,8 @@ use native.Mathlib.Omega.{arith}
 use Rattle.name_index.specs.IndexLaws.{indexed-none}
 use Rattle.memory_check.proofs.judge_memory.Goals as goal
 
-pub slice_bounds-judge_indexed-end : goal.slice_bounds-judge_indexed-end
-slice_bounds-judge_indexed-end c = refl
-
-pub slice_bounds-judge_indexed-end-2 : goal.slice_bounds-judge_indexed-end-2
-slice_bounds-judge_indexed-end-2 c = refl
-
 pub judge_indexed-requires : goal.judge_indexed-requires
 judge_indexed-requires c = record {
   indexed = indexed-none _ _;
   row_room_in_bounds = omega arith;
 }
-
-pub returns : goal.returns
-returns c = c.judge_indexed.ensures

@@ -15,14 +15,8 @@ returns-then-not-is_rename c = no-rename _ _ _ _ _ _ _ c.get_row-x.ensures (sym 
 pub returns-then-names-end : goal.returns-then-names-end
 returns-then-names-end c = no_name _ _ _ _ _ _ _ c.get_row-x.ensures c.if-names-end.true
 
-pub indexed_rename-requires : goal.indexed_rename-requires
-indexed_rename-requires c = record { indexed = c.requires.indexed; indexed_2 = c.requires.indexed_2 }
-
 pub returns-in_err-ok : goal.returns-in_err-ok
 returns-in_err-ok c = rw c.from_residual.ensures (rename-refused _ _ _ _ _ _ _ c.get_row-x.ensures _ c.part-new.ensures _ c.indexed_rename.ensures (sym c.in_err-ok.ensures.variant))
-
-pub overflow_cast-result : goal.overflow_cast-result
-overflow_cast-result c = omega (arith, c.requires.names_len_bound)
 
 pub returns : goal.returns
 returns c =

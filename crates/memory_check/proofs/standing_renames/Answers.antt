@@ -14,16 +14,3 @@ index_wires-requires c = record {
   indexed = indexed-none _ _;
   count_in_bounds = omega (arith, c.requires.names_len_bound);
 }
-
-pub all_renames-requires : goal.all_renames-requires
-all_renames-requires c =
-    let pre = c.requires in
-    let index-wires = c.index_wires in
-    record {
-      names_len_bound = pre.names_len_bound.0;
-      indexed = pre.indexed;
-      indexed_2 = index-wires.ensures;
-    }
-
-pub returns : goal.returns
-returns c = c.all_renames.ensures

@@ -13,9 +13,6 @@ returns-then-not-stands_next c =
     let pre = c.requires in
     not-passed _ _ pre.apart _ pre.index_len _ (omega (arith, pre.index_len, c.loop-k-test.true)) (sym c.stands_next.ensures ∙ not-true _ c.if-not-stands_next.true-raw)
 
-pub loop-k-preserved : goal.loop-k-preserved
-loop-k-preserved c = next_more _ _ _ _ c.loop-k.invariant (sym c.stands_next.ensures ∙ not-false _ c.if-not-stands_next.false-raw)
-
 pub returns : goal.returns
 returns c =
     let pre = c.requires in

@@ -37,6 +37,3 @@ loop-wire-preserved c =
 
 pub shape_of-index : goal.shape_of-index
 shape_of-index c = ap length c.loop-wire.invariant ∙ length-store _ _ _
-
-pub returns : goal.returns
-returns c = built-end _ _ _ _ c.requires _ _ c.loop-wire.invariant c.loop-wire-test.false

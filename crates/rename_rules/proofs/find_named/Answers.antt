@@ -8,9 +8,6 @@ use Rattle.rename_rules.proofs.SearchLaws.{search-start, search-end}
 use Rattle.rename_rules.proofs.RenamedLaws.{search-kept, search-renamed, search-passed}
 use Rattle.rename_rules.proofs.find_named.Goals as goal
 
-pub loop-k-init : goal.loop-k-init
-loop-k-init c = search-start _ _ _ c.args.m _
-
 pub returns-then-keeps_name : goal.returns-then-keeps_name
 unfolding named
 returns-then-keeps_name c =

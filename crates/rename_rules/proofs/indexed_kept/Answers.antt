@@ -23,18 +23,6 @@ returns-then-row_keeps_name c =
     sym
     (kept-found _ _ _ _ _ pre.renamed _ _ pre.module_indexed _ (loop.invariant pre.module_indexed) if1.true _ c.row_keeps_name.ensures c.if-row_keeps_name.true)
 
-pub overflow_cast-at : goal.overflow_cast-at
-overflow_cast-at c =
-    let pre = c.requires in
-    let loop = c.loop-at in
-    omega (arith, (loop.invariant pre.module_indexed).below, pre.module_indexed.indexed.room)
-
-pub offset_bounds-chain-row : goal.offset_bounds-chain-row
-offset_bounds-chain-row c =
-    let pre = c.requires in
-    let loop = c.loop-at in
-    omega (arith, (loop.invariant pre.module_indexed).below, pre.module_indexed.indexed.room)
-
 pub bounds-chain-row : goal.bounds-chain-row
 bounds-chain-row c =
     let pre = c.requires in
