@@ -9,15 +9,6 @@ use Rattle.context.proofs.SizeLaws.{within-small}
 use Rattle.replay.proofs.TurnLaws.{told-small, counted-taken, counted-large, counted-exceeds, counted_next}
 use Rattle.replay.proofs.turns.counted.Goals as goal
 
-pub row_name-requires : goal.row_name-requires
-row_name-requires c = tt
-
-pub indexed_found-requires : goal.indexed_found-requires
-indexed_found-requires c = record {
-  bounds = c.requires.ready.bounds;
-  indexed = c.requires.indexed;
-}
-
 pub returns-then-indexed_found : goal.returns-then-indexed_found
 returns-then-indexed_found c = counted-taken _ _ _ _ _ _ _ _ _ _ _ _ c.row_name.ensures c.indexed_found.ensures c.if-indexed_found.true
 
@@ -42,14 +33,6 @@ returns-then-not-within c =
     counted-exceeds _ _ _ _ _ _ _ _ _ _ _ _ row-name.ensures indexed-found.ensures _
     (kind-sizes-are _ _ _ _ _ _ _ kind-sizes.ensures) _ plus.ensures c.within.ensures
     (not-true _ c.if-not-within.true-raw)
-
-pub after-requires : goal.after-requires
-after-requires c =
-    let pre = c.requires in
-    record {
-      rows_bound = omega (arith, pre.ready.few);
-      bounds = pre.ready.bounds;
-    }
 
 pub returns : goal.returns
 returns c =

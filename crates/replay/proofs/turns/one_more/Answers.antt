@@ -10,17 +10,6 @@ returns-then-rows-at c = turn-short _ _ _ _ c.if-rows-at.true
 pub returns-then-not-line_stands : goal.returns-then-not-line_stands
 returns-then-not-line_stands c = turn-line _ _ _ _ _ c.get_row-r.ensures c.line_stands.ensures (not-true _ c.if-not-line_stands.true-raw)
 
-pub used_from-used-requires : goal.used_from-used-requires
-used_from-used-requires c = c.requires.ready.within
-
-pub statement_at-requires : goal.statement_at-requires
-statement_at-requires c =
-    let args = c.args in
-    let pre = c.requires in record {
-      small = small-used (used_of c.used_from-used.result) args.behind.place args.behind.sums c.used_from-used.ensures pre.ready.within;
-      first_le_wires = wires-fit (used_of c.used_from-used.result) args.behind.place args.behind.sums c.used_from-used.ensures pre.ready.bounds;
-    }
-
 pub counted-requires : goal.counted-requires
 counted-requires c =
     let pre = c.requires in
