@@ -11,15 +11,6 @@ rename_open-requires c =
     (lent args.names.now args.strings.now args.bits.now args.wires.now args.rows.now args.renames args.room)
     _ open-memory.ensures _ c.in-Ok.is
 
-pub shape_of-names-in-Ok : goal.shape_of-names-in-Ok
-shape_of-names-in-Ok c = c.rename_open.auto.names
-
-pub shape_of-rows-in-Ok : goal.shape_of-rows-in-Ok
-shape_of-rows-in-Ok c = c.rename_open.auto.rows
-
-pub returns-in-Ok : goal.returns-in-Ok
-returns-in-Ok c = c.rename_open.ensures
-
 pub returns-in-Err : goal.returns-in-Err
 returns-in-Err c =
     let args = c.args in
