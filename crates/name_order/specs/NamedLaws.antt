@@ -1,8 +1,8 @@
 -- The turns of the halving, of the pass and of the building, over an index xs of wires that have the names f.
 -- Assumes nothing.
-use Rattle.std.specs.Prelude.{ℕ, zero, suc, ◌+◌, ◌-◌, ◌≤◌, ◌<◌, ◌≡◌, refl, Bool, true, false, eqb, ltb, get_or, take, set}
+use Rattle.std.specs.Prelude.{ℕ, suc, ◌+◌, ◌-◌, ◌≤◌, ◌<◌, ◌≡◌, refl, Bool, true, false, eqb, get_or, take, set}
 use Rattle.std.proofs.Math.Path.{sym, ap}
-use Rattle.std.proofs.Common.{◌∙◌, length-append, length-take, length-drop, get_or-take, get_or-drop, length-take-le, take-take, drop-drop, drop_at}
+use Rattle.std.proofs.Common.{◌∙◌, length-append, length-drop, length-take-le, take-take, drop-drop, drop_at}
 use mathlib.Core.List.{List, [], ◌∷◌, ◌++◌, map, append_assoc}
 use native.Mathlib.Omega.{arith}
 use Rattle.std.proofs.Math.ListN.{length, drop}
@@ -14,7 +14,7 @@ use Rattle.rules.specs.Sorted.{before}
 use Rattle.lists.specs.Tests.{by-test}
 use Rattle.lists.specs.Lists.{map_at}
 use Rattle.lists.specs.Parts.{slice-span, length_part}
-use Rattle.tables.specs.Store.{store, store-none, length-store, store-eq, store-behind, store-more, store-slice, filled, filled-end}
+use Rattle.tables.specs.Store.{store, store-none, length-store, store-eq, store-more, store-slice}
 use Rattle.byte_order.specs.Order.{Ordered, Halved, place, order_up, index_up, stands_next}
 use Rattle.byte_order.specs.OrderLaws.{place-le, halved-start, halved-up, halved-down, index-ordered, index-more, length-index}
 use Rattle.name_order.specs.declared.Halves.{Halves}

@@ -1,11 +1,9 @@
 -- The invariant: each entry in front of k stands behind one whose name comes before its own.
 -- Assumes nothing.
-use Prim.Native.Nat.{◌-◌}
 use mathlib.Core.Path.{sym, ◌∙◌}
 use native.Mathlib.Omega.{arith}
-use borrow.Author.Tests.{not-true, not-false}
+use borrow.Author.Tests.{not-true}
 use Rattle.byte_order.specs.PassLaws.{passed, not-passed}
-use Rattle.name_order.specs.NamedLaws.{next_more}
 use Rattle.name_order.proofs.is_sorted.Goals as goal
 
 pub returns-then-not-stands_next : goal.returns-then-not-stands_next

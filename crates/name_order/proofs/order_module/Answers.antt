@@ -6,7 +6,7 @@ use native.Mathlib.Omega.{arith}
 use lib.ListN.{length}
 use Rattle.tables.specs.Store.{length-store}
 use Rattle.name_order.specs.Named.{name_in}
-use Rattle.name_order.specs.NamedLaws.{built-start, built-ordered, built-room, built-more, built-end}
+use Rattle.name_order.specs.NamedLaws.{built-start, built-ordered, built-room, built-more}
 use Rattle.name_order.proofs.order_module.Goals as goal
 
 pub loop-wire-init : goal.loop-wire-init

@@ -1,6 +1,5 @@
 -- The invariant: the name's place is in what is left.
 -- Assumes nothing.
-use Prim.Native.Nat.{◌-◌}
 use Rattle.byte_order.specs.OrderLaws.{halved-end}
 use Rattle.name_order.specs.Named.{name_in}
 use Rattle.name_order.specs.NamedLaws.{halves-start}

@@ -1,7 +1,7 @@
 -- The loop's invariant: the last rename of the wire among the first ones that are left is the last of all.
 -- Assumes nothing.
-use mathlib.Core.Path.{◌≡◌, sym, ◌∙◌}
-use Prim.Native.Nat.{suc, ◌+◌, ◌-◌}
+use mathlib.Core.Path.{sym, ◌∙◌}
+use Prim.Native.Nat.{◌-◌}
 use native.Mathlib.Omega.{arith}
 use Rattle.wire_names.specs.NowLaws.{rename-none, rename-here, rename-before}
 use Rattle.wire_names.proofs.last_rename.Goals as goal
