@@ -1,5 +1,4 @@
 -- The loop's invariant: the digits from i on are written, the highest first.
-use mathlib.Core.Path.{◌≡◌}
 use Prim.Native.Nat.{◌-◌}
 use native.Mathlib.Omega.{arith}
 use lib.Seq.{drop-length}
@@ -10,9 +9,6 @@ use Rattle.constant_text.proofs.put_digits.Goals as goal
 pub loop-i-init : goal.loop-i-init
 loop-i-init c = (omega arith, rw (drop-length c.args.bits.now) (written_none c.args.at c.args.out.now c.requires))
 
-pub digit_byte-requires : goal.digit_byte-requires
-digit_byte-requires c = tt
-
 pub put_byte-end-requires : goal.put_byte-end-requires
 put_byte-end-requires c = written-most c.loop-i.invariant.1
 
@@ -21,11 +17,3 @@ loop-i-preserved c =
     let l = c.loop-i in
     let b = c.args.bits.now in
     (omega arith, written_as (written_then l.invariant.1 c.put_byte-end.ensures) (digits_more b l.i (l.i - 1) c.digit_byte.result (omega arith) (omega arith) c.digit_byte.ensures))
-
-pub shape_of-out : goal.shape_of-out
-shape_of-out c = c.loop-i.invariant.1.kept
-
-pub returns : goal.returns
-returns c =
-    let e : c.loop-i.i ≡ 0 = omega arith in
-    rw e at c.loop-i.invariant.1

@@ -1,37 +1,15 @@
 -- Each branch is one of the rules' cases.
-use mathlib.Core.Path.{refl}
 use borrow.Author.Tests.{eq-eqb, ne_eqb, lt-ltb, le-ltb}
 use Rattle.rules.specs.Text.{escaped}
 use Rattle.constant_text.proofs.put_escaped.Goals as goal
-
-pub slice_bounds-put_bytes-end-then-b-lt32 : goal.slice_bounds-put_bytes-end-then-b-lt32
-slice_bounds-put_bytes-end-then-b-lt32 c = refl
-
-pub put_bytes-requires : goal.put_bytes-requires
-put_bytes-requires c = c.requires
-
-pub shape_of-out-then-b-eq34 : goal.shape_of-out-then-b-eq34
-shape_of-out-then-b-eq34 c = c.put_bytes.ensures.kept
 
 pub returns-then-b-eq34 : goal.returns-then-b-eq34
 unfolding escaped
 returns-then-b-eq34 c = rw (eq-eqb _ _ c.if-b-eq34.true) c.put_bytes.ensures
 
-pub put_bytes-requires-then-b-eq92 : goal.put_bytes-requires-then-b-eq92
-put_bytes-requires-then-b-eq92 c = c.requires
-
-pub shape_of-out-then-b-eq92 : goal.shape_of-out-then-b-eq92
-shape_of-out-then-b-eq92 c = c.put_bytes-then-b-eq92.ensures.kept
-
 pub returns-then-b-eq92 : goal.returns-then-b-eq92
 unfolding escaped
 returns-then-b-eq92 c = rw (ne_eqb _ _ c.if-b-eq34.false, eq-eqb _ _ c.if-b-eq92.true) c.put_bytes-then-b-eq92.ensures
-
-pub put_bytes-requires-then-b-eq10 : goal.put_bytes-requires-then-b-eq10
-put_bytes-requires-then-b-eq10 c = c.requires
-
-pub shape_of-out-then-b-eq10 : goal.shape_of-out-then-b-eq10
-shape_of-out-then-b-eq10 c = c.put_bytes-then-b-eq10.ensures.kept
 
 pub returns-then-b-eq10 : goal.returns-then-b-eq10
 unfolding escaped
@@ -41,12 +19,6 @@ returns-then-b-eq10 c =
     let if3 = c.if-b-eq10 in
     let put-bytes3 = c.put_bytes-then-b-eq10 in
     rw (ne_eqb _ _ if1.false, ne_eqb _ _ if2.false, eq-eqb _ _ if3.true) put-bytes3.ensures
-
-pub put_bytes-requires-then-b-eq9 : goal.put_bytes-requires-then-b-eq9
-put_bytes-requires-then-b-eq9 c = c.requires
-
-pub shape_of-out-then-b-eq9 : goal.shape_of-out-then-b-eq9
-shape_of-out-then-b-eq9 c = c.put_bytes-then-b-eq9.ensures.kept
 
 pub returns-then-b-eq9 : goal.returns-then-b-eq9
 unfolding escaped
@@ -58,12 +30,6 @@ returns-then-b-eq9 c =
     let put-bytes4 = c.put_bytes-then-b-eq9 in
     rw (ne_eqb _ _ if1.false, ne_eqb _ _ if2.false, ne_eqb _ _ if3.false, eq-eqb _ _ if4.true)
     put-bytes4.ensures
-
-pub put_bytes-requires-then-b-lt32 : goal.put_bytes-requires-then-b-lt32
-put_bytes-requires-then-b-lt32 c = c.requires
-
-pub shape_of-out-then-b-lt32 : goal.shape_of-out-then-b-lt32
-shape_of-out-then-b-lt32 c = c.put_bytes-then-b-lt32.ensures.kept
 
 pub returns-then-b-lt32 : goal.returns-then-b-lt32
 unfolding escaped
@@ -77,12 +43,6 @@ returns-then-b-lt32 c =
     rw
     (ne_eqb _ _ if1.false, ne_eqb _ _ if2.false, ne_eqb _ _ if3.false, ne_eqb _ _ if4.false, lt-ltb _ _ if5.true)
     put-bytes5.ensures
-
-pub put_byte-requires : goal.put_byte-requires
-put_byte-requires c = c.requires
-
-pub shape_of-out : goal.shape_of-out
-shape_of-out c = c.put_byte.ensures.kept
 
 pub returns : goal.returns
 unfolding escaped

@@ -1,9 +1,6 @@
 -- The loop's invariant: the first i bytes of s are written, each as it stands in a string.
-use mathlib.Core.Path.{◌≡◌, ap}
 use native.Mathlib.Omega.{arith}
 use mathlib.Core.List.{flat_map}
-use lib.ListN.{length}
-use lib.Seq.{take-length}
 use Rattle.rules.specs.Text.{escaped}
 use Rattle.text.specs.Written.{written_none, written-most, written_then, written_as}
 use Rattle.lists.specs.Lists.{flat_map-more}
@@ -25,11 +22,3 @@ loop-b-preserved c =
       written_as (written_then loop.invariant.1 put-escaped.ensures)
           (flat_map-more escaped args.s.now loop.b-index 0 (omega arith)),
     )
-
-pub shape_of-out : goal.shape_of-out
-shape_of-out c = c.loop-b.invariant.1.kept
-
-pub returns : goal.returns
-returns c =
-    let e : c.loop-b.b-index ≡ length c.args.s.now = omega arith in
-    written_as c.loop-b.invariant.1 (ap (flat_map escaped) (rw e (take-length c.args.s.now)))

@@ -3,9 +3,6 @@ use Rattle.rules.specs.Text.{literal_text}
 use Rattle.text.specs.Written.{written-most, written_then}
 use Rattle.constant_text.proofs.put_string.Goals as goal
 
-pub put_byte-open-requires : goal.put_byte-open-requires
-put_byte-open-requires c = c.requires
-
 pub put_inside-end-requires : goal.put_inside-end-requires
 put_inside-end-requires c = written-most c.put_byte-open.ensures
 
@@ -15,6 +12,3 @@ put_byte-requires c = written-most c.put_inside-end.ensures
 pub returns : goal.returns
 unfolding literal_text
 returns c = written_then (written_then c.put_byte-open.ensures c.put_inside-end.ensures) c.put_byte.ensures
-
-pub shape_of-out : goal.shape_of-out
-shape_of-out c = (returns c).kept

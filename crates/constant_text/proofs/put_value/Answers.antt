@@ -3,9 +3,6 @@ use Rattle.rules.specs.Text.{literal_text}
 use Rattle.text.specs.Written.{written-most, written_then}
 use Rattle.constant_text.proofs.put_value.Goals as goal
 
-pub put_decimal-width-requires : goal.put_decimal-width-requires
-put_decimal-width-requires c = c.requires.at_le_past_text
-
 pub put_byte-quote-requires : goal.put_byte-quote-requires
 put_byte-quote-requires c = written-most c.put_decimal-width.ensures
 
@@ -15,6 +12,3 @@ put_digits-requires c = written-most c.put_byte-quote.ensures
 pub returns : goal.returns
 unfolding literal_text
 returns c = written_then c.put_decimal-width.ensures (written_then c.put_byte-quote.ensures c.put_digits.ensures)
-
-pub shape_of-out : goal.shape_of-out
-shape_of-out c = (returns c).kept

@@ -15,6 +15,3 @@ returns c =
     let e : c.if-at-out.out ≡ set a.out.now a.at a.b =
     (elim c.if-at-out.branch [ then-at-out w ↦ w.out-is | else-at-out w ↦ w.out-is ∙ sym (set_out a.out.now a.at a.b w.if-at-out.false) ]) in
     one_byte a.out.now c.if-at-out.out a.at a.b e c.if-at-ge-TEXT_LENGTH.false
-
-pub shape_of-out : goal.shape_of-out
-shape_of-out c = (returns c).kept

@@ -1,8 +1,5 @@
 -- The loop's invariant: the first i bytes of s are written.
-use mathlib.Core.Path.{◌≡◌}
 use native.Mathlib.Omega.{arith}
-use lib.ListN.{length}
-use lib.Seq.{take-length}
 use Rattle.text.specs.Written.{written_none, written-most, written_then, written_as}
 use Rattle.text.proofs.TextLaws.{bytes-more}
 use Rattle.text.proofs.put_each.Goals as goal
@@ -22,11 +19,3 @@ loop-b-preserved c =
       written_as (written_then loop.invariant.1 put_byte.ensures)
           (bytes-more args.s.now loop.b-index (omega arith)),
     )
-
-pub shape_of-out : goal.shape_of-out
-shape_of-out c = c.loop-b.invariant.1.kept
-
-pub returns : goal.returns
-returns c =
-    let e : c.loop-b.b-index ≡ length c.args.s.now = omega arith in
-    written_as c.loop-b.invariant.1 (rw e (take-length c.args.s.now))

@@ -5,18 +5,9 @@ use Rattle.numbers.specs.Signed.{signed_of}
 use Rattle.text.specs.Written.{written-most, written_then}
 use Rattle.text.proofs.put_integer.Goals as goal
 
-pub put_decimal-requires : goal.put_decimal-requires
-put_decimal-requires c = c.requires
-
 pub returns-then-word-lt-FIRST_NEGATIVE : goal.returns-then-word-lt-FIRST_NEGATIVE
 unfolding integer_text signed_of
 returns-then-word-lt-FIRST_NEGATIVE c = rw (lt-ltb _ _ c.if-word-lt-FIRST_NEGATIVE.true) c.put_decimal.ensures
-
-pub shape_of-out-then-word-lt-FIRST_NEGATIVE : goal.shape_of-out-then-word-lt-FIRST_NEGATIVE
-shape_of-out-then-word-lt-FIRST_NEGATIVE c = (returns-then-word-lt-FIRST_NEGATIVE c).kept
-
-pub put_byte-end-requires : goal.put_byte-end-requires
-put_byte-end-requires c = c.requires
 
 pub put_decimal-requires-2 : goal.put_decimal-requires-2
 put_decimal-requires-2 c = written-most c.put_byte-end.ensures
@@ -24,6 +15,3 @@ put_decimal-requires-2 c = written-most c.put_byte-end.ensures
 pub returns : goal.returns
 unfolding integer_text signed_of
 returns c = rw (le-ltb _ _ c.if-word-lt-FIRST_NEGATIVE.false) (written_then c.put_byte-end.ensures c.put_decimal-2.ensures)
-
-pub shape_of-out : goal.shape_of-out
-shape_of-out c = (returns c).kept

@@ -3,9 +3,6 @@ use Rattle.rules.specs.Text.{refusal}
 use Rattle.text.specs.Written.{written-most, written_then}
 use Rattle.text.proofs.put_refusal.Goals as goal
 
-pub put_decimal-first-requires : goal.put_decimal-first-requires
-put_decimal-first-requires c = c.requires
-
 pub put_byte-space-requires : goal.put_byte-space-requires
 put_byte-space-requires c = written-most c.put_decimal-first.ensures
 
@@ -24,6 +21,3 @@ returns c =
     let put-byte2 = c.put_byte in
     written_then (written_then put-decimal.ensures (written_then put_byte.ensures put-decimal2.ensures))
     put-byte2.ensures
-
-pub shape_of-out : goal.shape_of-out
-shape_of-out c = (returns c).kept

@@ -1,5 +1,4 @@
 -- The loop's invariant: i spaces are written.
-use mathlib.Core.Path.{◌≡◌}
 use native.Mathlib.Omega.{arith}
 use Rattle.text.specs.Written.{written_none, written-most, written_then, written_as}
 use Rattle.text.proofs.TextLaws.{spaces-more}
@@ -13,11 +12,3 @@ put_byte-end-requires c = written-most c.loop.invariant.1
 
 pub loop-preserved : goal.loop-preserved
 loop-preserved c = (omega arith, written_as (written_then c.loop.invariant.1 c.put_byte-end.ensures) (spaces-more c.loop.counter))
-
-pub shape_of-out : goal.shape_of-out
-shape_of-out c = c.loop.invariant.1.kept
-
-pub returns : goal.returns
-returns c =
-    let e : c.loop.counter ≡ c.args.n = omega arith in
-    rw e at c.loop.invariant.1

@@ -8,6 +8,3 @@ put_bytes-requires c = written-most c.put_byte-space.ensures
 
 pub returns : goal.returns
 returns c = written_then c.put_byte-space.ensures c.put_bytes.ensures
-
-pub shape_of-out : goal.shape_of-out
-shape_of-out c = (returns c).kept
