@@ -7,7 +7,6 @@ use mathlib.Core.Bool.{true, false, ◌&&◌}
 use lib.Dec.{leb}
 use lib.ListN.{length, take, drop, length-map}
 use Rattle.std.specs.Prelude.{Some, None}
-use Rattle.std.specs.Prelude.{Option as Optional}
 use borrow.Author.Tests.{ltb-true, lt-ltb, ne_eqb}
 use Rattle.rules.specs.Bytes.{all, within}
 use Rattle.rules.specs.Tokens.{Digit}

@@ -13,7 +13,7 @@ use Rattle.std.specs.Prelude.{Some, None}
 use Rattle.std.specs.Prelude.{Option as Optional}
 use borrow.Author.Tests.{eq-eqb, eqb-true, le-leb, leb-true}
 use Rattle.rules.specs.Bytes.{same, all}
-use Rattle.rules.specs.Statements.{Statement, Signal, Step, step_code, contents, holds, code, step-stmt}
+use Rattle.rules.specs.Statements.{Signal, Step, step_code, contents, holds, code, step-stmt}
 use Rattle.rules.specs.Signals.{Wires}
 use Rattle.rules.specs.Judgement.{sum, equal, signal_size, name_size}
 use Rattle.rules.specs.Layout.{Used, padded, row, bit_code, name_bytes, bit_codes, wire_rows, each_length, columns, statement_row}

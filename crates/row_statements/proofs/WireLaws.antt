@@ -13,7 +13,7 @@ use Rattle.std.specs.Prelude.{Option as Optional}
 use borrow.Author.Tests.{eq-eqb, eqb-true, leb-false, lt-leb}
 use Rattle.rules.specs.Bytes.{same, all}
 use Rattle.rules.specs.Tokens.{Name}
-use Rattle.rules.specs.Statements.{Statement, Wire, contents, holds, code}
+use Rattle.rules.specs.Statements.{Wire, contents, holds, code}
 use Rattle.rules.specs.Signals.{Wires, twos_complement}
 use Rattle.rules.specs.Judgement.{sum, equal, signal_size, name_size}
 use Rattle.rules.specs.Layout.{Used, padded, row, name_bytes, flags, wire_row, wire_rows, columns, statement_row}
