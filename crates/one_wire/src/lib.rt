@@ -131,6 +131,7 @@ fn no_index(number: u32, place: u32) -> BitIndex
     }
 }
 
+#[tactic(auto, unfolding(crate::specs::Asked::told, rules::specs::Quick::of_verdict, numbers::specs::Signed::verdict_of))]
 fn index_in(wire: Declared, bit: u32) -> BitIndex
     ensures { IndexTold wire.offset wire.width wire.upto bit (result.number, result.place, result.index) }
 {

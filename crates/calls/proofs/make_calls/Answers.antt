@@ -9,12 +9,6 @@ loop-i-init c = record {
   going = going_start _ c.requires _ _ _ (calls-start c.args.calls.now c.args.texts.now);
 }
 
-pub make_call-left-requires : goal.make_call-left-requires
-make_call-left-requires c = omega (arith, c.loop-i.invariant.words)
-
-pub put_answer-requires : goal.put_answer-requires
-put_answer-requires c = omega (arith, c.loop-i.invariant.words)
-
 pub loop-i-preserved : goal.loop-i-preserved
 loop-i-preserved c = record {
   words = c.loop-i.invariant.words;
