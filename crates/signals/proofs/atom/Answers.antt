@@ -1,16 +1,15 @@
 -- `atom` meets its contract: by the token of the row.
 -- Assumes nothing.
-use mathlib.Core.List.{List, []}
+use mathlib.Core.List.{List}
 use Prim.Native.Nat.{ℕ}
 use mathlib.Core.Option.{none}
-use mathlib.Core.Path.{◌≡◌, refl, sym, subst, ◌∙◌}
+use mathlib.Core.Path.{◌≡◌, refl, sym, ◌∙◌}
 use Rattle.rules.specs.Shapes.{one, is_atom, atom}
 use Rattle.rules.specs.Tokens as rules
 use Rattle.tokens.specs.Rows.{front}
 use Rattle.tokens.specs.declared.ConstantSpan.{ConstantSpan}
 use Rattle.tokens.specs.declared.Token.{Token}
 use Rattle.tokens.specs.declared.Token.TheVariants.{Name, Word, Constant as Constantly, Mark, End}
-use Rattle.signals.specs.Reads.{WholeToken}
 use Rattle.signals.proofs.AnswerLaws.{atom-nothing, atom-name, atom-constant}
 use Rattle.signals.proofs.atom.Goals as goal
 
@@ -25,32 +24,12 @@ no-atom f (Constantly c) ts n k = absurd (k c refl)
 no-atom f (Mark m) ts n k = refl
 no-atom f End ts n k = refl
 
-pub wire_bits-bits-requires : goal.wire_bits-bits-requires
-wire_bits-bits-requires c = c.requires.most_width_in_bounds
-
-pub literal_bits-bits-requires : goal.literal_bits-bits-requires
-literal_bits-bits-requires c =
-    let pre = c.requires in
-    let args = c.args in
-    let token-at = c.token_at in (
-      pre.readable.file,
-      pre.most_width_in_bounds.0,
-      subst (WholeToken args.f.now) (sym token-at.ensures ∙ c.in-Constant.is)
-          (pre.readable.closed.whole args.i),
-    )
-
-pub shape_of-scratch-in-Name : goal.shape_of-scratch-in-Name
-shape_of-scratch-in-Name c = c.wire_bits-bits.ensures.kept.long
-
 pub returns-in-Name : goal.returns-in-Name
 returns-in-Name c =
     let token-at = c.token_at in
     let part = c.part in
     let wire-bits = c.wire_bits-bits in
     atom-name _ _ _ _ _ _ _ _ _ _ _ (sym c.in-Name.is ∙ token-at.ensures) part.ensures wire-bits.ensures
-
-pub shape_of-scratch-in-Constant : goal.shape_of-scratch-in-Constant
-shape_of-scratch-in-Constant c = (c.literal_bits-bits.ensures []).kept.long
 
 pub returns-in-Constant : goal.returns-in-Constant
 returns-in-Constant c = atom-constant _ _ _ _ _ _ _ _ _ (sym c.in-Constant.is ∙ c.token_at.ensures) (c.literal_bits-bits.ensures _)

@@ -2,12 +2,9 @@
 -- Assumes nothing.
 use mathlib.Core.Path.{refl, ◌∙◌}
 use native.Mathlib.Omega.{arith}
-use Rattle.signals.proofs.CutLaws.{moved-not, moved-still, moved_down}
+use Rattle.signals.proofs.CutLaws.{moved-still, moved_down}
 use Rattle.signals.proofs.Codes.{words-moved}
 use Rattle.signals.proofs.move_part.Goals as goal
-
-pub returns-then-part-ne0 : goal.returns-then-part-ne0
-returns-then-part-ne0 c = moved-not _ _ _ _ c.if-part-ne0.true
 
 pub returns-then-above-ne0 : goal.returns-then-above-ne0
 returns-then-above-ne0 c =

@@ -10,9 +10,6 @@ use Rattle.signals.proofs.slices.Goals as goal
 pub loop-at-init : goal.loop-at-init
 loop-at-init c = slices-start _ _ _ _ _ _ c.requires.most_width_in_bounds.0 c.requires.tokens_len_bound.1
 
-pub overflow_add-at : goal.overflow_add-at
-overflow_add-at c = omega (arith, mark-below _ _ _ (sym c.is_mark.ensures ∙ c.loop-at-test.true))
-
 pub bounds_at-requires : goal.bounds_at-requires
 bounds_at-requires c = (c.requires.tokens_len_bound.0, omega (arith, mark-below _ _ _ (sym c.is_mark.ensures ∙ c.loop-at-test.true)))
 
@@ -25,14 +22,6 @@ returns-in_err-bounds c =
     rw c.from_residual.ensures
     (slices-broken _ _ _ _ _ _ pre.most_width_in_bounds.0 _ _ loop.invariant (sym is-mark.ensures ∙ if1.true) c.in_err-bounds.ensures)
 
-pub slice-part-requires : goal.slice-part-requires
-slice-part-requires c = omega (arith, c.loop-at.invariant.inside.within)
-
-pub loop-at-smaller : goal.loop-at-smaller
-loop-at-smaller c =
-    let B = c.in_ok-bounds.ensures in
-    omega (arith, B.0, B.1)
-
 pub loop-at-preserved : goal.loop-at-preserved
 loop-at-preserved c =
     let pre = c.requires in
@@ -41,17 +30,6 @@ loop-at-preserved c =
     let if1 = c.loop-at-test in
     slices-on _ _ _ _ _ _ pre.most_width_in_bounds.0 _ _ loop.invariant (sym is-mark.ensures ∙ if1.true) _
     c.in_ok-bounds.ensures _ c.slice-part.ensures
-
-pub move_part-requires : goal.move_part-requires
-move_part-requires c =
-    let pre = c.requires in
-    let loop = c.loop-at in (
-      omega (arith, loop.invariant.inside.within),
-      λ e. omega (arith, pre.most_width_in_bounds.0, pre.most_width_in_bounds.1 (loop.invariant.inside.none e)),
-    )
-
-pub shape_of-scratch : goal.shape_of-scratch
-shape_of-scratch c = c.move_part.ensures.kept.long
 
 pub returns : goal.returns
 returns c =

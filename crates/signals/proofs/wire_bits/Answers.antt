@@ -7,9 +7,6 @@ use Rattle.wires.specs.RowLaws.{length-wires}
 use Rattle.signals.proofs.HeldLaws.{put-not, wire-number, wire-over, wire-put-fits, wire-nothing}
 use Rattle.signals.proofs.wire_bits.Goals as goal
 
-pub indexed_wire-requires : goal.indexed_wire-requires
-indexed_wire-requires c = c.requires.2
-
 pub returns-then-width-gt-MOST_BITS : goal.returns-then-width-gt-MOST_BITS
 returns-then-width-gt-MOST_BITS c = wire-over _ _ _ (c.indexed_wire.ensures ∙ ap found_of c.in-Some.is) _ _ (omega arith) c.if-width-gt-MOST_BITS.true
 
