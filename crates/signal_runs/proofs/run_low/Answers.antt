@@ -1,8 +1,8 @@
 -- The loop's invariant: the bits from the one below j up to i are a run.
 -- Assumes nothing.
-use mathlib.Core.Path.{◌≡◌, sym, ◌∙◌}
+use mathlib.Core.Path.{sym, ◌∙◌}
 use Prim.Native.Nat.{◌-◌}
-use borrow.Author.Tests.{not-true, not-false}
+use borrow.Author.Tests.{not-false}
 use Rattle.signal_runs.specs.RunLaws.{run-top, run_more}
 use native.Mathlib.Omega.{arith}
 use Rattle.signal_runs.proofs.run_low.Goals as goal
@@ -10,17 +10,9 @@ use Rattle.signal_runs.proofs.run_low.Goals as goal
 pub loop-j-init : goal.loop-j-init
 loop-j-init c = (omega arith, run-top c.args.s.now c.args.i (c.args.i - 1) (omega arith) (omega arith) c.requires.apart)
 
-pub returns-then-not-joins : goal.returns-then-not-joins
-returns-then-not-joins c = record { below = c.loop-j.invariant.0; run = c.loop-j.invariant.1; apart = λ a b. sym c.joins.ensures ∙ not-true _ c.if-not-joins.true-raw }
-
 pub loop-j-preserved : goal.loop-j-preserved
 loop-j-preserved c =
     let args = c.args in
     let loop = c.loop-j in
     let joins = c.joins in
     (omega arith, run_more args.s.now args.i (loop.j - 1) (loop.j - 1 - 1) (omega arith) loop.invariant.0 (omega arith) (sym joins.ensures ∙ not-false _ c.if-not-joins.false-raw) loop.invariant.1)
-
-pub returns : goal.returns
-returns c =
-    let e : c.loop-j.j - 1 ≡ 0 = omega arith in
-    record { below = omega arith; run = rw e at c.loop-j.invariant.1; apart = λ a b. absurd (omega arith) }
