@@ -29,8 +29,8 @@ pub fn legal(n: &[u8]) -> bool
     starts_name(n[0]) && n[1..].iter().all(|b| b' ' < *b)
 }
 
-// The one comparison of names in the product. Lengths first, then the last byte, where numbered names differ, then the
-// rest from the front.
+// The one comparison of names in the product. Lengths first, then the last byte, where numbered names differ, then all,
+// many bytes in one step.
 pub fn same_bytes(a: &[u8], b: &[u8]) -> bool
     ensures { result ≡ same a.now b.now }
 {
