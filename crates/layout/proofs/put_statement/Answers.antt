@@ -1,5 +1,5 @@
 use Rattle.netlist.specs.Tables.{tabled}
-use Rattle.layout.proofs.Stored.{valued-room, plain-room, valued-put}
+use Rattle.layout.proofs.Stored.{valued-room, valued-put}
 use Rattle.layout.proofs.StepLaws.{step_room, step-put}
 use Rattle.layout.proofs.put_statement.Goals as goal
 
@@ -27,14 +27,6 @@ put_step-requires c =
     step_room args.f.now args.scratch.now args.statement args.u _ _ _ is.0 is.1
     (tabled args.names.now args.strings.now args.bits.now args.wires.now args.rows.now) pre
 
-pub put_plain-requires : goal.put_plain-requires
-put_plain-requires c =
-    let args = c.args in
-    let pre = c.requires in
-    plain-room args.f.now args.scratch.now args.statement args.u
-    (tabled args.names.now args.strings.now args.bits.now args.wires.now args.rows.now)
-    pre
-
 pub returns-in-Named : goal.returns-in-Named
 returns-in-Named c =
     let args = c.args in
@@ -55,9 +47,3 @@ returns-in-Step c =
     let is = rw c.in-Step.is at as-valued.ensures in
     step-put args.f.now args.scratch.now args.statement args.u _ _ _ is.0 is.1 _ _ _ _ _ _ _ pre.sound
     put_step.ensures
-
-pub returns-in-Nothing : goal.returns-in-Nothing
-returns-in-Nothing c =
-    let as-valued = c.as_valued in
-    let put-plain = c.put_plain in
-    put-plain.ensures (rw c.in-Nothing.is at as-valued.ensures) _

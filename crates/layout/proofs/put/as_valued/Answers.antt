@@ -1,4 +1,4 @@
-use Rattle.layout.proofs.Stored.{attribute-valued, parameter-valued, cell-parameter-valued, module-valued, process-valued, plain-rest}
+use Rattle.layout.proofs.Stored.{attribute-valued, parameter-valued, cell-parameter-valued, module-valued, process-valued}
 use Rattle.layout.proofs.put.as_valued.Goals as goal
 
 pub returns-in-Attribute : goal.returns-in-Attribute
@@ -15,11 +15,3 @@ returns-in-Module c = rw c.only_named.ensures (λ f s. module-valued f s _ _ c.i
 
 pub returns-in-Process : goal.returns-in-Process
 returns-in-Process c = rw c.only_named-in-Process.ensures (λ f s. process-valued f s _ _ c.in-Process.is)
-
-pub returns-in-Step : goal.returns-in-Step
-returns-in-Step c = (_, c.in-Step.is)
-
-pub returns-in_default : goal.returns-in_default
-returns-in_default c =
-    let other = c.in_default in
-    plain-rest c.args.statement other.not-Attribute other.not-Module other.not-Parameter other.not-CellParameter other.not-Step other.not-Process

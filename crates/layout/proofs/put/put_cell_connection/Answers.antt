@@ -6,20 +6,6 @@ use Rattle.syntax.specs.SignalLaws.{signal-long}
 use Rattle.layout.proofs.PutLaws.{name-put, signal-put}
 use Rattle.layout.proofs.put.put_cell_connection.Goals as goal
 
-pub reverse_words-requires : goal.reverse_words-requires
-reverse_words-requires c = omega (arith, c.requires.width_in_bounds, c.requires.fits_2)
-
-pub overflow_cast-width : goal.overflow_cast-width
-overflow_cast-width c = omega (arith, c.requires.fits_2)
-
-pub put_named-requires : goal.put_named-requires
-put_named-requires c =
-    let pre = c.requires in
-    record {
-      fits = pre.fits;
-      rows_in_bounds = pre.rows_in_bounds;
-    }
-
 pub returns : goal.returns
 unfolding statement_row columns code holds contents row padded
 returns c =

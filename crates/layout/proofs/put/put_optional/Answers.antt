@@ -4,14 +4,6 @@ use Rattle.line_forms.specs.Forms.{value_in}
 use Rattle.layout.specs.Put.{optional_columns, optional_bytes, optional_digits}
 use Rattle.layout.proofs.put.put_optional.Goals as goal
 
-pub put_constant-requires : goal.put_constant-requires
-put_constant-requires c =
-    let pre = c.requires in
-    record {
-      constant_fits = rw c.in-Some.is at pre.optional_fits;
-      most_width_in_bounds = pre.most_width_in_bounds;
-    }
-
 pub returns-in-Some : goal.returns-in-Some
 unfolding value_in Option-elim optional_columns optional_bytes optional_digits
 returns-in-Some c = record {

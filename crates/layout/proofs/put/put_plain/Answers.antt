@@ -1,6 +1,6 @@
 -- By the kind.
 use native.Mathlib.Omega.{arith}
-use Rattle.layout.proofs.Stored.{autoidx-room, end-room, wire-room, memory-room, cell_room, cell-connection-room, connection-room, autoidx-put, end-put, wire-puts, memory-put, cell-put, cell-connection-put, connection-put, none_other}
+use Rattle.layout.proofs.Stored.{autoidx-room, end-room, wire-room, memory-room, cell_room, cell-connection-room, connection-room, autoidx-put, end-put, wire-puts, memory-put, cell-put, cell-connection-put, connection-put}
 use Rattle.layout.proofs.put.put_plain.Goals as goal
 
 pub put_columns-requires : goal.put_columns-requires
@@ -126,9 +126,3 @@ returns-in-End c =
     let put-columns2 = c.put_columns-in-End in
     end-put args.f.now args.scratch.now args.statement args.u _ _ _ _ _ c.in-End.is
     put-columns2.ensures
-
-pub returns-in_default : goal.returns-in_default
-returns-in_default c k =
-    let other = c.in_default in
-    absurd
-    (none_other c.args.statement other.not-Autoidx other.not-Wire other.not-Memory other.not-Cell other.not-CellConnection other.not-Connection other.not-End k)

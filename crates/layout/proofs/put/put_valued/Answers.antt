@@ -1,20 +1,6 @@
 use Rattle.layout.specs.Put.{valued_row}
 use Rattle.layout.proofs.put.put_valued.Goals as goal
 
-pub put_optional-k-requires : goal.put_optional-k-requires
-put_optional-k-requires c = record {
-  optional_fits = c.requires.optional_fits;
-  most_width_in_bounds = c.requires.most_width_in_bounds;
-}
-
-pub put_named-requires : goal.put_named-requires
-put_named-requires c =
-    let pre = c.requires in
-    record {
-      fits = pre.fits;
-      rows_in_bounds = pre.rows_in_bounds;
-    }
-
 pub returns : goal.returns
 unfolding valued_row
 returns c =

@@ -5,15 +5,6 @@ use Rattle.layout.proofs.PutLaws.{name-put, wire-put}
 use Rattle.netlist.specs.Used.{used_of}
 use Rattle.layout.proofs.put.put_wire.Goals as goal
 
-pub put_named-size-requires : goal.put_named-size-requires
-put_named-size-requires c = record {
-  fits = c.requires.fits;
-  rows_in_bounds = c.requires.rows_in_bounds;
-}
-
-pub put_columns-requires : goal.put_columns-requires
-put_columns-requires c = c.requires.wires_in_bounds
-
 pub returns : goal.returns
 unfolding statement_row columns code holds contents row padded
 returns c =

@@ -1,17 +1,6 @@
 use Rattle.layout.proofs.StepLaws.{step-stored}
 use Rattle.layout.proofs.step.put_step.Goals as goal
 
-pub put_signals-requires : goal.put_signals-requires
-put_signals-requires c =
-    let pre = c.requires in
-    (pre.stand, pre.bits_fit.0)
-
-pub each_width-each-requires : goal.each_width-each-requires
-each_width-each-requires c = c.requires.narrow
-
-pub put_columns-requires : goal.put_columns-requires
-put_columns-requires c = c.requires.row_fits
-
 pub returns : goal.returns
 returns c =
     let args = c.args in
