@@ -9,7 +9,7 @@ use Rattle.rules.specs.Statements.{Statement}
 use Rattle.rules.specs.Reading.{accepted, read}
 use Rattle.rules.specs.Design.{design}
 use Rattle.rules.specs.Session.{Rename, Call, rename, room_used, plain_session}
-use Rattle.rules.specs.Layout.{Memory, rooms, memory, layout}
+use Rattle.rules.specs.Layout.{Memory, memory, layout}
 use Rattle.admitted.specs.Holds.{Holds, no-renames}
 use Rattle.netlist.specs.Results.{Result}
 use Rattle.netlist.specs.Lengths.{right_lengths}

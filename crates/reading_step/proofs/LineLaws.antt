@@ -6,7 +6,7 @@ use mathlib.Core.Bool.{Bool, true, false}
 use mathlib.Core.List.{List, [], ◌∷◌}
 use native.Mathlib.Omega.{arith}
 use lib.Dec.{ltb}
-use Rattle.std.specs.Prelude.{Some, None, Ok, Err, Result, MatchResult, IsOkAnd, IsErrAnd, Option as Optional}
+use Rattle.std.specs.Prelude.{Some, Ok, Err, Result, MatchResult, IsOkAnd, IsErrAnd, Option as Optional}
 use lib.ListN.{length, take, drop, take-append-drop}
 use lib.Seq.{slice, length-slice, length-take-le}
 use borrow.Author.Tests.{ltb-true}
@@ -33,7 +33,6 @@ use Rattle.lexer.specs.Lines.{lexed_of, Among, LexedIs}
 use Rattle.lexer.specs.declared.BadToken.{BadToken}
 use Rattle.signals.specs.Reads.{WholeToken, Closed}
 use Rattle.syntax.specs.Statements.{Ready}
-use Rattle.judgement.specs.Judged as judgement
 use Rattle.judgement.specs.Judged.{Verdicts}
 use Rattle.judgement.specs.declared.Stated.{Stated}
 use Rattle.netlist.specs.declared.results.Refused.{Refused}

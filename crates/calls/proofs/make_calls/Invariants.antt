@@ -1,5 +1,4 @@
 use Prim.Native.Nat.{◌-◌, ◌*◌, ◌≤◌}
-use mathlib.Core.Path.{◌≡◌}
 use lib.ListN.{length}
 use Rattle.netlist.specs.Results.{lent}
 use Rattle.calls.specs.Calls.{calls_from, calls_in}
