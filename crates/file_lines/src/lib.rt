@@ -65,6 +65,7 @@ pub fn read_lines(
 {
     let mut line = first;
     let mut standing = before;
+    // The next line starts where this one is found to end, so that no count goes over them.
     while line.start < f.len() {
         if tokens.len() / TOKEN_SIZE < line.end - line.start {
             return Reach::Longer { line, standing };
