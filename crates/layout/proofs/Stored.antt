@@ -199,42 +199,6 @@ module _ (f s : List ℕ) (r : Statement) (u : Used) (names names' bits wires wi
         rows-put = z.2;
       })
 
--- no other answer is plain
-pub none_other :
-    (r : Statement) → ((w : ℕ) → r ≡ Autoidx w → ⊥) → ((n : Span) (w o k p : ℕ) → r ≡ WireOf n w o k p → ⊥) → ((n : Span) (w z t : ℕ) → r ≡ MemoryOf n w z t → ⊥) →
-    ((k n : Span) → r ≡ Cell k n → ⊥) → ((n : Span) (w l : ℕ) → r ≡ CellConnection n w l → ⊥) → ((a b l : ℕ) → r ≡ Connection a b l → ⊥) → (r ≡ End → ⊥) →
-    Plain r → ⊥
-none_other (Autoidx w) autoidx wire memory cell cell-connection connection end k = autoidx w refl
-none_other (Attribute n c) autoidx wire memory cell cell-connection connection end k = k
-none_other (Module n) autoidx wire memory cell cell-connection connection end k = k
-none_other (Parameter n c) autoidx wire memory cell cell-connection connection end k = k
-none_other (WireOf n w t g p) autoidx wire memory cell cell-connection connection end k = wire n w t g p refl
-none_other (MemoryOf n w z t) autoidx wire memory cell cell-connection connection end k = memory n w z t refl
-none_other (Cell t n) autoidx wire memory cell cell-connection connection end k = cell t n refl
-none_other (CellParameter z n c) autoidx wire memory cell cell-connection connection end k = k
-none_other (CellConnection n w l) autoidx wire memory cell cell-connection connection end k = cell-connection n w l refl
-none_other (Connection a b l) autoidx wire memory cell cell-connection connection end k = connection a b l refl
-none_other (StepOf p w n l) autoidx wire memory cell cell-connection connection end k = k
-none_other End autoidx wire memory cell cell-connection connection end k = end refl
-none_other (Process n) autoidx wire memory cell cell-connection connection end k = k
-
-pub plain-rest :
-    (r : Statement) → ((n : Span) (c : ConstantSpan) → r ≡ Attribute n c → ⊥) → ((n : Span) → r ≡ Module n → ⊥) → ((n : Span) (c : Optional ConstantSpan) → r ≡ Parameter n c → ⊥) →
-    ((z : ℕ) (n : Span) (c : ConstantSpan) → r ≡ CellParameter z n c → ⊥) → ((p w n l : ℕ) → r ≡ StepOf p w n l → ⊥) → ((n : Span) → r ≡ Process n → ⊥) → Plain r
-plain-rest (Autoidx w) attribute block parameter cell-parameter step process = tt
-plain-rest (Attribute n c) attribute block parameter cell-parameter step process = absurd (attribute n c refl)
-plain-rest (Module n) attribute block parameter cell-parameter step process = absurd (block n refl)
-plain-rest (Parameter n c) attribute block parameter cell-parameter step process = absurd (parameter n c refl)
-plain-rest (WireOf n w t g p) attribute block parameter cell-parameter step process = tt
-plain-rest (MemoryOf n w z t) attribute block parameter cell-parameter step process = tt
-plain-rest (Cell t n) attribute block parameter cell-parameter step process = tt
-plain-rest (CellParameter z n c) attribute block parameter cell-parameter step process = absurd (cell-parameter z n c refl)
-plain-rest (CellConnection n w l) attribute block parameter cell-parameter step process = tt
-plain-rest (Connection a b l) attribute block parameter cell-parameter step process = tt
-plain-rest (StepOf p w n l) attribute block parameter cell-parameter step process = absurd (step p w n l refl)
-plain-rest End attribute block parameter cell-parameter step process = tt
-plain-rest (Process n) attribute block parameter cell-parameter step process = absurd (process n refl)
-
 -- ---- answers of a name and, if they have one, a constant
 
 module _ (f s : List ℕ) where
