@@ -39,10 +39,6 @@ pub returns-in-Module : goal.returns-in-Module
 unfolding plain_open
 returns-in-Module c w ws s = rw c.in-Module.is (stated ws _ s _ refl refl refl refl refl refl refl tt refl)
 
-pub returns-in-Parameter : goal.returns-in-Parameter
-unfolding plain_open
-returns-in-Parameter c w = rw c.in-Parameter.is (c.parameter_statement.ensures (rw c.in-Parameter.is at w))
-
 pub returns-in-Cell : goal.returns-in-Cell
 unfolding plain_open
 returns-in-Cell c w ws s = rw c.in-Cell.is (stated ws _ s _ refl refl refl refl refl refl refl tt refl)
