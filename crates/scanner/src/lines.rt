@@ -18,7 +18,13 @@ pub struct Line {
 fn ends_line(b: u8) -> bool
     ensures { result ≡ is_line_end b }
 {
-    b <= b'\r' && (b == b'\n' || b == b'\r')
+    if b'\r' < b {
+        return false;
+    }
+    if b == b'\n' {
+        return true;
+    }
+    b == b'\r'
 }
 
 // The first line end at or after `at`, or the end.

@@ -1,18 +1,18 @@
 -- `ends_line` meets its contract.
 -- Assumes nothing.
 use native.Mathlib.Omega.{arith}
-use borrow.Author.Tests.{lt-leb, eq-eqb, ne_eqb}
+use borrow.Author.Tests.{eq-eqb, ne_eqb}
 use Rattle.rules.specs.Bytes.{is_line_end}
 use Rattle.scanner.proofs.lines.ends_line.Goals as goal
+
+pub returns-then-b-gt13 : goal.returns-then-b-gt13
+unfolding is_line_end
+returns-then-b-gt13 c = rw (ne_eqb c.args.b 10 (λ e. omega arith), ne_eqb c.args.b 13 (λ e. omega arith))
 
 pub returns-then-b-eq10 : goal.returns-then-b-eq10
 unfolding is_line_end
 returns-then-b-eq10 c = rw (eq-eqb c.args.b 10 c.if-b-eq10.true)
 
-pub returns-else-b-eq10 : goal.returns-else-b-eq10
+pub returns : goal.returns
 unfolding is_line_end
-returns-else-b-eq10 c = rw (ne_eqb c.args.b 10 c.if-b-eq10.false)
-
-pub returns-else-b-le13 : goal.returns-else-b-le13
-unfolding is_line_end
-returns-else-b-le13 c = rw (lt-leb c.args.b 13 c.if-b-le13.false, ne_eqb c.args.b 10 (λ e. omega arith), ne_eqb c.args.b 13 (λ e. omega arith))
+returns c = rw (ne_eqb c.args.b 10 c.if-b-eq10.false)
