@@ -43,7 +43,10 @@ fn parted(class: &[u8; 256], s: &[u8], at: usize) -> bool
         return true;
     }
     let k = class_in(class, s[at]);
-    BLANK <= k && k <= COMMENT
+    if k < BLANK {
+        return false;
+    }
+    k <= COMMENT
 }
 
 // The token t from p to e, if what follows parts it from the next.
@@ -122,15 +125,19 @@ fn number_step(class: &[u8; 256], s: &[u8], p: usize) -> Result<Lexeme, BadToken
     ensures { StepIs s.now p (found result) }
 {
     let e = run_end(class, s, p, HIGH_DIGIT, VALUE_DIGIT);
-    if e < s.len() && s[e] == b'\'' {
-        return value_step(class, s, p, e);
-    }
     let z = Integer {
         negative: false,
         start: p,
         end: e,
     };
-    separate(class, s, p, Token::Constant(ConstantSpan::Integer(z)), e)
+    let t = Token::Constant(ConstantSpan::Integer(z));
+    if s.len() <= e {
+        return separate(class, s, p, t, e);
+    }
+    if s[e] == b'\'' {
+        return value_step(class, s, p, e);
+    }
+    separate(class, s, p, t, e)
 }
 
 // A number below zero: `-` at p, and its digits.
