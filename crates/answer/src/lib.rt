@@ -4,30 +4,23 @@
 ghost use Rattle.std.specs.Prelude.{◌≡◌, true, ◌≤◌, length};
 ghost use Rattle.rules.specs.Limits.{longest_file};
 ghost use Rattle.rules.specs.Text.{program};
+ghost use Rattle.netlist.specs.Designs.{lent_in};
 ghost use Rattle.netlist.specs.Results.{lent};
 ghost use Rattle.netlist.specs.Lengths.{right_lengths};
 ghost use Rattle.answer.specs.Printed.{putting, PrintedAs};
 
+use netlist::design::Design;
 use netlist::lengths::{BITS_LENGTH, NAMES_LENGTH, ROWS_LENGTH, STRINGS_LENGTH, WIRES_LENGTH};
 use reader::{check, fill};
 use text::{TEXT_LENGTH, put_refusal};
 use writer::write;
 
 // The text of the design that the memory holds, or the number of its refusal with place 0.
-fn put_held(
-    names: &[u8],
-    strings: &[u8],
-    bits: &[u32],
-    wires: &[u32],
-    rows: &[u32],
-    renames: u32,
-    room: u32,
-    out: &mut [u8],
-) -> usize
-    ensures printed_as { PrintedAs (lent names.now strings.now bits.now wires.now rows.now renames room) out.old out.new result }
+fn put_held(design: &Design, out: &mut [u8]) -> usize
+    ensures printed_as { PrintedAs (lent_in design.now) out.old out.new result }
     ensures upper_bound { result ≤ longest_file }
 {
-    let written = write(names, strings, bits, wires, rows, renames, room, out);
+    let written = write(design, out);
     if written.number != 0 {
         return put_refusal(out, 0, written.number, 0);
     }
@@ -54,16 +47,16 @@ fn answer_in(
         return put_refusal(out, 0, found.number, found.place);
     }
     let left = fill(f, names, strings, bits, wires, rows, 0, 0);
-    put_held(
+    let design = Design {
         names,
         strings,
         bits,
         wires,
         rows,
-        left.renames,
-        left.room,
-        out,
-    )
+        renames: left.renames,
+        room: left.room,
+    };
+    put_held(&design, out)
 }
 
 // What the program writes for a file, at the start of the room lent, and its length.

@@ -9,6 +9,7 @@ ghost use Rattle.design_order.specs.Indexes.{module_at, indexes_in, NamesApart};
 use context::place::Place;
 use modules::module_wires;
 use name_order::{is_sorted, order_module};
+use netlist::design::Design;
 use numbers::kinds::ModuleNumber;
 use wire_names::Module;
 
@@ -28,41 +29,27 @@ fn module_at(wires: &[u32], place: Place, renames: u32, m: u32) -> Module
 }
 
 // The indexes of all modules, from the first word on.
-pub fn build_orders(
-    names: &[u8],
-    wires: &[u32],
-    rows: &[u32],
-    place: Place,
-    renames: u32,
-    index: &mut [u32],
-)
+pub fn build_orders(design: &Design, place: Place, renames: u32, index: &mut [u32])
     requires { place.wires ≤ length index.old }
-    ensures { index.new ≡ store index.old 0 (indexes_in names.now wires.now rows.now place renames place.modules) }
+    ensures { index.new ≡ store index.old 0 (indexes_in design.now.names.now design.now.wires.now design.now.rows.now place renames place.modules) }
 {
     for m in 0..place.modules {
-        let module = module_at(wires, place, renames, m);
-        order_module(names, wires, rows, module, index, module.first as usize);
+        let module = module_at(design.wires, place, renames, m);
+        order_module(design, module, index, module.first as usize);
     }
 }
 
 // Whether a table begins with the indexes of all modules.
-pub fn are_sorted(
-    names: &[u8],
-    wires: &[u32],
-    rows: &[u32],
-    place: Place,
-    renames: u32,
-    index: &[u32],
-) -> bool
+pub fn are_sorted(design: &Design, place: Place, renames: u32, index: &[u32]) -> bool
     requires wires_in_bounds { place.wires ≤ length index.now }
-    requires names_apart { NamesApart names.now wires.now rows.now place renames }
-    ensures { result ≡ same (take (length (indexes_in names.now wires.now rows.now place renames place.modules)) index.now) (indexes_in names.now wires.now rows.now place renames place.modules) }
+    requires names_apart { NamesApart design.now.names.now design.now.wires.now design.now.rows.now place renames }
+    ensures { result ≡ same (take (length (indexes_in design.now.names.now design.now.wires.now design.now.rows.now place renames place.modules)) index.now) (indexes_in design.now.names.now design.now.wires.now design.now.rows.now place renames place.modules) }
 {
     for m in 0..place.modules {
-        let module = module_at(wires, place, renames, m);
+        let module = module_at(design.wires, place, renames, m);
         let first = module.first as usize;
         let end = first + module.wires as usize;
-        if !is_sorted(names, wires, rows, module, &index[first..end]) {
+        if !is_sorted(design, module, &index[first..end]) {
             return false;
         }
     }

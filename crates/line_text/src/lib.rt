@@ -24,6 +24,7 @@ use context::kinds::{
     CONNECTION_KIND, END_KIND, MEMORY_KIND, MODULE_KIND, PARAMETER_KIND, PROCESS_KIND, STEP_KIND,
     WIRE_KIND,
 };
+use netlist::design::Design;
 use numbers::kinds::WireNumber;
 use scanner::parts::part;
 use signal_text::put_signal;
@@ -109,27 +110,23 @@ fn put_signed(out: &mut [u8], at: usize, word: u32) -> usize
     put_integer(out, space, word)
 }
 
-fn put_constant(
-    strings: &[u8],
-    bits: &[u32],
-    rows: &[u32],
-    row: usize,
-    c: usize,
-    out: &mut [u8],
-    at: usize,
-) -> usize
-    requires { (at ≤ past_text) × (row < many_rows) × (c < 6) × (length bits.now ≤ bits_length) }
-    ensures { Written at (spread (literal (literal_of (constant_at strings.now bits.now rows.now row c)) ∷ [])) out.old out.new result }
+fn put_constant(design: &Design, row: usize, c: usize, out: &mut [u8], at: usize) -> usize
+    requires { (at ≤ past_text) × (row < many_rows) × (c < 6) × (length design.now.bits.now ≤ bits_length) }
+    ensures { Written at (spread (literal (literal_of (constant_at design.now.strings.now design.now.bits.now design.now.rows.now row c)) ∷ [])) out.old out.new result }
 {
     let space = put_byte(out, at, b' ');
-    let kind = column(rows, row, c);
+    let kind = column(design.rows, row, c);
     if kind == CONSTANT_VALUE {
-        return put_value(out, space, words_at(bits, rows, row, c + 1));
+        return put_value(out, space, words_at(design.bits, design.rows, row, c + 1));
     }
     if kind == CONSTANT_INTEGER {
-        return put_integer(out, space, column(rows, row, c + 1));
+        return put_integer(out, space, column(design.rows, row, c + 1));
     }
-    put_string(out, space, bytes_at(strings, rows, row, c + 1))
+    put_string(
+        out,
+        space,
+        bytes_at(design.strings, design.rows, row, c + 1),
+    )
 }
 
 // An option with its number, left out where it is the default.
@@ -233,216 +230,164 @@ fn put_autoidx(rows: &[u32], row: usize, out: &mut [u8], at: usize) -> usize
     put_signed(out, end, column(rows, row, AUTOIDX_NUMBER))
 }
 
-fn put_attribute(
-    names: &[u8],
-    strings: &[u8],
-    bits: &[u32],
-    rows: &[u32],
-    row: usize,
-    out: &mut [u8],
-    at: usize,
-) -> usize
-    requires { (at ≤ past_text) × (row < many_rows) × (length bits.now ≤ bits_length) }
-    ensures { Written at (spaced (shape_tokens (attr-stmt (name_from names.now rows.now row 1) (literal_of (constant_at strings.now bits.now rows.now row 3))))) out.old out.new result }
+fn put_attribute(design: &Design, row: usize, out: &mut [u8], at: usize) -> usize
+    requires { (at ≤ past_text) × (row < many_rows) × (length design.now.bits.now ≤ bits_length) }
+    ensures { Written at (spaced (shape_tokens (attr-stmt (name_from design.now.names.now design.now.rows.now row 1) (literal_of (constant_at design.now.strings.now design.now.bits.now design.now.rows.now row 3))))) out.old out.new result }
 {
     let first = put_bytes(out, at, b"attribute");
-    let end = put_token(out, first, bytes_at(names, rows, row, ROW_NAME));
-    put_constant(strings, bits, rows, row, ROW_CONSTANT, out, end)
+    let end = put_token(
+        out,
+        first,
+        bytes_at(design.names, design.rows, row, ROW_NAME),
+    );
+    put_constant(design, row, ROW_CONSTANT, out, end)
 }
 
 // A statement of a word and a name.
-fn put_named(
-    names: &[u8],
-    rows: &[u32],
-    row: usize,
-    first: &[u8],
-    out: &mut [u8],
-    at: usize,
-) -> usize
+fn put_named(design: &Design, row: usize, first: &[u8], out: &mut [u8], at: usize) -> usize
     requires { (at ≤ past_text) × (row < many_rows) }
-    ensures { Written at (spaced (word first.now ∷ name (name_from names.now rows.now row 1) ∷ [])) out.old out.new result }
+    ensures { Written at (spaced (word first.now ∷ name (name_from design.now.names.now design.now.rows.now row 1) ∷ [])) out.old out.new result }
 {
     let end = put_bytes(out, at, first);
-    put_token(out, end, bytes_at(names, rows, row, ROW_NAME))
+    put_token(out, end, bytes_at(design.names, design.rows, row, ROW_NAME))
 }
 
-fn put_parameter(
-    names: &[u8],
-    strings: &[u8],
-    bits: &[u32],
-    rows: &[u32],
-    row: usize,
-    out: &mut [u8],
-    at: usize,
-) -> usize
-    requires { (at ≤ past_text) × (row < many_rows) × (length bits.now ≤ bits_length) }
-    ensures { Written at (spaced (shape_tokens (param-stmt (name_from names.now rows.now row 1) (map literal_of (optional_at strings.now bits.now rows.now row 3))))) out.old out.new result }
+fn put_parameter(design: &Design, row: usize, out: &mut [u8], at: usize) -> usize
+    requires { (at ≤ past_text) × (row < many_rows) × (length design.now.bits.now ≤ bits_length) }
+    ensures { Written at (spaced (shape_tokens (param-stmt (name_from design.now.names.now design.now.rows.now row 1) (map literal_of (optional_at design.now.strings.now design.now.bits.now design.now.rows.now row 3))))) out.old out.new result }
 {
     let first = put_bytes(out, at, b"parameter");
-    let end = put_token(out, first, bytes_at(names, rows, row, ROW_NAME));
-    if column(rows, row, ROW_CONSTANT) == 0 {
+    let end = put_token(
+        out,
+        first,
+        bytes_at(design.names, design.rows, row, ROW_NAME),
+    );
+    if column(design.rows, row, ROW_CONSTANT) == 0 {
         return end;
     }
-    put_constant(strings, bits, rows, row, ROW_CONSTANT, out, end)
+    put_constant(design, row, ROW_CONSTANT, out, end)
 }
 
-fn put_memory(names: &[u8], rows: &[u32], row: usize, out: &mut [u8], at: usize) -> usize
+fn put_memory(design: &Design, row: usize, out: &mut [u8], at: usize) -> usize
     requires { (at ≤ past_text) × (row < many_rows) }
-    ensures { Written at (spaced (shape_tokens (memory-stmt (memory_options (memory_at rows.now row)) (name_from names.now rows.now row 1)))) out.old out.new result }
+    ensures { Written at (spaced (shape_tokens (memory-stmt (memory_options (memory_at design.now.rows.now row)) (name_from design.now.names.now design.now.rows.now row 1)))) out.old out.new result }
 {
     let first = put_bytes(out, at, b"memory");
-    let end = put_memory_options(rows, row, out, first);
-    put_token(out, end, bytes_at(names, rows, row, ROW_NAME))
+    let end = put_memory_options(design.rows, row, out, first);
+    put_token(out, end, bytes_at(design.names, design.rows, row, ROW_NAME))
 }
 
-fn put_cell(names: &[u8], rows: &[u32], row: usize, out: &mut [u8], at: usize) -> usize
+fn put_cell(design: &Design, row: usize, out: &mut [u8], at: usize) -> usize
     requires { (at ≤ past_text) × (row < many_rows) }
-    ensures { Written at (spaced (shape_tokens (cell-stmt (name_from names.now rows.now row 1) (name_from names.now rows.now row 3)))) out.old out.new result }
+    ensures { Written at (spaced (shape_tokens (cell-stmt (name_from design.now.names.now design.now.rows.now row 1) (name_from design.now.names.now design.now.rows.now row 3)))) out.old out.new result }
 {
     let first = put_bytes(out, at, b"cell");
-    let end = put_token(out, first, bytes_at(names, rows, row, CELL_TYPE));
-    put_token(out, end, bytes_at(names, rows, row, CELL_NAME))
-}
-
-fn put_cell_parameter(
-    names: &[u8],
-    strings: &[u8],
-    bits: &[u32],
-    rows: &[u32],
-    row: usize,
-    out: &mut [u8],
-    at: usize,
-) -> usize
-    requires { (at ≤ past_text) × (row < many_rows) × (length bits.now ≤ bits_length) }
-    ensures { Written at (spaced (shape_tokens (cell-param-stmt (sort_at rows.now row 6) (name_from names.now rows.now row 1) (literal_of (constant_at strings.now bits.now rows.now row 3))))) out.old out.new result }
-{
-    let first = put_bytes(out, at, b"parameter");
-    let sort = put_sort(rows, row, ROW_SORT, out, first);
-    let end = put_token(out, sort, bytes_at(names, rows, row, ROW_NAME));
-    put_constant(strings, bits, rows, row, ROW_CONSTANT, out, end)
-}
-
-// Where the wire's own row is gives its number in the module.
-fn put_wire(
-    names: &[u8],
-    wires: &[u32],
-    rows: &[u32],
-    m: Module,
-    row: usize,
-    out: &mut [u8],
-    at: usize,
-) -> usize
-    requires { (at ≤ past_text) × (row < many_rows) }
-    ensures { Written at (spaced (shape_tokens (wire-stmt (wire_options (wire_of wires.now (column rows.now row 3))) (own_now names.now wires.now rows.now m (column rows.now row 3))))) out.old out.new result }
-{
-    let k = column(rows, row, ROW_WIRE);
-    let n = if m.first < k { k - m.first } else { 0 };
-    let first = put_bytes(out, at, b"wire");
-    let end = put_wire_options(wires, k as usize, out, first);
+    let end = put_token(
+        out,
+        first,
+        bytes_at(design.names, design.rows, row, CELL_TYPE),
+    );
     put_token(
         out,
         end,
-        name_now(names, wires, rows, m, WireNumber(n), k as usize),
+        bytes_at(design.names, design.rows, row, CELL_NAME),
     )
 }
 
-fn put_cell_connection(
-    names: &[u8],
-    bits: &[u32],
-    wires: &[u32],
-    rows: &[u32],
-    m: Module,
-    row: usize,
-    out: &mut [u8],
-    at: usize,
-) -> usize
-    requires { (at ≤ past_text) × (row < many_rows) × (length bits.now ≤ bits_length) }
-    ensures { Written at (spaced (shape_tokens (cell-conn-stmt (name_from names.now rows.now row 1) (sig (wires_in names.now wires.now rows.now m) (signal_at bits.now rows.now row 3))))) out.old out.new result }
+fn put_cell_parameter(design: &Design, row: usize, out: &mut [u8], at: usize) -> usize
+    requires { (at ≤ past_text) × (row < many_rows) × (length design.now.bits.now ≤ bits_length) }
+    ensures { Written at (spaced (shape_tokens (cell-param-stmt (sort_at design.now.rows.now row 6) (name_from design.now.names.now design.now.rows.now row 1) (literal_of (constant_at design.now.strings.now design.now.bits.now design.now.rows.now row 3))))) out.old out.new result }
+{
+    let first = put_bytes(out, at, b"parameter");
+    let sort = put_sort(design.rows, row, ROW_SORT, out, first);
+    let end = put_token(
+        out,
+        sort,
+        bytes_at(design.names, design.rows, row, ROW_NAME),
+    );
+    put_constant(design, row, ROW_CONSTANT, out, end)
+}
+
+// Where the wire's own row is gives its number in the module.
+fn put_wire(design: &Design, m: Module, row: usize, out: &mut [u8], at: usize) -> usize
+    requires { (at ≤ past_text) × (row < many_rows) }
+    ensures { Written at (spaced (shape_tokens (wire-stmt (wire_options (wire_of design.now.wires.now (column design.now.rows.now row 3))) (own_now design.now.names.now design.now.wires.now design.now.rows.now m (column design.now.rows.now row 3))))) out.old out.new result }
+{
+    let k = column(design.rows, row, ROW_WIRE);
+    let n = if m.first < k { k - m.first } else { 0 };
+    let first = put_bytes(out, at, b"wire");
+    let end = put_wire_options(design.wires, k as usize, out, first);
+    put_token(out, end, name_now(design, m, WireNumber(n), k as usize))
+}
+
+fn put_cell_connection(design: &Design, m: Module, row: usize, out: &mut [u8], at: usize) -> usize
+    requires { (at ≤ past_text) × (row < many_rows) × (length design.now.bits.now ≤ bits_length) }
+    ensures { Written at (spaced (shape_tokens (cell-conn-stmt (name_from design.now.names.now design.now.rows.now row 1) (sig (wires_in design.now.names.now design.now.wires.now design.now.rows.now m) (signal_at design.now.bits.now design.now.rows.now row 3))))) out.old out.new result }
 {
     let first = put_bytes(out, at, b"connect");
-    let end = put_token(out, first, bytes_at(names, rows, row, ROW_NAME));
+    let end = put_token(
+        out,
+        first,
+        bytes_at(design.names, design.rows, row, ROW_NAME),
+    );
     put_signal(
-        names,
-        wires,
-        rows,
+        design,
         m,
-        words_at(bits, rows, row, LAST_SIGNAL),
+        words_at(design.bits, design.rows, row, LAST_SIGNAL),
         out,
         end,
     )
 }
 
-fn put_connection(
-    names: &[u8],
-    bits: &[u32],
-    wires: &[u32],
-    rows: &[u32],
-    m: Module,
-    row: usize,
-    out: &mut [u8],
-    at: usize,
-) -> usize
-    requires { (at ≤ past_text) × (row < many_rows) × (length bits.now ≤ bits_length) }
-    ensures { Written at (spaced (shape_tokens (conn-stmt (sig (wires_in names.now wires.now rows.now m) (signal_at bits.now rows.now row 1)) (sig (wires_in names.now wires.now rows.now m) (signal_at bits.now rows.now row 3))))) out.old out.new result }
+fn put_connection(design: &Design, m: Module, row: usize, out: &mut [u8], at: usize) -> usize
+    requires { (at ≤ past_text) × (row < many_rows) × (length design.now.bits.now ≤ bits_length) }
+    ensures { Written at (spaced (shape_tokens (conn-stmt (sig (wires_in design.now.names.now design.now.wires.now design.now.rows.now m) (signal_at design.now.bits.now design.now.rows.now row 1)) (sig (wires_in design.now.names.now design.now.wires.now design.now.rows.now m) (signal_at design.now.bits.now design.now.rows.now row 3))))) out.old out.new result }
 {
     let first = put_bytes(out, at, b"connect");
     let end = put_signal(
-        names,
-        wires,
-        rows,
+        design,
         m,
-        words_at(bits, rows, row, FIRST_SIGNAL),
+        words_at(design.bits, design.rows, row, FIRST_SIGNAL),
         out,
         first,
     );
     put_signal(
-        names,
-        wires,
-        rows,
+        design,
         m,
-        words_at(bits, rows, row, LAST_SIGNAL),
+        words_at(design.bits, design.rows, row, LAST_SIGNAL),
         out,
         end,
     )
 }
 
 // A statement that names no wire of the module, by its kind.
-fn put_plain(
-    names: &[u8],
-    strings: &[u8],
-    bits: &[u32],
-    rows: &[u32],
-    row: usize,
-    kind: u32,
-    out: &mut [u8],
-    at: usize,
-) -> usize
-    requires { (at ≤ past_text) × (row < many_rows) × (length bits.now ≤ bits_length) }
-    ensures { PlainIs names.now strings.now bits.now rows.now row kind at out.old out.new result }
+fn put_plain(design: &Design, row: usize, kind: u32, out: &mut [u8], at: usize) -> usize
+    requires { (at ≤ past_text) × (row < many_rows) × (length design.now.bits.now ≤ bits_length) }
+    ensures { PlainIs design.now.names.now design.now.strings.now design.now.bits.now design.now.rows.now row kind at out.old out.new result }
 {
     if kind == AUTOIDX_KIND {
-        return put_autoidx(rows, row, out, at);
+        return put_autoidx(design.rows, row, out, at);
     }
     if kind == ATTRIBUTE_KIND {
-        return put_attribute(names, strings, bits, rows, row, out, at);
+        return put_attribute(design, row, out, at);
     }
     if kind == MODULE_KIND {
-        return put_named(names, rows, row, b"module", out, at);
+        return put_named(design, row, b"module", out, at);
     }
     if kind == PARAMETER_KIND {
-        return put_parameter(names, strings, bits, rows, row, out, at);
+        return put_parameter(design, row, out, at);
     }
     if kind == MEMORY_KIND {
-        return put_memory(names, rows, row, out, at);
+        return put_memory(design, row, out, at);
     }
     if kind == CELL_KIND {
-        return put_cell(names, rows, row, out, at);
+        return put_cell(design, row, out, at);
     }
     if kind == CELL_PARAMETER_KIND {
-        return put_cell_parameter(names, strings, bits, rows, row, out, at);
+        return put_cell_parameter(design, row, out, at);
     }
     if kind == PROCESS_KIND {
-        return put_named(names, rows, row, b"process", out, at);
+        return put_named(design, row, b"process", out, at);
     }
     if kind == END_KIND {
         return put_bytes(out, at, b"end");
@@ -450,53 +395,39 @@ fn put_plain(
     at
 }
 
-fn put_statement(
-    names: &[u8],
-    strings: &[u8],
-    bits: &[u32],
-    wires: &[u32],
-    rows: &[u32],
-    m: Module,
-    row: usize,
-    out: &mut [u8],
-    at: usize,
-) -> usize
-    requires { (at ≤ past_text) × (row < many_rows) × (length bits.now ≤ bits_length) }
-    ensures { Written at (body_text (wires_in names.now wires.now rows.now m) (statement_now names.now strings.now bits.now wires.now rows.now m row)) out.old out.new result }
+fn put_statement(design: &Design, m: Module, row: usize, out: &mut [u8], at: usize) -> usize
+    requires { (at ≤ past_text) × (row < many_rows) × (length design.now.bits.now ≤ bits_length) }
+    ensures { Written at (body_text (wires_in design.now.names.now design.now.wires.now design.now.rows.now m) (statement_now design.now.names.now design.now.strings.now design.now.bits.now design.now.wires.now design.now.rows.now m row)) out.old out.new result }
 {
-    let kind = column(rows, row, ROW_KIND);
+    let kind = column(design.rows, row, ROW_KIND);
     if kind == WIRE_KIND {
-        return put_wire(names, wires, rows, m, row, out, at);
+        return put_wire(design, m, row, out, at);
     }
     if kind == CELL_CONNECTION_KIND {
-        return put_cell_connection(names, bits, wires, rows, m, row, out, at);
+        return put_cell_connection(design, m, row, out, at);
     }
     if kind == CONNECTION_KIND {
-        return put_connection(names, bits, wires, rows, m, row, out, at);
+        return put_connection(design, m, row, out, at);
     }
     if kind == STEP_KIND {
-        return put_step(names, bits, wires, rows, m, row, out, at);
+        return put_step(design, m, row, out, at);
     }
-    put_plain(names, strings, bits, rows, row, kind, out, at)
+    put_plain(design, row, kind, out, at)
 }
 
 // The line of the statement in row k, two spaces a level before it and a line end behind it.
 pub fn put_line(
-    names: &[u8],
-    strings: &[u8],
-    bits: &[u32],
-    wires: &[u32],
-    rows: &[u32],
+    design: &Design,
     m: Module,
     k: u32,
     level: usize,
     out: &mut [u8],
     at: usize,
 ) -> usize
-    requires { (at ≤ past_text) × (level ≤ most_level) × (length bits.now ≤ bits_length) }
-    ensures { Written at (line_of level (wires_in names.now wires.now rows.now m) (statement_now names.now strings.now bits.now wires.now rows.now m k)) out.old out.new result }
+    requires { (at ≤ past_text) × (level ≤ most_level) × (length design.now.bits.now ≤ bits_length) }
+    ensures { Written at (line_of level (wires_in design.now.names.now design.now.wires.now design.now.rows.now m) (statement_now design.now.names.now design.now.strings.now design.now.bits.now design.now.wires.now design.now.rows.now m k)) out.old out.new result }
 {
     let body = put_spaces(out, at, LEVEL_SPACES * level);
-    let end = put_statement(names, strings, bits, wires, rows, m, k as usize, out, body);
+    let end = put_statement(design, m, k as usize, out, body);
     put_byte(out, end, b'\n')
 }

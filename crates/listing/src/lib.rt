@@ -5,11 +5,13 @@ ghost use Rattle.std.specs.Prelude.{◌≡◌, ◌+◌, ◌≤◌, length};
 ghost use mathlib.Core.List.{flat_map};
 ghost use Rattle.rules.specs.Limits.{names_length, strings_length, most_statements};
 ghost use Rattle.rules.specs.Plain.{low};
+ghost use Rattle.netlist.specs.Designs.{lent_in};
 ghost use Rattle.netlist.specs.Results.{lent};
 ghost use Rattle.plain.specs.Put.{PutAt, wrote};
 ghost use Rattle.listing.specs.Lines.{place_at, shown_at, line_at, lines_at, fitted};
 ghost use Rattle.listing.specs.Listed.{ListedAs};
 
+use netlist::design::Design;
 use netlist::results::NOT_THERE;
 use numbers::kinds::{ModuleNumber, WireNumber};
 use plain::{ROOM_TOO_SHORT, form_size, put_form, put_shown, shown_size};
@@ -26,22 +28,12 @@ pub struct Listed {
 }
 
 // The place of the name to show of a module's wire.
-fn shown_place(
-    names: &[u8],
-    strings: &[u8],
-    wires: &[u32],
-    rows: &[u32],
-    m: Module,
-    w: u32,
-) -> Shown
+fn shown_place(design: &Design, m: Module, w: u32) -> Shown
     requires { m.first + w ≤ most_statements }
-    ensures { result ≡ place_at names.now strings.now wires.now rows.now m w }
+    ensures { result ≡ place_at design.now.names.now design.now.strings.now design.now.wires.now design.now.rows.now m w }
 {
     shown_wire(
-        names,
-        strings,
-        wires,
-        rows,
+        design,
         m.from,
         m.renames,
         m.number,
@@ -50,130 +42,91 @@ fn shown_place(
     )
 }
 
-fn shown_part_size(
-    names: &[u8],
-    strings: &[u8],
-    wires: &[u32],
-    rows: &[u32],
-    m: Module,
-    w: u32,
-) -> usize
+fn shown_part_size(design: &Design, m: Module, w: u32) -> usize
     requires w_bound { m.first + w ≤ most_statements }
-    requires names_len { (length names.now ≡ names_length) × (length strings.now ≡ strings_length) }
-    ensures { result ≡ length (flat_map low (shown_at names.now strings.now wires.now rows.now m w)) }
+    requires names_len { (length design.now.names.now ≡ names_length) × (length design.now.strings.now ≡ strings_length) }
+    ensures { result ≡ length (flat_map low (shown_at design.now.names.now design.now.strings.now design.now.wires.now design.now.rows.now m w)) }
 {
-    match shown_place(names, strings, wires, rows, m, w) {
-        Shown::Name(name) => shown_size(&names[name.start..name.end]),
-        Shown::Text(text) => shown_size(&strings[text.start..text.end]),
+    match shown_place(design, m, w) {
+        Shown::Name(name) => shown_size(&design.names[name.start..name.end]),
+        Shown::Text(text) => shown_size(&design.strings[text.start..text.end]),
     }
 }
 
-fn put_shown_part(
-    names: &[u8],
-    strings: &[u8],
-    wires: &[u32],
-    rows: &[u32],
-    m: Module,
-    w: u32,
-    out: &mut [u8],
-    at: usize,
-) -> usize
+fn put_shown_part(design: &Design, m: Module, w: u32, out: &mut [u8], at: usize) -> usize
     requires w_bound { m.first + w ≤ most_statements }
-    requires w_in_bounds { at + length (flat_map low (shown_at names.now strings.now wires.now rows.now m w)) ≤ length out.old }
-    ensures { PutAt at (flat_map low (shown_at names.now strings.now wires.now rows.now m w)) out.old out.new result }
+    requires w_in_bounds { at + length (flat_map low (shown_at design.now.names.now design.now.strings.now design.now.wires.now design.now.rows.now m w)) ≤ length out.old }
+    ensures { PutAt at (flat_map low (shown_at design.now.names.now design.now.strings.now design.now.wires.now design.now.rows.now m w)) out.old out.new result }
 {
-    match shown_place(names, strings, wires, rows, m, w) {
-        Shown::Name(name) => put_shown(out, at, &names[name.start..name.end]),
-        Shown::Text(text) => put_shown(out, at, &strings[text.start..text.end]),
+    match shown_place(design, m, w) {
+        Shown::Name(name) => put_shown(out, at, &design.names[name.start..name.end]),
+        Shown::Text(text) => put_shown(out, at, &design.strings[text.start..text.end]),
     }
 }
 
-fn line_size(names: &[u8], strings: &[u8], wires: &[u32], rows: &[u32], m: Module, w: u32) -> usize
+fn line_size(design: &Design, m: Module, w: u32) -> usize
     requires w_bound { m.first + w ≤ most_statements }
-    requires names_len { (length names.now ≡ names_length) × (length strings.now ≡ strings_length) }
-    ensures { result ≡ length (line_at names.now strings.now wires.now rows.now m w) }
+    requires names_len { (length design.now.names.now ≡ names_length) × (length design.now.strings.now ≡ strings_length) }
+    ensures { result ≡ length (line_at design.now.names.now design.now.strings.now design.now.wires.now design.now.rows.now m w) }
 {
     let row = (m.first + w) as usize;
-    let name = form_size(name_now(names, wires, rows, m, WireNumber(w), row));
-    let shown = shown_part_size(names, strings, wires, rows, m, w);
+    let name = form_size(name_now(design, m, WireNumber(w), row));
+    let shown = shown_part_size(design, m, w);
     name + 1 + shown + 1
 }
 
 // A wire's line from a place on, and the place behind it.
-fn put_line(
-    names: &[u8],
-    strings: &[u8],
-    wires: &[u32],
-    rows: &[u32],
-    m: Module,
-    w: u32,
-    out: &mut [u8],
-    at: usize,
-) -> usize
+fn put_line(design: &Design, m: Module, w: u32, out: &mut [u8], at: usize) -> usize
     requires w_bound { m.first + w ≤ most_statements }
-    requires w_in_bounds { at + length (line_at names.now strings.now wires.now rows.now m w) ≤ length out.old }
-    ensures { PutAt at (line_at names.now strings.now wires.now rows.now m w) out.old out.new result }
+    requires w_in_bounds { at + length (line_at design.now.names.now design.now.strings.now design.now.wires.now design.now.rows.now m w) ≤ length out.old }
+    ensures { PutAt at (line_at design.now.names.now design.now.strings.now design.now.wires.now design.now.rows.now m w) out.old out.new result }
 {
     let row = (m.first + w) as usize;
-    let space = put_form(out, at, name_now(names, wires, rows, m, WireNumber(w), row));
+    let space = put_form(out, at, name_now(design, m, WireNumber(w), row));
     out[space] = b' ';
-    let end = put_shown_part(names, strings, wires, rows, m, w, out, space + 1);
+    let end = put_shown_part(design, m, w, out, space + 1);
     out[end] = b'\n';
     end + 1
 }
 
-fn lines_size(names: &[u8], strings: &[u8], wires: &[u32], rows: &[u32], m: Module) -> usize
+fn lines_size(design: &Design, m: Module) -> usize
     requires wires_bound { m.first + m.wires ≤ most_statements }
-    requires names_len { (length names.now ≡ names_length) × (length strings.now ≡ strings_length) }
-    ensures { result ≡ length (lines_at names.now strings.now wires.now rows.now m m.wires) }
+    requires names_len { (length design.now.names.now ≡ names_length) × (length design.now.strings.now ≡ strings_length) }
+    ensures { result ≡ length (lines_at design.now.names.now design.now.strings.now design.now.wires.now design.now.rows.now m m.wires) }
 {
     let mut size = 0;
     for w in 0..m.wires {
-        size += line_size(names, strings, wires, rows, m, w);
+        size += line_size(design, m, w);
     }
     size
 }
 
-fn put_lines(
-    names: &[u8],
-    strings: &[u8],
-    wires: &[u32],
-    rows: &[u32],
-    m: Module,
-    out: &mut [u8],
-) -> usize
+fn put_lines(design: &Design, m: Module, out: &mut [u8]) -> usize
     requires wires_bound { m.first + m.wires ≤ most_statements }
-    requires wires_in_bounds { length (lines_at names.now strings.now wires.now rows.now m m.wires) ≤ length out.old }
-    ensures { PutAt 0 (lines_at names.now strings.now wires.now rows.now m m.wires) out.old out.new result }
+    requires wires_in_bounds { length (lines_at design.now.names.now design.now.strings.now design.now.wires.now design.now.rows.now m m.wires) ≤ length out.old }
+    ensures { PutAt 0 (lines_at design.now.names.now design.now.strings.now design.now.wires.now design.now.rows.now m m.wires) out.old out.new result }
 {
     let mut end = 0;
     for w in 0..m.wires {
-        end = put_line(names, strings, wires, rows, m, w, out, end);
+        end = put_line(design, m, w, out, end);
     }
     end
 }
 
 // The size first, so that a refusal leaves the room as it was.
-fn list_module(
-    names: &[u8],
-    strings: &[u8],
-    wires: &[u32],
-    rows: &[u32],
-    m: Module,
-    out: &mut [u8],
-) -> Listed
+fn list_module(design: &Design, m: Module, out: &mut [u8]) -> Listed
     requires wires_bound { m.first + m.wires ≤ most_statements }
-    requires names_len { (length names.now ≡ names_length) × (length strings.now ≡ strings_length) }
-    ensures { (result.number, result.length, out.new) ≡ wrote out.old (fitted (length out.old) (lines_at names.now strings.now wires.now rows.now m m.wires)) }
+    requires names_len { (length design.now.names.now ≡ names_length) × (length design.now.strings.now ≡ strings_length) }
+    ensures { (result.number, result.length, out.new) ≡ wrote out.old (fitted (length out.old) (lines_at design.now.names.now design.now.strings.now design.now.wires.now design.now.rows.now m m.wires)) }
 {
-    let size = lines_size(names, strings, wires, rows, m);
+    let size = lines_size(design, m);
     if out.len() < size {
         return Listed {
             number: ROOM_TOO_SHORT,
             length: 0,
         };
     }
-    put_lines(names, strings, wires, rows, m, out);
+    put_lines(design, m, out);
     Listed {
         number: 0,
         length: size as u32,
@@ -181,20 +134,10 @@ fn list_module(
 }
 
 // The listing at the start of the room lent; a refusal leaves the room as it was.
-pub fn listing(
-    names: &[u8],
-    strings: &[u8],
-    bits: &[u32],
-    wires: &[u32],
-    rows: &[u32],
-    renames: u32,
-    room: u32,
-    m: ModuleNumber,
-    out: &mut [u8],
-) -> Listed
-    ensures { ListedAs (lent names.now strings.now bits.now wires.now rows.now renames room) m.0 out.old out.new result }
+pub fn listing(design: &Design, m: ModuleNumber, out: &mut [u8]) -> Listed
+    ensures { ListedAs (lent_in design.now) m.0 out.old out.new result }
 {
-    let place = match open_memory(names, strings, bits, wires, rows, renames, room) {
+    let place = match open_memory(design) {
         Ok(place) => place,
         Err(number) => return Listed { number, length: 0 },
     };
@@ -205,11 +148,8 @@ pub fn listing(
         };
     }
     list_module(
-        names,
-        strings,
-        wires,
-        rows,
-        module_of(wires, place, renames, m),
+        design,
+        module_of(design.wires, place, design.renames, m),
         out,
     )
 }

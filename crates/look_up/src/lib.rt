@@ -5,12 +5,14 @@
 ghost use Rattle.std.specs.Prelude.{◌≡◌, pos};
 ghost use Rattle.rules.specs.Session.{index_in};
 ghost use Rattle.wires.specs.Rows.{wire_of};
+ghost use Rattle.netlist.specs.Designs.{lent_in};
 ghost use Rattle.netlist.specs.Results.{lent};
 ghost use Rattle.rename_rules.specs.Search.{search_now};
 ghost use Rattle.session.specs.Called.{answer};
 ghost use Rattle.look_up.specs.Asked.{LookedUp, IndexGiven};
 
 use modules::module_wires;
+use netlist::design::Design;
 use netlist::results::{BAD_WIDTH, NOT_THERE};
 use numbers::kinds::{ModuleNumber, WireNumber};
 use rename_rules::{find_named, module_of};
@@ -33,10 +35,10 @@ pub struct Indexed {
 
 // The first wire of a module that has this name now.
 #[tactic(auto, unfolding(session::specs::Called::answer, rename_rules::specs::Search::named))]
-fn find(names: &[u8], wires: &[u32], rows: &[u32], m: Module, name: &[u8]) -> Found
-    ensures { (result.number, result.wire.0) ≡ answer 0 (search_now names.now wires.now rows.now m name.now m.wires 0) }
+fn find(design: &Design, m: Module, name: &[u8]) -> Found
+    ensures { (result.number, result.wire.0) ≡ answer 0 (search_now design.now.names.now design.now.wires.now design.now.rows.now m name.now m.wires 0) }
 {
-    match find_named(names, wires, rows, m, name) {
+    match find_named(design, m, name) {
         Some(wire) => Found { number: 0, wire },
         None => Found {
             number: NOT_THERE,
@@ -45,25 +47,13 @@ fn find(names: &[u8], wires: &[u32], rows: &[u32], m: Module, name: &[u8]) -> Fo
     }
 }
 
-pub fn look_up(
-    names: &[u8],
-    strings: &[u8],
-    bits: &[u32],
-    wires: &[u32],
-    rows: &[u32],
-    renames: u32,
-    room: u32,
-    m: ModuleNumber,
-    name: &[u8],
-) -> Found
-    ensures { LookedUp (lent names.now strings.now bits.now wires.now rows.now renames room) m.0 name.now result }
+pub fn look_up(design: &Design, m: ModuleNumber, name: &[u8]) -> Found
+    ensures { LookedUp (lent_in design.now) m.0 name.now result }
 {
-    match open_memory(names, strings, bits, wires, rows, renames, room) {
+    match open_memory(design) {
         Ok(place) => find(
-            names,
-            wires,
-            rows,
-            module_of(wires, place, renames, m),
+            design,
+            module_of(design.wires, place, design.renames, m),
             name,
         ),
         Err(number) => Found {
@@ -87,23 +77,12 @@ fn row_index(wires: &[u32], row: u32, bit: u32) -> Indexed
     }
 }
 
-pub fn index(
-    names: &[u8],
-    strings: &[u8],
-    bits: &[u32],
-    wires: &[u32],
-    rows: &[u32],
-    renames: u32,
-    room: u32,
-    m: ModuleNumber,
-    w: WireNumber,
-    bit: u32,
-) -> Indexed
-    ensures { IndexGiven (lent names.now strings.now bits.now wires.now rows.now renames room) m.0 w.0 bit result }
+pub fn index(design: &Design, m: ModuleNumber, w: WireNumber, bit: u32) -> Indexed
+    ensures { IndexGiven (lent_in design.now) m.0 w.0 bit result }
 {
-    match open_memory(names, strings, bits, wires, rows, renames, room) {
+    match open_memory(design) {
         Ok(place) => {
-            let own = module_wires(wires, place.wires, m);
+            let own = module_wires(design.wires, place.wires, m);
             let number = w.0;
             if own.count <= number {
                 return Indexed {
@@ -111,7 +90,7 @@ pub fn index(
                     index: 0,
                 };
             }
-            row_index(wires, own.first + number, bit)
+            row_index(design.wires, own.first + number, bit)
         }
         Err(number) => Indexed { number, index: 0 },
     }

@@ -11,6 +11,7 @@ ghost use Rattle.memory_calls.specs.Given.{found_by, indexed_by, written_by, lis
 use card::LengthAnswer;
 use listing::listing;
 use look_up::{index, look_up};
+use netlist::design::Design;
 use numbers::kinds::{ModuleNumber, WireNumber};
 use show::{Shown, find_shown};
 use writer::{measure, write};
@@ -53,7 +54,7 @@ pub extern "C" fn skytassel_look_up(
 ) -> WireAnswer
     ensures { LookedUp (lent names.now strings.now bits.now wires.now rows.now renames room) m name.now (found_by result) }
 {
-    let found = look_up(
+    let design = Design {
         names,
         strings,
         bits,
@@ -61,9 +62,8 @@ pub extern "C" fn skytassel_look_up(
         rows,
         renames,
         room,
-        ModuleNumber(m),
-        name,
-    );
+    };
+    let found = look_up(&design, ModuleNumber(m), name);
     WireAnswer {
         number: found.number,
         wire: found.wire.0,
@@ -85,7 +85,7 @@ pub extern "C" fn skytassel_index(
 ) -> IndexAnswer
     ensures { IndexGiven (lent names.now strings.now bits.now wires.now rows.now renames room) m w bit (indexed_by result) }
 {
-    let given = index(
+    let design = Design {
         names,
         strings,
         bits,
@@ -93,10 +93,8 @@ pub extern "C" fn skytassel_index(
         rows,
         renames,
         room,
-        ModuleNumber(m),
-        WireNumber(w),
-        bit,
-    );
+    };
+    let given = index(&design, ModuleNumber(m), WireNumber(w), bit);
     IndexAnswer {
         number: given.number,
         index: given.index,
@@ -115,7 +113,16 @@ pub extern "C" fn skytassel_measure(
 ) -> LengthAnswer
     ensures { MeasuredAs (lent names.now strings.now bits.now wires.now rows.now renames room) (written_by result) }
 {
-    let measured = measure(names, strings, bits, wires, rows, renames, room);
+    let design = Design {
+        names,
+        strings,
+        bits,
+        wires,
+        rows,
+        renames,
+        room,
+    };
+    let measured = measure(&design);
     LengthAnswer {
         number: measured.number,
         length: measured.length,
@@ -135,7 +142,16 @@ pub extern "C" fn skytassel_write(
 ) -> LengthAnswer
     ensures { WrittenAs (lent names.now strings.now bits.now wires.now rows.now renames room) out.old out.new (written_by result) }
 {
-    let written = write(names, strings, bits, wires, rows, renames, room, out);
+    let design = Design {
+        names,
+        strings,
+        bits,
+        wires,
+        rows,
+        renames,
+        room,
+    };
+    let written = write(&design, out);
     LengthAnswer {
         number: written.number,
         length: written.length,
@@ -156,7 +172,7 @@ pub extern "C" fn skytassel_listing(
 ) -> LengthAnswer
     ensures { ListedAs (lent names.now strings.now bits.now wires.now rows.now renames room) m out.old out.new (listed_by result) }
 {
-    let listed = listing(
+    let design = Design {
         names,
         strings,
         bits,
@@ -164,9 +180,8 @@ pub extern "C" fn skytassel_listing(
         rows,
         renames,
         room,
-        ModuleNumber(m),
-        out,
-    );
+    };
+    let listed = listing(&design, ModuleNumber(m), out);
     LengthAnswer {
         number: listed.number,
         length: listed.length,
@@ -214,7 +229,7 @@ pub extern "C" fn skytassel_show(
 ) -> PartAnswer
     ensures { PartGiven (lent names.now strings.now bits.now wires.now rows.now renames room) m w result }
 {
-    let shown = find_shown(
+    let design = Design {
         names,
         strings,
         bits,
@@ -222,8 +237,7 @@ pub extern "C" fn skytassel_show(
         rows,
         renames,
         room,
-        ModuleNumber(m),
-        WireNumber(w),
-    );
+    };
+    let shown = find_shown(&design, ModuleNumber(m), WireNumber(w));
     part_of(shown)
 }

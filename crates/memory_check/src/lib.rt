@@ -3,15 +3,17 @@
 
 ghost use Rattle.std.specs.Prelude.{◌≡◌, ◌+◌, ◌≤◌, length};
 ghost use Rattle.rules.specs.Limits.{most_wires, names_length};
+ghost use Rattle.netlist.specs.Designs.{lent_in};
 ghost use Rattle.netlist.specs.Lengths.{right_sizes};
 ghost use Rattle.name_index.specs.Index.{key_at, wire_key, row_room, Indexed};
 ghost use Rattle.memory_check.specs.Renamed.{is_rename, RenameIs, RenamesAre};
-ghost use Rattle.memory_check.specs.Held.{memory_in, rest_zero, HeldIs};
+ghost use Rattle.memory_check.specs.Held.{rest_zero, HeldIs};
 
 use context::kinds::RENAME_KIND;
 use context::place::Place;
 use context::sizes::Standing;
 use name_index::{ROW_CHAIN, ROW_HEADS, index_wires};
+use netlist::design::Design;
 use netlist::lengths::right_lengths;
 use numbers::kinds::{ModuleNumber, WireNumber};
 use rename_rules::indexed_rename;
@@ -32,9 +34,7 @@ fn is_rename(x: Row, used: u32) -> bool
 
 // One more rename, behind i of them: the bytes of names that are used behind it.
 fn one_rename(
-    names: &[u8],
-    wires: &[u32],
-    rows: &[u32],
+    design: &Design,
     heads: &[u32],
     chain: &[u32],
     wire_heads: &[u32],
@@ -43,29 +43,27 @@ fn one_rename(
     i: u32,
     used: u32,
 ) -> Option<u32>
-    requires names_len_bound { length names.now ≤ names_length }
-    requires indexed { Indexed heads.now chain.now (key_at names.now rows.now) place.rows }
-    requires indexed_2 { Indexed wire_heads.now wire_chain.now (wire_key names.now wires.now) place.wires }
-    ensures { RenameIs names.now wires.now rows.now place i used result }
+    requires names_len_bound { length design.now.names.now ≤ names_length }
+    requires indexed { Indexed heads.now chain.now (key_at design.now.names.now design.now.rows.now) place.rows }
+    requires indexed_2 { Indexed wire_heads.now wire_chain.now (wire_key design.now.names.now design.now.wires.now) place.wires }
+    ensures { RenameIs design.now.names.now design.now.wires.now design.now.rows.now place i used result }
 {
     let at = ROW_WORDS * (place.rows as usize + i as usize);
-    if rows.len() < at + ROW_WORDS {
+    if design.rows.len() < at + ROW_WORDS {
         return None;
     }
-    let x = get_row(rows, at);
+    let x = get_row(design.rows, at);
     if !is_rename(x, used) {
         return None;
     }
     let start = used as usize;
     let end = start + x.b as usize;
-    if names.len() < end {
+    if design.names.len() < end {
         return None;
     }
-    let new = part(names, start, end);
+    let new = part(design.names, start, end);
     indexed_rename(
-        names,
-        wires,
-        rows,
+        design,
         heads,
         chain,
         wire_heads,
@@ -83,9 +81,7 @@ fn one_rename(
 
 // So many renames behind the statements, each of which may stand behind those before it: the bytes of names that are used behind them.
 fn all_renames(
-    names: &[u8],
-    wires: &[u32],
-    rows: &[u32],
+    design: &Design,
     heads: &[u32],
     chain: &[u32],
     wire_heads: &[u32],
@@ -94,45 +90,45 @@ fn all_renames(
     renames: u32,
     used: u32,
 ) -> Option<u32>
-    requires names_len_bound { length names.now ≤ names_length }
-    requires indexed { Indexed heads.now chain.now (key_at names.now rows.now) place.rows }
-    requires indexed_2 { Indexed wire_heads.now wire_chain.now (wire_key names.now wires.now) place.wires }
-    ensures { RenamesAre names.now wires.now rows.now place renames used result }
+    requires names_len_bound { length design.now.names.now ≤ names_length }
+    requires indexed { Indexed heads.now chain.now (key_at design.now.names.now design.now.rows.now) place.rows }
+    requires indexed_2 { Indexed wire_heads.now wire_chain.now (wire_key design.now.names.now design.now.wires.now) place.wires }
+    ensures { RenamesAre design.now.names.now design.now.wires.now design.now.rows.now place renames used result }
 {
     let mut room = used;
     for i in 0..renames {
-        room = one_rename(
-            names, wires, rows, heads, chain, wire_heads, wire_chain, place, i, room,
-        )?;
+        room = one_rename(design, heads, chain, wire_heads, wire_chain, place, i, room)?;
     }
     Some(room)
 }
 
 // The same, with an index of the wires where renames stand.
 fn standing_renames(
-    names: &[u8],
-    wires: &[u32],
-    rows: &[u32],
+    design: &Design,
     heads: &[u32],
     chain: &[u32],
     place: Place,
     renames: u32,
     used: u32,
 ) -> Option<u32>
-    requires names_len_bound { (length names.now ≤ names_length) × (place.wires ≤ most_wires) }
-    requires indexed { Indexed heads.now chain.now (key_at names.now rows.now) place.rows }
-    ensures { RenamesAre names.now wires.now rows.now place renames used result }
+    requires names_len_bound { (length design.now.names.now ≤ names_length) × (place.wires ≤ most_wires) }
+    requires indexed { Indexed heads.now chain.now (key_at design.now.names.now design.now.rows.now) place.rows }
+    ensures { RenamesAre design.now.names.now design.now.wires.now design.now.rows.now place renames used result }
 {
     if renames == 0 {
         return Some(used);
     }
     let mut wire_heads = [0u32; ROW_HEADS];
     let mut wire_chain = [0u32; WIRE_CHAIN];
-    index_wires(names, wires, &mut wire_heads, &mut wire_chain, place.wires);
+    index_wires(
+        design.names,
+        design.wires,
+        &mut wire_heads,
+        &mut wire_chain,
+        place.wires,
+    );
     all_renames(
-        names,
-        wires,
-        rows,
+        design,
         heads,
         chain,
         &wire_heads,
@@ -151,74 +147,56 @@ fn bits_used(values: u32, signals: u32) -> usize
 }
 
 // Unused room is zero.
-fn rest_is_zero(
-    names: &[u8],
-    strings: &[u8],
-    bits: &[u32],
-    wires: &[u32],
-    rows: &[u32],
-    renames: u32,
-    room: u32,
-    behind: Standing,
-) -> bool
-    ensures { result ≡ rest_zero (memory_in names.now strings.now bits.now wires.now rows.now renames room) behind.place behind.sums }
+fn rest_is_zero(design: &Design, behind: Standing) -> bool
+    ensures { result ≡ rest_zero (lent_in design.now) behind.place behind.sums }
 {
     let place = behind.place;
     let sums = behind.sums;
-    zero_bytes_from(names, room as usize)
-        && zero_bytes_from(strings, sums.string_bytes as usize)
-        && zero_from(bits, bits_used(sums.value_bits, sums.signal_bits))
-        && zero_from(wires, ROW_WORDS * place.wires as usize)
-        && zero_from(rows, ROW_WORDS * (place.rows as usize + renames as usize))
+    zero_bytes_from(design.names, design.room as usize)
+        && zero_bytes_from(design.strings, sums.string_bytes as usize)
+        && zero_from(design.bits, bits_used(sums.value_bits, sums.signal_bits))
+        && zero_from(design.wires, ROW_WORDS * place.wires as usize)
+        && zero_from(
+            design.rows,
+            ROW_WORDS * (place.rows as usize + design.renames as usize),
+        )
 }
 
 // Whether the tables have their exact lengths.
-fn right_tables(names: &[u8], strings: &[u8], bits: &[u32], wires: &[u32], rows: &[u32]) -> bool
-    ensures { result ≡ right_sizes (length names.now) (length strings.now) (length bits.now) (length wires.now) (length rows.now) }
+fn right_tables(design: &Design) -> bool
+    ensures { result ≡ right_sizes (length design.now.names.now) (length design.now.strings.now) (length design.now.bits.now) (length design.now.wires.now) (length design.now.rows.now) }
 {
     right_lengths(
-        names.len(),
-        strings.len(),
-        bits.len(),
-        wires.len(),
-        rows.len(),
+        design.names.len(),
+        design.strings.len(),
+        design.bits.len(),
+        design.wires.len(),
+        design.rows.len(),
     )
 }
 
 // What `judge_memory` answers, with an index of the names, of no row yet.
-fn judge_indexed(
-    names: &[u8],
-    strings: &[u8],
-    bits: &[u32],
-    wires: &[u32],
-    rows: &[u32],
-    heads: &mut [u32],
-    chain: &mut [u32],
-    renames: u32,
-    room: u32,
-) -> Option<Standing>
-    requires indexed { Indexed heads.old chain.old (key_at names.now rows.now) 0 }
+fn judge_indexed(design: &Design, heads: &mut [u32], chain: &mut [u32]) -> Option<Standing>
+    requires indexed { Indexed heads.old chain.old (key_at design.now.names.now design.now.rows.now) 0 }
     requires row_room_in_bounds { row_room ≤ length chain.old }
-    ensures { HeldIs (memory_in names.now strings.now bits.now wires.now rows.now renames room) result }
+    ensures { HeldIs (lent_in design.now) result }
 {
-    if !right_tables(names, strings, bits, wires, rows) {
+    if !right_tables(design) {
         return None;
     }
-    let behind = replay(names, strings, bits, wires, rows, heads, chain)?;
+    let behind = replay(design, heads, chain)?;
     let used = standing_renames(
-        names,
-        wires,
-        rows,
+        design,
         heads,
         chain,
         behind.place,
-        renames,
+        design.renames,
         behind.sums.name_bytes,
     )?;
-    if used != room {
+    if used != design.room {
         return None;
     }
-    if rest_is_zero(names, strings, bits, wires, rows, renames, room, behind) {
+    if rest_is_zero(design, behind) {
         return Some(behind);
     }
     None
@@ -226,20 +204,10 @@ fn judge_indexed(
 
 // The place and the sums behind the statements that the memory holds; nothing for damaged memory, which no file read and no renames accepted after it
 // leave.
-pub fn judge_memory(
-    names: &[u8],
-    strings: &[u8],
-    bits: &[u32],
-    wires: &[u32],
-    rows: &[u32],
-    renames: u32,
-    room: u32,
-) -> Option<Standing>
-    ensures { HeldIs (memory_in names.now strings.now bits.now wires.now rows.now renames room) result }
+pub fn judge_memory(design: &Design) -> Option<Standing>
+    ensures { HeldIs (lent_in design.now) result }
 {
     let mut heads = [0u32; ROW_HEADS];
     let mut chain = [0u32; ROW_CHAIN];
-    judge_indexed(
-        names, strings, bits, wires, rows, &mut heads, &mut chain, renames, room,
-    )
+    judge_indexed(design, &mut heads, &mut chain)
 }

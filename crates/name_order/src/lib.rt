@@ -12,6 +12,7 @@ ghost use Rattle.name_order.specs.Named.{name_in, sought, NextHalves};
 
 use byte_order::comes_before;
 use names::same_bytes;
+use netlist::design::Design;
 use numbers::kinds::WireNumber;
 use wire_names::{Module, name_now};
 
@@ -23,37 +24,29 @@ struct Halves {
 }
 
 // The name now of the module's wire of this number.
-fn name_in<'a>(names: &'a [u8], wires: &[u32], rows: &[u32], m: Module, wire: u32) -> &'a [u8]
-    ensures { result.now ≡ name_in names.now wires.now rows.now m wire }
+fn name_in<'a>(design: &Design<'a>, m: Module, wire: u32) -> &'a [u8]
+    ensures { result.now ≡ name_in design.now.names.now design.now.wires.now design.now.rows.now m wire }
 {
     let row = m.first as usize + wire as usize;
-    name_now(names, wires, rows, m, WireNumber(wire), row)
+    name_now(design, m, WireNumber(wire), row)
 }
 
 // Whether the name now of a wire comes before a name.
-fn wire_before(names: &[u8], wires: &[u32], rows: &[u32], m: Module, wire: u32, name: &[u8]) -> bool
-    ensures { result ≡ before (name_in names.now wires.now rows.now m wire) name.now }
+fn wire_before(design: &Design, m: Module, wire: u32, name: &[u8]) -> bool
+    ensures { result ≡ before (name_in design.now.names.now design.now.wires.now design.now.rows.now m wire) name.now }
 {
-    comes_before(name_in(names, wires, rows, m, wire), name)
+    comes_before(name_in(design, m, wire), name)
 }
 
 // One half of what is left.
-fn halve(
-    names: &[u8],
-    wires: &[u32],
-    rows: &[u32],
-    m: Module,
-    index: &[u32],
-    name: &[u8],
-    left: Halves,
-) -> Halves
-    requires ordered { Ordered (map (name_in names.now wires.now rows.now m) index.now) }
-    requires halved { Halved name.now (map (name_in names.now wires.now rows.now m) index.now) left.low left.high }
+fn halve(design: &Design, m: Module, index: &[u32], name: &[u8], left: Halves) -> Halves
+    requires ordered { Ordered (map (name_in design.now.names.now design.now.wires.now design.now.rows.now m) index.now) }
+    requires halved { Halved name.now (map (name_in design.now.names.now design.now.wires.now design.now.rows.now m) index.now) left.low left.high }
     requires low_lt_high { left.low < left.high }
-    ensures { NextHalves name.now (map (name_in names.now wires.now rows.now m) index.now) left result }
+    ensures { NextHalves name.now (map (name_in design.now.names.now design.now.wires.now design.now.rows.now m) index.now) left result }
 {
     let middle = left.low + (left.high - left.low) / 2;
-    if wire_before(names, wires, rows, m, index[middle], name) {
+    if wire_before(design, m, index[middle], name) {
         return Halves {
             low: middle + 1,
             high: left.high,
@@ -66,62 +59,41 @@ fn halve(
 }
 
 // How many wires of an index whose names are in order come before a name.
-pub fn place_among(
-    names: &[u8],
-    wires: &[u32],
-    rows: &[u32],
-    m: Module,
-    index: &[u32],
-    name: &[u8],
-) -> usize
-    requires { Ordered (map (name_in names.now wires.now rows.now m) index.now) }
-    ensures { result ≡ place name.now (map (name_in names.now wires.now rows.now m) index.now) }
+pub fn place_among(design: &Design, m: Module, index: &[u32], name: &[u8]) -> usize
+    requires { Ordered (map (name_in design.now.names.now design.now.wires.now design.now.rows.now m) index.now) }
+    ensures { result ≡ place name.now (map (name_in design.now.names.now design.now.wires.now design.now.rows.now m) index.now) }
 {
     let mut left = Halves {
         low: 0,
         high: index.len(),
     };
     while left.low < left.high {
-        left = halve(names, wires, rows, m, index, name, left);
+        left = halve(design, m, index, name, left);
     }
     left.low
 }
 
 // The wire of the module that has this name now, by halving its sorted index.
-pub fn find_sorted(
-    names: &[u8],
-    wires: &[u32],
-    rows: &[u32],
-    m: Module,
-    index: &[u32],
-    name: &[u8],
-) -> Option<WireNumber>
-    requires index_value { index.now ≡ index_up (name_in names.now wires.now rows.now m) m.wires 0 }
-    requires apart { Apart (up (name_in names.now wires.now rows.now m) m.wires 0) }
-    ensures { sought result ≡ scan_up (name_in names.now wires.now rows.now m) name.now m.wires 0 }
+pub fn find_sorted(design: &Design, m: Module, index: &[u32], name: &[u8]) -> Option<WireNumber>
+    requires index_value { index.now ≡ index_up (name_in design.now.names.now design.now.wires.now design.now.rows.now m) m.wires 0 }
+    requires apart { Apart (up (name_in design.now.names.now design.now.wires.now design.now.rows.now m) m.wires 0) }
+    ensures { sought result ≡ scan_up (name_in design.now.names.now design.now.wires.now design.now.rows.now m) name.now m.wires 0 }
 {
-    let at = place_among(names, wires, rows, m, index, name);
+    let at = place_among(design, m, index, name);
     if index.len() <= at {
         return None;
     }
     let wire = index[at];
-    if same_bytes(name_in(names, wires, rows, m, wire), name) {
+    if same_bytes(name_in(design, m, wire), name) {
         return Some(WireNumber(wire));
     }
     None
 }
 
 // Whether entry k is a wire of the module, and the name of the entry in front of it comes before its name.
-fn stands_next(
-    names: &[u8],
-    wires: &[u32],
-    rows: &[u32],
-    m: Module,
-    index: &[u32],
-    k: usize,
-) -> bool
+fn stands_next(design: &Design, m: Module, index: &[u32], k: usize) -> bool
     requires { k < length index.now }
-    ensures { result ≡ stands_next (name_in names.now wires.now rows.now m) m.wires index.now k }
+    ensures { result ≡ stands_next (name_in design.now.names.now design.now.wires.now design.now.rows.now m) m.wires index.now k }
 {
     let wire = index[k];
     if m.wires <= wire {
@@ -130,18 +102,18 @@ fn stands_next(
     if k == 0 {
         return true;
     }
-    let name = name_in(names, wires, rows, m, wire);
-    wire_before(names, wires, rows, m, index[k - 1], name)
+    let name = name_in(design, m, wire);
+    wire_before(design, m, index[k - 1], name)
 }
 
 // Whether an index of as many entries as the module has wires is the sorted one.
-pub fn is_sorted(names: &[u8], wires: &[u32], rows: &[u32], m: Module, index: &[u32]) -> bool
+pub fn is_sorted(design: &Design, m: Module, index: &[u32]) -> bool
     requires index_len { length index.now ≡ m.wires }
-    requires apart { Apart (up (name_in names.now wires.now rows.now m) m.wires 0) }
-    ensures { result ≡ same index.now (index_up (name_in names.now wires.now rows.now m) m.wires 0) }
+    requires apart { Apart (up (name_in design.now.names.now design.now.wires.now design.now.rows.now m) m.wires 0) }
+    ensures { result ≡ same index.now (index_up (name_in design.now.names.now design.now.wires.now design.now.rows.now m) m.wires 0) }
 {
     for k in 0..index.len() {
-        if !stands_next(names, wires, rows, m, index, k) {
+        if !stands_next(design, m, index, k) {
             return false;
         }
     }
@@ -158,22 +130,15 @@ fn insert(index: &mut [u32], at: usize, count: usize, wire: u32)
 }
 
 // The module's sorted index, from `start` on: from its last wire to its first, each is put at its place among those behind it.
-pub fn order_module(
-    names: &[u8],
-    wires: &[u32],
-    rows: &[u32],
-    m: Module,
-    index: &mut [u32],
-    start: usize,
-)
+pub fn order_module(design: &Design, m: Module, index: &mut [u32], start: usize)
     requires { start + m.wires ≤ length index.old }
-    ensures { index.new ≡ store index.old start (index_up (name_in names.now wires.now rows.now m) m.wires 0) }
+    ensures { index.new ≡ store index.old start (index_up (name_in design.now.names.now design.now.wires.now design.now.rows.now m) m.wires 0) }
 {
     let end = start + m.wires as usize;
     for wire in (0..m.wires).rev() {
         let at = start + wire as usize;
-        let name = name_in(names, wires, rows, m, wire);
-        let count = place_among(names, wires, rows, m, &index[at + 1..end], name);
+        let name = name_in(design, m, wire);
+        let count = place_among(design, m, &index[at + 1..end], name);
         insert(index, at, count, wire);
     }
 }

@@ -6,13 +6,14 @@ ghost use Rattle.std.specs.Prelude.{◌≡◌, ◌+◌, ◌-◌, ◌≤◌, ◌<
 ghost use Rattle.rules.specs.Limits.{bits_length, past_text};
 ghost use Rattle.context.specs.Place.{is_sync};
 ghost use Rattle.line_text.specs.Lines.{most_level};
-ghost use Rattle.netlist.specs.Tables.{tabled};
+ghost use Rattle.netlist.specs.Designs.{tabled_in};
 ghost use Rattle.text.specs.Written.{Written};
 ghost use Rattle.process_text.specs.Rows.{waiting_from, step_at, level_of, deepens, opened_by, behind, row_lines, step_rows, inside_rows, process_rows};
 
 use context::kinds::{ATTRIBUTE_KIND, END_KIND, STEP_KIND};
 use context::steps::{CASE_STEP, EDGE_STEP, GLOBAL_STEP, NO_STEP, SWITCH_STEP};
 use line_text::put_line;
+use netlist::design::Design;
 use netlist::rows::row_kind;
 use text::put_bytes;
 use wire_names::Module;
@@ -116,11 +117,7 @@ fn behind(z: Inside, kind: u32, step: u32) -> Inside
 
 // The lines of some rows, all at one level.
 fn put_rows(
-    names: &[u8],
-    strings: &[u8],
-    bits: &[u32],
-    wires: &[u32],
-    rows: &[u32],
+    design: &Design,
     m: Module,
     level: usize,
     from: u32,
@@ -128,23 +125,19 @@ fn put_rows(
     out: &mut [u8],
     at: usize,
 ) -> usize
-    requires { (at ≤ past_text) × (length bits.now ≤ bits_length) × (level ≤ most_level) }
-    ensures { Written at (row_lines (tabled names.now strings.now bits.now wires.now rows.now) m level from (to - from)) out.old out.new result }
+    requires { (at ≤ past_text) × (length design.now.bits.now ≤ bits_length) × (level ≤ most_level) }
+    ensures { Written at (row_lines (tabled_in design.now) m level from (to - from)) out.old out.new result }
 {
     let mut end = at;
     for k in from..to {
-        end = put_line(names, strings, bits, wires, rows, m, k, level, out, end);
+        end = put_line(design, m, k, level, out, end);
     }
     end
 }
 
 // A row with the attributes before it, which begin in row `first`: an attribute waits, and an `end` has none.
 fn put_row(
-    names: &[u8],
-    strings: &[u8],
-    bits: &[u32],
-    wires: &[u32],
-    rows: &[u32],
+    design: &Design,
     m: Module,
     level: usize,
     kind: u32,
@@ -153,43 +146,20 @@ fn put_row(
     out: &mut [u8],
     at: usize,
 ) -> usize
-    requires { (at ≤ past_text) × (length bits.now ≤ bits_length) × (level ≤ most_level) × (k < 4294967295) }
-    ensures { Written at (step_rows (tabled names.now strings.now bits.now wires.now rows.now) m level kind first k) out.old out.new result }
+    requires { (at ≤ past_text) × (length design.now.bits.now ≤ bits_length) × (level ≤ most_level) × (k < 4294967295) }
+    ensures { Written at (step_rows (tabled_in design.now) m level kind first k) out.old out.new result }
 {
     if kind == ATTRIBUTE_KIND {
         return at;
     }
     let from = if kind == END_KIND { k } else { first };
-    put_rows(
-        names,
-        strings,
-        bits,
-        wires,
-        rows,
-        m,
-        level,
-        from,
-        k + 1,
-        out,
-        at,
-    )
+    put_rows(design, m, level, from, k + 1, out, at)
 }
 
 // The lines of a process from a row on, up to its own `end`.
-fn put_inside(
-    names: &[u8],
-    strings: &[u8],
-    bits: &[u32],
-    wires: &[u32],
-    rows: &[u32],
-    m: Module,
-    from: u32,
-    to: u32,
-    out: &mut [u8],
-    at: usize,
-) -> usize
-    requires { (at ≤ past_text) × (length bits.now ≤ bits_length) }
-    ensures { Written at (inside_rows (tabled names.now strings.now bits.now wires.now rows.now) m (record { opened = 0; level = 2 }) from from (to - from)) out.old out.new result }
+fn put_inside(design: &Design, m: Module, from: u32, to: u32, out: &mut [u8], at: usize) -> usize
+    requires { (at ≤ past_text) × (length design.now.bits.now ≤ bits_length) }
+    ensures { Written at (inside_rows (tabled_in design.now) m (record { opened = 0; level = 2 }) from from (to - from)) out.old out.new result }
 {
     let mut end = at;
     let mut first = from;
@@ -198,15 +168,13 @@ fn put_inside(
         level: BODY_LEVEL,
     };
     for k in from..to {
-        let kind = row_kind(rows, k);
-        let step = step_at(rows, k);
+        let kind = row_kind(design.rows, k);
+        let step = step_at(design.rows, k);
         if (kind == END_KIND) & (z.opened == 0) {
             return end;
         }
         let level = level_of(z, kind, step);
-        end = put_row(
-            names, strings, bits, wires, rows, m, level, kind, first, k, out, end,
-        );
+        end = put_row(design, m, level, kind, first, k, out, end);
         z = behind(z, kind, step);
         first = waiting_from(kind, first, k);
     }
@@ -214,33 +182,11 @@ fn put_inside(
 }
 
 // A process: its line in row k, the lines in it, its end.
-pub fn put_process(
-    names: &[u8],
-    strings: &[u8],
-    bits: &[u32],
-    wires: &[u32],
-    rows: &[u32],
-    m: Module,
-    k: u32,
-    to: u32,
-    out: &mut [u8],
-    at: usize,
-) -> usize
-    requires { (at ≤ past_text) × (length bits.now ≤ bits_length) × (k < to) }
-    ensures { Written at (process_rows (tabled names.now strings.now bits.now wires.now rows.now) m k (to - (k + 1))) out.old out.new result }
+pub fn put_process(design: &Design, m: Module, k: u32, to: u32, out: &mut [u8], at: usize) -> usize
+    requires { (at ≤ past_text) × (length design.now.bits.now ≤ bits_length) × (k < to) }
+    ensures { Written at (process_rows (tabled_in design.now) m k (to - (k + 1))) out.old out.new result }
 {
-    let line = put_line(
-        names,
-        strings,
-        bits,
-        wires,
-        rows,
-        m,
-        k,
-        PROCESS_LEVEL,
-        out,
-        at,
-    );
-    let end = put_inside(names, strings, bits, wires, rows, m, k + 1, to, out, line);
+    let line = put_line(design, m, k, PROCESS_LEVEL, out, at);
+    let end = put_inside(design, m, k + 1, to, out, line);
     put_bytes(out, end, b"  end\n")
 }

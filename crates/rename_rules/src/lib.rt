@@ -19,6 +19,7 @@ use modules::{module_rows, module_wires};
 use name_index::hash;
 use name_search::indexed_taken;
 use names::{legal, same_bytes};
+use netlist::design::Design;
 use netlist::lengths::NAMES_LENGTH;
 use netlist::results::{BAD_TOKEN, NOT_THERE, PORT_RENAME, TAKEN_NAME, TOO_MANY};
 use netlist::rows::{Kinds, name_taken};
@@ -56,64 +57,56 @@ fn is_port(wires: &[u32], row: usize) -> bool
 }
 
 // The least wire so far; or the wire of rename row i, where it is less, has its name by that rename, and the name is this one.
-fn renamed_by(names: &[u8], rows: &[u32], m: Module, name: &[u8], i: u32, least: u32) -> u32
-    requires renamed { Renamed names.now rows.now m name.now i least }
+fn renamed_by(design: &Design, m: Module, name: &[u8], i: u32, least: u32) -> u32
+    requires renamed { Renamed design.now.names.now design.now.rows.now m name.now i least }
     requires i_lt_renames { i < m.renames }
-    ensures { Renamed names.now rows.now m name.now (i + 1) result }
+    ensures { Renamed design.now.names.now design.now.rows.now m name.now (i + 1) result }
 {
     let row = m.from as usize + i as usize;
-    let wire = column(rows, row, RENAME_WIRE);
+    let wire = column(design.rows, row, RENAME_WIRE);
     if least <= wire {
         return least;
     }
-    if !same_bytes(bytes_at(names, rows, row, RENAME_NAME), name) {
+    if !same_bytes(bytes_at(design.names, design.rows, row, RENAME_NAME), name) {
         return least;
     }
-    if last_rename(rows, m.from, m.renames, m.number, WireNumber(wire)) != i + 1 {
+    if last_rename(design.rows, m.from, m.renames, m.number, WireNumber(wire)) != i + 1 {
         return least;
     }
     wire
 }
 
 // The least wire whose last rename gives it this name; how many wires there are, if there is none.
-fn renamed_to(names: &[u8], rows: &[u32], m: Module, name: &[u8]) -> u32
-    ensures { Renamed names.now rows.now m name.now m.renames result }
+fn renamed_to(design: &Design, m: Module, name: &[u8]) -> u32
+    ensures { Renamed design.now.names.now design.now.rows.now m name.now m.renames result }
 {
     let mut least = m.wires;
     for i in 0..m.renames {
-        least = renamed_by(names, rows, m, name, i, least);
+        least = renamed_by(design, m, name, i, least);
     }
     least
 }
 
 // Whether a wire has this name from its own line, and no rename.
-fn keeps_name(
-    names: &[u8],
-    wires: &[u32],
-    rows: &[u32],
-    m: Module,
-    wire: WireNumber,
-    name: &[u8],
-) -> bool
-    ensures { result ≡ keeps_name names.now wires.now rows.now m name.now wire.0 }
+fn keeps_name(design: &Design, m: Module, wire: WireNumber, name: &[u8]) -> bool
+    ensures { result ≡ keeps_name design.now.names.now design.now.wires.now design.now.rows.now m name.now wire.0 }
 {
-    let own = bytes_at(names, wires, m.first as usize + wire.0 as usize, WIRE_NAME);
-    same_bytes(own, name) && last_rename(rows, m.from, m.renames, m.number, wire) == 0
+    let own = bytes_at(
+        design.names,
+        design.wires,
+        m.first as usize + wire.0 as usize,
+        WIRE_NAME,
+    );
+    same_bytes(own, name) && last_rename(design.rows, m.from, m.renames, m.number, wire) == 0
 }
 
 // The first wire of the module that has this name now.
-pub fn find_named(
-    names: &[u8],
-    wires: &[u32],
-    rows: &[u32],
-    m: Module,
-    name: &[u8],
-) -> Option<WireNumber>
-    ensures { named result ≡ search_now names.now wires.now rows.now m name.now m.wires 0 }
+pub fn find_named(design: &Design, m: Module, name: &[u8]) -> Option<WireNumber>
+    ensures { named result ≡ search_now design.now.names.now design.now.wires.now design.now.rows.now m name.now m.wires 0 }
 {
-    let least = renamed_to(names, rows, m, name);
+    let least = renamed_to(design, m, name);
     for k in 0..least {
-        if keeps_name(names, wires, rows, m, WireNumber(k), name) {
+        if keeps_name(design, m, WireNumber(k), name) {
             return Some(WireNumber(k));
         }
     }
@@ -124,64 +117,55 @@ pub fn find_named(
 }
 
 // Whether a wire of the module has this name now.
-fn wire_name_taken(names: &[u8], wires: &[u32], rows: &[u32], m: Module, name: &[u8]) -> bool
-    ensures { result ≡ any (λ x. same name.now x.0) (wires_in names.now wires.now rows.now m) }
+fn wire_name_taken(design: &Design, m: Module, name: &[u8]) -> bool
+    ensures { result ≡ any (λ x. same name.now x.0) (wires_in design.now.names.now design.now.wires.now design.now.rows.now m) }
 {
-    find_named(names, wires, rows, m, name).is_some()
+    find_named(design, m, name).is_some()
 }
 
 // Whether a memory, a cell or a process of the module has this name.
-fn object_name_taken(names: &[u8], rows: &[u32], total: u32, m: ModuleNumber, name: &[u8]) -> bool
-    ensures { result ≡ object_taken names.now rows.now total m.0 name.now }
+fn object_name_taken(design: &Design, total: u32, m: ModuleNumber, name: &[u8]) -> bool
+    ensures { result ≡ object_taken design.now.names.now design.now.rows.now total m.0 name.now }
 {
-    let r = module_rows(rows, total, m);
-    name_taken(names, rows, r.first, r.count, OBJECT_KINDS, name)
+    let r = module_rows(design.rows, total, m);
+    name_taken(
+        design.names,
+        design.rows,
+        r.first,
+        r.count,
+        OBJECT_KINDS,
+        name,
+    )
 }
 
 // Whether the module's name space has this name now.
-fn is_taken(names: &[u8], wires: &[u32], rows: &[u32], m: Module, name: &[u8]) -> bool
-    ensures { result ≡ name_taken names.now wires.now rows.now m name.now }
+fn is_taken(design: &Design, m: Module, name: &[u8]) -> bool
+    ensures { result ≡ name_taken design.now.names.now design.now.wires.now design.now.rows.now m name.now }
 {
-    wire_name_taken(names, wires, rows, m, name)
-        || object_name_taken(names, rows, m.from, m.number, name)
+    wire_name_taken(design, m, name) || object_name_taken(design, m.from, m.number, name)
 }
 
 // Whether the wire in a row is the module's, has this name from its own line, and no rename.
-fn row_keeps_name(
-    names: &[u8],
-    wires: &[u32],
-    rows: &[u32],
-    m: Module,
-    row: u32,
-    name: &[u8],
-) -> bool
+fn row_keeps_name(design: &Design, m: Module, row: u32, name: &[u8]) -> bool
     requires { m.first ≤ row }
-    ensures { result ≡ row_keeps names.now wires.now rows.now m name.now row }
+    ensures { result ≡ row_keeps design.now.names.now design.now.wires.now design.now.rows.now m name.now row }
 {
     let k = row - m.first;
-    k < m.wires && keeps_name(names, wires, rows, m, WireNumber(k), name)
+    k < m.wires && keeps_name(design, m, WireNumber(k), name)
 }
 
 // The answer of `wire_name_taken` where no rename gives the name: of the wires with the name's hash only.
-fn indexed_kept(
-    names: &[u8],
-    wires: &[u32],
-    rows: &[u32],
-    heads: &[u32],
-    chain: &[u32],
-    m: Module,
-    name: &[u8],
-) -> bool
-    requires module_indexed { ModuleIndexed heads.now chain.now names.now wires.now m }
-    requires renamed { Renamed names.now rows.now m name.now m.renames m.wires }
-    ensures { result ≡ any (λ x. same name.now x.0) (wires_in names.now wires.now rows.now m) }
+fn indexed_kept(design: &Design, heads: &[u32], chain: &[u32], m: Module, name: &[u8]) -> bool
+    requires module_indexed { ModuleIndexed heads.now chain.now design.now.names.now design.now.wires.now m }
+    requires renamed { Renamed design.now.names.now design.now.rows.now m name.now m.renames m.wires }
+    ensures { result ≡ any (λ x. same name.now x.0) (wires_in design.now.names.now design.now.wires.now design.now.rows.now m) }
 {
     let h = hash(name);
     let mut at = heads[h];
     // The chain tells behind each row the one before it with the same hash.
     while m.first < at {
         let row = at - 1;
-        if row_keeps_name(names, wires, rows, m, row, name) {
+        if row_keeps_name(design, m, row, name) {
             return true;
         }
         at = chain[row as usize];
@@ -191,26 +175,31 @@ fn indexed_kept(
 
 // The answer of `object_name_taken`. Only where a memory, a cell or a process of any module has the name the module's own are asked.
 fn indexed_object(
-    names: &[u8],
-    rows: &[u32],
+    design: &Design,
     heads: &[u32],
     chain: &[u32],
     total: u32,
     m: ModuleNumber,
     name: &[u8],
 ) -> bool
-    requires { Indexed heads.now chain.now (key_at names.now rows.now) total }
-    ensures { result ≡ object_taken names.now rows.now total m.0 name.now }
+    requires { Indexed heads.now chain.now (key_at design.now.names.now design.now.rows.now) total }
+    ensures { result ≡ object_taken design.now.names.now design.now.rows.now total m.0 name.now }
 {
-    indexed_taken(names, rows, heads, chain, 0, total, OBJECT_KINDS, name)
-        && object_name_taken(names, rows, total, m, name)
+    indexed_taken(
+        design.names,
+        design.rows,
+        heads,
+        chain,
+        0,
+        total,
+        OBJECT_KINDS,
+        name,
+    ) && object_name_taken(design, total, m, name)
 }
 
 // The answer of `is_taken`, over an index of the names.
 fn indexed_is_taken(
-    names: &[u8],
-    wires: &[u32],
-    rows: &[u32],
+    design: &Design,
     heads: &[u32],
     chain: &[u32],
     wire_heads: &[u32],
@@ -218,15 +207,15 @@ fn indexed_is_taken(
     m: Module,
     name: &[u8],
 ) -> bool
-    requires indexed { Indexed heads.now chain.now (key_at names.now rows.now) m.from }
-    requires module_indexed { ModuleIndexed wire_heads.now wire_chain.now names.now wires.now m }
-    ensures { result ≡ name_taken names.now wires.now rows.now m name.now }
+    requires indexed { Indexed heads.now chain.now (key_at design.now.names.now design.now.rows.now) m.from }
+    requires module_indexed { ModuleIndexed wire_heads.now wire_chain.now design.now.names.now design.now.wires.now m }
+    ensures { result ≡ name_taken design.now.names.now design.now.wires.now design.now.rows.now m name.now }
 {
-    if renamed_to(names, rows, m, name) < m.wires {
+    if renamed_to(design, m, name) < m.wires {
         return true;
     }
-    indexed_kept(names, wires, rows, wire_heads, wire_chain, m, name)
-        || indexed_object(names, rows, heads, chain, m.from, m.number, name)
+    indexed_kept(design, wire_heads, wire_chain, m, name)
+        || indexed_object(design, heads, chain, m.from, m.number, name)
 }
 
 // 64 renames stand, or the names pass 16,384 bytes.
@@ -283,9 +272,7 @@ fn judge_by(
 
 // Whether a rename may stand behind those that stand, or the number of its refusal.
 pub fn judge_rename(
-    names: &[u8],
-    wires: &[u32],
-    rows: &[u32],
+    design: &Design,
     place: Place,
     standing: u32,
     room: u32,
@@ -293,18 +280,16 @@ pub fn judge_rename(
     w: WireNumber,
     new: &[u8],
 ) -> Result<(), u32>
-    ensures { result ≡ refusal (judged names.now wires.now rows.now place standing room m.0 w.0 new.now) }
+    ensures { result ≡ refusal (judged design.now.names.now design.now.wires.now design.now.rows.now place standing room m.0 w.0 new.now) }
 {
-    let module = module_of(wires, place, standing, m);
-    let taken = is_taken(names, wires, rows, module, new);
-    judge_by(wires, module, room, w, new, taken)
+    let module = module_of(design.wires, place, standing, m);
+    let taken = is_taken(design, module, new);
+    judge_by(design.wires, module, room, w, new, taken)
 }
 
 // The same, over an index of all rows and one of all wires.
 pub fn indexed_rename(
-    names: &[u8],
-    wires: &[u32],
-    rows: &[u32],
+    design: &Design,
     heads: &[u32],
     chain: &[u32],
     wire_heads: &[u32],
@@ -316,13 +301,11 @@ pub fn indexed_rename(
     w: WireNumber,
     new: &[u8],
 ) -> Result<(), u32>
-    requires indexed { Indexed heads.now chain.now (key_at names.now rows.now) place.rows }
-    requires indexed_2 { Indexed wire_heads.now wire_chain.now (wire_key names.now wires.now) place.wires }
-    ensures { result ≡ refusal (judged names.now wires.now rows.now place standing room m.0 w.0 new.now) }
+    requires indexed { Indexed heads.now chain.now (key_at design.now.names.now design.now.rows.now) place.rows }
+    requires indexed_2 { Indexed wire_heads.now wire_chain.now (wire_key design.now.names.now design.now.wires.now) place.wires }
+    ensures { result ≡ refusal (judged design.now.names.now design.now.wires.now design.now.rows.now place standing room m.0 w.0 new.now) }
 {
-    let module = module_of(wires, place, standing, m);
-    let taken = indexed_is_taken(
-        names, wires, rows, heads, chain, wire_heads, wire_chain, module, new,
-    );
-    judge_by(wires, module, room, w, new, taken)
+    let module = module_of(design.wires, place, standing, m);
+    let taken = indexed_is_taken(design, heads, chain, wire_heads, wire_chain, module, new);
+    judge_by(design.wires, module, room, w, new, taken)
 }

@@ -6,6 +6,7 @@ use context::kinds::STEP_KIND;
 use context::place::{is_closed, start};
 use context::sizes::{Standing, none};
 use name_index::index_row;
+use netlist::design::Design;
 use tables::{ROW_WORDS, word};
 
 mod turns;
@@ -24,28 +25,20 @@ fn is_statement(kind: u32) -> bool
 }
 
 // The place and the sums behind the statements that the tables hold. It fills an index of their rows by their names, which stays with the caller.
-pub fn replay(
-    names: &[u8],
-    strings: &[u8],
-    bits: &[u32],
-    wires: &[u32],
-    rows: &[u32],
-    heads: &mut [u32],
-    chain: &mut [u32],
-) -> Option<Standing>
-    requires indexed { Indexed heads.old chain.old (key_at names.now rows.now) 0 }
+pub fn replay(design: &Design, heads: &mut [u32], chain: &mut [u32]) -> Option<Standing>
+    requires indexed { Indexed heads.old chain.old (key_at design.now.names.now design.now.rows.now) 0 }
     requires row_room_in_bounds { row_room ≤ length chain.old }
-    ensures replays { Replays (part_tables names.now strings.now bits.now wires.now) rows.now result }
-    ensures index_left { IndexLeft heads.new chain.new names.now rows.now result }
+    ensures replays { Replays (part_tables design.now.names.now design.now.strings.now design.now.bits.now design.now.wires.now) design.now.rows.now result }
+    ensures index_left { IndexLeft heads.new chain.new design.now.names.now design.now.rows.now result }
 {
     let mut behind = Standing {
         place: start(),
         sums: none(),
     };
-    while is_statement(word(rows, ROW_WORDS * behind.place.rows as usize)) {
+    while is_statement(word(design.rows, ROW_WORDS * behind.place.rows as usize)) {
         let row = behind.place.rows;
-        behind = one_more(names, strings, bits, wires, rows, heads, chain, behind)?;
-        index_row(names, rows, heads, chain, row);
+        behind = one_more(design, heads, chain, behind)?;
+        index_row(design.names, design.rows, heads, chain, row);
     }
     is_closed(behind.place).then_some(behind)
 }

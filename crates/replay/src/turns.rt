@@ -21,6 +21,7 @@ use context::sizes::{
 };
 use context::steps::NO_STEP;
 use name_search::indexed_found;
+use netlist::design::Design;
 use netlist::rows::row_name;
 use netlist::used::used_from;
 use row_statements::statements::{Found, statement_at};
@@ -158,8 +159,7 @@ fn small_parts(found: Found) -> bool
 
 // The place and the sums behind a statement whose row stands there, with what it holds: its name is new, and no size is exceeded.
 fn counted(
-    names: &[u8],
-    rows: &[u32],
+    design: &Design,
     heads: &[u32],
     chain: &[u32],
     behind: Standing,
@@ -169,18 +169,18 @@ fn counted(
 ) -> Option<Standing>
     requires ready { Ready behind.place behind.sums }
     requires told { Told kind found.count found.signals found.values found.strings found.names }
-    requires indexed { Indexed heads.now chain.now (key_at names.now rows.now) behind.place.rows }
-    ensures { Counted names.now rows.now behind.place behind.sums kind step found.count found.signals found.values found.strings found.names result }
+    requires indexed { Indexed heads.now chain.now (key_at design.now.names.now design.now.rows.now) behind.place.rows }
+    ensures { Counted design.now.names.now design.now.rows.now behind.place behind.sums kind step found.count found.signals found.values found.strings found.names result }
 {
     let p = behind.place;
     if indexed_found(
-        names,
-        rows,
+        design.names,
+        design.rows,
         heads,
         chain,
         p,
         kind,
-        row_name(names, rows, p.rows),
+        row_name(design.names, design.rows, p.rows),
     ) {
         return None;
     }
@@ -206,34 +206,24 @@ fn counted(
 }
 
 // The place and the sums behind the statement of the row at this place.
-pub fn one_more(
-    names: &[u8],
-    strings: &[u8],
-    bits: &[u32],
-    wires: &[u32],
-    rows: &[u32],
-    heads: &[u32],
-    chain: &[u32],
-    behind: Standing,
-) -> Option<Standing>
+pub fn one_more(design: &Design, heads: &[u32], chain: &[u32], behind: Standing) -> Option<Standing>
     requires ready { Ready behind.place behind.sums }
-    requires indexed { Indexed heads.now chain.now (key_at names.now rows.now) behind.place.rows }
-    ensures { TurnIs (part_tables names.now strings.now bits.now wires.now) rows.now behind.place behind.sums result }
+    requires indexed { Indexed heads.now chain.now (key_at design.now.names.now design.now.rows.now) behind.place.rows }
+    ensures { TurnIs (part_tables design.now.names.now design.now.strings.now design.now.bits.now design.now.wires.now) design.now.rows.now behind.place behind.sums result }
 {
     let p = behind.place;
     let at = ROW_WORDS * (p.rows as usize);
-    if rows.len() < at + ROW_WORDS {
+    if design.rows.len() < at + ROW_WORDS {
         return None;
     }
-    let r = get_row(rows, at);
-    if !line_stands(rows, p, r) {
+    let r = get_row(design.rows, at);
+    if !line_stands(design.rows, p, r) {
         return None;
     }
     let used = used_from(p, behind.sums);
-    let found = statement_at(names, strings, bits, wires, used, p.wires_from, r)?;
+    let found = statement_at(design, used, p.wires_from, r)?;
     counted(
-        names,
-        rows,
+        design,
         heads,
         chain,
         behind,

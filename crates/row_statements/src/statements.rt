@@ -13,6 +13,7 @@ use context::kinds::{
     CONNECTION_KIND, END_KIND, MEMORY_KIND, MODULE_KIND, PARAMETER_KIND, PROCESS_KIND, STEP_KIND,
     WIRE_KIND,
 };
+use netlist::design::Design;
 use netlist::rows::{INTEGER_CONSTANT, STRING_CONSTANT, VALUE_CONSTANT};
 use netlist::used::{Used, last_module};
 use tables::{ROW_WORDS, Row, get_row};
@@ -45,13 +46,13 @@ pub struct HeldConstant {
     pub strings: u32,
 }
 
-fn value_at(strings: &[u8], bits: &[u32], u: Used, a: u32, b: u32) -> Option<HeldConstant>
-    ensures { TellsConstant strings.now bits.now (used_of u) 1 a b (constant_of strings.now bits.now (used_of u) 1 a b) result }
+fn value_at(design: &Design, u: Used, a: u32, b: u32) -> Option<HeldConstant>
+    ensures { TellsConstant design.now.strings.now design.now.bits.now (used_of u) 1 a b (constant_of design.now.strings.now design.now.bits.now (used_of u) 1 a b) result }
 {
     if a != u.bits {
         return None;
     }
-    if !digits_stand(bits, u.bits, b) {
+    if !digits_stand(design.bits, u.bits, b) {
         return None;
     }
     Some(HeldConstant {
@@ -60,13 +61,13 @@ fn value_at(strings: &[u8], bits: &[u32], u: Used, a: u32, b: u32) -> Option<Hel
     })
 }
 
-fn text_at(strings: &[u8], bits: &[u32], u: Used, a: u32, b: u32) -> Option<HeldConstant>
-    ensures { TellsConstant strings.now bits.now (used_of u) 3 a b (constant_of strings.now bits.now (used_of u) 3 a b) result }
+fn text_at(design: &Design, u: Used, a: u32, b: u32) -> Option<HeldConstant>
+    ensures { TellsConstant design.now.strings.now design.now.bits.now (used_of u) 3 a b (constant_of design.now.strings.now design.now.bits.now (used_of u) 3 a b) result }
 {
     if a != u.strings {
         return None;
     }
-    if !text_stands(strings, u.strings, b) {
+    if !text_stands(design.strings, u.strings, b) {
         return None;
     }
     Some(HeldConstant {
@@ -76,21 +77,14 @@ fn text_at(strings: &[u8], bits: &[u32], u: Used, a: u32, b: u32) -> Option<Held
 }
 
 // A constant by its three columns.
-fn constant_at(
-    strings: &[u8],
-    bits: &[u32],
-    u: Used,
-    kind: u32,
-    a: u32,
-    b: u32,
-) -> Option<HeldConstant>
-    ensures { TellsConstant strings.now bits.now (used_of u) kind a b (constant_of strings.now bits.now (used_of u) kind a b) result }
+fn constant_at(design: &Design, u: Used, kind: u32, a: u32, b: u32) -> Option<HeldConstant>
+    ensures { TellsConstant design.now.strings.now design.now.bits.now (used_of u) kind a b (constant_of design.now.strings.now design.now.bits.now (used_of u) kind a b) result }
 {
     if kind == VALUE_CONSTANT {
-        return value_at(strings, bits, u, a, b);
+        return value_at(design, u, a, b);
     }
     if kind == STRING_CONSTANT {
-        return text_at(strings, bits, u, a, b);
+        return text_at(design, u, a, b);
     }
     if kind != INTEGER_CONSTANT {
         return None;
@@ -135,21 +129,13 @@ fn named(names: &[u8], u: Used, r: Row, kind: u32) -> Option<Found>
 }
 
 // A name and a constant.
-fn valued(
-    names: &[u8],
-    strings: &[u8],
-    bits: &[u32],
-    u: Used,
-    r: Row,
-    kind: u32,
-    sort: u32,
-) -> Option<Found>
-    ensures { TellsValued names.now strings.now bits.now (used_of u) r kind sort result }
+fn valued(design: &Design, u: Used, r: Row, kind: u32, sort: u32) -> Option<Found>
+    ensures { TellsValued design.now.names.now design.now.strings.now design.now.bits.now (used_of u) r kind sort result }
 {
-    if !name_stands(names, u.names, r.b) {
+    if !name_stands(design.names, u.names, r.b) {
         return None;
     }
-    let held = constant_at(strings, bits, u, r.c, r.d, r.e)?;
+    let held = constant_at(design, u, r.c, r.d, r.e)?;
     let x = Row {
         kind,
         a: u.names,
@@ -174,13 +160,13 @@ fn valued(
 }
 
 // A parameter of a module has a constant or none.
-fn parameter_at(names: &[u8], strings: &[u8], bits: &[u32], u: Used, r: Row) -> Option<Found>
-    ensures { TellsParameter names.now strings.now bits.now (used_of u) r result }
+fn parameter_at(design: &Design, u: Used, r: Row) -> Option<Found>
+    ensures { TellsParameter design.now.names.now design.now.strings.now design.now.bits.now (used_of u) r result }
 {
     if r.c == 0 {
-        return named(names, u, r, PARAMETER_KIND);
+        return named(design.names, u, r, PARAMETER_KIND);
     }
-    valued(names, strings, bits, u, r, PARAMETER_KIND, 0)
+    valued(design, u, r, PARAMETER_KIND, 0)
 }
 
 fn autoidx_at(u: Used, r: Row) -> Option<Found>
@@ -308,31 +294,24 @@ fn cell_at(names: &[u8], u: Used, r: Row) -> Option<Found>
     )
 }
 
-fn cell_parameter_at(names: &[u8], strings: &[u8], bits: &[u32], u: Used, r: Row) -> Option<Found>
-    ensures { TellsCellParameter names.now strings.now bits.now (used_of u) r result }
+fn cell_parameter_at(design: &Design, u: Used, r: Row) -> Option<Found>
+    ensures { TellsCellParameter design.now.names.now design.now.strings.now design.now.bits.now (used_of u) r result }
 {
     if LAST_SORT < r.f {
         return None;
     }
-    valued(names, strings, bits, u, r, CELL_PARAMETER_KIND, r.f)
+    valued(design, u, r, CELL_PARAMETER_KIND, r.f)
 }
 
 // The module's wires before this one are those from row first on.
-fn cell_connection_at(
-    names: &[u8],
-    bits: &[u32],
-    wires: &[u32],
-    u: Used,
-    first: u32,
-    r: Row,
-) -> Option<Found>
+fn cell_connection_at(design: &Design, u: Used, first: u32, r: Row) -> Option<Found>
     requires { first ≤ u.wires }
-    ensures { TellsCellConnection names.now bits.now wires.now (used_of u) first r result }
+    ensures { TellsCellConnection design.now.names.now design.now.bits.now design.now.wires.now (used_of u) first r result }
 {
-    if !name_stands(names, u.names, r.b) {
+    if !name_stands(design.names, u.names, r.b) {
         return None;
     }
-    if !signal_stands(wires, first, u.wires - first, bits, u.bits, r.d) {
+    if !signal_stands(design, first, u.wires - first, u.bits, r.d) {
         return None;
     }
     let x = Row {
@@ -358,17 +337,17 @@ fn cell_connection_at(
     )
 }
 
-fn connection_at(bits: &[u32], wires: &[u32], u: Used, first: u32, r: Row) -> Option<Found>
+fn connection_at(design: &Design, u: Used, first: u32, r: Row) -> Option<Found>
     requires small { Small (used_of u) }
     requires first_le_wires { first ≤ u.wires }
-    ensures { TellsConnection bits.now wires.now (used_of u) first r result }
+    ensures { TellsConnection design.now.bits.now design.now.wires.now (used_of u) first r result }
 {
     let count = u.wires - first;
-    if !signal_stands(wires, first, count, bits, u.bits, r.b) {
+    if !signal_stands(design, first, count, u.bits, r.b) {
         return None;
     }
     let second = u.bits + r.b;
-    if !signal_stands(wires, first, count, bits, second, r.d) {
+    if !signal_stands(design, first, count, second, r.d) {
         return None;
     }
     if r.b != r.d {
@@ -434,17 +413,17 @@ fn wire_row_stands(wires: &[u32], u: Used, size: u32) -> bool
     same_row(q, x)
 }
 
-fn wire_at(names: &[u8], wires: &[u32], u: Used, first: u32, r: Row) -> Option<Found>
+fn wire_at(design: &Design, u: Used, first: u32, r: Row) -> Option<Found>
     requires { first ≤ u.wires }
-    ensures { TellsWire names.now wires.now (used_of u) first r result }
+    ensures { TellsWire design.now.names.now design.now.wires.now (used_of u) first r result }
 {
-    if !name_stands(names, u.names, r.b) {
+    if !name_stands(design.names, u.names, r.b) {
         return None;
     }
-    if !wire_row_stands(wires, u, r.b) {
+    if !wire_row_stands(design.wires, u, r.b) {
         return None;
     }
-    if !wire_fits(wires, first, u.wires) {
+    if !wire_fits(design.wires, first, u.wires) {
         return None;
     }
     let x = Row {
@@ -471,33 +450,25 @@ fn wire_at(names: &[u8], wires: &[u32], u: Used, first: u32, r: Row) -> Option<F
 }
 
 // The statement of a row, by the row's kind.
-pub fn statement_at(
-    names: &[u8],
-    strings: &[u8],
-    bits: &[u32],
-    wires: &[u32],
-    u: Used,
-    first: u32,
-    r: Row,
-) -> Option<Found>
+pub fn statement_at(design: &Design, u: Used, first: u32, r: Row) -> Option<Found>
     requires small { Small (used_of u) }
     requires first_le_wires { first ≤ u.wires }
-    ensures { Tells (part_tables names.now strings.now bits.now wires.now) (used_of u) (wires_from names.now wires.now first (u.wires - first)) r (statement_of (part_tables names.now strings.now bits.now wires.now) (used_of u) r) result }
+    ensures { Tells (part_tables design.now.names.now design.now.strings.now design.now.bits.now design.now.wires.now) (used_of u) (wires_from design.now.names.now design.now.wires.now first (u.wires - first)) r (statement_of (part_tables design.now.names.now design.now.strings.now design.now.bits.now design.now.wires.now) (used_of u) r) result }
 {
     let kind = r.kind;
     match kind {
         AUTOIDX_KIND => autoidx_at(u, r),
-        ATTRIBUTE_KIND => valued(names, strings, bits, u, r, ATTRIBUTE_KIND, 0),
-        MODULE_KIND => named(names, u, r, MODULE_KIND),
-        PARAMETER_KIND => parameter_at(names, strings, bits, u, r),
-        WIRE_KIND => wire_at(names, wires, u, first, r),
-        MEMORY_KIND => memory_at(names, u, r),
-        CELL_KIND => cell_at(names, u, r),
-        CELL_PARAMETER_KIND => cell_parameter_at(names, strings, bits, u, r),
-        CELL_CONNECTION_KIND => cell_connection_at(names, bits, wires, u, first, r),
-        CONNECTION_KIND => connection_at(bits, wires, u, first, r),
-        PROCESS_KIND => named(names, u, r, PROCESS_KIND),
-        STEP_KIND => step_at(bits, wires, u, first, r),
+        ATTRIBUTE_KIND => valued(design, u, r, ATTRIBUTE_KIND, 0),
+        MODULE_KIND => named(design.names, u, r, MODULE_KIND),
+        PARAMETER_KIND => parameter_at(design, u, r),
+        WIRE_KIND => wire_at(design, u, first, r),
+        MEMORY_KIND => memory_at(design.names, u, r),
+        CELL_KIND => cell_at(design.names, u, r),
+        CELL_PARAMETER_KIND => cell_parameter_at(design, u, r),
+        CELL_CONNECTION_KIND => cell_connection_at(design, u, first, r),
+        CONNECTION_KIND => connection_at(design, u, first, r),
+        PROCESS_KIND => named(design.names, u, r, PROCESS_KIND),
+        STEP_KIND => step_at(design, u, first, r),
         _ => end_at(u, r),
     }
 }

@@ -9,6 +9,7 @@ use crate::statements::Found;
 use crate::wiring::bits_stand;
 use context::kinds::STEP_KIND;
 use context::sizes::MOST_STEP_SIGNALS;
+use netlist::design::Design;
 use netlist::used::Used;
 use steps::arity_fits;
 use tables::Row;
@@ -24,9 +25,9 @@ fn even_fits(width: u32, count: u32) -> bool
 }
 
 // All bits of the row are looked at at once, since no signal of it is narrower than another.
-pub fn step_at(bits: &[u32], wires: &[u32], u: Used, first: u32, r: Row) -> Option<Found>
+pub fn step_at(design: &Design, u: Used, first: u32, r: Row) -> Option<Found>
     requires { first ≤ u.wires }
-    ensures { TellsStep bits.now wires.now (used_of u) first r result }
+    ensures { TellsStep design.now.bits.now design.now.wires.now (used_of u) first r result }
 {
     if !arity_fits(r.a, r.d) {
         return None;
@@ -35,7 +36,7 @@ pub fn step_at(bits: &[u32], wires: &[u32], u: Used, first: u32, r: Row) -> Opti
         return None;
     }
     let size = r.c * r.d;
-    if !bits_stand(wires, first, u.wires - first, bits, u.bits, size) {
+    if !bits_stand(design, first, u.wires - first, u.bits, size) {
         return None;
     }
     let x = Row {

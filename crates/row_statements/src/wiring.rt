@@ -3,6 +3,7 @@ ghost use Rattle.std.specs.Prelude.{◌≤◌};
 ghost use Rattle.row_statements.specs.Parts.{BitFits, BitsFit, BitsStand, SignalFits, WireFits};
 
 use crate::parts::{MOST_WIDTH, is_whole};
+use netlist::design::Design;
 use numbers::kinds::{SignalBit, decode};
 use numbers::signed::offset_fits;
 use tables::{ROW_WORDS, word};
@@ -49,34 +50,32 @@ fn all_fit(wires: &[u32], first: u32, count: u32, codes: &[u32]) -> bool
 }
 
 // So many bits, by their codes.
-pub fn bits_stand(wires: &[u32], first: u32, count: u32, bits: &[u32], at: u32, size: u32) -> bool
-    ensures { BitsStand wires.now first count bits.now at size result }
+pub fn bits_stand(design: &Design, first: u32, count: u32, at: u32, size: u32) -> bool
+    ensures { BitsStand design.now.wires.now first count design.now.bits.now at size result }
 {
-    if !is_whole(bits.len(), at, size) {
+    if !is_whole(design.bits.len(), at, size) {
         return false;
     }
     if size == 0 {
         return true;
     }
     let from = at as usize;
-    all_fit(wires, first, count, &bits[from..from + size as usize])
+    all_fit(
+        design.wires,
+        first,
+        count,
+        &design.bits[from..from + size as usize],
+    )
 }
 
 // The bits of a signal.
-pub fn signal_stands(
-    wires: &[u32],
-    first: u32,
-    count: u32,
-    bits: &[u32],
-    at: u32,
-    size: u32,
-) -> bool
-    ensures { SignalFits wires.now first count bits.now at size result }
+pub fn signal_stands(design: &Design, first: u32, count: u32, at: u32, size: u32) -> bool
+    ensures { SignalFits design.now.wires.now first count design.now.bits.now at size result }
 {
     if MOST_WIDTH < size {
         return false;
     }
-    bits_stand(wires, first, count, bits, at, size)
+    bits_stand(design, first, count, at, size)
 }
 
 // The wire of row k, whose module's wires before it are those from row first on.

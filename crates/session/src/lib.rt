@@ -8,6 +8,7 @@ ghost use Rattle.rules.specs.Session.{Call};
 ghost use Rattle.rules.specs.Layout.{rename_row};
 ghost use Rattle.tables.specs.Store.{store};
 ghost use Rattle.wires.specs.Rows.{column};
+ghost use Rattle.netlist.specs.Designs.{lent_in};
 ghost use Rattle.netlist.specs.Results.{lent, result as outcome};
 ghost use Rattle.session.specs.Called.{CalledAs};
 ghost use Rattle.session.specs.Steps.{Holding, OpenedIs};
@@ -15,6 +16,7 @@ ghost use Rattle.session.specs.Steps.{Holding, OpenedIs};
 use context::kinds::RENAME_KIND;
 use context::place::Place;
 use memory_check::judge_memory;
+use netlist::design::Design;
 use netlist::lengths::right_lengths;
 use netlist::results::{CallResult, DAMAGED, NOTHING_TO_UNDO, WRONG_LENGTH};
 use numbers::kinds::{ModuleNumber, WireNumber};
@@ -26,27 +28,19 @@ use zeros::zero_bytes;
 const RENAME_NAME: usize = 1;
 
 // Memory that holds a design, whose statements end at a place; or the refusal's number.
-pub fn open_memory(
-    names: &[u8],
-    strings: &[u8],
-    bits: &[u32],
-    wires: &[u32],
-    rows: &[u32],
-    renames: u32,
-    room: u32,
-) -> Result<Place, u32>
-    ensures { OpenedIs (lent names.now strings.now bits.now wires.now rows.now renames room) result }
+pub fn open_memory(design: &Design) -> Result<Place, u32>
+    ensures { OpenedIs (lent_in design.now) result }
 {
     if !right_lengths(
-        names.len(),
-        strings.len(),
-        bits.len(),
-        wires.len(),
-        rows.len(),
+        design.names.len(),
+        design.strings.len(),
+        design.bits.len(),
+        design.wires.len(),
+        design.rows.len(),
     ) {
         return Err(WRONG_LENGTH);
     }
-    let behind = judge_memory(names, strings, bits, wires, rows, renames, room).ok_or(DAMAGED)?;
+    let behind = judge_memory(design).ok_or(DAMAGED)?;
     Ok(behind.place)
 }
 
@@ -97,7 +91,16 @@ fn rename_open(
     requires { Holding (lent names.old strings.now bits.now wires.now rows.old renames room) place }
     ensures { CalledAs (lent names.old strings.now bits.now wires.now rows.old renames room) (Call.rename (record { module_number = m.0; wire_number = w.0; new_name = new.now })) (outcome result.number result.place (lent names.new strings.now bits.now wires.now rows.new result.renames result.room)) }
 {
-    if let Err(number) = judge_rename(names, wires, rows, place, renames, room, m, w, new) {
+    let design = Design {
+        names,
+        strings,
+        bits,
+        wires,
+        rows,
+        renames,
+        room,
+    };
+    if let Err(number) = judge_rename(&design, place, renames, room, m, w, new) {
         return CallResult {
             number,
             place: 0,
@@ -128,7 +131,16 @@ pub fn rename(
 ) -> CallResult
     ensures { CalledAs (lent names.old strings.now bits.now wires.now rows.old renames room) (Call.rename (record { module_number = m.0; wire_number = w.0; new_name = new.now })) (outcome result.number result.place (lent names.new strings.now bits.now wires.now rows.new result.renames result.room)) }
 {
-    match open_memory(names, strings, bits, wires, rows, renames, room) {
+    let design = Design {
+        names,
+        strings,
+        bits,
+        wires,
+        rows,
+        renames,
+        room,
+    };
+    match open_memory(&design) {
         Ok(place) => rename_open(
             names, strings, bits, wires, rows, place, renames, room, m, w, new,
         ),
@@ -212,7 +224,16 @@ pub fn undo(
 ) -> CallResult
     ensures { CalledAs (lent names.old strings.now bits.now wires.now rows.old renames room) Call.undo (outcome result.number result.place (lent names.new strings.now bits.now wires.now rows.new result.renames result.room)) }
 {
-    match open_memory(names, strings, bits, wires, rows, renames, room) {
+    let design = Design {
+        names,
+        strings,
+        bits,
+        wires,
+        rows,
+        renames,
+        room,
+    };
+    match open_memory(&design) {
         Ok(place) => { undo_open(names, strings, bits, wires, rows, place, renames, room) }
         Err(number) => CallResult {
             number,

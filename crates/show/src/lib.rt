@@ -4,13 +4,14 @@
 
 ghost use Rattle.std.specs.Prelude.{◌≡◌, ◌≤◌, ◌<◌, length};
 ghost use Rattle.rules.specs.Limits.{many_rows};
-ghost use Rattle.netlist.specs.Results.{lent};
+ghost use Rattle.netlist.specs.Designs.{lent_in};
 ghost use Rattle.show.specs.Rows.{declares, wire_line, is_hdlname, hdlname_row};
 ghost use Rattle.show.specs.Parts.{cut_of, span_part, text_part, name_part, plain_part, shown_part, number_of, bytes_in, InRange, ShownAs, ShownAt, LiesAt};
 
 use context::kinds::{ATTRIBUTE_KIND, WIRE_KIND};
 use modules::module_wires;
 use names::same_bytes;
+use netlist::design::Design;
 use netlist::results::NOT_THERE;
 use netlist::rows::{row_kind, row_name};
 use numbers::kinds::{ModuleNumber, WireNumber};
@@ -82,22 +83,22 @@ fn wire_line(rows: &[u32], total: u32, wire: u32) -> u32
     0
 }
 
-fn is_hdlname(names: &[u8], rows: &[u32], row: u32) -> bool
-    ensures { result ≡ is_hdlname names.now rows.now row }
+fn is_hdlname(design: &Design, row: u32) -> bool
+    ensures { result ≡ is_hdlname design.now.names.now design.now.rows.now row }
 {
-    same_bytes(row_name(names, rows, row), b"\\hdlname")
+    same_bytes(row_name(design.names, design.rows, row), b"\\hdlname")
 }
 
 // The row behind the first `\hdlname` of the attributes right before a row; 0 if there is none.
-fn hdlname_row(names: &[u8], rows: &[u32], line: u32) -> u32
-    ensures { result ≡ hdlname_row names.now rows.now line 0 }
+fn hdlname_row(design: &Design, line: u32) -> u32
+    ensures { result ≡ hdlname_row design.now.names.now design.now.rows.now line 0 }
 {
     let mut found = 0;
     for k in (0..line).rev() {
-        if row_kind(rows, k) != ATTRIBUTE_KIND {
+        if row_kind(design.rows, k) != ATTRIBUTE_KIND {
             return found;
         }
-        if is_hdlname(names, rows, k) {
+        if is_hdlname(design, k) {
             found = k + 1;
         }
     }
@@ -105,39 +106,30 @@ fn hdlname_row(names: &[u8], rows: &[u32], line: u32) -> u32
 }
 
 // The string of the attribute in the row before this one; none if it has no string, or if this is row 0.
-fn text_part(strings: &[u8], rows: &[u32], behind: u32) -> Span
-    ensures { result ≡ text_part strings.now rows.now behind }
+fn text_part(design: &Design, behind: u32) -> Span
+    ensures { result ≡ text_part design.now.strings.now design.now.rows.now behind }
 {
     if behind == 0 {
         return Span { start: 0, end: 0 };
     }
     let row = (behind - 1) as usize;
-    if column(rows, row, ROW_CONSTANT) != CONSTANT_STRING {
+    if column(design.rows, row, ROW_CONSTANT) != CONSTANT_STRING {
         return Span { start: 0, end: 0 };
     }
-    span(strings, rows, row, ROW_STRING)
+    span(design.strings, design.rows, row, ROW_STRING)
 }
 
 // The name now of the wire in row k of the table of wires.
-fn name_part(
-    names: &[u8],
-    wires: &[u32],
-    rows: &[u32],
-    from: u32,
-    count: u32,
-    m: ModuleNumber,
-    w: WireNumber,
-    k: u32,
-) -> Span
-    ensures { result ≡ name_part names.now wires.now rows.now from count m.0 w.0 k }
+fn name_part(design: &Design, from: u32, count: u32, m: ModuleNumber, w: WireNumber, k: u32) -> Span
+    ensures { result ≡ name_part design.now.names.now design.now.wires.now design.now.rows.now from count m.0 w.0 k }
 {
-    let last = last_rename(rows, from, count, m, w);
+    let last = last_rename(design.rows, from, count, m, w);
     if last == 0 {
-        return span(names, wires, k as usize, WIRE_NAME);
+        return span(design.names, design.wires, k as usize, WIRE_NAME);
     }
     span(
-        names,
-        rows,
+        design.names,
+        design.rows,
         from as usize + (last - 1) as usize,
         RENAME_NAME,
     )
@@ -162,80 +154,56 @@ fn plain_part(names: &[u8], p: Span) -> Span
 
 // The name to show of the wire in row k of the table of wires, in memory that is judged already.
 pub fn shown_wire(
-    names: &[u8],
-    strings: &[u8],
-    wires: &[u32],
-    rows: &[u32],
+    design: &Design,
     from: u32,
     count: u32,
     m: ModuleNumber,
     w: WireNumber,
     k: u32,
 ) -> Shown
-    ensures { result ≡ shown_part names.now strings.now wires.now rows.now from count m.0 w.0 k }
+    ensures { result ≡ shown_part design.now.names.now design.now.strings.now design.now.wires.now design.now.rows.now from count m.0 w.0 k }
 {
-    let line = wire_line(rows, from, k);
-    let text = text_part(strings, rows, hdlname_row(names, rows, line));
+    let line = wire_line(design.rows, from, k);
+    let text = text_part(design, hdlname_row(design, line));
     if text.start < text.end {
         return Shown::Text(text);
     }
-    let now = name_part(names, wires, rows, from, count, m, w, k);
-    Shown::Name(plain_part(names, now))
+    let now = name_part(design, from, count, m, w, k);
+    Shown::Name(plain_part(design.names, now))
 }
 
-pub fn find_shown(
-    names: &[u8],
-    strings: &[u8],
-    bits: &[u32],
-    wires: &[u32],
-    rows: &[u32],
-    renames: u32,
-    room: u32,
-    m: ModuleNumber,
-    w: WireNumber,
-) -> Result<Shown, u32>
-    ensures shown_at { ShownAt (lent names.now strings.now bits.now wires.now rows.now renames room) m.0 w.0 result }
-    ensures in_range { InRange names.now strings.now result }
-    ensures shown_as { ShownAs (lent names.now strings.now bits.now wires.now rows.now renames room) m.0 w.0 (number_of result) (bytes_in names.now strings.now result) }
+pub fn find_shown(design: &Design, m: ModuleNumber, w: WireNumber) -> Result<Shown, u32>
+    ensures shown_at { ShownAt (lent_in design.now) m.0 w.0 result }
+    ensures in_range { InRange design.now.names.now design.now.strings.now result }
+    ensures shown_as { ShownAs (lent_in design.now) m.0 w.0 (number_of result) (bytes_in design.now.names.now design.now.strings.now result) }
 {
-    let place = open_memory(names, strings, bits, wires, rows, renames, room)?;
-    let own = module_wires(wires, place.wires, m);
+    let place = open_memory(design)?;
+    let own = module_wires(design.wires, place.wires, m);
     let number = w.0;
     if own.count <= number {
         return Err(NOT_THERE);
     }
     let row = own.first + number;
-    Ok(shown_wire(names, strings, wires, rows, place.rows, renames, m, w, row))
+    Ok(shown_wire(design, place.rows, design.renames, m, w, row))
 }
 
 // Number 0 is none; a refusal answers the empty part.
-pub fn show<'a>(
-    names: &'a [u8],
-    strings: &'a [u8],
-    bits: &[u32],
-    wires: &[u32],
-    rows: &[u32],
-    renames: u32,
-    room: u32,
-    m: ModuleNumber,
-    w: WireNumber,
-    number: &mut u32,
-) -> &'a [u8]
-    ensures shown_as { ShownAs (lent names.now strings.now bits.now wires.now rows.now renames room) m.0 w.0 number.new result.now }
-    ensures lies_at { LiesAt (lent names.now strings.now bits.now wires.now rows.now renames room) m.0 w.0 names.entry.ref_ptr strings.entry.ref_ptr result.ref_ptr }
+pub fn show<'a>(design: &Design<'a>, m: ModuleNumber, w: WireNumber, number: &mut u32) -> &'a [u8]
+    ensures shown_as { ShownAs (lent_in design.now) m.0 w.0 number.new result.now }
+    ensures lies_at { LiesAt (lent_in design.now) m.0 w.0 design.now.names.ref_ptr design.now.strings.ref_ptr result.ref_ptr }
 {
-    match find_shown(names, strings, bits, wires, rows, renames, room, m, w) {
+    match find_shown(design, m, w) {
         Ok(Shown::Name(name)) => {
             *number = 0;
-            &names[name.start..name.end]
+            &design.names[name.start..name.end]
         }
         Ok(Shown::Text(text)) => {
             *number = 0;
-            &strings[text.start..text.end]
+            &design.strings[text.start..text.end]
         }
         Err(refusal) => {
             *number = refusal;
-            &names[0..0]
+            &design.names[0..0]
         }
     }
 }

@@ -15,6 +15,7 @@ ghost use Rattle.signal_text.specs.Pieces.{spread};
 ghost use Rattle.signal_text.specs.Runs.{runs_text};
 
 use constant_text::put_value;
+use netlist::design::Design;
 use numbers::kinds::{SignalBit, WireNumber, decode};
 use signal_runs::run_low;
 use text::{put_byte, put_bytes, put_decimal, put_token};
@@ -38,9 +39,7 @@ fn put_bounds(out: &mut [u8], at: usize, low: u32, count: u32) -> usize
 
 // So many bits of a wire from a bit up; a number past the module's wires counts as that of the last one.
 fn put_cut(
-    names: &[u8],
-    wires: &[u32],
-    rows: &[u32],
+    design: &Design,
     m: Module,
     wire: WireNumber,
     low: u32,
@@ -49,7 +48,7 @@ fn put_cut(
     at: usize,
 ) -> usize
     requires { (at ≤ past_text) × (low < most_width) × (0 < count) × (count ≤ bits_length) }
-    ensures { Written at (spread (sig_tokens (cut (drop (m.wires - (wire.0 + 1)) (wires_in names.now wires.now rows.now m)) low count))) out.old out.new result }
+    ensures { Written at (spread (sig_tokens (cut (drop (m.wires - (wire.0 + 1)) (wires_in design.now.names.now design.now.wires.now design.now.rows.now m)) low count))) out.old out.new result }
 {
     let many = m.wires;
     if many == 0 {
@@ -57,8 +56,8 @@ fn put_cut(
     }
     let n = if wire.0 < many { wire.0 } else { many - 1 };
     let row = m.first as usize + n as usize;
-    let end = put_token(out, at, name_now(names, wires, rows, m, WireNumber(n), row));
-    if count == column(wires, row, WIRE_WIDTH) {
+    let end = put_token(out, at, name_now(design, m, WireNumber(n), row));
+    if count == column(design.wires, row, WIRE_WIDTH) {
         return end;
     }
     put_bounds(out, end, low, count)
@@ -66,9 +65,7 @@ fn put_cut(
 
 // The run of the bits from j up to i.
 fn put_run(
-    names: &[u8],
-    wires: &[u32],
-    rows: &[u32],
+    design: &Design,
     m: Module,
     s: &[u32],
     j: usize,
@@ -77,7 +74,7 @@ fn put_run(
     at: usize,
 ) -> usize
     requires { (at ≤ past_text) × (j < i) × (i ≤ length s.now) × (length s.now ≤ bits_length) }
-    ensures { Written at (spread (sig_tokens (run_sig (wires_in names.now wires.now rows.now m) (first_run (drop j s.now) (i - j))))) out.old out.new result }
+    ensures { Written at (spread (sig_tokens (run_sig (wires_in design.now.names.now design.now.wires.now design.now.rows.now m) (first_run (drop j s.now) (i - j))))) out.old out.new result }
 {
     match decode(s[j]) {
         SignalBit::Digit(_) => {
@@ -86,56 +83,40 @@ fn put_run(
         }
         SignalBit::Wire(wire, low) => {
             let count = (i - j) as u32;
-            put_cut(names, wires, rows, m, wire, low, count, out, at)
+            put_cut(design, m, wire, low, count, out, at)
         }
     }
 }
 
 // The runs of a signal, the highest first.
-fn put_runs(
-    names: &[u8],
-    wires: &[u32],
-    rows: &[u32],
-    m: Module,
-    s: &[u32],
-    out: &mut [u8],
-    at: usize,
-) -> usize
+fn put_runs(design: &Design, m: Module, s: &[u32], out: &mut [u8], at: usize) -> usize
     requires { (at ≤ past_text) × (length s.now ≤ bits_length) }
-    ensures { Written at (runs_text (wires_in names.now wires.now rows.now m) s.now) out.old out.new result }
+    ensures { Written at (runs_text (wires_in design.now.names.now design.now.wires.now design.now.rows.now m) s.now) out.old out.new result }
 {
     let mut end = at;
     let mut i = s.len();
     // A run may have any number of bits: where it begins is found, not counted.
     while 0 < i {
         let j = run_low(s, i);
-        end = put_run(names, wires, rows, m, s, j, i, out, end);
+        end = put_run(design, m, s, j, i, out, end);
         i = j;
     }
     end
 }
 
 // One run stands bare, none or several in `{ }`.
-pub fn put_signal(
-    names: &[u8],
-    wires: &[u32],
-    rows: &[u32],
-    m: Module,
-    s: &[u32],
-    out: &mut [u8],
-    at: usize,
-) -> usize
+pub fn put_signal(design: &Design, m: Module, s: &[u32], out: &mut [u8], at: usize) -> usize
     requires { (at ≤ past_text) × (length s.now ≤ bits_length) }
-    ensures { Written at (spread (sig_tokens (sig (wires_in names.now wires.now rows.now m) (signal_of s.now)))) out.old out.new result }
+    ensures { Written at (spread (sig_tokens (sig (wires_in design.now.names.now design.now.wires.now design.now.rows.now m) (signal_of s.now)))) out.old out.new result }
 {
     let n = s.len();
     if n == 0 {
         return put_bytes(out, at, b" { }");
     }
     if run_low(s, n) == 0 {
-        return put_run(names, wires, rows, m, s, 0, n, out, at);
+        return put_run(design, m, s, 0, n, out, at);
     }
     let open = put_bytes(out, at, b" {");
-    let end = put_runs(names, wires, rows, m, s, out, open);
+    let end = put_runs(design, m, s, out, open);
     put_bytes(out, end, b" }")
 }

@@ -17,6 +17,7 @@ use context::steps::{
     ALWAYS_STEP, ASSIGN_STEP, CASE_STEP, EDGE_STEP, GLOBAL_STEP, HIGH_STEP, INIT_STEP, LOW_STEP,
     NEGEDGE_STEP, POSEDGE_STEP, SWITCH_STEP, UPDATE_STEP,
 };
+use netlist::design::Design;
 use scanner::parts::part;
 use signal_text::put_signal;
 use text::put_bytes;
@@ -34,9 +35,7 @@ const STEP_SIGNALS: usize = 4;
 
 // A signal, and a comma behind it if another follows.
 fn put_listed(
-    names: &[u8],
-    wires: &[u32],
-    rows: &[u32],
+    design: &Design,
     m: Module,
     s: &[u32],
     comma: bool,
@@ -44,9 +43,9 @@ fn put_listed(
     at: usize,
 ) -> usize
     requires { (at ≤ past_text) × (length s.now ≤ bits_length) }
-    ensures { Written at (spread (sig_tokens (sig (wires_in names.now wires.now rows.now m) (signal_of s.now))) ++ gap_text comma) out.old out.new result }
+    ensures { Written at (spread (sig_tokens (sig (wires_in design.now.names.now design.now.wires.now design.now.rows.now m) (signal_of s.now))) ++ gap_text comma) out.old out.new result }
 {
-    let end = put_signal(names, wires, rows, m, s, out, at);
+    let end = put_signal(design, m, s, out, at);
     if comma {
         return put_bytes(out, end, b" ,");
     }
@@ -55,25 +54,22 @@ fn put_listed(
 
 // The signals of a step's row, in their order.
 fn put_signals(
-    names: &[u8],
-    bits: &[u32],
-    wires: &[u32],
-    rows: &[u32],
+    design: &Design,
     m: Module,
     row: usize,
     comma: bool,
     out: &mut [u8],
     at: usize,
 ) -> usize
-    requires { (at ≤ past_text) × (row < many_rows) × (length bits.now ≤ bits_length) }
-    ensures { Written at (signals_text (wires_in names.now wires.now rows.now m) comma (signals_at bits.now rows.now row)) out.old out.new result }
+    requires { (at ≤ past_text) × (row < many_rows) × (length design.now.bits.now ≤ bits_length) }
+    ensures { Written at (signals_text (wires_in design.now.names.now design.now.wires.now design.now.rows.now m) comma (signals_at design.now.bits.now design.now.rows.now row)) out.old out.new result }
 {
-    let width = column(rows, row, STEP_WIDTH) as usize;
-    let mut start = column(rows, row, STEP_BITS) as usize;
+    let width = column(design.rows, row, STEP_WIDTH) as usize;
+    let mut start = column(design.rows, row, STEP_BITS) as usize;
     let mut end = at;
-    for left in (0..column(rows, row, STEP_SIGNALS)).rev() {
-        let s = part(bits, start, start + width);
-        end = put_listed(names, wires, rows, m, s, comma & (0 < left), out, end);
+    for left in (0..column(design.rows, row, STEP_SIGNALS)).rev() {
+        let s = part(design.bits, start, start + width);
+        end = put_listed(design, m, s, comma & (0 < left), out, end);
         start += width;
     }
     end
@@ -149,24 +145,15 @@ fn put_words(out: &mut [u8], at: usize, step: u32) -> usize
 }
 
 // The step in a row, its words and its signals, commas between those of a case; nothing if the row's code names no step.
-pub fn put_step(
-    names: &[u8],
-    bits: &[u32],
-    wires: &[u32],
-    rows: &[u32],
-    m: Module,
-    row: usize,
-    out: &mut [u8],
-    at: usize,
-) -> usize
-    requires { (at ≤ past_text) × (row < many_rows) × (length bits.now ≤ bits_length) }
-    ensures { Written at (step_text (wires_in names.now wires.now rows.now m) (step_named (column rows.now row 1)) (signals_at bits.now rows.now row)) out.old out.new result }
+pub fn put_step(design: &Design, m: Module, row: usize, out: &mut [u8], at: usize) -> usize
+    requires { (at ≤ past_text) × (row < many_rows) × (length design.now.bits.now ≤ bits_length) }
+    ensures { Written at (step_text (wires_in design.now.names.now design.now.wires.now design.now.rows.now m) (step_named (column design.now.rows.now row 1)) (signals_at design.now.bits.now design.now.rows.now row)) out.old out.new result }
 {
-    let step = column(rows, row, STEP_CODE);
+    let step = column(design.rows, row, STEP_CODE);
     if !names_step(step) {
         return at;
     }
     let end = put_words(out, at, step);
     let comma = step == CASE_STEP;
-    put_signals(names, bits, wires, rows, m, row, comma, out, end)
+    put_signals(design, m, row, comma, out, end)
 }

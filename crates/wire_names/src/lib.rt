@@ -6,6 +6,7 @@ ghost use Rattle.std.specs.Prelude.{◌≡◌, ◌<◌};
 ghost use Rattle.rules.specs.Limits.{many_rows};
 ghost use Rattle.wire_names.specs.Now.{renames, last_rename, name_now};
 
+use netlist::design::Design;
 use numbers::kinds::{ModuleNumber, WireNumber};
 use wires::{WIRE_NAME, bytes_at, column};
 
@@ -47,24 +48,17 @@ pub fn last_rename(rows: &[u32], from: u32, count: u32, m: ModuleNumber, wire: W
 }
 
 // The name now of a wire of the module whose row in the table of wires is k: the last rename of it, else its own.
-pub fn name_now<'a>(
-    names: &'a [u8],
-    wires: &[u32],
-    rows: &[u32],
-    m: Module,
-    wire: WireNumber,
-    k: usize,
-) -> &'a [u8]
+pub fn name_now<'a>(design: &Design<'a>, m: Module, wire: WireNumber, k: usize) -> &'a [u8]
     requires { k < many_rows }
-    ensures { result.now ≡ name_now names.now wires.now rows.now m.from m.renames m.number.0 wire.0 k }
+    ensures { result.now ≡ name_now design.now.names.now design.now.wires.now design.now.rows.now m.from m.renames m.number.0 wire.0 k }
 {
-    let last = last_rename(rows, m.from, m.renames, m.number, wire);
+    let last = last_rename(design.rows, m.from, m.renames, m.number, wire);
     if last == 0 {
-        return bytes_at(names, wires, k, WIRE_NAME);
+        return bytes_at(design.names, design.wires, k, WIRE_NAME);
     }
     bytes_at(
-        names,
-        rows,
+        design.names,
+        design.rows,
         m.from as usize + (last - 1) as usize,
         RENAME_NAME,
     )

@@ -12,7 +12,7 @@ returns-then-written-ne0 c =
     let if1 = c.if-written-ne0 in
     let put-refusal = c.put_refusal in record {
       printed_as = held-refused
-          (lent args.names.now args.strings.now args.bits.now args.wires.now args.rows.now args.renames args.room)
+          (lent args.design.now.names.now args.design.now.strings.now args.design.now.bits.now args.design.now.wires.now args.design.now.rows.now args.design.now.renames args.design.now.room)
           args.out.now _ write.result.number write.result.length if1.true _ _
           (refusal-put write.result.number 0 (omega arith) (omega arith) put-refusal.ensures) write.ensures;
       upper_bound = refusal-fits write.result.number 0 (omega arith) (omega arith) put-refusal.ensures;
@@ -23,9 +23,9 @@ returns c =
     let args = c.args in
     let write = c.write-written in record {
       printed_as = held-written
-          (lent args.names.now args.strings.now args.bits.now args.wires.now args.rows.now args.renames args.room)
+          (lent args.design.now.names.now args.design.now.strings.now args.design.now.bits.now args.design.now.wires.now args.design.now.rows.now args.design.now.renames args.design.now.room)
           args.out.now _ write.result.number write.result.length c.if-written-ne0.false write.ensures;
       upper_bound = written-fits
-          (lent args.names.now args.strings.now args.bits.now args.wires.now args.rows.now args.renames args.room)
+          (lent args.design.now.names.now args.design.now.strings.now args.design.now.bits.now args.design.now.wires.now args.design.now.rows.now args.design.now.renames args.design.now.room)
           args.out.now _ write.result.number write.result.length write.ensures;
     }

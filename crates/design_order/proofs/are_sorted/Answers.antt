@@ -18,7 +18,7 @@ slice_bounds-is_sorted-end c =
     let pre = c.requires in
     let loop = c.loop-m in
     let module-at = c.module_at-module in
-    module-fits args.names.now args.wires.now args.rows.now args.place args.renames loop.m module-at.result module-at.ensures args.index.now pre.wires_in_bounds
+    module-fits args.design.now.names.now args.design.now.wires.now args.design.now.rows.now args.place args.renames loop.m module-at.result module-at.ensures args.index.now pre.wires_in_bounds
 
 pub returns-then-not-is_sorted : goal.returns-then-not-is_sorted
 returns-then-not-is_sorted c =
@@ -27,7 +27,7 @@ returns-then-not-is_sorted c =
     let if1 = c.loop-m-test in
     let module-at = c.module_at-module in
     let is_sorted = c.is_sorted in
-    module-not args.names.now args.wires.now args.rows.now args.place args.renames loop.m module-at.result module-at.ensures args.index.now _ is_sorted.ensures if1.true (not-true _ c.if-not-is_sorted.true-raw)
+    module-not args.design.now.names.now args.design.now.wires.now args.design.now.rows.now args.place args.renames loop.m module-at.result module-at.ensures args.index.now _ is_sorted.ensures if1.true (not-true _ c.if-not-is_sorted.true-raw)
 
 pub loop-m-preserved : goal.loop-m-preserved
 loop-m-preserved c =
@@ -35,7 +35,7 @@ loop-m-preserved c =
     let loop = c.loop-m in
     let module-at = c.module_at-module in
     let is_sorted = c.is_sorted in
-    module-told args.names.now args.wires.now args.rows.now args.place args.renames loop.m module-at.result module-at.ensures args.index.now _ is_sorted.ensures (not-false _ c.if-not-is_sorted.false-raw) loop.invariant
+    module-told args.design.now.names.now args.design.now.wires.now args.design.now.rows.now args.place args.renames loop.m module-at.result module-at.ensures args.index.now _ is_sorted.ensures (not-false _ c.if-not-is_sorted.false-raw) loop.invariant
 
 pub returns : goal.returns
 returns c =

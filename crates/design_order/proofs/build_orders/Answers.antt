@@ -16,7 +16,7 @@ loop-m-init c = sym (store-none c.args.index.now 0)
 pub order_module-requires : goal.order_module-requires
 order_module-requires c =
     let long : length c.loop-m.index ≡ length c.args.index.now = ap length c.loop-m.invariant ∙ length-store _ _ _ in
-    module-fits c.args.names.now _ c.args.rows.now c.args.place _ _ _ c.module_at-module.ensures c.loop-m.index (omega (arith, long, c.requires))
+    module-fits c.args.design.now.names.now _ c.args.design.now.rows.now c.args.place _ _ _ c.module_at-module.ensures c.loop-m.index (omega (arith, long, c.requires))
 
 pub loop-m-preserved : goal.loop-m-preserved
 loop-m-preserved c = module-built _ _ _ c.args.place _ _ _ c.module_at-module.ensures _ _ _ c.loop-m.invariant c.order_module.ensures

@@ -6,4 +6,4 @@ use Rattle.design_order.specs.Indexes.{indexes_in}
 use Rattle.design_order.proofs.build_orders.Given as goal
 
 abbrev pub invariant-loop-m : goal.invariant-loop-m
-invariant-loop-m l = l.index ≡ store l.initial.index 0 (indexes_in l.names l.wires l.rows l.place l.renames l.m)
+invariant-loop-m l = l.index ≡ store l.initial.index 0 (indexes_in l.design.names.now l.design.wires.now l.design.rows.now l.place l.renames l.m)

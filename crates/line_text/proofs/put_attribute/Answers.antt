@@ -19,7 +19,7 @@ returns c =
     let put-token = c.put_token-end in
     let put-constant = c.put_constant in
     written_as (written_then put-bytes.ensures (written_then put-token.ensures put-constant.ensures))
-    (line-attribute _ _ (span-name args.names.now args.rows.now _ args.row 1 bytes-at.ensures) _)
+    (line-attribute _ _ (span-name args.design.now.names.now args.design.now.rows.now _ args.row 1 bytes-at.ensures) _)
 
 pub shape_of-out : goal.shape_of-out
 shape_of-out c = (returns c).kept

@@ -19,8 +19,8 @@ returns c =
     let bytes-at2 = c.bytes_at-2 in
     let put-token2 = c.put_token in
     written_as (written_then put-bytes.ensures (written_then put-token.ensures put-token2.ensures))
-    (line-cell _ _ (span-name args.names.now args.rows.now _ args.row 3 bytes-at2.ensures) _ _
-    (span-name args.names.now args.rows.now _ args.row 1 bytes-at.ensures))
+    (line-cell _ _ (span-name args.design.now.names.now args.design.now.rows.now _ args.row 3 bytes-at2.ensures) _ _
+    (span-name args.design.now.names.now args.design.now.rows.now _ args.row 1 bytes-at.ensures))
 
 pub shape_of-out : goal.shape_of-out
 shape_of-out c = (returns c).kept

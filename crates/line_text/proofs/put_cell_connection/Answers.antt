@@ -24,9 +24,9 @@ returns c =
     let put-signal = c.put_signal in
     written_as (written_then put-bytes.ensures (written_then put-token.ensures put-signal.ensures))
     (line-cell-connection _ _
-    (span-name args.names.now args.rows.now _ args.row 1 bytes-at.ensures) _ _
-    (ap (sig (wires_in args.names.now args.wires.now args.rows.now args.m))
-    (span-signal args.bits.now args.rows.now _ args.row 3 words-at.ensures)))
+    (span-name args.design.now.names.now args.design.now.rows.now _ args.row 1 bytes-at.ensures) _ _
+    (ap (sig (wires_in args.design.now.names.now args.design.now.wires.now args.design.now.rows.now args.m))
+    (span-signal args.design.now.bits.now args.design.now.rows.now _ args.row 3 words-at.ensures)))
 
 pub shape_of-out : goal.shape_of-out
 shape_of-out c = (returns c).kept

@@ -24,10 +24,10 @@ returns c =
     let put-signal2 = c.put_signal in
     written_as (written_then put-bytes.ensures (written_then put-signal.ensures put-signal2.ensures))
     (line-connection _ _ _ _
-    (ap (sig (wires_in args.names.now args.wires.now args.rows.now args.m))
-    (span-signal args.bits.now args.rows.now _ args.row 1 words-at.ensures))
-    (ap (sig (wires_in args.names.now args.wires.now args.rows.now args.m))
-    (span-signal args.bits.now args.rows.now _ args.row 3 words-at2.ensures)))
+    (ap (sig (wires_in args.design.now.names.now args.design.now.wires.now args.design.now.rows.now args.m))
+    (span-signal args.design.now.bits.now args.design.now.rows.now _ args.row 1 words-at.ensures))
+    (ap (sig (wires_in args.design.now.names.now args.design.now.wires.now args.design.now.rows.now args.m))
+    (span-signal args.design.now.bits.now args.design.now.rows.now _ args.row 3 words-at2.ensures)))
 
 pub shape_of-out : goal.shape_of-out
 shape_of-out c = (returns c).kept

@@ -20,7 +20,7 @@ returns-then-kind-eq-CONSTANT_VALUE c =
     let words-at = c.words_at in
     let put-value = c.put_value in
     written_as (written_then put_byte.ensures put-value.ensures)
-    (constant-value args.strings.now args.bits.now args.rows.now args.row args.c
+    (constant-value args.design.now.strings.now args.design.now.bits.now args.design.now.rows.now args.row args.c
     column.result column.ensures _ words-at.ensures if1.true)
 
 pub shape_of-out-then-kind-eq-CONSTANT_VALUE : goal.shape_of-out-then-kind-eq-CONSTANT_VALUE
@@ -38,7 +38,7 @@ returns-then-kind-eq-CONSTANT_INTEGER c =
     let column2 = c.column in
     let put-integer = c.put_integer in
     written_as (written_then put_byte.ensures put-integer.ensures)
-    (constant-integer args.strings.now args.bits.now args.rows.now args.row args.c
+    (constant-integer args.design.now.strings.now args.design.now.bits.now args.design.now.rows.now args.row args.c
     column.result column.ensures _ column2.ensures if2.true)
 
 pub shape_of-out-then-kind-eq-CONSTANT_INTEGER : goal.shape_of-out-then-kind-eq-CONSTANT_INTEGER
@@ -57,7 +57,7 @@ returns c =
     let bytes-at = c.bytes_at in
     let put-string = c.put_string in
     written_as (written_then put_byte.ensures put-string.ensures)
-    (constant-string args.strings.now args.bits.now args.rows.now args.row args.c
+    (constant-string args.design.now.strings.now args.design.now.bits.now args.design.now.rows.now args.row args.c
     column.result column.ensures _ bytes-at.ensures if1.false if2.false)
 
 pub shape_of-out : goal.shape_of-out

@@ -19,7 +19,7 @@ returns c =
     let bytes-at = c.bytes_at in
     let put-token = c.put_token in
     written_as (written_then put-bytes.ensures (written_then put-memory-options.ensures put-token.ensures))
-    (line-memory _ _ (span-name args.names.now args.rows.now _ args.row 1 bytes-at.ensures) _)
+    (line-memory _ _ (span-name args.design.now.names.now args.design.now.rows.now _ args.row 1 bytes-at.ensures) _)
 
 pub shape_of-out : goal.shape_of-out
 shape_of-out c = (returns c).kept

@@ -15,8 +15,8 @@ returns-then-column-eq0 c =
     let bytes-at = c.bytes_at in
     let put-token = c.put_token-end in
     written_as (written_then put-bytes.ensures put-token.ensures)
-    (line-no-constant _ _ (span-name args.names.now args.rows.now _ args.row 1 bytes-at.ensures)
-    args.strings.now args.bits.now args.rows.now args.row 3 _ c.column.ensures
+    (line-no-constant _ _ (span-name args.design.now.names.now args.design.now.rows.now _ args.row 1 bytes-at.ensures)
+    args.design.now.strings.now args.design.now.bits.now args.design.now.rows.now args.row 3 _ c.column.ensures
     c.if-column-eq0.true)
 
 pub shape_of-out-then-column-eq0 : goal.shape_of-out-then-column-eq0
@@ -35,8 +35,8 @@ returns c =
     let if1 = c.if-column-eq0 in
     let put-constant = c.put_constant in
     written_as (written_then put-bytes.ensures (written_then put-token.ensures put-constant.ensures))
-    (line-parameter _ _ (span-name args.names.now args.rows.now _ args.row 1 bytes-at.ensures)
-    args.strings.now args.bits.now args.rows.now args.row 3 _ column.ensures if1.false)
+    (line-parameter _ _ (span-name args.design.now.names.now args.design.now.rows.now _ args.row 1 bytes-at.ensures)
+    args.design.now.strings.now args.design.now.bits.now args.design.now.rows.now args.row 3 _ column.ensures if1.false)
 
 pub shape_of-out : goal.shape_of-out
 shape_of-out c = (returns c).kept

@@ -13,8 +13,8 @@ returns-then-kind-eq-WIRE_KIND c =
     let if1 = c.if-kind-eq-WIRE_KIND in
     let put-wire = c.put_wire in
     written_as put-wire.ensures
-    (statement-wire args.names.now args.strings.now args.bits.now args.wires.now
-    args.rows.now args.m (wires_in args.names.now args.wires.now args.rows.now args.m)
+    (statement-wire args.design.now.names.now args.design.now.strings.now args.design.now.bits.now args.design.now.wires.now
+    args.design.now.rows.now args.m (wires_in args.design.now.names.now args.design.now.wires.now args.design.now.rows.now args.m)
     args.row _ column.ensures if1.true)
 
 pub shape_of-out-then-kind-eq-WIRE_KIND : goal.shape_of-out-then-kind-eq-WIRE_KIND
@@ -27,8 +27,8 @@ returns-then-kind-eq-CELL_CONNECTION_KIND c =
     let if2 = c.if-kind-eq-CELL_CONNECTION_KIND in
     let put-cell-connection = c.put_cell_connection in
     written_as put-cell-connection.ensures
-    (statement-cell-connection args.names.now args.strings.now args.bits.now args.wires.now
-    args.rows.now args.m (wires_in args.names.now args.wires.now args.rows.now args.m)
+    (statement-cell-connection args.design.now.names.now args.design.now.strings.now args.design.now.bits.now args.design.now.wires.now
+    args.design.now.rows.now args.m (wires_in args.design.now.names.now args.design.now.wires.now args.design.now.rows.now args.m)
     args.row _ column.ensures if2.true)
 
 pub shape_of-out-then-kind-eq-CELL_CONNECTION_KIND : goal.shape_of-out-then-kind-eq-CELL_CONNECTION_KIND
@@ -41,8 +41,8 @@ returns-then-kind-eq-CONNECTION_KIND c =
     let if3 = c.if-kind-eq-CONNECTION_KIND in
     let put-connection = c.put_connection in
     written_as put-connection.ensures
-    (statement-connection args.names.now args.strings.now args.bits.now args.wires.now
-    args.rows.now args.m (wires_in args.names.now args.wires.now args.rows.now args.m)
+    (statement-connection args.design.now.names.now args.design.now.strings.now args.design.now.bits.now args.design.now.wires.now
+    args.design.now.rows.now args.m (wires_in args.design.now.names.now args.design.now.wires.now args.design.now.rows.now args.m)
     args.row _ column.ensures if3.true)
 
 pub shape_of-out-then-kind-eq-CONNECTION_KIND : goal.shape_of-out-then-kind-eq-CONNECTION_KIND
@@ -52,8 +52,8 @@ pub returns-then-kind-eq-STEP_KIND : goal.returns-then-kind-eq-STEP_KIND
 returns-then-kind-eq-STEP_KIND c =
     let args = c.args in
     written_as c.put_step.ensures
-    (statement-step args.names.now args.strings.now args.bits.now args.wires.now
-    args.rows.now args.m (wires_in args.names.now args.wires.now args.rows.now args.m)
+    (statement-step args.design.now.names.now args.design.now.strings.now args.design.now.bits.now args.design.now.wires.now
+    args.design.now.rows.now args.m (wires_in args.design.now.names.now args.design.now.wires.now args.design.now.rows.now args.m)
     args.row _ c.column-kind.ensures c.if-kind-eq-STEP_KIND.true)
 
 pub shape_of-out-then-kind-eq-STEP_KIND : goal.shape_of-out-then-kind-eq-STEP_KIND
@@ -68,11 +68,11 @@ returns c =
     let if3 = c.if-kind-eq-CONNECTION_KIND in
     let put-plain = c.put_plain in
     written_as
-    (put-plain.ensures args.wires.now
-    (wires_in args.names.now args.wires.now args.rows.now args.m) (ne_eqb _ _ if1.false)
+    (put-plain.ensures args.design.now.wires.now
+    (wires_in args.design.now.names.now args.design.now.wires.now args.design.now.rows.now args.m) (ne_eqb _ _ if1.false)
     (ne_eqb _ _ if2.false) (ne_eqb _ _ if3.false) (ne_eqb _ _ c.if-kind-eq-STEP_KIND.false))
-    (statement-plain args.names.now args.strings.now args.bits.now args.wires.now
-    args.rows.now args.m (wires_in args.names.now args.wires.now args.rows.now args.m)
+    (statement-plain args.design.now.names.now args.design.now.strings.now args.design.now.bits.now args.design.now.wires.now
+    args.design.now.rows.now args.m (wires_in args.design.now.names.now args.design.now.wires.now args.design.now.rows.now args.m)
     args.row _ column.ensures (ne_eqb _ _ if1.false))
 
 pub shape_of-out : goal.shape_of-out

@@ -28,7 +28,7 @@ returns c =
     (written_as
     (written_then put-bytes.ensures (written_then put-wire-options.ensures put-token.ensures))
     (line-wire _ _
-    (name-now.ensures ∙ own-now args.names.now args.wires.now args.rows.now args.m column.result if1.n e)
+    (name-now.ensures ∙ own-now args.design.now.names.now args.design.now.wires.now args.design.now.rows.now args.m column.result if1.n e)
     _))
 
 pub shape_of-out : goal.shape_of-out

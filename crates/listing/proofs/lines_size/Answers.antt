@@ -22,17 +22,17 @@ overflow_add-size c =
     let args = c.args in
     let loop = c.loop-w in
     let pre = c.requires in
-    omega (arith, pre, size-more args.names.now args.strings.now args.wires.now args.rows.now args.m loop.w loop.size _ loop.invariant c.line_size-size.ensures, lines-most args.names.now args.strings.now args.wires.now args.rows.now args.m pre.names_len.0 pre.names_len.1 (loop.w + 1))
+    omega (arith, pre, size-more args.design.now.names.now args.design.now.strings.now args.design.now.wires.now args.design.now.rows.now args.m loop.w loop.size _ loop.invariant c.line_size-size.ensures, lines-most args.design.now.names.now args.design.now.strings.now args.design.now.wires.now args.design.now.rows.now args.m pre.names_len.0 pre.names_len.1 (loop.w + 1))
 
 pub loop-w-preserved : goal.loop-w-preserved
 loop-w-preserved c =
     let args = c.args in
     let loop = c.loop-w in
-    size-more args.names.now args.strings.now args.wires.now args.rows.now args.m loop.w loop.size _ loop.invariant c.line_size-size.ensures
+    size-more args.design.now.names.now args.design.now.strings.now args.design.now.wires.now args.design.now.rows.now args.m loop.w loop.size _ loop.invariant c.line_size-size.ensures
 
 pub returns : goal.returns
 returns c =
     let args = c.args in
     let loop = c.loop-w in
     let e : loop.w ≡ args.m.wires = omega arith in
-    loop.invariant ∙ ap (λ (k : ℕ). length (lines_at args.names.now args.strings.now args.wires.now args.rows.now args.m k)) e
+    loop.invariant ∙ ap (λ (k : ℕ). length (lines_at args.design.now.names.now args.design.now.strings.now args.design.now.wires.now args.design.now.rows.now args.m k)) e

@@ -6,4 +6,4 @@ use Rattle.listing.specs.Lines.{lines_at}
 use Rattle.listing.proofs.lines_size.Given as goal
 
 abbrev pub invariant-loop-w : goal.invariant-loop-w
-invariant-loop-w l = l.size ≡ length (lines_at l.names l.strings l.wires l.rows l.m l.w)
+invariant-loop-w l = l.size ≡ length (lines_at l.design.names.now l.design.strings.now l.design.wires.now l.design.rows.now l.m l.w)

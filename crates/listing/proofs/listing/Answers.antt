@@ -9,7 +9,7 @@ pub returns-then-place-m : goal.returns-then-place-m
 returns-then-place-m c =
     let args = c.args in
     let held =
-    opened (lent args.names.now args.strings.now args.bits.now args.wires.now args.rows.now args.renames args.room)
+    opened (lent args.design.now.names.now args.design.now.strings.now args.design.now.bits.now args.design.now.wires.now args.design.now.rows.now args.design.now.renames args.design.now.room)
     _ c.open_memory.ensures _ c.in-Ok.is in
     listed-missing held args.m.0 args.out.now c.if-place-m.true
 
@@ -17,7 +17,7 @@ pub list_module-requires : goal.list_module-requires
 list_module-requires c =
     let args = c.args in
     let held =
-    opened (lent args.names.now args.strings.now args.bits.now args.wires.now args.rows.now args.renames args.room)
+    opened (lent args.design.now.names.now args.design.now.strings.now args.design.now.bits.now args.design.now.wires.now args.design.now.rows.now args.design.now.renames args.design.now.room)
     _ c.open_memory.ensures _ c.in-Ok.is in
     let all = fits held args.m.0 _ c.module_of.ensures in
     record { wires_bound = all.0; names_len = all.1 }
@@ -26,7 +26,7 @@ pub returns : goal.returns
 returns c =
     let args = c.args in
     let held =
-    opened (lent args.names.now args.strings.now args.bits.now args.wires.now args.rows.now args.renames args.room)
+    opened (lent args.design.now.names.now args.design.now.strings.now args.design.now.bits.now args.design.now.wires.now args.design.now.rows.now args.design.now.renames args.design.now.room)
     _ c.open_memory.ensures _ c.in-Ok.is in
     listed-there held args.m.0 args.out.now c.if-place-m.false _ c.module_of.ensures _ c.list_module.ensures
 
@@ -34,5 +34,5 @@ pub returns-in-Err : goal.returns-in-Err
 returns-in-Err c =
     let args = c.args in
     not-open (λ n. (n, 0, args.out.now)) _ _
-    (not_opened (lent args.names.now args.strings.now args.bits.now args.wires.now args.rows.now args.renames args.room)
+    (not_opened (lent args.design.now.names.now args.design.now.strings.now args.design.now.bits.now args.design.now.wires.now args.design.now.rows.now args.design.now.renames args.design.now.room)
     _ c.open_memory.ensures _ c.in-Err.is)

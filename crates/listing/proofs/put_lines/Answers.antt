@@ -19,14 +19,14 @@ put_line-end-requires c =
     let inside : loop.w < args.m.wires = omega arith in
     record {
       w_bound = omega (arith, pre);
-      w_in_bounds = omega (arith, pre, loop.invariant.place, put-kept loop.invariant, lines_fit args.names.now args.strings.now args.wires.now args.rows.now args.m loop.w args.m.wires inside);
+      w_in_bounds = omega (arith, pre, loop.invariant.place, put-kept loop.invariant, lines_fit args.design.now.names.now args.design.now.strings.now args.design.now.wires.now args.design.now.rows.now args.m loop.w args.m.wires inside);
     }
 
 pub loop-w-preserved : goal.loop-w-preserved
 loop-w-preserved c =
     let args = c.args in
     let loop = c.loop-w in
-    put_as (put_then loop.invariant c.put_line-end.ensures) (lines_more args.names.now args.strings.now args.wires.now args.rows.now args.m loop.w)
+    put_as (put_then loop.invariant c.put_line-end.ensures) (lines_more args.design.now.names.now args.design.now.strings.now args.design.now.wires.now args.design.now.rows.now args.m loop.w)
 
 pub shape_of-out : goal.shape_of-out
 shape_of-out c = put-kept c.loop-w.invariant
@@ -36,4 +36,4 @@ returns c =
     let args = c.args in
     let loop = c.loop-w in
     let e : loop.w ≡ args.m.wires = omega arith in
-    put_as loop.invariant (ap (λ (k : ℕ). lines_at args.names.now args.strings.now args.wires.now args.rows.now args.m k) e)
+    put_as loop.invariant (ap (λ (k : ℕ). lines_at args.design.now.names.now args.design.now.strings.now args.design.now.wires.now args.design.now.rows.now args.m k) e)

@@ -12,7 +12,7 @@ returns-then-own-number c =
     let module-wires = c.module_wires-own in
     index-missing
     (opened
-    (lent args.names.now args.strings.now args.bits.now args.wires.now args.rows.now args.renames args.room)
+    (lent args.design.now.names.now args.design.now.strings.now args.design.now.bits.now args.design.now.wires.now args.design.now.rows.now args.design.now.renames args.design.now.room)
     _ open-memory.ensures _ c.in-Ok.is) _ _ _ _ module-wires.ensures c.if-own-number.true
 
 pub overflow_add-own : goal.overflow_add-own
@@ -24,7 +24,7 @@ overflow_add-own c =
       arith,
       wire-fits
           (opened
-          (lent args.names.now args.strings.now args.bits.now args.wires.now args.rows.now args.renames args.room)
+          (lent args.design.now.names.now args.design.now.strings.now args.design.now.bits.now args.design.now.wires.now args.design.now.rows.now args.design.now.renames args.design.now.room)
           _ open-memory.ensures _ c.in-Ok.is) args.m.0 args.w.0 _
           module-wires.ensures c.if-own-number.false,
     )
@@ -37,6 +37,6 @@ returns-else-own-number c =
     let if1 = c.if-own-number in
     index-there
     (opened
-    (lent args.names.now args.strings.now args.bits.now args.wires.now args.rows.now args.renames args.room)
+    (lent args.design.now.names.now args.design.now.strings.now args.design.now.bits.now args.design.now.wires.now args.design.now.rows.now args.design.now.renames args.design.now.room)
     _ open-memory.ensures _ c.in-Ok.is) args.m.0 args.w.0 args.bit _ module-wires.ensures
     _ if1.false c.row_index.ensures

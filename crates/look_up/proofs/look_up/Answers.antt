@@ -9,6 +9,6 @@ returns-in-Ok c =
     let open-memory = c.open_memory in
     looked-up
     (opened
-    (lent args.names.now args.strings.now args.bits.now args.wires.now args.rows.now args.renames args.room)
+    (lent args.design.now.names.now args.design.now.strings.now args.design.now.bits.now args.design.now.wires.now args.design.now.rows.now args.design.now.renames args.design.now.room)
     _ open-memory.ensures _ c.in-Ok.is) args.m.0 args.name.now _ _
     c.module_of.ensures c.find.ensures

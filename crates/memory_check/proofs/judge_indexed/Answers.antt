@@ -24,8 +24,8 @@ standing_renames-requires c = record {
 pub returns-in_err-used : goal.returns-in_err-used
 returns-in_err-used c = rw c.from_residual-in_err-used.ensures (no-renames-there _ _ c.replay.ensures.replays _ c.in_ok-behind.was _ c.standing_renames.ensures c.in_err-used.was)
 
-pub returns-then-used-room : goal.returns-then-used-room
-returns-then-used-room c = other-room _ _ c.replay.ensures.replays _ c.in_ok-behind.was _ c.standing_renames.ensures _ c.in_ok-used.was (λ e. omega arith)
+pub returns-then-used-design : goal.returns-then-used-design
+returns-then-used-design c = other-room _ _ c.replay.ensures.replays _ c.in_ok-behind.was _ c.standing_renames.ensures _ c.in_ok-used.was (λ e. omega arith)
 
 pub returns-then-rest_is_zero : goal.returns-then-rest_is_zero
 unfolding right_lengths

@@ -18,7 +18,7 @@ returns-then-index-at c =
     let pre = c.requires in
     let place-among = c.place_among-at in
     sym
-    (halving-past (name_in args.names.now args.wires.now args.rows.now args.m) args.name.now args.m.wires pre.apart args.index.now pre.index_value place-among.result place-among.ensures
+    (halving-past (name_in args.design.now.names.now args.design.now.wires.now args.design.now.rows.now args.m) args.name.now args.m.wires pre.apart args.index.now pre.index_value place-among.result place-among.ensures
     (omega (arith, c.if-index-at.true)))
 
 pub returns-then-same_bytes : goal.returns-then-same_bytes
@@ -31,7 +31,7 @@ returns-then-same_bytes c =
     let its-name = c.name_in in
     let same_bytes = c.same_bytes in
     sym
-    (halving-found (name_in args.names.now args.wires.now args.rows.now args.m) args.name.now args.m.wires pre.apart args.index.now pre.index_value _ place-among.ensures if1.false _ refl _
+    (halving-found (name_in args.design.now.names.now args.design.now.wires.now args.design.now.rows.now args.m) args.name.now args.m.wires pre.apart args.index.now pre.index_value _ place-among.ensures if1.false _ refl _
     (same_bytes.ensures ∙ ap (λ (n : Name). same n args.name.now) its-name.ensures) c.if-same_bytes.true)
 
 pub returns : goal.returns
@@ -44,5 +44,5 @@ returns c =
     let its-name = c.name_in in
     let same_bytes = c.same_bytes in
     sym
-    (halving-other (name_in args.names.now args.wires.now args.rows.now args.m) args.name.now args.m.wires pre.apart args.index.now pre.index_value _ place-among.ensures if1.false _ refl _
+    (halving-other (name_in args.design.now.names.now args.design.now.wires.now args.design.now.rows.now args.m) args.name.now args.m.wires pre.apart args.index.now pre.index_value _ place-among.ensures if1.false _ refl _
     (same_bytes.ensures ∙ ap (λ (n : Name). same n args.name.now) its-name.ensures) c.if-same_bytes.false)

@@ -13,14 +13,14 @@ offset_bounds-index-middle c =
     let mid : ℕ = args.left.low + (args.left.high - args.left.low) / 2 in
     omega (
       arith,
-      middle-inside (name_in args.names.now args.wires.now args.rows.now args.m) args.index.now args.name.now args.left pre.halved mid (omega (arith, pre.low_lt_high)),
+      middle-inside (name_in args.design.now.names.now args.design.now.wires.now args.design.now.rows.now args.m) args.index.now args.name.now args.left pre.halved mid (omega (arith, pre.low_lt_high)),
     )
 
 pub bounds-index-middle : goal.bounds-index-middle
 bounds-index-middle c =
     let args = c.args in
     let pre = c.requires in
-    middle-inside (name_in args.names.now args.wires.now args.rows.now args.m) args.index.now args.name.now args.left pre.halved (args.left.low + (args.left.high - args.left.low) / 2) (omega (arith, pre.low_lt_high))
+    middle-inside (name_in args.design.now.names.now args.design.now.wires.now args.design.now.rows.now args.m) args.index.now args.name.now args.left pre.halved (args.left.low + (args.left.high - args.left.low) / 2) (omega (arith, pre.low_lt_high))
 
 pub returns-then-wire_before : goal.returns-then-wire_before
 returns-then-wire_before c =
@@ -28,7 +28,7 @@ returns-then-wire_before c =
     let pre = c.requires in
     let wire-before = c.wire_before in
     let mid : ℕ = args.left.low + (args.left.high - args.left.low) / 2 in
-    upper-half (name_in args.names.now args.wires.now args.rows.now args.m) args.index.now args.name.now args.left pre.halved mid (omega (arith, pre.low_lt_high)) pre.ordered (omega arith) _ wire-before.ensures c.if-wire_before.true
+    upper-half (name_in args.design.now.names.now args.design.now.wires.now args.design.now.rows.now args.m) args.index.now args.name.now args.left pre.halved mid (omega (arith, pre.low_lt_high)) pre.ordered (omega arith) _ wire-before.ensures c.if-wire_before.true
 
 pub returns : goal.returns
 returns c =
@@ -36,4 +36,4 @@ returns c =
     let pre = c.requires in
     let wire-before = c.wire_before in
     let mid : ℕ = args.left.low + (args.left.high - args.left.low) / 2 in
-    lower-half (name_in args.names.now args.wires.now args.rows.now args.m) args.index.now args.name.now args.left pre.halved mid (omega (arith, pre.low_lt_high)) pre.ordered (omega arith) _ wire-before.ensures c.if-wire_before.false
+    lower-half (name_in args.design.now.names.now args.design.now.wires.now args.design.now.rows.now args.m) args.index.now args.name.now args.left pre.halved mid (omega (arith, pre.low_lt_high)) pre.ordered (omega arith) _ wire-before.ensures c.if-wire_before.false

@@ -8,4 +8,4 @@ use Rattle.name_order.specs.Named.{name_in}
 use Rattle.name_order.proofs.is_sorted.Given as goal
 
 abbrev pub invariant-loop-k : goal.invariant-loop-k
-invariant-loop-k l = (j : ℕ) → j < l.k → stands_next (name_in l.names l.wires l.rows l.m) l.m.wires l.index j ≡ true
+invariant-loop-k l = (j : ℕ) → j < l.k → stands_next (name_in l.design.names.now l.design.wires.now l.design.rows.now l.m) l.m.wires l.index j ≡ true

@@ -27,13 +27,13 @@ pub insert-requires : goal.insert-requires
 insert-requires c =
     let l = c.loop-wire in
     let z : c.args.start + (l.wire - 1) + 1 ≡ c.args.start + l.wire = omega arith in
-    built-room (name_in c.args.names.now c.args.wires.now c.args.rows.now c.args.m) _ _ _ c.requires _ _ l.invariant l.auto.wire (l.wire - 1) (omega arith) _ c.name_in-name.ensures _ (rw z at c.place_among-count.ensures)
+    built-room (name_in c.args.design.now.names.now c.args.design.now.wires.now c.args.design.now.rows.now c.args.m) _ _ _ c.requires _ _ l.invariant l.auto.wire (l.wire - 1) (omega arith) _ c.name_in-name.ensures _ (rw z at c.place_among-count.ensures)
 
 pub loop-wire-preserved : goal.loop-wire-preserved
 loop-wire-preserved c =
     let l = c.loop-wire in
     let z : c.args.start + (l.wire - 1) + 1 ≡ c.args.start + l.wire = omega arith in
-    built-more (name_in c.args.names.now c.args.wires.now c.args.rows.now c.args.m) _ _ _ c.requires _ _ l.invariant l.auto.wire (l.wire - 1) (omega arith) _ c.name_in-name.ensures _ (rw z at c.place_among-count.ensures) _ c.insert.ensures
+    built-more (name_in c.args.design.now.names.now c.args.design.now.wires.now c.args.design.now.rows.now c.args.m) _ _ _ c.requires _ _ l.invariant l.auto.wire (l.wire - 1) (omega arith) _ c.name_in-name.ensures _ (rw z at c.place_among-count.ensures) _ c.insert.ensures
 
 pub shape_of-index : goal.shape_of-index
 shape_of-index c = ap length c.loop-wire.invariant ∙ length-store _ _ _

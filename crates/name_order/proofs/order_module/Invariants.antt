@@ -8,4 +8,4 @@ use Rattle.name_order.specs.Named.{name_in}
 use Rattle.name_order.proofs.order_module.Given as goal
 
 abbrev pub invariant-loop-wire : goal.invariant-loop-wire
-invariant-loop-wire l = l.index ≡ store l.initial.index (l.start + l.wire) (index_up (name_in l.names l.wires l.rows l.m) (l.m.wires - l.wire) l.wire)
+invariant-loop-wire l = l.index ≡ store l.initial.index (l.start + l.wire) (index_up (name_in l.design.names.now l.design.wires.now l.design.rows.now l.m) (l.m.wires - l.wire) l.wire)

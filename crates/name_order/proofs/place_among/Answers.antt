@@ -8,7 +8,7 @@ use Rattle.name_order.proofs.place_among.Goals as goal
 pub loop-left-init : goal.loop-left-init
 loop-left-init c =
     let args = c.args in
-    halves-start (name_in args.names.now args.wires.now args.rows.now args.m) args.index.now args.name.now
+    halves-start (name_in args.design.now.names.now args.design.now.wires.now args.design.now.rows.now args.m) args.index.now args.name.now
 
 pub halve-left-requires : goal.halve-left-requires
 halve-left-requires c =

@@ -18,4 +18,4 @@ returns c =
     let if1 = c.if-m-wire in
     let if2 = c.if-k-eq0 in
     let its-name = c.name_in-name in
-    next-on (name_in args.names.now args.wires.now args.rows.now args.m) args.index.now args.m.wires args.k if1.false if2.false _ (c.wire_before.ensures ∙ ap (before _) its-name.ensures)
+    next-on (name_in args.design.now.names.now args.design.now.wires.now args.design.now.rows.now args.m) args.index.now args.m.wires args.k if1.false if2.false _ (c.wire_before.ensures ∙ ap (before _) its-name.ensures)

@@ -10,7 +10,7 @@ indexed_is_taken-taken-requires c =
     let pre = c.requires in
     let args = c.args in record {
       indexed = indexed-upto (ap (λ (x : Module). x.from) c.module_of-module.ensures) pre.indexed;
-      module_indexed = module-indexed _ _ args.rows.now args.place args.standing args.m.0 _ c.module_of-module.ensures
+      module_indexed = module-indexed _ _ args.design.now.rows.now args.place args.standing args.m.0 _ c.module_of-module.ensures
           pre.indexed_2;
     }
 

@@ -4,4 +4,4 @@ use Rattle.rename_rules.specs.Search.{Renamed}
 use Rattle.rename_rules.proofs.renamed_to.Given as goal
 
 abbrev pub invariant-loop-i : goal.invariant-loop-i
-invariant-loop-i l = Renamed l.names l.rows l.m l.name l.i l.least
+invariant-loop-i l = Renamed l.design.names.now l.design.rows.now l.m l.name l.i l.least

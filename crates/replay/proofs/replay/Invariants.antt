@@ -8,8 +8,8 @@ use Rattle.replay.proofs.replay.Given as goal
 
 abbrev pub invariant-loop-row : goal.invariant-loop-row
 invariant-loop-row l = record {
-  done : Done (part_tables l.names l.strings l.bits l.wires) l.rows l.behind.place l.behind.sums;
-  indexed : Indexed l.heads l.chain (key_at l.names l.rows) l.behind.place.rows;
+  done : Done (part_tables l.design.names.now l.design.strings.now l.design.bits.now l.design.wires.now) l.design.rows.now l.behind.place l.behind.sums;
+  indexed : Indexed l.heads l.chain (key_at l.design.names.now l.design.rows.now) l.behind.place.rows;
 }
 
 abbrev pub decreases-loop-row : goal.decreases-loop-row

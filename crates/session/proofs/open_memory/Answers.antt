@@ -16,11 +16,11 @@ unfolding right_lengths
 returns-in_err-behind c =
     let p = err_from_is_err_and c.from_residual.result c.from_residual.ensures.1 in
     rw p.1
-    (err_refused (lent c.args.names.now c.args.strings.now c.args.bits.now c.args.wires.now c.args.rows.now c.args.renames c.args.room) _
+    (err_refused (lent c.args.design.now.names.now c.args.design.now.strings.now c.args.design.now.bits.now c.args.design.now.wires.now c.args.design.now.rows.now c.args.design.now.renames c.args.design.now.room) _
     c.judge_memory.ensures (sym c.right_lengths.ensures ∙ not-false _ c.if-not-right_lengths.false-raw) c.in_err-behind.ensures.ok_part _ c.in_err-behind.ensures.value _ p.2)
 
 pub returns : goal.returns
 unfolding right_lengths
 returns c =
-    held-open (lent c.args.names.now c.args.strings.now c.args.bits.now c.args.wires.now c.args.rows.now c.args.renames c.args.room) _
+    held-open (lent c.args.design.now.names.now c.args.design.now.strings.now c.args.design.now.bits.now c.args.design.now.wires.now c.args.design.now.rows.now c.args.design.now.renames c.args.design.now.room) _
     c.judge_memory.ensures (sym c.right_lengths.ensures ∙ not-false _ c.if-not-right_lengths.false-raw) _ c.in_ok-behind.ensures.ok_part

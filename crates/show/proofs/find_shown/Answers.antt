@@ -16,7 +16,7 @@ returns-then-own-number c =
     let all =
     shown-missing
     (opened
-    (lent args.names.now args.strings.now args.bits.now args.wires.now args.rows.now args.renames args.room)
+    (lent args.design.now.names.now args.design.now.strings.now args.design.now.bits.now args.design.now.wires.now args.design.now.rows.now args.design.now.renames args.design.now.room)
     _ open-memory.ensures _ c.in_ok-place.was) _ _ _ module-wires.ensures c.if-own-number.true in
     record { shown_at = all.0; in_range = all.1.0; shown_as = all.1.1 }
 
@@ -29,7 +29,7 @@ overflow_add-row c =
       arith,
       wire-fits
           (opened
-          (lent args.names.now args.strings.now args.bits.now args.wires.now args.rows.now args.renames args.room)
+          (lent args.design.now.names.now args.design.now.strings.now args.design.now.bits.now args.design.now.wires.now args.design.now.rows.now args.design.now.renames args.design.now.room)
           _ open-memory.ensures _ c.in_ok-place.was) args.m.0 args.w.0 _ module-wires.ensures
           c.if-own-number.false,
     )
@@ -43,7 +43,7 @@ returns c =
     let all =
     shown-there
     (opened
-    (lent args.names.now args.strings.now args.bits.now args.wires.now args.rows.now args.renames args.room)
+    (lent args.design.now.names.now args.design.now.strings.now args.design.now.bits.now args.design.now.wires.now args.design.now.rows.now args.design.now.renames args.design.now.room)
     _ open-memory.ensures _ c.in_ok-place.was) args.m.0 args.w.0 _ module-wires.ensures if1.false
     _ c.shown_wire.ensures in
     record { shown_at = all.0; in_range = all.1.0; shown_as = all.1.1 }
@@ -54,9 +54,9 @@ returns-in_err-place c =
     let p = err_from_is_err_and c.from_residual.result c.from_residual.ensures.1 in
     let all =
     shown-refused
-    (lent args.names.now args.strings.now args.bits.now args.wires.now args.rows.now args.renames args.room)
+    (lent args.design.now.names.now args.design.now.strings.now args.design.now.bits.now args.design.now.wires.now args.design.now.rows.now args.design.now.renames args.design.now.room)
     args.m.0 args.w.0 _
     (not_opened
-    (lent args.names.now args.strings.now args.bits.now args.wires.now args.rows.now args.renames args.room)
+    (lent args.design.now.names.now args.design.now.strings.now args.design.now.bits.now args.design.now.wires.now args.design.now.rows.now args.design.now.renames args.design.now.room)
     _ c.open_memory.ensures _ c.in_err-place.was) in
     rw (p.1, p.2) (record { shown_at = all.0; in_range = all.1.0; shown_as = all.1.1 })

@@ -4,4 +4,4 @@ use Rattle.show.specs.Rows.{hdlname_row}
 use Rattle.show.proofs.hdlname_row.Given as goal
 
 abbrev pub invariant-loop-k : goal.invariant-loop-k
-invariant-loop-k l = hdlname_row l.names l.rows l.line 0 ≡ hdlname_row l.names l.rows l.k l.found
+invariant-loop-k l = hdlname_row l.design.names.now l.design.rows.now l.line 0 ≡ hdlname_row l.design.names.now l.design.rows.now l.k l.found

@@ -13,7 +13,7 @@ returns-then-last-eq0 c =
     let args = c.args in
     let last-rename = c.last_rename-last in
     c.span.ensures
-    ∙ name-at args.names.now args.wires.now args.rows.now args.from args.count args.m.0
+    ∙ name-at args.design.now.names.now args.design.now.wires.now args.design.now.rows.now args.from args.count args.m.0
     args.w.0 args.k _ 0 last-rename.ensures c.if-last-eq0.true
 
 pub returns : goal.returns
@@ -23,5 +23,5 @@ returns c =
     let last-rename = c.last_rename-last in
     let e : last-rename.result ≡ suc (last-rename.result - 1) = omega arith in
     c.span-2.ensures
-    ∙ name-at args.names.now args.wires.now args.rows.now args.from args.count args.m.0
+    ∙ name-at args.design.now.names.now args.design.now.wires.now args.design.now.rows.now args.from args.count args.m.0
     args.w.0 args.k _ _ last-rename.ensures e

@@ -11,7 +11,7 @@ pub slice_bounds-result-count : goal.slice_bounds-result-count
 slice_bounds-result-count c =
     let args = c.args in
     let find-shown = c.find_shown in
-    (subst (InRange args.names.now args.strings.now) (c.in-Ok-Name.is ∙ ap Ok c.in-Ok-Name.field-0-is)
+    (subst (InRange args.design.now.names.now args.design.now.strings.now) (c.in-Ok-Name.is ∙ ap Ok c.in-Ok-Name.field-0-is)
     find-shown.ensures.in_range).0
 
 pub returns-in-Ok-Name : goal.returns-in-Ok-Name
@@ -20,8 +20,8 @@ returns-in-Ok-Name c =
     let found = c.find_shown.ensures in
     let all =
     shown-name
-    (lent args.names.now args.strings.now args.bits.now args.wires.now args.rows.now args.renames args.room)
-    args.m.0 args.w.0 args.names.ref_ptr args.strings.ref_ptr _ (found.shown_at, (found.in_range, found.shown_as)) _
+    (lent args.design.now.names.now args.design.now.strings.now args.design.now.bits.now args.design.now.wires.now args.design.now.rows.now args.design.now.renames args.design.now.room)
+    args.m.0 args.w.0 args.design.now.names.ref_ptr args.design.now.strings.ref_ptr _ (found.shown_at, (found.in_range, found.shown_as)) _
     (c.in-Ok-Name.is ∙ ap Ok c.in-Ok-Name.field-0-is) in
     record { shown_as = all.0; lies_at = all.1 }
 
@@ -29,7 +29,7 @@ pub slice_bounds-result-count-in-Ok-Text : goal.slice_bounds-result-count-in-Ok-
 slice_bounds-result-count-in-Ok-Text c =
     let args = c.args in
     let find-shown = c.find_shown in
-    (subst (InRange args.names.now args.strings.now) (c.in-Ok-Text.is ∙ ap Ok c.in-Ok-Text.field-0-is)
+    (subst (InRange args.design.now.names.now args.design.now.strings.now) (c.in-Ok-Text.is ∙ ap Ok c.in-Ok-Text.field-0-is)
     find-shown.ensures.in_range).0
 
 pub returns-in-Ok-Text : goal.returns-in-Ok-Text
@@ -38,8 +38,8 @@ returns-in-Ok-Text c =
     let found = c.find_shown.ensures in
     let all =
     shown-text
-    (lent args.names.now args.strings.now args.bits.now args.wires.now args.rows.now args.renames args.room)
-    args.m.0 args.w.0 args.names.ref_ptr args.strings.ref_ptr _ (found.shown_at, (found.in_range, found.shown_as)) _
+    (lent args.design.now.names.now args.design.now.strings.now args.design.now.bits.now args.design.now.wires.now args.design.now.rows.now args.design.now.renames args.design.now.room)
+    args.m.0 args.w.0 args.design.now.names.ref_ptr args.design.now.strings.ref_ptr _ (found.shown_at, (found.in_range, found.shown_as)) _
     (c.in-Ok-Text.is ∙ ap Ok c.in-Ok-Text.field-0-is) in
     record { shown_as = all.0; lies_at = all.1 }
 
@@ -49,7 +49,7 @@ returns-in-Err c =
     let found = c.find_shown.ensures in
     let all =
     shown-none
-    (lent args.names.now args.strings.now args.bits.now args.wires.now args.rows.now args.renames args.room)
-    args.m.0 args.w.0 args.names.ref_ptr args.strings.ref_ptr _ (found.shown_at, (found.in_range, found.shown_as)) _
+    (lent args.design.now.names.now args.design.now.strings.now args.design.now.bits.now args.design.now.wires.now args.design.now.rows.now args.design.now.renames args.design.now.room)
+    args.m.0 args.w.0 args.design.now.names.ref_ptr args.design.now.strings.ref_ptr _ (found.shown_at, (found.in_range, found.shown_as)) _
     c.in-Err.is in
     record { shown_as = all.0; lies_at = all.1 }

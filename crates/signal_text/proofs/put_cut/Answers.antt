@@ -14,7 +14,7 @@ pub returns-then-many-eq0 : goal.returns-then-many-eq0
 returns-then-many-eq0 c =
     let a = c.args in
     written_as c.put_bytes.ensures
-    (cut-none _ a.low a.count (none_in a.names.now a.wires.now a.rows.now a.m (a.m.wires - (a.wire.0 + 1)) c.if-many-eq0.true))
+    (cut-none _ a.low a.count (none_in a.design.now.names.now a.design.now.wires.now a.design.now.rows.now a.m (a.m.wires - (a.wire.0 + 1)) c.if-many-eq0.true))
 
 pub shape_of-out-then-many-eq0 : goal.shape_of-out-then-many-eq0
 shape_of-out-then-many-eq0 c = (returns-then-many-eq0 c).kept
@@ -28,7 +28,7 @@ returns-then-count-column c =
     let a = c.args in
     let n = c.if-wire-many.n in
     let e : a.m.wires ≡ (a.m.wires - (a.wire.0 + 1)) + suc n = (elim c.if-wire-many.branch [ then-wire-many w ↦ omega arith | else-wire-many w ↦ omega arith ]) in
-    let at_n = wire-now a.names.now a.wires.now a.rows.now a.m a.wire.0 n e in
+    let at_n = wire-now a.design.now.names.now a.design.now.wires.now a.design.now.rows.now a.m a.wire.0 n e in
     written_as c.put_token-end.ensures (cut-whole _ _ _ c.name_now.ensures _ _ a.low a.count at_n (c.if-count-column.true ∙ c.column.ensures))
 
 pub shape_of-out-then-count-column : goal.shape_of-out-then-count-column
@@ -51,7 +51,7 @@ returns c =
     let column = c.column in
     let if3 = c.if-count-column in
     let put-bounds = c.put_bounds in
-    let at_n = wire-now args.names.now args.wires.now args.rows.now args.m args.wire.0 n e in
+    let at_n = wire-now args.design.now.names.now args.design.now.wires.now args.design.now.rows.now args.m args.wire.0 n e in
     written_as (written_then put-token.ensures put-bounds.ensures)
     (cut-part _ _ _ name-now.ensures _ _ args.low args.count at_n (λ q. if3.false (q ∙ sym column.ensures)))
 

@@ -30,7 +30,7 @@ returns-in-Digit c =
     let decode = c.decode in
     let put_byte = c.put_byte-behind in
     let put-value = c.put_value in
-    let ws = wires_in args.names.now args.wires.now args.rows.now args.m in
+    let ws = wires_in args.design.now.names.now args.design.now.wires.now args.design.now.rows.now args.m in
     written_as (written_then put_byte.ensures put-value.ensures)
     (run-digits args.s.now args.i args.j ws _ decode.ensures _ c.in-Digit.is)
 
@@ -40,8 +40,8 @@ shape_of-out-in-Digit c = (returns-in-Digit c).kept
 pub returns-in-Wire : goal.returns-in-Wire
 returns-in-Wire c =
     let a = c.args in
-    let ws = wires_in a.names.now a.wires.now a.rows.now a.m in
-    let many = length-in a.names.now a.wires.now a.rows.now a.m in
+    let ws = wires_in a.design.now.names.now a.design.now.wires.now a.design.now.rows.now a.m in
+    let many = length-in a.design.now.names.now a.design.now.wires.now a.design.now.rows.now a.m in
     written_as c.put_cut.ensures (ap (λ x. spread (sig_tokens x)) (run-wire a.s.now a.i a.j ws _ c.decode.ensures _ _ a.m.wires c.in-Wire.is many))
 
 pub shape_of-out-in-Wire : goal.shape_of-out-in-Wire

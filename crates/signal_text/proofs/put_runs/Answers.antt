@@ -14,7 +14,7 @@ loop-i-init c =
       omega arith,
       λ a b. absurd (omega arith),
       written_as (written_none args.at args.out.now pre.0)
-          (sym (runs_none (wires_in args.names.now args.wires.now args.rows.now args.m) args.s.now)),
+          (sym (runs_none (wires_in args.design.now.names.now args.design.now.wires.now args.design.now.rows.now args.m) args.s.now)),
     )
 
 pub run_low-j-requires : goal.run_low-j-requires
@@ -38,7 +38,7 @@ loop-i-preserved c =
       omega (arith, run-low.ensures.below, loop.invariant.0),
       run-low.ensures.apart,
       written_as (written_then loop.invariant.2 put-run.ensures)
-          (runs-below (wires_in args.names.now args.wires.now args.rows.now args.m) args.s.now loop.i _ run-low.ensures),
+          (runs-below (wires_in args.design.now.names.now args.design.now.wires.now args.design.now.rows.now args.m) args.s.now loop.i _ run-low.ensures),
     )
 
 pub shape_of-out : goal.shape_of-out

@@ -9,7 +9,7 @@ use Rattle.signal_text.specs.Runs.{runs_text}
 use Rattle.signal_text.proofs.put_runs.Given as goal
 
 abbrev pub invariant-loop-i : goal.invariant-loop-i
-invariant-loop-i l = (l.i ≤ length l.s) × Apart l.s l.i × Written l.at (runs_text (wires_in l.names l.wires l.rows l.m) (drop l.i l.s)) l.initial.out l.out l.end
+invariant-loop-i l = (l.i ≤ length l.s) × Apart l.s l.i × Written l.at (runs_text (wires_in l.design.names.now l.design.wires.now l.design.rows.now l.m) (drop l.i l.s)) l.initial.out l.out l.end
 
 abbrev pub decreases-loop-i : goal.decreases-loop-i
 decreases-loop-i l = l.i

@@ -14,7 +14,7 @@ returns-then-n-eq0 c =
     let if1 = c.if-n-eq0 in
     let put-bytes = c.put_bytes in
     written_as put-bytes.ensures
-    (sym (signal-none (wires_in args.names.now args.wires.now args.rows.now args.m) args.s.now if1.true))
+    (sym (signal-none (wires_in args.design.now.names.now args.design.now.wires.now args.design.now.rows.now args.m) args.s.now if1.true))
 
 pub shape_of-out-then-n-eq0 : goal.shape_of-out-then-n-eq0
 shape_of-out-then-n-eq0 c = (returns-then-n-eq0 c).kept
@@ -33,7 +33,7 @@ returns-then-run_low-eq0 c =
     let put-run = c.put_run in
     written_as put-run.ensures
     (ap spread
-    (signal-one (wires_in args.names.now args.wires.now args.rows.now args.m) args.s.now
+    (signal-one (wires_in args.design.now.names.now args.design.now.wires.now args.design.now.rows.now args.m) args.s.now
     (rw if2.true at run-low.ensures)))
 
 pub shape_of-out-then-run_low-eq0 : goal.shape_of-out-then-run_low-eq0
@@ -53,7 +53,7 @@ returns c =
     let put-runs = c.put_runs-end in
     let put-bytes3 = c.put_bytes-2 in
     written_as (written_then put-bytes2.ensures (written_then put-runs.ensures put-bytes3.ensures))
-    (signal-several (wires_in args.names.now args.wires.now args.rows.now args.m) args.s.now
+    (signal-several (wires_in args.design.now.names.now args.design.now.wires.now args.design.now.rows.now args.m) args.s.now
     _ (omega arith) run-low.ensures)
 
 pub shape_of-out : goal.shape_of-out

@@ -16,7 +16,7 @@ put_listed-end-requires c =
     let loop = c.loop-left in
     let args = c.args in
     let signal = c.part-s in
-    let h : length signal.result.now ≤ length args.bits.now = words-le args.bits.now signal.result.now loop.start (loop.start + c.column-width.result) signal.ensures in
+    let h : length signal.result.now ≤ length args.design.now.bits.now = words-le args.design.now.bits.now signal.result.now loop.start (loop.start + c.column-width.result) signal.ensures in
     (written-most loop.invariant.1.written, omega (arith, c.requires.2))
 
 pub loop-left-preserved : goal.loop-left-preserved

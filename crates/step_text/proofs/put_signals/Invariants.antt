@@ -9,4 +9,4 @@ use Rattle.step_text.proofs.put_signals.Given as goal
 abbrev pub invariant-loop-left : goal.invariant-loop-left
 invariant-loop-left l =
     (l.start ≤ 4294967295 * (4294967296 - l.left))
-    × Reaches l.at (pieces_text (wires_in l.names l.wires l.rows l.m) l.comma l.bits l.width l.initial.start l.initial.left) (pieces_text (wires_in l.names l.wires l.rows l.m) l.comma l.bits l.width l.start l.left) l.initial.out l.out l.end
+    × Reaches l.at (pieces_text (wires_in l.design.names.now l.design.wires.now l.design.rows.now l.m) l.comma l.design.bits.now l.width l.initial.start l.initial.left) (pieces_text (wires_in l.design.names.now l.design.wires.now l.design.rows.now l.m) l.comma l.design.bits.now l.width l.start l.left) l.initial.out l.out l.end

@@ -12,7 +12,7 @@ returns-then-last-eq0 c =
     let args = c.args in
     let last-rename = c.last_rename-last in
     c.bytes_at.ensures
-    ∙ name-at args.names.now args.wires.now args.rows.now args.m.from args.m.number.0
+    ∙ name-at args.design.now.names.now args.design.now.wires.now args.design.now.rows.now args.m.from args.m.number.0
     args.wire.0 args.k args.m.renames _ 0 last-rename.ensures c.if-last-eq0.true
 
 pub returns : goal.returns
@@ -22,5 +22,5 @@ returns c =
     let last-rename = c.last_rename-last in
     let e : last-rename.result ≡ suc (last-rename.result - 1) = omega arith in
     c.bytes_at-2.ensures
-    ∙ name-at args.names.now args.wires.now args.rows.now args.m.from args.m.number.0
+    ∙ name-at args.design.now.names.now args.design.now.wires.now args.design.now.rows.now args.m.from args.m.number.0
     args.wire.0 args.k args.m.renames _ _ last-rename.ensures e

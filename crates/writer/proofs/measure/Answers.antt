@@ -12,7 +12,7 @@ measure_rows-requires c =
     let open-memory = c.open_memory in
     bits-few
     (opened
-    (lent args.names.now args.strings.now args.bits.now args.wires.now args.rows.now args.renames args.room)
+    (lent args.design.now.names.now args.design.now.strings.now args.design.now.bits.now args.design.now.wires.now args.design.now.rows.now args.design.now.renames args.design.now.room)
     _ open-memory.ensures _ c.in-Ok.is)
 
 pub returns-in-Ok : goal.returns-in-Ok
@@ -21,7 +21,7 @@ returns-in-Ok c =
     let open-memory = c.open_memory in
     measured
     (opened
-    (lent args.names.now args.strings.now args.bits.now args.wires.now args.rows.now args.renames args.room)
+    (lent args.design.now.names.now args.design.now.strings.now args.design.now.bits.now args.design.now.wires.now args.design.now.rows.now args.design.now.renames args.design.now.room)
     _ open-memory.ensures _ c.in-Ok.is) c.counts_at.result c.counts_at.ensures
     _ c.measure_rows.ensures
 
@@ -31,5 +31,5 @@ returns-in-Err c =
     let open-memory = c.open_memory in
     not-open (λ n. (n, 0)) _ _
     (not_opened
-    (lent args.names.now args.strings.now args.bits.now args.wires.now args.rows.now args.renames args.room)
+    (lent args.design.now.names.now args.design.now.strings.now args.design.now.bits.now args.design.now.wires.now args.design.now.rows.now args.design.now.renames args.design.now.room)
     _ open-memory.ensures _ c.in-Err.is)

@@ -12,7 +12,7 @@ write_rows-requires c =
     let open-memory = c.open_memory in
     bits-few
     (opened
-    (lent args.names.now args.strings.now args.bits.now args.wires.now args.rows.now args.renames args.room)
+    (lent args.design.now.names.now args.design.now.strings.now args.design.now.bits.now args.design.now.wires.now args.design.now.rows.now args.design.now.renames args.design.now.room)
     _ open-memory.ensures _ c.in-Ok.is)
 
 pub returns-in-Ok : goal.returns-in-Ok
@@ -23,7 +23,7 @@ returns-in-Ok c =
     let write-rows = c.write_rows in
     written
     (opened
-    (lent args.names.now args.strings.now args.bits.now args.wires.now args.rows.now args.renames args.room)
+    (lent args.design.now.names.now args.design.now.strings.now args.design.now.bits.now args.design.now.wires.now args.design.now.rows.now args.design.now.renames args.design.now.room)
     _ open-memory.ensures _ c.in-Ok.is) counts-at.result counts-at.ensures args.out.now _
     write-rows.ensures
 
@@ -33,5 +33,5 @@ returns-in-Err c =
     let open-memory = c.open_memory in
     not-open (λ n. (n, 0, args.out.now)) _ _
     (not_opened
-    (lent args.names.now args.strings.now args.bits.now args.wires.now args.rows.now args.renames args.room)
+    (lent args.design.now.names.now args.design.now.strings.now args.design.now.bits.now args.design.now.wires.now args.design.now.rows.now args.design.now.renames args.design.now.room)
     _ open-memory.ensures _ c.in-Err.is)

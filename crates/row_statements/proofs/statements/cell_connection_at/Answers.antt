@@ -11,7 +11,7 @@ pub returns-then-not-name_stands : goal.returns-then-not-name_stands
 returns-then-not-name_stands c = port-name _ _ _ _ _ _ (sym c.name_stands.ensures ∙ not-true _ c.if-not-name_stands.true-raw)
 
 pub returns-then-not-signal_stands : goal.returns-then-not-signal_stands
-returns-then-not-signal_stands c = port-signal _ _ _ _ _ _ (sym (c.signal_stands.ensures c.args.names.now) ∙ not-true _ c.if-not-signal_stands.true-raw)
+returns-then-not-signal_stands c = port-signal _ _ _ _ _ _ (sym (c.signal_stands.ensures c.args.design.now.names.now) ∙ not-true _ c.if-not-signal_stands.true-raw)
 
 pub returns : goal.returns
 unfolding words row padded
@@ -21,5 +21,5 @@ returns c =
     let if1 = c.if-not-name_stands in
     let signal-stands = c.signal_stands in
     port-settled _ _ _ _ _ _ (sym name-stands.ensures ∙ not-false _ if1.false-raw)
-    (sym (signal-stands.ensures args.names.now) ∙ not-false _ c.if-not-signal_stands.false-raw) _ refl _
+    (sym (signal-stands.ensures args.design.now.names.now) ∙ not-false _ c.if-not-signal_stands.false-raw) _ refl _
     c.settle.ensures

@@ -14,7 +14,7 @@ pub returns-then-not-wire_row_stands : goal.returns-then-not-wire_row_stands
 returns-then-not-wire_row_stands c = wire-row _ _ _ _ _ _ c.wire_row_stands.ensures (not-true _ c.if-not-wire_row_stands.true-raw)
 
 pub returns-then-not-wire_fits : goal.returns-then-not-wire_fits
-returns-then-not-wire_fits c = wire-rules _ _ _ _ _ (sym (c.wire_fits.ensures c.args.names.now) ∙ not-true _ c.if-not-wire_fits.true-raw)
+returns-then-not-wire_fits c = wire-rules _ _ _ _ _ (sym (c.wire_fits.ensures c.args.design.now.names.now) ∙ not-true _ c.if-not-wire_fits.true-raw)
 
 pub returns : goal.returns
 unfolding words row padded
@@ -26,5 +26,5 @@ returns c =
     let if2 = c.if-not-wire_row_stands in
     let wire-fits = c.wire_fits in
     wire-settled _ _ _ _ _ (sym name-stands.ensures ∙ not-false _ if1.false-raw) _ wire-row-stands.ensures
-    (not-false _ if2.false-raw) (sym (wire-fits.ensures args.names.now) ∙ not-false _ c.if-not-wire_fits.false-raw)
+    (not-false _ if2.false-raw) (sym (wire-fits.ensures args.design.now.names.now) ∙ not-false _ c.if-not-wire_fits.false-raw)
     _ refl _ c.settle.ensures

@@ -19,8 +19,8 @@ slice_bounds-all_fit-end c =
     let args = c.args in
     let is_whole = c.is_whole in
     let if1 = c.if-not-is_whole in
-    whole-inside args.bits.now args.at args.size
-    (sym (is_whole.ensures args.bits.now refl) ∙ not-false _ if1.false-raw) (omega arith)
+    whole-inside args.design.now.bits.now args.at args.size
+    (sym (is_whole.ensures args.design.now.bits.now refl) ∙ not-false _ if1.false-raw) (omega arith)
 
 pub returns : goal.returns
-returns c names = bits-all _ _ _ _ (c.is_whole.ensures _ refl) (not-false _ c.if-not-is_whole.false-raw) (c.all_fit.ensures names ∙ ap (all _) (taken-span c.args.bits.now c.args.at c.args.size))
+returns c names = bits-all _ _ _ _ (c.is_whole.ensures _ refl) (not-false _ c.if-not-is_whole.false-raw) (c.all_fit.ensures names ∙ ap (all _) (taken-span c.args.design.now.bits.now c.args.at c.args.size))
