@@ -174,6 +174,7 @@ fn line_of(tokens: &[u32], memory: bool, at: usize) -> Option<Line>
 {
     let mut i = at;
     let mut options = no_options();
+    // What is read tells where the next option stands: one takes a token or two.
     loop {
         match option(tokens, memory, i)? {
             Turn::Flag(c) => {

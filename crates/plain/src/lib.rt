@@ -197,6 +197,7 @@ fn put_taken(out: &mut [u8], at: usize, form: &[u8]) -> usize
 {
     let mut end = at;
     let mut i = 0;
+    // What is taken tells where the next byte is written.
     while i < form.len() {
         let Some(taken) = take_byte(form, i) else {
             return end;

@@ -35,6 +35,7 @@ pub fn replay(design: &Design, heads: &mut [u32], chain: &mut [u32]) -> Option<S
         place: start(),
         sums: none(),
     };
+    // The rows tell how many of them are statements.
     while is_statement(word(design.rows, ROW_WORDS * behind.place.rows as usize)) {
         let row = behind.place.rows;
         behind = one_more(design, heads, chain, behind)?;
