@@ -1,14 +1,17 @@
--- Byte order is an order, and of two names that differ one comes before the other.
+-- Byte order is an order, and of two names that differ one comes before the other; the comparison byte by byte.
 -- Assumes nothing.
-use Rattle.std.specs.Prelude.{ℕ, ◌<◌, ◌≡◌, refl, [], ◌∷◌, true, false, ◌&&◌, ◌⊎◌, ltb, eqb}
+use Rattle.std.specs.Prelude.{ℕ, ◌+◌, ◌≤◌, ◌<◌, ◌≡◌, refl, List, [], ◌∷◌, true, false, ◌&&◌, ◌⊎◌, ltb, eqb, length, get_or, drop}
 use Rattle.std.proofs.Common.{sym, ◌∙◌, inl, inr, arith}
 use Rattle.std.proofs.lemmas.Bool.{false≢true}
-use borrow.Author.Tests.{ltb-true, ltb-false, lt-ltb, le-ltb, eqb-true, eqb-false, eq-eqb}
+use Rattle.std.proofs.Math.Numerals.{add-one}
+use Rattle.std.proofs.Math.ListN.{drop_of_length-le}
+use Rattle.std.proofs.Math.Seq.{drop-cons}
+use borrow.Author.Tests.{ltb-true, ltb-false, lt-ltb, le-ltb, eqb-true, eqb-false, eq-eqb, ne_eqb}
 use Rattle.rules.specs.Bytes.{same}
 use Rattle.rules.specs.Tokens.{Name}
 use Rattle.rules.specs.Sorted.{before}
 use Rattle.lists.specs.Tests.{by-test, and-true-left, and-true-right, or-false-left, never}
-use Rattle.lists.specs.Bytes.{same-eq}
+use Rattle.lists.specs.Bytes.{same_refl, same-eq, same-sym}
 
 before-cons : (x y : ℕ) (xs ys : Name) → before (x ∷ xs) (y ∷ ys) ≡ true → (x < y) ⊎ ((x ≡ y) × (before xs ys ≡ true))
 unfolding before
@@ -71,3 +74,27 @@ module _ (a b : Name) where
       (λ s. never (before b a) (rw (← same-eq c b s) q) h)
       (λ s. never (before b a) (before-trans b c a (before-other c b k s) q) h))
       (λ q. q)
+
+-- THE COMPARISON, byte by byte
+module _ (a b : Name) (i : ℕ) where
+  pub first-differs : i < length a → i < length b → (get_or a i 0 ≡ get_or b i 0 → ⊥) → before (drop i a) (drop i b) ≡ ltb (get_or a i 0) (get_or b i 0)
+  unfolding before
+  first-differs h k l =
+      by-test (ltb (get_or a i 0) (get_or b i 0))
+      (λ e. rw (drop-cons a i 0 h, drop-cons b i 0 k, e))
+      (λ e. rw (drop-cons a i 0 h, drop-cons b i 0 k, e, ne_eqb (get_or a i 0) (get_or b i 0) l))
+
+  pub first-same : i < length a → i < length b → get_or a i 0 ≡ get_or b i 0 → before (drop i a) (drop i b) ≡ before (drop (i + 1) a) (drop (i + 1) b)
+  unfolding before
+  first-same h k e = rw (drop-cons a i 0 h, drop-cons b i 0 k, add-one, e, le-ltb (get_or b i 0) (get_or b i 0) (omega arith), eq-eqb (get_or b i 0) (get_or b i 0) refl)
+
+  pub second-ends : i < length a → length b ≤ i → before (drop i a) (drop i b) ≡ false
+  unfolding before
+  second-ends h k = rw (drop-cons a i 0 h, drop_of_length-le b {i = i} k)
+
+  pub first_ends : length a ≤ i → before (drop i a) (drop i b) ≡ ltb i (length b)
+  unfolding before
+  first_ends h =
+      by-test (ltb i (length b))
+      (λ e. rw (e, drop_of_length-le a {i = i} h, drop-cons b i 0 (ltb-true i (length b) e)))
+      (λ e. rw (e, drop_of_length-le a {i = i} h, drop_of_length-le b {i = i} (ltb-false i (length b) e)))

@@ -94,6 +94,14 @@ module _ (n n' : Name) (en : n ≡ n') where
   unfolding shape_tokens word_token
   line-attribute c = rw (← en) (sym (spaced-two (bytes "attribute") (piece-name n) (piece-literal c) ∙ rw (spread-name n)))
 
+  pub line-module : bytes "module" ++ (32 ∷ n) ≡ spaced (shape_tokens (module-stmt n'))
+  unfolding shape_tokens word_token
+  line-module = rw (← en) (sym (spaced-word (bytes "module") (piece-name n) ∙ rw (spread-name n)))
+
+  pub line-process : bytes "process" ++ (32 ∷ n) ≡ spaced (shape_tokens (proc-stmt n'))
+  unfolding shape_tokens word_token
+  line-process = rw (← en) (sym (spaced-word (bytes "process") (piece-name n) ∙ rw (spread-name n)))
+
   pub line-named : (w : List ℕ) → w ++ (32 ∷ n) ≡ spaced (word w ∷ name n' ∷ [])
   line-named w = rw (← en) (sym (spaced-word w (piece-name n) ∙ rw (spread-name n)))
 

@@ -28,11 +28,17 @@ where-le f t (suc k) = omega (arith, where-le f t k, cond-le (f (column t k 0)) 
 
 -- the same of numbers that count them
 module _ (f : ℕ → Bool) (t : List ℕ) (k n : ℕ) (e : n ≡ rows_where f t k) where
-  pub where-turn : (x r : ℕ) → x ≡ column t k 0 → r ≡ from_bool (f x) → n + r ≡ rows_where f t (k + 1)
-  where-turn x r ex er = rw (er, ex, e, bool-one) (sym (where-more f t k))
+  pub where-turn : (x r : ℕ) → x ≡ column t k 0 → r ≡ cond (f x) 1 0 → n + r ≡ rows_where f t (k + 1)
+  where-turn x r ex er = rw (er, ex, e) (sym (where-more f t k))
 
-  pub where-sum : (x r : ℕ) → x ≡ column t k 0 → r ≡ from_bool (f x) → n + r ≤ k + 1
+  pub where-sum : (x r : ℕ) → x ≡ column t k 0 → r ≡ cond (f x) 1 0 → n + r ≤ k + 1
   where-sum x r ex er = omega (arith, where-turn x r ex er, where-le f t (k + 1))
+
+  pub turn-from : (x r : ℕ) → x ≡ column t k 0 → r ≡ from_bool (f x) → n + r ≡ rows_where f t (k + 1)
+  turn-from x r ex er = rw (er, ex, e, bool-one) (sym (where-more f t k))
+
+  pub sum-from : (x r : ℕ) → x ≡ column t k 0 → r ≡ from_bool (f x) → n + r ≤ k + 1
+  sum-from x r ex er = omega (arith, turn-from x r ex er, where-le f t (k + 1))
 
 -- rows of a number or below it are below the next
 below_next : (c m : ℕ) → cond (ltb c (suc m)) 1 0 ≡ cond (ltb c m) 1 0 + cond (eqb c m) 1 0

@@ -2,7 +2,7 @@
 -- Assumes nothing.
 use Rattle.std.specs.Prelude.{ℕ, suc, ◌+◌, ◌-◌, ◌≤◌, ◌<◌, ◌≡◌, refl, Bool, true, false, eqb, get_or, take, set}
 use Rattle.std.proofs.Math.Path.{sym, ap}
-use Rattle.std.proofs.Common.{◌∙◌, length-append, length-drop, length-take-le, take-take, drop-drop, drop_at}
+use Rattle.std.proofs.Common.{◌∙◌, length-append, length-drop, length-take-le, take-take, drop-drop, drop_at, get_or-take, get_or-drop}
 use mathlib.Core.List.{List, [], ◌∷◌, ◌++◌, map, append_assoc}
 use native.Mathlib.Omega.{arith}
 use Rattle.std.proofs.Math.ListN.{length, drop}
@@ -14,7 +14,7 @@ use Rattle.rules.specs.Sorted.{before}
 use Rattle.lists.specs.Tests.{by-test}
 use Rattle.lists.specs.Lists.{map_at}
 use Rattle.lists.specs.Parts.{slice-span, length_part}
-use Rattle.tables.specs.Store.{store, store-none, length-store, store-eq, store-more, store-slice}
+use Rattle.tables.specs.Store.{store, store-none, length-store, store-eq, store-more, store-slice, store-behind, filled, filled-end}
 use Rattle.byte_order.specs.Order.{Ordered, Halved, place, order_up, index_up, stands_next}
 use Rattle.byte_order.specs.OrderLaws.{place-le, halved-start, halved-up, halved-down, index-ordered, index-more, length-index}
 use Rattle.name_order.specs.declared.Halves.{Halves}
@@ -64,8 +64,21 @@ module _ (d : List ℕ) (at count : ℕ) (room : at + count < length d) where
   length_moved : length moved ≡ count
   length_moved = length_part d (at + 1) count (omega (arith, room))
 
-  pub put-behind : (l : List ℕ) (w : ℕ) → l ≡ paste d at (drop (at + 1) d) (at + 1 + count - (at + 1)) → set l (at + count) w ≡ store d at (moved ++ w ∷ [])
-  put-behind l w e =
+  module _ (l : List ℕ) (j : ℕ) (e : l ≡ store d at (take j moved)) where
+    pub moves-on : j < count → set l (at + j) (get_or l (at + 1 + j) 0) ≡ store d at (take (j + 1) moved)
+    moves-on h =
+        let z : length (take j moved) ≡ j = length-take-le j moved (omega (arith, h, length_moved)) in
+        filled d l moved at j e (get_or l (at + 1 + j) 0) (omega (arith, h, length_moved))
+        (ap (λ (x : List ℕ). get_or x (at + 1 + j) 0) e
+        ∙ store-behind d at (take j moved) (at + 1 + j) (omega (arith, z, room, h)) (omega (arith, z))
+        ∙ sym (get_or-take count (drop (at + 1) d) j 0 h ∙ get_or-drop (at + 1) d j 0))
+
+    pub put-behind : (w : ℕ) → count ≤ j → set l (at + count) w ≡ store d at (moved ++ w ∷ [])
+    put-behind w h =
+        store-more d l at (at + count) w moved (moved ++ w ∷ []) (filled-end d l moved at j e (omega (arith, h, length_moved))) (ap (λ (k : ℕ). at + k) (sym length_moved)) refl
+
+  pub put-moved : (l : List ℕ) (w : ℕ) → l ≡ paste d at (drop (at + 1) d) (at + 1 + count - (at + 1)) → set l (at + count) w ≡ store d at (moved ++ w ∷ [])
+  put-moved l w e =
       let z : at + 1 + count - (at + 1) ≡ count = omega arith in
       let s : store d at moved ≡ paste d at (drop (at + 1) d) count = rw length_moved at (store-eq d at moved (omega (arith, length_moved, room))) in
       store-more d l at (at + count) w moved (moved ++ w ∷ []) (rw z at e ∙ sym s) (ap (λ (k : ℕ). at + k) (sym length_moved)) refl

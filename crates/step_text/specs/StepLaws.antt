@@ -99,16 +99,16 @@ gap_text b = cond b (32 ∷ 44 ∷ []) []
 unfoldable pub pieces_text : Wires → Bool → (bits : List ℕ) → (width start count : ℕ) → List ℕ
 pieces_text ws b bits w a n = signals_text ws b (map signal_of (pieces w n (drop a bits)))
 
-gap-text : (b : Bool) (ws : Wires) (n w : ℕ) (xs : List ℕ) → spread (gap (comma_if b) (map (sig ws) (map signal_of (pieces w n xs)))) ≡ gap_text (b && ltb 0 n)
+gap-text : (b : Bool) (ws : Wires) (n w : ℕ) (xs : List ℕ) → spread (gap (comma_if b) (map (sig ws) (map signal_of (pieces w n xs)))) ≡ gap_text (b && ltb 1 (suc n))
 unfolding gap comma_if gap_text spread behind tight token_text is_mark pieces
 gap-text true ws zero w xs = refl
 gap-text false ws zero w xs = refl
-gap-text true ws (suc n) w xs = rw (lt-ltb 0 (suc n) (omega arith))
+gap-text true ws (suc n) w xs = rw (lt-ltb 1 (suc (suc n)) (omega arith))
 gap-text false ws (suc n) w xs = refl
 
 pub pieces-next :
     (ws : Wires) (b : Bool) (bits s : List ℕ) (w a n : ℕ) → 0 < n → s ≡ slice a (a + w) bits →
-    pieces_text ws b bits w a n ≡ (spread (sig_tokens (sig ws (signal_of s))) ++ gap_text (b && ltb 0 (n - 1))) ++ pieces_text ws b bits w (a + w) (n - 1)
+    pieces_text ws b bits w a n ≡ (spread (sig_tokens (sig ws (signal_of s))) ++ gap_text (b && ltb 1 n)) ++ pieces_text ws b bits w (a + w) (n - 1)
 unfolding pieces_text signals_text pieces
 pieces-next ws b bits s w a zero h e = absurd (omega arith)
 pieces-next ws b bits s w a (suc n) h e =
@@ -118,6 +118,27 @@ pieces-next ws b bits s w a (suc n) h e =
     rw (j, q)
     (spread-next (piece-if b) (sig ws (signal_of s)) (map (sig ws) (map signal_of (pieces w n (drop w (drop a bits)))))
     ∙ rw (gap-text b ws n w (drop w (drop a bits)), r))
+
+-- the same by how many are left behind the first
+gap-left : (b : Bool) (ws : Wires) (n w : ℕ) (xs : List ℕ) → spread (gap (comma_if b) (map (sig ws) (map signal_of (pieces w n xs)))) ≡ gap_text (b && ltb 0 n)
+unfolding gap comma_if gap_text spread behind tight token_text is_mark pieces
+gap-left true ws zero w xs = refl
+gap-left false ws zero w xs = refl
+gap-left true ws (suc n) w xs = rw (lt-ltb 0 (suc n) (omega arith))
+gap-left false ws (suc n) w xs = refl
+
+pub pieces-left :
+    (ws : Wires) (b : Bool) (bits s : List ℕ) (w a n : ℕ) → 0 < n → s ≡ slice a (a + w) bits →
+    pieces_text ws b bits w a n ≡ (spread (sig_tokens (sig ws (signal_of s))) ++ gap_text (b && ltb 0 (n - 1))) ++ pieces_text ws b bits w (a + w) (n - 1)
+unfolding pieces_text signals_text pieces
+pieces-left ws b bits s w a zero h e = absurd (omega arith)
+pieces-left ws b bits s w a (suc n) h e =
+    let q : take w (drop a bits) ≡ s = sym (e ∙ slice-span a w bits) in
+    let r : pieces w n (drop w (drop a bits)) ≡ pieces w n (drop (a + w) bits) = ap (pieces w n) (drop-drop w a bits) in
+    let j : suc n - 1 ≡ n = omega arith in
+    rw (j, q)
+    (spread-next (piece-if b) (sig ws (signal_of s)) (map (sig ws) (map signal_of (pieces w n (drop w (drop a bits)))))
+    ∙ rw (gap-left b ws n w (drop w (drop a bits)), r))
 
 pub pieces_end : (ws : Wires) (b : Bool) (bits : List ℕ) (w a n : ℕ) → n ≤ 0 → pieces_text ws b bits w a n ≡ []
 unfolding pieces_text signals_text pieces list_tokens spread behind

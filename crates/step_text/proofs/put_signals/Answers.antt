@@ -5,7 +5,7 @@ use native.Mathlib.Omega.{arith}
 use lib.ListN.{length}
 use Rattle.text.specs.Written.{written-most, written_as}
 use Rattle.text.specs.Reaches.{reaches-start, reaches-next, reaches_end}
-use Rattle.step_text.specs.StepLaws.{words-le, pieces-next, pieces_end, row-signals}
+use Rattle.step_text.specs.StepLaws.{words-le, pieces-left, pieces_end, row-signals}
 use Rattle.step_text.proofs.put_signals.Goals as goal
 
 pub loop-left-init : goal.loop-left-init
@@ -21,7 +21,7 @@ put_listed-end-requires c =
 
 pub loop-left-preserved : goal.loop-left-preserved
 loop-left-preserved c =
-    (omega arith, reaches-next c.loop-left.invariant.1 c.put_listed-end.ensures (pieces-next _ _ _ _ _ _ _ (omega arith) c.part-s.ensures))
+    (omega arith, reaches-next c.loop-left.invariant.1 c.put_listed-end.ensures (pieces-left _ _ _ _ _ _ _ (omega arith) c.part-s.ensures))
 
 pub shape_of-out : goal.shape_of-out
 shape_of-out c = c.loop-left.invariant.1.written.kept
