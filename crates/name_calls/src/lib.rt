@@ -1,4 +1,4 @@
-// The calls for other languages that take a name or its plain form, and no design.
+// The calls for other languages that take a name or its plain form, and no design: two of one shape, as include/skytassel.h declares them.
 #![tactic(auto)]
 
 ghost use Rattle.std.specs.Prelude.{◌≡◌, length};

@@ -112,8 +112,12 @@ pub fn take_line(
 {
     let answer = line_answer(
         f, line, standing, names, wires, rows, tokens, scratch, heads, chain,
-    )?;
-    let Some(stated) = answer else {
+    );
+    // A refused line's answer has number and place; a line without tokens is skipped.
+    let Ok(found) = answer else {
+        return answer.map(|_| standing);
+    };
+    let Some(stated) = found else {
         return Ok(standing);
     };
     let statement = stated.statement;
