@@ -29,7 +29,7 @@ pub put_store : {A : Type 0} (l : List A) (at k : ℕ) (vs ys : List A) → ys �
 put_store l at k vs ys ey ek h = rw (ey, ek, store-eq l at vs h, drop-drop, append_assoc)
 
 -- two runs, one behind the other, are one
-sets-sets : (l : List ℕ) (at : ℕ) (vs ws : List ℕ) → sets (sets l at vs) (at + length vs) ws ≡ sets l at (vs ++ ws)
+sets-sets : {A : Type 0} (l : List A) (at : ℕ) (vs ws : List A) → sets (sets l at vs) (at + length vs) ws ≡ sets l at (vs ++ ws)
 sets-sets l at [] ws = ap (λ (k : ℕ). sets l k ws) (add-zero at)
 sets-sets l at (v ∷ vs) ws =
     ap (λ (k : ℕ). sets (sets (set l at v) (suc at) vs) k ws) (omega arith) ∙ sets-sets (set l at v) (suc at) vs ws
@@ -42,6 +42,15 @@ store-store l at vs ws = sets-sets l at vs ws
 pub store-snoc : (l : List ℕ) (at : ℕ) (vs : List ℕ) (v : ℕ) → store l at (vs ++ v ∷ []) ≡ set (store l at vs) (at + length vs) v
 unfolding store
 store-snoc l at vs v = sym (sets-sets l at vs (v ∷ []))
+
+-- a turn of a loop that stores the next value, of any type
+pub store-turn : {A : Type 0} (d l vs : List A) (at j : ℕ) (v : A) → l ≡ store d at (take j vs) → j < length vs → v ≡ get_or vs j v → set l (at + j) v ≡ store d at (take (j + 1) vs)
+unfolding store
+store-turn d l vs at j v e h ev =
+    let long : length (take j vs) ≡ j = length-take-le j vs (omega arith) in
+    let more : take (suc j) vs ≡ take j vs ++ v ∷ [] = take-suc vs j v h ∙ ap (λ y. take j vs ++ y ∷ []) (sym ev) in
+    rw (add-one, more, e)
+    (ap (λ (n : ℕ). set (sets d at (take j vs)) (at + n) v) (sym long) ∙ sets-sets d at (take j vs) (v ∷ []))
 
 -- a turn of a loop that stores one value more
 pub store-more : (d l : List ℕ) (at i v : ℕ) (vs ws : List ℕ) → l ≡ store d at vs → i ≡ at + length vs → ws ≡ vs ++ v ∷ [] → set l i v ≡ store d at ws

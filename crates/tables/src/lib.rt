@@ -22,13 +22,14 @@ pub struct Row {
     pub g: u32,
 }
 
-// Values one behind another, from a place on.
-#[tactic(auto, using(crate::specs::Store::put_store))]
+// Values one behind another, from a place on. By a loop: copy_from_slice needs `memmove` from outside the library.
 pub fn store<T: Copy>(table: &mut [T], at: usize, values: &[T])
     requires { at + length values.now ≤ length table.old }
     ensures { table.new ≡ store table.old at values.now }
 {
-    table[at..at + values.len()].copy_from_slice(values);
+    for j in 0..values.len() {
+        table[at + j] = values[j];
+    }
 }
 
 // The words of src from `from` to `to`, last first.
