@@ -24,7 +24,7 @@ struct Halves {
 }
 
 // The name now of the module's wire of this number.
-fn name_in<'a>(design: &Design<'a>, m: Module, wire: u32) -> &'a [u8]
+fn name_in<'n>(design: &Design<'n, '_, '_>, m: Module, wire: u32) -> &'n [u8]
     ensures { result.now ≡ name_in design.now.names.now design.now.wires.now design.now.rows.now m wire }
 {
     let row = m.first as usize + wire as usize;
@@ -67,6 +67,7 @@ pub fn place_among(design: &Design, m: Module, index: &[u32], name: &[u8]) -> us
         low: 0,
         high: index.len(),
     };
+    // Which half is left is found, not counted.
     while left.low < left.high {
         left = halve(design, m, index, name, left);
     }

@@ -188,7 +188,12 @@ pub fn find_shown(design: &Design, m: ModuleNumber, w: WireNumber) -> Result<Sho
 }
 
 // Number 0 is none; a refusal answers the empty part.
-pub fn show<'a>(design: &Design<'a>, m: ModuleNumber, w: WireNumber, number: &mut u32) -> &'a [u8]
+pub fn show<'a>(
+    design: &Design<'a, 'a, '_>,
+    m: ModuleNumber,
+    w: WireNumber,
+    number: &mut u32,
+) -> &'a [u8]
     ensures shown_as { ShownAs (lent_in design.now) m.0 w.0 number.new result.now }
     ensures lies_at { LiesAt (lent_in design.now) m.0 w.0 design.now.names.ref_ptr design.now.strings.ref_ptr result.ref_ptr }
 {

@@ -48,7 +48,7 @@ pub fn last_rename(rows: &[u32], from: u32, count: u32, m: ModuleNumber, wire: W
 }
 
 // The name now of a wire of the module whose row in the table of wires is k: the last rename of it, else its own.
-pub fn name_now<'a>(design: &Design<'a>, m: Module, wire: WireNumber, k: usize) -> &'a [u8]
+pub fn name_now<'n>(design: &Design<'n, '_, '_>, m: Module, wire: WireNumber, k: usize) -> &'n [u8]
     requires { k < many_rows }
     ensures { result.now ≡ name_now design.now.names.now design.now.wires.now design.now.rows.now m.from m.renames m.number.0 wire.0 k }
 {
