@@ -74,7 +74,8 @@ fn is_kind(kinds: Kinds, kind: u32) -> bool
     kinds.a == kind || kinds.b == kind || kinds.c == kind || kinds.d == kind
 }
 
-// The kind first, which is one word; then the name.
+// The kind first, which is one word; then the name. As part of the searches, which ask it of each row.
+#[inline(always)]
 pub fn has_name(names: &[u8], rows: &[u32], row: usize, kinds: Kinds, name: &[u8]) -> bool
     requires { row < many_rows }
     ensures { result ≡ is_kind kinds (kind_at rows.now row) && same name.now (name_at names.now rows.now row) }
