@@ -5,8 +5,8 @@ use mathlib.Core.Bool.{true}
 use mathlib.Core.List.{List, [], ◌∷◌, ◌++◌, map, map-append, flat_map, reverse, reverse-cons, reverse-append, reverse-reverse, map-map}
 use Prim.Native.Nat.{ℕ, ◌+◌, ◌-◌, ◌*◌, ◌/◌, ◌%◌, ◌^◌, ◌≤◌, ◌<◌}
 use native.Mathlib.Omega.{arith}
-use lib.ListN.{length, get_or, take, replicate, length-append, length-map, length-replicate, length-reverse}
-use lib.Seq.{length-take-le, take_all}
+use lib.ListN.{length, get_or, take, replicate, length-append, length-map, length-replicate, length-reverse, get_or-replicate, get_or-append}
+use lib.Seq.{length-take-le, take_all, get_or-append-add}
 use lib.IntN.{ℤ}
 use Rattle.std.proofs.lemmas.Slice.{put_mid-paste}
 use borrow.Rule.Slice.PartMut.{put_mid}
@@ -19,7 +19,7 @@ use Rattle.rules.specs.Layout.{digit_code}
 use Rattle.numbers.specs.SignedLaws.{binary-length, binary-at}
 use Rattle.literal_rules.proofs.ReadLaws.{literal-long}
 use Rattle.literals.specs.Codes.{codes, word_codes, filled_codes, filler_code}
-use Rattle.lists.specs.Lists.{flat_map-snoc, get_d_reverse, map-replicate, map-reverse, flat_map-more}
+use Rattle.lists.specs.Lists.{flat_map-snoc, get_d_reverse, map_at, map-replicate, map-reverse, flat_map-more}
 use Rattle.lists.specs.Sums.{length-equal}
 use Rattle.lists.specs.Elements.{each_all}
 
@@ -50,6 +50,21 @@ module _ (x fills : ℕ) (bs : List ℕ) where
   pub filled-long : length (filled_codes x fills bs) ≡ fills + length bs
   unfolding filled_codes
   filled-long = rw (length-append, length-replicate, length-map)
+
+  pub filled-front : (j : ℕ) → j < fills → x ≡ get_or (filled_codes x fills bs) j 0
+  unfolding filled_codes
+  filled-front j h =
+      let z : List ℕ = replicate fills x in
+      let l : j < length z = rw length-replicate h in
+      sym (get_or-append z (map (λ b. digit_code (digit b)) bs) 0 j l ∙ get_or-replicate fills j x 0 h)
+
+  pub filled-digit : (j : ℕ) → fills ≤ j → j < fills + length bs → digit_code (digit (get_or bs (j - fills) 0)) ≡ get_or (filled_codes x fills bs) j 0
+  unfolding filled_codes
+  filled-digit j h l =
+      let z : List ℕ = replicate fills x in
+      let e : j ≡ length z + (j - fills) = rw length-replicate (omega arith) in
+      let ds : List ℕ = map (λ b. digit_code (digit b)) bs in
+      sym (ap (λ (n : ℕ). get_or (z ++ ds) n 0) e ∙ get_or-append-add z ds (j - fills) 0 ∙ map_at (λ b. digit_code (digit b)) bs (j - fills) 0 0 (omega arith))
 
   -- what fills is stored, and then the digits behind it
   pub stored-filled :

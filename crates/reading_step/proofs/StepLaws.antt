@@ -242,6 +242,12 @@ module _ {ss : Past} {p : Place} {u : Sizes} {t : Tables} (d : Done ss p u t) (l
   pub step-refused : (r : Refused) → x ≡ Err r → outcome ss l ≡ reading.Outcome.refused r.number r.place
   step-refused r e = subst (AnswerIs ss l f s) e st
 
+-- what is neither skipped nor stated is refused
+pub refused-left : (x : Result (Optional Stated) Refused) → (x ≡ Ok None → ⊥) → ((r : Stated) → x ≡ Ok (Some r) → ⊥) → (e : Refused) × (x ≡ Err e)
+refused-left (Ok None) h k = absurd (h refl)
+refused-left (Ok (Some r)) h k = absurd (k r refl)
+refused-left (Err e) h k = (e, refl)
+
 pub next-indexed :
     {heads chain names wires rows : List ℕ} {r : Result Standing Refused} {x : Standing} → r ≡ Ok x → StepIndexed heads chain names wires rows r →
     LinesIndexed heads chain names wires rows x.place.rows x.place.wires

@@ -70,7 +70,7 @@ module _ (t : PartTables) (rows : List ℕ) (p : Place) (u : Sizes) (d : Done t 
     unfolding word_at
     kind-is = ap (λ (n : ℕ). is_statement (get_or rows (8 * n) 0)) (length-rows ss ∙ rows_are) ∙ ap is_statement (sym ek)
 
-    done-closed : is_statement k ≡ false → closes_at p ≡ true → Replays t rows (Some (record { place = p; sums = u }))
+    pub done-closed : is_statement k ≡ false → closes_at p ≡ true → Replays t rows (Some (record { place = p; sums = u }))
     unfolding Replays closes
     done-closed e c = (
       ss,
@@ -83,7 +83,7 @@ module _ (t : PartTables) (rows : List ℕ) (p : Place) (u : Sizes) (d : Done t 
       d.reached.sums,
     )
 
-    done-open : is_statement k ≡ false → closes_at p ≡ false → Replays t rows None
+    pub done-open : is_statement k ≡ false → closes_at p ≡ false → Replays t rows None
     unfolding Replays closes
     done-open e c qs h =
         ⊎_elim (λ q. never (closes ss) (ap closes (sym q) ∙ h.closed) (closes-place ss ∙ ap closes_at d.reached.place ∙ c))
